@@ -1,0 +1,5 @@
+pub mod Framings
+pub mod OneCut
+pub mod SomeCut
+pub mod Takings
+pub mod Stagings

@@ -1,0 +1,5 @@
+pub mod Framing
+pub mod Cuts
+pub mod Packets
+pub mod Laws
+pub mod LengthRow

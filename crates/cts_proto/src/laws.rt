@@ -1,0 +1,18 @@
+// Laws of the definitions. Each function does nothing: its contract is the law.
+ghost use Rattle.cts_proto.specs.Laws.{HasCut, HasOneCut, HasPackets, HasOnePackets, PacketsGrow, HoweverCut};
+
+/// Under a sound framing each list of bytes has exactly one cut.
+pub fn cuts()
+    ensures some { HasCut }
+    ensures one { HasOneCut }
+{}
+
+/// A chain of sound framings cuts each list of pieces in exactly one way, more pieces only add
+/// packets, and where the first stage cuts all bytes as one list, packets, loss and error depend
+/// on the bytes alone, however they were cut into pieces.
+pub fn packets()
+    ensures some { HasPackets }
+    ensures one { HasOnePackets }
+    ensures grow { PacketsGrow }
+    ensures however_cut { HoweverCut }
+{}
