@@ -1,7 +1,7 @@
 -- Lemmas on gaps and parts, whatever a frame is.
 use Rattle.std.proofs.Common.{◌≡◌, ℕ, ◌+◌, false, true, List, [], ◌∷◌, ◌++◌, refl, sym, ◌∙◌, ap, subst, append_assoc, arith, None}
 use Rattle.cts_proto.specs.Framing.{Framing, Output, Agree, IsSound}
-use Rattle.cts_proto.specs.Cuts.{NoneBegins, Part, Parts, and_output, outputs, empties, gaps, Ends, Taken, Pieces, IsCut}
+use Rattle.cts_proto.specs.Cuts.{NoneBegins, Part, Parts, and_output, outputs, empties, gaps, Ends, Taken}
 
 pub agree_nil : (s : List ℕ) → Agree s []
 agree_nil [] = tt

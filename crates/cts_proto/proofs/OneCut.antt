@@ -1,10 +1,9 @@
 -- Each list of bytes has at most one cut.
-use Rattle.std.proofs.Common.{◌≡◌, ℕ, ◌+◌, true, false, List, [], ◌∷◌, ◌++◌, length, refl, sym, ◌∙◌, ap, subst, arith, Option, Some, None, append_assoc}
+use Rattle.std.proofs.Common.{◌≡◌, ℕ, true, List, [], ◌∷◌, ◌++◌, length, refl, sym, ◌∙◌, ap, subst, arith, Option}
 use Rattle.std.proofs.lemmas.List.{append_cancel_left}
 use Rattle.cts_def.specs.declared.bad_cause.BadCause.{BadCause}
 use Rattle.cts_proto.specs.Framing.{Framing, Agree, IsSound}
-use Rattle.cts_proto.specs.Cuts.{NoneBegins, Part, Parts, outputs, empties, gaps, Ends, Taken, Pieces, IsCut}
-use Rattle.cts_proto.proofs.Framings.{none_append}
+use Rattle.cts_proto.specs.Cuts.{NoneBegins, Part, Parts, outputs, empties, gaps, Ends, Pieces, IsCut}
 
 -- the first place where a frame may begin is one
 pub first_place : (s gap gap' u u' : List ℕ) → gap ++ u ≡ gap' ++ u' → NoneBegins s gap u → NoneBegins s gap' u' → Agree s u → Agree s u' → (gap ≡ gap') × (u ≡ u')

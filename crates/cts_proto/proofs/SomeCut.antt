@@ -1,9 +1,8 @@
 -- Each list of bytes has a cut.
-use Rattle.std.proofs.Common.{◌≡◌, ℕ, zero, suc, ◌+◌, ◌≤◌, ◌<◌, Bool, true, false, List, [], ◌∷◌, ◌++◌, length, refl, sym, ◌∙◌, ap, subst, arith, ◌⊎◌, inl, inr, Option, Some, None, append_assoc, length-append}
+use Rattle.std.proofs.Common.{◌≡◌, ℕ, zero, suc, ◌+◌, ◌≤◌, ◌<◌, Bool, true, false, List, [], ◌∷◌, ◌++◌, length, refl, sym, ◌∙◌, ap, subst, arith, ◌⊎◌, inl, inr, length-append}
 use native.Mathlib.Decide.{dec_le}
-use Rattle.cts_def.specs.declared.bad_cause.BadCause.{BadCause}
 use Rattle.cts_proto.specs.Framing.{Framing, Agree, IsSound}
-use Rattle.cts_proto.specs.Cuts.{NoneBegins, Part, Parts, outputs, one_if_empty, Ends, Taken, Pieces, IsCut}
+use Rattle.cts_proto.specs.Cuts.{NoneBegins, Part, outputs, one_if_empty, Pieces, IsCut}
 use Rattle.cts_proto.proofs.Framings.{agree_nil}
 
 dec_same : (m n : ℕ) → (m ≡ n) ⊎ ((m ≡ n) → ⊥)
@@ -70,21 +69,25 @@ some_front p (a ∷ u) = elim (dec_true (p [] (a ∷ u))) [
 at_end : (f : Framing) (b gap u : List ℕ) → b ≡ gap ++ u → NoneBegins f.sync gap u → Agree f.sync u → NoFront f.whole u → (c : Pieces) × IsCut f b c
 unfolding NoFront
 at_end f b gap u e n a never =
-    let c : Pieces = record { outs = []; skipped = length gap; empty = 0; rest = u; bad = f.error u } in
-    (c, record {
-      taken = record { parts = []; gap = gap; cut = e; clear = n; outs_are = refl; skipped_is = omega arith; empty_is = refl };
-      ends = record { synced = a; no_frame = never; error = refl };
-    })
+    let c : Pieces = record { outs = []; skipped = length gap; empty = 0; rest = u; bad = f.error u } in (
+      c,
+      record {
+        taken = record { parts = []; gap = gap; cut = e; clear = n; outs_are = refl; skipped_is = omega arith; empty_is = refl };
+        ends = record { synced = a; no_frame = never; error = refl };
+      },
+    )
 
 with_part : (f : Framing) (b gap w x : List ℕ) → b ≡ gap ++ (w ++ x) → NoneBegins f.sync gap (w ++ x) → f.whole w x ≡ true → (c : Pieces) × IsCut f x c → (c : Pieces) × IsCut f b c
 with_part f b gap w x e n h tail =
     let p : Part = record { gap = gap; frame = w } in
     let t = tail.1.taken in
-    let c : Pieces = record { outs = outputs f (p ∷ t.parts); skipped = length gap + tail.0.skipped; empty = one_if_empty (f.output w).bytes + tail.0.empty; rest = tail.0.rest; bad = tail.0.bad } in
-    (c, record {
-      taken = record { parts = p ∷ t.parts; gap = t.gap; cut = (x, e, h, n, t.cut); clear = t.clear; outs_are = refl; skipped_is = omega (arith, t.skipped_is); empty_is = omega (arith, t.empty_is) };
-      ends = tail.1.ends;
-    })
+    let c : Pieces = record { outs = outputs f (p ∷ t.parts); skipped = length gap + tail.0.skipped; empty = one_if_empty (f.output w).bytes + tail.0.empty; rest = tail.0.rest; bad = tail.0.bad } in (
+      c,
+      record {
+        taken = record { parts = p ∷ t.parts; gap = t.gap; cut = (x, e, h, n, t.cut); clear = t.clear; outs_are = refl; skipped_is = omega (arith, t.skipped_is); empty_is = omega (arith, t.empty_is) };
+        ends = tail.1.ends;
+      },
+    )
 
 not_empty : (f : Framing) → IsSound f → (w x : List ℕ) → f.whole w x ≡ true → 0 < length w
 not_empty f s [] x h = let n = s.some x in cc

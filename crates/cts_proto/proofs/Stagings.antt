@@ -1,11 +1,11 @@
 -- The laws of a chain's packets.
-use Rattle.std.proofs.Common.{◌≡◌, ℕ, ◌+◌, Bool, true, false, List, [], ◌∷◌, ◌++◌, map, refl, sym, ◌∙◌, ap, subst, arith, append_assoc, Option, None}
+use Rattle.std.proofs.Common.{◌≡◌, ℕ, Bool, true, false, List, [], ◌∷◌, ◌++◌, map, refl, sym, ◌∙◌, ap, subst, append_assoc, Option, None}
 use Rattle.std.proofs.lemmas.List.{map-append}
 use Rattle.cts_def.specs.declared.bad_cause.BadCause.{BadCause}
 use Rattle.cts_proto.specs.Framing.{Framing, Output, IsSound, plain}
 use Rattle.cts_proto.specs.Cuts.{Pieces, IsCut, Ends}
-use Rattle.cts_proto.specs.Packets.{joined, and_then, CutEach, cut_by, IsStage, Stages, IsPackets}
-use Rattle.cts_proto.specs.Laws.{AllSound, CutsBytes, HasPackets, HasOnePackets, PacketsGrow, HoweverCut}
+use Rattle.cts_proto.specs.Packets.{joined, and_then, CutEach, cut_by, IsStage, Stages}
+use Rattle.cts_proto.specs.Laws.{AllSound, HasPackets, HasOnePackets, PacketsGrow, HoweverCut}
 use Rattle.cts_proto.proofs.Framings.{taken_none, ends_nil}
 use Rattle.cts_proto.proofs.OneCut.{one_cut}
 use Rattle.cts_proto.proofs.SomeCut.{some_cut}
@@ -46,9 +46,11 @@ each_grows : (f : Framing) → IsSound f → (from : List ℕ) (bad : Option Bad
 each_grows f s from bad [] qs c d e h k = (d.outs, ap (λ (o : List Output). o ++ d.outs) (sym (rest_gives_none f s from bad c e h)))
 each_grows f s from bad (p ∷ ps) qs c d e h k =
     let first = one_cut f (from ++ p) h.0 k.0 s h.2 k.2 in
-    let more = each_grows f s h.0.rest h.0.bad ps qs h.1 k.1 h.2.ends h.3 (subst (λ (r : Pieces). CutEach f r.rest (ps ++ qs) k.1) (sym first) k.3) in
-    (more.0, ap (λ (r : Pieces). r.outs) k.4 ∙ (ap (λ (r : Pieces). r.outs ++ k.1.outs) (sym first)
-    ∙ (ap (λ (o : List Output). h.0.outs ++ o) more.1 ∙ (sym (append_assoc h.0.outs h.1.outs more.0) ∙ ap (λ (r : Pieces). r.outs ++ more.0) (sym h.4)))))
+    let more = each_grows f s h.0.rest h.0.bad ps qs h.1 k.1 h.2.ends h.3 (subst (λ (r : Pieces). CutEach f r.rest (ps ++ qs) k.1) (sym first) k.3) in (
+      more.0,
+      ap (λ (r : Pieces). r.outs) k.4 ∙ (ap (λ (r : Pieces). r.outs ++ k.1.outs) (sym first)
+          ∙ (ap (λ (o : List Output). h.0.outs ++ o) more.1 ∙ (sym (append_assoc h.0.outs h.1.outs more.0) ∙ ap (λ (r : Pieces). r.outs ++ more.0) (sym h.4)))),
+    )
 
 -- any stage
 

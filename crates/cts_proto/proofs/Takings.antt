@@ -1,8 +1,8 @@
 -- What is cut off some bytes, and then off the rest, is cut off the bytes.
-use Rattle.std.proofs.Common.{◌≡◌, ℕ, ◌+◌, true, false, List, [], ◌∷◌, ◌++◌, length, refl, sym, ◌∙◌, ap, subst, append_assoc, arith, Option, Some, None, length-append}
+use Rattle.std.proofs.Common.{◌≡◌, ℕ, ◌+◌, true, false, List, [], ◌∷◌, ◌++◌, length, refl, sym, ◌∙◌, ap, subst, append_assoc, arith, length-append}
 use Rattle.std.proofs.lemmas.List.{append-nil}
 use Rattle.cts_proto.specs.Framing.{Framing, Output, IsSound}
-use Rattle.cts_proto.specs.Cuts.{NoneBegins, Part, Parts, outputs, empties, gaps, Taken, Ends, Pieces, IsCut}
+use Rattle.cts_proto.specs.Cuts.{NoneBegins, Part, Parts, outputs, empties, gaps, Taken, Pieces, IsCut}
 use Rattle.cts_proto.specs.Packets.{and_then}
 use Rattle.cts_proto.proofs.Framings.{none_append, none_join, parts_append, parts_join, outputs_append, empties_append, gaps_append}
 

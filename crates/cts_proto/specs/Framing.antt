@@ -1,5 +1,5 @@
 -- What it is to frame bytes, whatever a frame is.
-use Rattle.std.specs.Prelude.{◌≡◌, ℕ, ◌<◌, Bool, true, false, List, [], ◌∷◌, ◌++◌, length, Option, Some, None}
+use Rattle.std.specs.Prelude.{◌≡◌, ℕ, Bool, true, false, List, [], ◌∷◌, ◌++◌, Option, Some, None}
 use Rattle.cts_def.specs.declared.time.Time.{Time}
 use Rattle.cts_def.specs.declared.bad_cause.BadCause.{BadCause}
 

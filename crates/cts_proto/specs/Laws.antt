@@ -1,5 +1,5 @@
 -- Laws of the cut and of packets, for all framings that are sound.
-use Rattle.std.specs.Prelude.{◌≡◌, ℕ, Bool, true, false, List, [], ◌∷◌, ◌++◌}
+use Rattle.std.specs.Prelude.{◌≡◌, ℕ, false, List, [], ◌∷◌, ◌++◌}
 use Rattle.cts_proto.specs.Framing.{Framing, Output, IsSound}
 use Rattle.cts_proto.specs.Cuts.{Pieces, IsCut}
 use Rattle.cts_proto.specs.Packets.{IsPackets, joined}

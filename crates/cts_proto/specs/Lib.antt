@@ -3,3 +3,4 @@ pub mod Cuts
 pub mod Packets
 pub mod Laws
 pub mod LengthRow
+pub mod Cuttings

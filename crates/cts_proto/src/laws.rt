@@ -1,4 +1,6 @@
 // Laws of the definitions. Each function does nothing: its contract is the law.
+ghost use Rattle.cts_proto.specs.Framing.{IsSound};
+ghost use Rattle.cts_proto.specs.LengthRow.{length_framing};
 ghost use Rattle.cts_proto.specs.Laws.{HasCut, HasOneCut, HasPackets, HasOnePackets, PacketsGrow, HoweverCut};
 
 /// Under a sound framing each list of bytes has exactly one cut.
@@ -15,4 +17,9 @@ pub fn packets()
     ensures one { HasOnePackets }
     ensures grow { PacketsGrow }
     ensures however_cut { HoweverCut }
+{}
+
+/// Frames that state their length are a sound framing, so the laws hold of them.
+pub fn length_frames()
+    ensures { IsSound length_framing }
 {}

@@ -1,6 +1,12 @@
 //! What it is to frame a connection's bytes into packets, for every protocol, and the first of them.
 #![tactic(auto)]
 
+mod cutting;
+mod found;
 mod laws;
 
-pub use laws::{cuts, packets};
+pub use cutting::{Cutting, cut_length};
+pub use laws::{cuts, length_frames, packets};
+
+#[cfg(test)]
+mod tests;
