@@ -1,0 +1,3 @@
+pub mod Numerals
+pub mod SignLemmas
+pub mod WholeLemmas
