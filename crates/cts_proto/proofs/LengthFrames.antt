@@ -46,3 +46,8 @@ frame_more bytes spans place n t some room whole =
     map-append (λ (s : ℕ × ℕ). plain (slice_range bytes s.0 s.1)) spans ((place, place + n) ∷ []) ∙ ap (λ (v : List ℕ). frames_at bytes spans ++ plain v ∷ []) span in
     subst (λ (outs : List Output). Taken length_framing bytes outs 0 0 (drop (place + n) bytes)) (sym spans_are)
     (subst (λ (rest : List ℕ). Taken length_framing bytes (frames_at bytes spans ++ plain w ∷ []) 0 0 rest) (drop-drop n place bytes) all)
+
+-- spans end no earlier than they begin
+pub tiles_end : (from : ℕ) (spans : List (ℕ × ℕ)) (end : ℕ) → Tiles from spans end → from ≤ end
+tiles_end from [] end t = omega arith
+tiles_end from (s ∷ ss) end t = omega (arith, t.0, t.1, tiles_end s.1 ss end t.2)

@@ -1,0 +1,78 @@
+-- What the history says when the entries of an event are appended.
+use Rattle.std.proofs.Common.{◌≡◌, ℕ, ◌+◌, ◌-◌, ◌≤◌, ◌<◌, Bool, true, false, ◌&&◌, ◌||◌, List, [], ◌∷◌, ◌++◌, length, take, drop, slice_range, Option, Some, None, refl, sym, ◌∙◌, ap, arith, unwrap_or}
+use Rattle.std.specs.Prelude.{nat_le}
+use Rattle.std.proofs.lemmas.List.Sums.{sum_by-cons}
+use Rattle.std.proofs.lemmas.List.{length-take-le, length-drop, length-map}
+use Rattle.std.proofs.lemmas.Bool.Decides.{nat_tests}
+use Rattle.cts_def.specs.declared.time.Time.{Time}
+use Rattle.cts_entry.specs.declared.entry.Entry.{Entry}
+use Rattle.cts_entry.specs.Histories.{or_earlier, latest, connects_maker, is_connected, is_stopped, entries_for, entries_in, bytes_for, bytes_in}
+use Rattle.cts_entry.proofs.Appending.{connected-append, stopped-append, entries-append, bytes-append}
+use Rattle.cts_proto.specs.Framing.{Output, plain}
+use Rattle.cts_proto.specs.Cuttings.{Tiles, frames_at}
+use Rattle.cts_proto.proofs.LengthFrames.{tiles_end}
+use Rattle.cts_core.specs.States.{State, has_room}
+use Rattle.cts_core.specs.Runs.{packet_entries, time_in}
+use Rattle.cts_def.specs.declared.ident.Ident.TheVariants.{Unknown}
+use Rattle.cts_entry.specs.declared.what.What.TheVariants.{Packet}
+use Rattle.cts_serve.specs.Path.{path_ground}
+
+or_false : (b : Bool) → (b || false) ≡ b
+or_false true = refl
+or_false false = refl
+
+-- entries that have no Stop leave it as it is
+pub stopped_kept : (history entries : List Entry) → is_stopped entries ≡ false → is_stopped (history ++ entries) ≡ is_stopped history
+stopped_kept history entries h = stopped-append history entries ∙ (ap (λ b. is_stopped history || b) h ∙ or_false (is_stopped history))
+
+-- entries that open and close nothing leave a maker connected or not
+pub connected_kept : (by : ℕ) (history entries : List Entry) → latest (connects_maker by) entries ≡ None → is_connected by (history ++ entries) ≡ is_connected by history
+connected_kept by history entries h = connected-append by history entries ∙ ap (λ t. unwrap_or (or_earlier t (latest (connects_maker by) history)) false) h
+
+pub entries_grow : (history entries : List Entry) (n : ℕ) → entries_in entries ≡ n → entries_in (history ++ entries) ≡ entries_in history + n
+entries_grow history entries n h = entries-append history entries ∙ ap (λ t. entries_in history + t) h
+
+pub bytes_grow : (history entries : List Entry) (n : ℕ) → bytes_in entries ≡ n → bytes_in (history ++ entries) ≡ bytes_in history + n
+bytes_grow history entries n h = bytes-append history entries ∙ ap (λ t. bytes_in history + t) h
+
+both_within : (a b m n : ℕ) → a ≤ m → b ≤ n → (nat_le a m && nat_le b n) ≡ true
+both_within a b m n h k = grind (arith, nat_tests)
+
+-- the limits are kept
+pub room_holds : (s : State) (entries : List Entry) (n m : ℕ) → entries_in entries ≡ n → bytes_in entries ≡ m → entries_in s.history + n ≤ 4000000 → bytes_in s.history + m ≤ 1073741824 → has_room path_ground s entries ≡ true
+room_holds s entries n m h k a b = both_within (entries_in (s.history ++ entries)) (bytes_in (s.history ++ entries)) 4000000 1073741824 (omega (arith, entries_grow s.history entries n h, a)) (omega (arith, bytes_grow s.history entries m k, b))
+
+-- packets alone
+
+abbrev packet_entry : Time → Output → Entry
+packet_entry now o = record { by = 0; time = time_in o.heading now; what = Packet Unknown o.bytes }
+
+pub packets_connect_none : (now : Time) (outs : List Output) → latest (connects_maker 0) (packet_entries path_ground now 0 outs) ≡ None
+packets_connect_none now [] = refl
+packets_connect_none now (o ∷ outs) = ap (λ t. or_earlier t None) (packets_connect_none now outs)
+
+pub packets_stop_none : (now : Time) (outs : List Output) → is_stopped (packet_entries path_ground now 0 outs) ≡ false
+packets_stop_none now [] = refl
+packets_stop_none now (o ∷ outs) = packets_stop_none now outs
+
+pub packets_count : (now : Time) (outs : List Output) → entries_in (packet_entries path_ground now 0 outs) ≡ length outs
+packets_count now [] = refl
+packets_count now (o ∷ outs) =
+    let more : entries_in (packet_entries path_ground now 0 (o ∷ outs)) ≡ 1 + entries_in (packet_entries path_ground now 0 outs) = sum_by-cons (λ (e : Entry). entries_for e.what) (packet_entry now o) (packet_entries path_ground now 0 outs) in
+    omega (arith, more, packets_count now outs)
+
+span_length : (bytes : List ℕ) (from end : ℕ) → from ≤ end → end ≤ length bytes → length (slice_range bytes from end) ≡ end - from
+span_length bytes from end h k = length-take-le (end - from) (drop from bytes) (omega (arith, length-drop from bytes))
+
+-- the bytes of packets that lie one after another
+packets_bytes_from : (now : Time) (bytes : List ℕ) (from : ℕ) (spans : List (ℕ × ℕ)) (end : ℕ) → Tiles from spans end → end ≤ length bytes → bytes_in (packet_entries path_ground now 0 (frames_at bytes spans)) + from ≡ end
+packets_bytes_from now bytes from [] end t h = omega (arith, t)
+packets_bytes_from now bytes from (s ∷ ss) end t h =
+    let more : bytes_in (packet_entries path_ground now 0 (frames_at bytes (s ∷ ss))) ≡ length (slice_range bytes s.0 s.1) + bytes_in (packet_entries path_ground now 0 (frames_at bytes ss)) = sum_by-cons (λ (e : Entry). bytes_for e.what) (packet_entry now (plain (slice_range bytes s.0 s.1))) (packet_entries path_ground now 0 (frames_at bytes ss)) in
+    omega (arith, more, packets_bytes_from now bytes s.1 ss end t.2 h, span_length bytes s.0 s.1 (omega (arith, t.1)) (omega (arith, tiles_end s.1 ss end t.2, h)), t.0, t.1)
+
+pub packets_bytes : (now : Time) (bytes : List ℕ) (spans : List (ℕ × ℕ)) (end : ℕ) → Tiles 0 spans end → end ≤ length bytes → bytes_in (packet_entries path_ground now 0 (frames_at bytes spans)) ≡ end
+packets_bytes now bytes spans end t h = omega (arith, packets_bytes_from now bytes 0 spans end t h)
+
+pub frames_count : (bytes : List ℕ) (spans : List (ℕ × ℕ)) → length (frames_at bytes spans) ≡ length spans
+frames_count bytes spans = length-map spans (λ (s : ℕ × ℕ). plain (slice_range bytes s.0 s.1))

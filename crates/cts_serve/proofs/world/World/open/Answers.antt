@@ -1,0 +1,7 @@
+use Rattle.std.proofs.Common.{arith, rules}
+use Rattle.cts_serve.specs.Worlds.{held_in}
+use Rattle.cts_serve.proofs.WorldSteps.{opened}
+use Rattle.cts_serve.proofs.world.World.open.Goals as goal
+
+pub returns : goal.returns
+returns c = λ s h. opened (held_in c.args.self.now) s c.args.by _ _ (search rules) (omega arith) c.args.self.now.bytes_within c.in_ok-push.ensures.items c.clear.ensures.items h

@@ -1,0 +1,7 @@
+use Rattle.std.proofs.Common.{arith, rules}
+use Rattle.cts_serve.specs.Worlds.{held_in}
+use Rattle.cts_serve.proofs.WorldSteps.{stopped}
+use Rattle.cts_serve.proofs.world.World.stop.Goals as goal
+
+pub returns : goal.returns
+returns c = λ s h. stopped (held_in c.args.self.now) s _ (search rules) c.args.self.now.entries_within c.args.self.now.bytes_within c.in_ok-push.ensures.items h

@@ -1,0 +1,7 @@
+//! The top call of the program: `run`, from the words of the command line to the last printed line.
+#![tactic(auto)]
+
+mod enabling;
+mod posting;
+mod refusal;
+mod world;
