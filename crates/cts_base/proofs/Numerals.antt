@@ -4,7 +4,7 @@ use Rattle.std.specs.Char.{is_digit, digit_value}
 use Rattle.std.specs.List.{list_all}
 use Rattle.std.specs.Result.{OkIff, result_ok}
 use Rattle.std.specs.Str.{IsAscii, IsUtf8}
-use Rattle.std.specs.Str.Parse.{AllDigits, IsNumeral, digits_value, ParsesUnsigned, without_leading_plus}
+use Rattle.std.specs.Str.Parse.{AllDigits, IsNumeral, digits_value, digits_value_after, ParsesUnsigned, without_leading_plus}
 use Rattle.std.proofs.lemmas.Bool.Decides.{Decides-and, Decides-ltb, nat_tests}
 use Rattle.std.proofs.lemmas.Str.{IsUtf8-from_ascii}
 use Rattle.std.proofs.lemmas.Str.Ascii.{IsAscii-nil, IsAscii-cons}
@@ -14,7 +14,7 @@ use Rattle.std.proofs.Common.{◌*◌, ◌-◌, ◌∙◌, ◌+◌, lit<, unwrap
 use Rattle.std.proofs.lemmas.Bool.{lt-ltb, and_from}
 use Rattle.std.proofs.lemmas.Int.Digits.{digits_value-lt}
 use Rattle.std.proofs.lemmas.Nat.{pow-add}
-use Rattle.std.proofs.Math.Nat.{pow-le-pow_right, one-le-pow, mul-lt-mul_of_pos_right}
+use Rattle.std.proofs.Math.Nat.{pow-le-pow_right, one-le-pow, mul-lt-mul_of_pos_right, pow-suc, pow-zero}
 
 pub all_tells : (base : ℕ) (ds : List ℕ) → Decides (list_all (λ c. is_digit c base) ds) (AllDigits base ds)
 all_tells base [] = (λ _. tt, λ _. refl)
@@ -80,3 +80,23 @@ scaled-lt n k small few =
     let sum : k + (12 - k) ≡ 12 = omega arith in
     let whole : 10 ^ k * 10 ^ (12 - k) ≡ 10 ^ 12 = sym (pow-add 10 k (12 - k)) ∙ ap (λ e. 10 ^ e) sum in
     omega (arith, mul-lt-mul_of_pos_right {m = n} {n = 10 ^ k} {k = 10 ^ (12 - k)} small (one-le-pow (12 - k) 10 (lit< tt)))
+
+-- ---- the weight of a digit
+
+value_after-split : (base m : ℕ) (ds : List ℕ) → digits_value_after base m ds ≡ m * base ^ length ds + digits_value base ds
+value_after-split base m [] = let e : m * base ^ length {A = ℕ} [] ≡ m * 1 = ap (λ p. m * p) (pow-zero base) in omega (arith, e)
+value_after-split base m (c ∷ cs) =
+    let d = digit_value c in
+    let n = length cs in
+    let left = value_after-split base (m * base + d) cs in
+    let right = value_after-split base (0 * base + d) cs in
+    let none : 0 * base + d ≡ d = omega arith in
+    let power : m * base ^ length (c ∷ cs) ≡ m * (base ^ n * base) = ap (λ p. m * p) (pow-suc base n) in
+    let last : (0 * base + d) * base ^ n ≡ d * base ^ n = ap (λ x. x * base ^ n) none in
+    let first : (m * base + d) * base ^ n ≡ m * (base ^ n * base) + d * base ^ n = grind arith in
+    omega (arith, left, right, power, last, first)
+
+pub digits_value-weighed : (base digit : ℕ) (digits : List ℕ) → digits_value base (digit ∷ digits) ≡ digit_value digit * base ^ length digits + digits_value base digits
+digits_value-weighed base digit digits =
+    let none : 0 * base + digit_value digit ≡ digit_value digit = omega arith in
+    value_after-split base (0 * base + digit_value digit) digits ∙ ap (λ d. d * base ^ length digits + digits_value base digits) none

@@ -1,5 +1,7 @@
 // Signs and digits, as whole numbers and decimals have them.
 ghost use Rattle.std.specs.Prelude.{◌≡◌, ◌≤◌, ◌^◌, ◌&&◌, Some, None, nat_lt, ◌==◌, slice_index, if◌then◌else◌};
+ghost use Rattle.std.specs.Char.{is_digit};
+ghost use Rattle.std.specs.List.{list_all};
 ghost use Rattle.std.specs.Str.Parse.{digits_value, without_leading_sign, starts_with_minus};
 ghost use Rattle.cts_base.specs.Digits.{is_numeral};
 
@@ -15,6 +17,25 @@ pub(crate) fn cut_sign(text: &[u8]) -> (bool, &[u8])
         [b'+', rest @ ..] => (false, rest),
         _ => (false, text),
     }
+}
+
+/// Whether the text is decimal digits, and one at least.
+pub(crate) fn is_numeral(text: &[u8]) -> bool
+    ensures { result ≡ is_numeral 10 text.now }
+{
+    !text.is_empty() && has_digits(text)
+}
+
+fn has_digits(text: &[u8]) -> bool
+    ensures { result ≡ list_all (λ c. is_digit c 10) text.now }
+{
+    text.iter().all(|c| is_digit(*c))
+}
+
+fn is_digit(c: u8) -> bool
+    ensures { result ≡ is_digit c 10 }
+{
+    c.is_ascii_digit()
 }
 
 /// The number that the digits write, where it fits 128 bits. No sign may stand before them.
