@@ -1,0 +1,4 @@
+pub mod BitLists
+pub mod Digits
+pub mod Shifts
+pub mod Turns

@@ -1,0 +1,11 @@
+//! Bit fields of a buffer, in both byte orders.
+//!
+//! A field is read and written as one number, whatever bits it begins and ends at. No call takes memory.
+#![tactic(auto)]
+
+mod order;
+mod place;
+mod window;
+
+pub use order::Order;
+pub use place::{Place, PlaceFault};
