@@ -5,7 +5,10 @@
 
 mod order;
 mod place;
+mod read;
+mod sign;
 mod window;
 
 pub use order::Order;
 pub use place::{Place, PlaceFault};
+pub use read::{read_bytes, read_int, read_uint};
