@@ -1,7 +1,9 @@
 -- The bytes that a field touches, and its run of bits among them.
 use Rattle.std.proofs.Common.{ℕ, zero, suc, ◌≡◌, ◌+◌, ◌-◌, ◌*◌, ◌/◌, ◌%◌, ◌^◌, ◌<◌, ◌≤◌, Bool, true, false, List, length, take, drop, get_or, reverse, refl, sym, ap, ◌∙◌, arith, inl, inr}
 use Rattle.std.proofs.lemmas.Bool.{cases_Bool, cases_lt, and_parts, or_cases, eqb-true}
-use Rattle.std.proofs.lemmas.List.{drop-drop, drop-take, length-drop, length-take, length-take-le, get_or-take, get_or-drop, get_or_past, take-take}
+use Rattle.std.proofs.lemmas.List.{drop-drop, drop-take, length-drop, length-take, length-take-le, take-take}
+use Rattle.std.proofs.lemmas.Int.Digits.{number_lt}
+use Rattle.std.proofs.Math.Nat.{pow-le-pow_right}
 use Rattle.std.specs.List.{slice_range}
 use Rattle.std.specs.Int.Digits.{number_from_digits}
 use Rattle.cts_bits.specs.declared.order.Order.{Order}
@@ -11,7 +13,7 @@ use Rattle.cts_bits.specs.Fields.{field_at, laid_out, run_start}
 use Rattle.cts_bits.specs.Places.{IsBeforeStart, is_whole, reach_of, span}
 use Rattle.cts_bits.specs.Windows.{in_order, number_in, tail_of}
 use Rattle.cts_bits.proofs.BitLists.{bits_of-below, bits_of-drop, bits_of-take, length-bits_of, number-bits_of}
-use Rattle.cts_bits.proofs.Digits.{number-run}
+use Rattle.cts_bits.proofs.Digits.{below_base-drop, below_base-take, number-run}
 use Rattle.cts_bits.proofs.Turns.{in_order-below, length-in_order}
 
 -- the bytes that a field touches, in the buffer's order
@@ -28,18 +30,6 @@ span_le offset bits most = omega arith
 -- whole bytes begin at a byte and are as many as their bits say
 whole_bytes : (offset bits : ℕ) → is_whole offset bits ≡ true → (offset % 8 ≡ 0) × (span offset bits ≡ bits / 8)
 whole_bytes offset bits e = grind (arith, and_parts, or_cases, eqb-true)
-
--- a part of bytes is bytes
-pub window-below : (o : Order) (offset bits : ℕ) (bytes : List ℕ) → ((i : ℕ) → get_or bytes i 0 < 256) → (i : ℕ) → get_or (window o offset bits bytes) i 0 < 256
-window-below o offset bits bytes all i =
-    let first : ℕ = reach_of o offset bits - span offset bits in
-    let count : ℕ = reach_of o offset bits - first in
-    elim (cases_lt i count) [
-      | inl inside ↦ rw (get_or-take count (drop first bytes) i 0 inside, get_or-drop first bytes i 0) (all (first + i))
-      | inr past ↦
-          let l = length-take count (drop first bytes) in
-          rw (get_or_past (take count (drop first bytes)) i 0 (omega arith)) (omega arith)
-    ]
 
 -- the field begins in the buffer
 pub span_le_reach : (o : Order) (offset bits : ℕ) → 1 ≤ bits → (IsBeforeStart o offset bits → ⊥) → span offset bits ≤ reach_of o offset bits
@@ -102,7 +92,7 @@ run_in_window Little offset bits bytes some front =
 
 -- a field is the middle of the number in the bytes that it touches
 pub field_in_window : (o : Order) (offset bits : ℕ) (bytes : List ℕ) → 1 ≤ bits → (IsBeforeStart o offset bits → ⊥)
-    → reach_of o offset bits ≤ length bytes → ((i : ℕ) → get_or bytes i 0 < 256)
+    → reach_of o offset bits ≤ length bytes → ((i : ℕ) → get_or (window o offset bits bytes) i 0 < 256)
     → field_at o offset bits bytes ≡ number_in o (window o offset bits bytes) / 2 ^ tail_of offset bits % 2 ^ bits
 unfolding field_at number_in
 field_in_window o offset bits bytes some ok fits all =
@@ -112,7 +102,17 @@ field_in_window o offset bits bytes some ok fits all =
     let ordered = length-in_order o xs in
     let many = length-bits_of (in_order o xs) in
     let fill = filled offset bits some in
-    let small = window-below o offset bits bytes all in
     ap (number_from_digits 2) (run_in_window o offset bits bytes some front)
     ∙ number-run (offset % 8) bits (tail_of offset bits) (bits_of (in_order o xs)) (bits_of-below (in_order o xs)) (omega arith)
-    ∙ rw (number-bits_of (in_order o xs) (in_order-below o xs small)) refl
+    ∙ rw (number-bits_of (in_order o xs) (in_order-below o xs all)) refl
+
+-- a field of n bits is below 2 ^ n
+pub field_at-lt : (o : Order) (offset bits : ℕ) (bytes : List ℕ) → field_at o offset bits bytes < 2 ^ bits
+unfolding field_at
+field_at-lt o offset bits bytes =
+    let rest : List ℕ = drop (run_start o offset bits) (bits_of (laid_out o offset bits bytes)) in
+    let below = below_base-take 2 bits rest (below_base-drop 2 (run_start o offset bits) (bits_of (laid_out o offset bits bytes)) (bits_of-below (laid_out o offset bits bytes))) in
+    let run = number_lt 2 (take bits rest) below in
+    let len = length-take bits rest in
+    let top : 2 ^ length (take bits rest) ≤ 2 ^ bits = pow-le-pow_right {n = 2} (omega arith) {i = length (take bits rest)} {j = bits} (omega arith) in
+    omega arith

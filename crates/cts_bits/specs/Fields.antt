@@ -1,6 +1,6 @@
 -- The field at a place of a buffer: a run of bits of the buffer's bytes, or of some of them in reversed
 -- order.
-use Rattle.std.specs.Prelude.{ℕ, ℤ, ◌≡◌, ◌<◌, ◌+◌, ◌-◌, ◌*◌, ◌/◌, ◌%◌, List, take, drop, reverse, slice_range, if◌then◌else◌}
+use Rattle.std.specs.Prelude.{ℕ, ℤ, ◌≡◌, ◌<◌, ◌+◌, ◌-◌, ◌*◌, ◌/◌, ◌%◌, List, length, take, drop, reverse, slice_index, slice_range, if◌then◌else◌}
 use Rattle.cts_bits.specs.Bits.{bits_of, number_of_bits, twos_complement}
 use Rattle.cts_bits.specs.Places.{is_whole, reach_of, span}
 use Rattle.cts_bits.specs.declared.order.Order.{Order}
@@ -50,3 +50,8 @@ signed_field p bytes = twos_complement p.bits (field p bytes)
 -- bit k of the buffer is the j-th bit of the field, for some j
 abbrev pub IsFieldBit : Place → ℕ → Type 0
 IsFieldBit p k = (j : ℕ) × (j < p.bits) × (k ≡ bit_place_at p.order p.offset p.bits j)
+
+-- the new bytes differ from the old ones in bits of the field alone
+pub record KeepsOtherBits (p : Place) (old new : List ℕ) : Type 0 where
+  pub len : length new ≡ length old
+  pub others : (k : ℕ) → (IsFieldBit p k → ⊥) → slice_index (bits_of new) k ≡ slice_index (bits_of old) k

@@ -8,7 +8,9 @@ mod place;
 mod read;
 mod sign;
 mod window;
+mod write;
 
 pub use order::Order;
 pub use place::{Place, PlaceFault};
 pub use read::{read_bytes, read_int, read_uint};
+pub use write::{write_int, write_uint};

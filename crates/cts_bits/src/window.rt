@@ -1,5 +1,5 @@
 // The bytes that hold a field, as one number.
-ghost use Rattle.std.specs.Prelude.{◌≡◌, ◌≤◌, ◌<◌, ◌+◌, ◌/◌, ◌%◌, ◌^◌, length};
+ghost use Rattle.std.specs.Prelude.{◌≡◌, ◌≤◌, ◌<◌, ◌+◌, ◌/◌, ◌%◌, ◌^◌, length, slice_index, ℕ};
 ghost use Rattle.cts_bits.specs.Windows.{number_in, replaced, turned};
 
 use crate::Order;
@@ -19,7 +19,9 @@ fn turned(order: Order, len: usize, i: usize) -> usize
 /// The number of the bytes, as a field of this order reads them. A field touches nine bytes at most.
 pub(crate) fn number_in(window: &[u8], order: Order) -> u128
     requires { length window.now ≤ 9 }
-    ensures { result ≡ number_in order window.now }
+    ensures value { result ≡ number_in order window.now }
+    ensures fits { result < 256 ^ length window.now }
+    ensures bytes { (i : ℕ) → slice_index window.now i < 256 }
 {
     let mut number = 0;
     for i in 0..window.len() {
