@@ -1,5 +1,6 @@
 pub mod BitLists
 pub mod Digits
+pub mod FieldBits
 pub mod Middles
 pub mod Runs
 pub mod Shifts

@@ -61,11 +61,11 @@ length-put_mid a k xs ys len le =
 put_mid-same : (a k : ℕ) (xs : List ℕ) → put_mid a k xs (take k (drop a xs)) ≡ xs
 put_mid-same a k xs = ap (λ (ys : List ℕ). take a xs ++ ys) (take-append-drop k (drop a xs)) ∙ take-append-drop a xs
 
-turned-lt : (o : Order) (n i : ℕ) → i < n → turned o n i < n
+pub turned-lt : (o : Order) (n i : ℕ) → i < n → turned o n i < n
 turned-lt Big n i h = h
 turned-lt Little n i h = omega arith
 
-turned-turned : (o : Order) (n i : ℕ) → i < n → turned o n (turned o n i) ≡ i
+pub turned-turned : (o : Order) (n i : ℕ) → i < n → turned o n (turned o n i) ≡ i
 turned-turned Big n i h = refl
 turned-turned Little n i h = omega arith
 
@@ -89,7 +89,7 @@ bit_in_number o xs i r lt small all =
     sym left ∙ right
 
 -- which bit of the field a bit of its bytes is
-bit_place_is : (o : Order) (offset bits i r q : ℕ) → span offset bits ≤ reach_of o offset bits → 1 ≤ bits → i < span offset bits → r < 8
+pub bit_place_is : (o : Order) (offset bits i r q : ℕ) → span offset bits ≤ reach_of o offset bits → 1 ≤ bits → i < span offset bits → r < 8
     → q ≡ 8 * turned o (span offset bits) i + r → offset % 8 ≤ q
     → 8 * (reach_of o offset bits - span offset bits + i) + r ≡ bit_place_at o offset bits (q - offset % 8)
 bit_place_is Big offset bits i r q front some lt small e ge = omega arith

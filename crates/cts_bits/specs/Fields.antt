@@ -47,9 +47,17 @@ field p bytes = field_at p.order p.offset p.bits bytes
 abbrev pub signed_field : Place → List ℕ → ℤ
 signed_field p bytes = twos_complement p.bits (field p bytes)
 
--- bit k of the buffer is the j-th bit of the field, for some j
+-- where bit j of the field, counted from its most significant one, stands in the buffer's bits
+abbrev pub bit_place : Place → ℕ → ℕ
+bit_place p j = bit_place_at p.order p.offset p.bits j
+
+-- bit k of the buffer is a bit of the field
 abbrev pub IsFieldBit : Place → ℕ → Type 0
-IsFieldBit p k = (j : ℕ) × (j < p.bits) × (k ≡ bit_place_at p.order p.offset p.bits j)
+IsFieldBit p k = (j : ℕ) × (j < p.bits) × (k ≡ bit_place p j)
+
+-- no bit of a buffer is in both fields
+abbrev pub IsApart : Place → Place → Type 0
+IsApart p q = (k : ℕ) → IsFieldBit p k → IsFieldBit q k → ⊥
 
 -- the new bytes differ from the old ones in bits of the field alone
 pub record KeepsOtherBits (p : Place) (old new : List ℕ) : Type 0 where

@@ -3,6 +3,7 @@
 //! A field is read and written as one number, whatever bits it begins and ends at. No call takes memory.
 #![tactic(auto)]
 
+mod laws;
 mod order;
 mod place;
 mod read;
@@ -10,7 +11,11 @@ mod sign;
 mod window;
 mod write;
 
+pub use laws::field_is_its_bits;
 pub use order::Order;
 pub use place::{Place, PlaceFault};
 pub use read::{read_bytes, read_int, read_uint};
 pub use write::{write_int, write_uint};
+
+#[cfg(test)]
+mod tests;

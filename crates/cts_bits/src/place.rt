@@ -1,5 +1,5 @@
 // Where a field lies.
-ghost use Rattle.std.specs.Prelude.{◌≡◌, ◌≤◌, ◌<◌, ◌+◌, ◌-◌, ◌↔◌, IfOk, IsTrue};
+ghost use Rattle.std.specs.Prelude.{◌≡◌, ◌≤◌, ◌<◌, ◌+◌, ◌*◌, ◌↔◌, IfOk, IsTrue, ℕ};
 ghost use Rattle.cts_bits.specs.Places.{IsBadSize, IsBeforeStart, is_whole, span};
 
 use crate::Order;
@@ -48,7 +48,7 @@ impl fmt::Display for PlaceFault {
 impl Error for PlaceFault {}
 
 impl Place {
-    ghost use Rattle.cts_bits.specs.Fields.{reach};
+    ghost use Rattle.cts_bits.specs.Fields.{IsFieldBit, reach};
     ghost use Rattle.cts_bits.specs.Windows.{tail_of};
 
     /// The place of a field of `bits` bits from bit `offset` on.
@@ -98,7 +98,9 @@ impl Place {
 
     /// How many leading bytes of a buffer hold the field.
     pub fn reach(&self) -> u32
-        ensures { result ≡ reach self.now }
+        ensures value { result ≡ reach self.now }
+        ensures holds { (k : ℕ) → IsFieldBit self.now k → k < 8 * reach self.now }
+        ensures least { (k : ℕ) × IsFieldBit self.now k × (8 * reach self.now ≤ k + 8) }
     {
         match self.order {
             Order::Big => (self.offset + self.bits + 7) / 8,

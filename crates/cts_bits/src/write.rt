@@ -1,7 +1,8 @@
 // Writing fields.
 ghost use Rattle.std.specs.Prelude.{◌≡◌, ◌≤◌, ◌<◌, ◌^◌, length};
 ghost use Rattle.cts_bits.specs.Bits.{HasSpelling, twos_complement};
-ghost use Rattle.cts_bits.specs.Fields.{KeepsOtherBits, field, reach, signed_field};
+ghost use Rattle.cts_bits.specs.declared.place.Place.{Place};
+ghost use Rattle.cts_bits.specs.Fields.{IsApart, KeepsOtherBits, field, reach, signed_field};
 
 use crate::Place;
 use crate::sign::unsigned;
@@ -14,6 +15,8 @@ pub fn write_uint(buffer: &mut [u8], place: &Place, value: u64)
     requires spelled { value < 2 ^ place.now.bits }
     ensures value { field place.now buffer.new ≡ value }
     ensures others { KeepsOtherBits place.now buffer.old buffer.new }
+    ensures apart { (q : Place) → IsApart place.now q → reach q ≤ length buffer.old
+        → field q buffer.new ≡ field q buffer.old }
     ensures same { value ≡ field place.now buffer.old → buffer.new ≡ buffer.old }
 {
     let order = place.order();
@@ -35,6 +38,8 @@ pub fn write_int(buffer: &mut [u8], place: &Place, value: i64)
     requires spelled { HasSpelling place.now.bits value }
     ensures value { signed_field place.now buffer.new ≡ value }
     ensures others { KeepsOtherBits place.now buffer.old buffer.new }
+    ensures apart { (q : Place) → IsApart place.now q → reach q ≤ length buffer.old
+        → field q buffer.new ≡ field q buffer.old }
     ensures same { value ≡ signed_field place.now buffer.old → buffer.new ≡ buffer.old }
 {
     write_uint(buffer, place, unsigned(value, place.bits()));

@@ -9,7 +9,7 @@ pub returns-clause-value : goal.returns-clause-value
 returns-clause-value c =
     let p = c.args.place.now in
     let f : c.first.result ≡ reach p - span p.offset p.bits = omega arith in
-    let same : slice_range c.args.buffer.now c.first.result c.reach.result ≡ window p.order p.offset p.bits c.args.buffer.now = rw (f, c.reach.ensures) refl in
+    let same : slice_range c.args.buffer.now c.first.result c.reach.result ≡ window p.order p.offset p.bits c.args.buffer.now = rw (f, c.reach.ensures.value) refl in
     let w : c.number_in.result ≡ number_in p.order (window p.order p.offset p.bits c.args.buffer.now) =
         c.number_in.ensures.value ∙ rw (c.order.ensures, same) refl in
     let small = rw same at c.number_in.ensures.bytes in
