@@ -1,6 +1,5 @@
 -- Other bits in the middle of a number.
-use Rattle.std.proofs.Common.{ℕ, ◌≡◌, ◌+◌, ◌-◌, ◌*◌, ◌/◌, ◌%◌, ◌^◌, ◌<◌, ◌≤◌, ◌⊎◌, refl, sym, ap, ◌∙◌, arith, inl, inr}
-use Rattle.std.proofs.Math.Nat.{add-mul, mul_assoc}
+use Rattle.std.proofs.Common.{ℕ, ◌≡◌, ◌+◌, ◌-◌, ◌*◌, ◌/◌, ◌%◌, ◌^◌, ◌<◌, ◌≤◌, ◌⊎◌, sym, ap, ◌∙◌, arith, inl, inr}
 use Rattle.std.proofs.lemmas.Nat.{div-add-mod', div-mul-add, mod-mul-add, mod_below, mul-add-lt, pow-add, pow_pos, shr-shr, shr_below}
 use Rattle.std.proofs.lemmas.Nat.Bits.{bit_at_cat_high, bit_at_cat_low}
 use Rattle.std.specs.Int.{bit_at}
@@ -28,7 +27,7 @@ cut-replaced number t n value sv =
 pub replaced-same : (number t n : ℕ) → replaced number t n (number / 2 ^ t % 2 ^ n) ≡ number
 replaced-same number t n =
     let joined : number / 2 ^ (t + n) * 2 ^ n + number / 2 ^ t % 2 ^ n ≡ number / 2 ^ t =
-        rw (← shr-shr number t n) (div-add-mod' (number / 2 ^ t) (2 ^ n)) in
+    rw (← shr-shr number t n) (div-add-mod' (number / 2 ^ t) (2 ^ n)) in
     rw joined (div-add-mod' number (2 ^ t))
 
 -- the bits below and above stay

@@ -1,5 +1,5 @@
 -- The bytes that a field touches, and its run of bits among them.
-use Rattle.std.proofs.Common.{ℕ, zero, suc, ◌≡◌, ◌+◌, ◌-◌, ◌*◌, ◌/◌, ◌%◌, ◌^◌, ◌<◌, ◌≤◌, Bool, true, false, List, length, take, drop, get_or, reverse, refl, sym, ap, ◌∙◌, arith, inl, inr}
+use Rattle.std.proofs.Common.{ℕ, ◌≡◌, ◌+◌, ◌-◌, ◌*◌, ◌/◌, ◌%◌, ◌^◌, ◌<◌, ◌≤◌, true, List, length, take, drop, get_or, refl, sym, ap, ◌∙◌, arith, inl, inr}
 use Rattle.std.proofs.lemmas.Bool.{cases_Bool, cases_lt, and_parts, or_cases, eqb-true}
 use Rattle.std.proofs.lemmas.List.{drop-drop, drop-take, length-drop, length-take, length-take-le, take-take}
 use Rattle.std.proofs.lemmas.Int.Digits.{number_lt}
@@ -82,7 +82,7 @@ run_in_window Big offset bits bytes some front =
     let fill = filled offset bits some in
     let start : 8 * first + offset % 8 ≡ offset = omega arith in
     let inside : bits_of (window Big offset bits bytes) ≡ take (8 * span offset bits) (drop (8 * first) (bits_of bytes)) =
-        bits_of-take (reach_of Big offset bits - first) (drop first bytes) ∙ rw (count, bits_of-drop first bytes) refl in
+    bits_of-take (reach_of Big offset bits - first) (drop first bytes) ∙ rw (count, bits_of-drop first bytes) refl in
     sym (ap (λ (x : List ℕ). take bits (drop (offset % 8) x)) inside
     ∙ run_within (8 * first) (offset % 8) bits (8 * span offset bits) (bits_of bytes) (omega arith)
     ∙ ap (λ (x : ℕ). take bits (drop x (bits_of bytes))) start)

@@ -1,12 +1,11 @@
 -- What a write of the number in a field's bytes leaves.
-use Rattle.std.proofs.Common.{ℕ, zero, suc, ◌≡◌, ◌+◌, ◌-◌, ◌*◌, ◌/◌, ◌%◌, ◌^◌, ◌<◌, ◌≤◌, ◌⊎◌, List, ◌++◌, length, take, drop, get_or, reverse, refl, sym, ap, ◌∙◌, arith, inl, inr}
+use Rattle.std.proofs.Common.{ℕ, ◌≡◌, ◌+◌, ◌-◌, ◌*◌, ◌/◌, ◌%◌, ◌^◌, ◌<◌, ◌≤◌, ◌⊎◌, List, ◌++◌, length, take, drop, get_or, reverse, refl, sym, ap, ◌∙◌, arith, inl, inr}
 use Rattle.std.proofs.lemmas.Bool.{cases_lt}
-use Rattle.std.proofs.lemmas.List.{get_or-append_right, get_or_append_left, get_or-drop, get_or-take, get_or_past, length-append, length-drop, length-take, length-take-le, take-append-drop, reverse-reverse}
+use Rattle.std.proofs.lemmas.List.{get_or-append_right, get_or_append_left, get_or-drop, get_or-take, get_or_past, length-append, length-drop, length-take-le, take-append-drop, reverse-reverse}
 use Rattle.std.proofs.Math.Nat.{pow-le-pow_right}
 use Rattle.std.proofs.lemmas.Slice.{between-put_mid}
 use Rattle.std.specs.Int.{bit_at}
 use Rattle.std.specs.Int.Digits.{number_from_digits}
-use Rattle.std.specs.List.{slice_range}
 use borrow.Rule.Slice.PartMut.{put_mid}
 use Rattle.cts_bits.specs.declared.order.Order.{Order}
 use Rattle.cts_bits.specs.declared.order.Order.TheVariants.{Big, Little}
@@ -85,7 +84,7 @@ bit_in_number o xs i r lt small all =
     let same : get_or ys t 0 ≡ get_or xs i 0 = get_or-in_order o xs t inside ∙ ap (λ (x : ℕ). get_or xs x 0) (turned-turned o (length xs) i lt) in
     let left : get_or (bits_of ys) q 0 ≡ bit_at (get_or xs i 0) (7 - r) = get_or-bits_of ys q ∙ rw (byte, place, same) refl in
     let right : get_or (bits_of ys) q 0 ≡ bit_at (number_from_digits 256 ys) (8 * length xs - 1 - q) =
-        get_or-number (bits_of ys) q (bits_of-below ys) (omega arith) ∙ rw (many, spelled) refl in
+    get_or-number (bits_of ys) q (bits_of-below ys) (omega arith) ∙ rw (many, spelled) refl in
     sym left ∙ right
 
 -- which bit of the field a bit of its bytes is
@@ -150,13 +149,13 @@ bit-after_inside o offset bits value old ys w i r lt small none =
     let new : bit_at (get_or ys i 0) (7 - r) ≡ bit_at (number_in o ys) at = bit_in_number o ys i r (omega (arith, w.len)) small w.new_bytes ∙ rw w.len refl in
     let was : bit_at (get_or xs i 0) (7 - r) ≡ bit_at (number_in o xs) at = bit_in_number o xs i r (omega arith) small w.old_bytes ∙ rw lx refl in
     let apart : (at < tail_of offset bits) ⊎ (tail_of offset bits + bits ≤ at) =
-        elim (cases_lt q (offset % 8)) [
-          | inl before ↦ inr (omega arith)
-          | inr from ↦ elim (cases_lt q (offset % 8 + bits)) [
-              | inl within ↦ absurd (none (q - offset % 8) (omega arith) (bit_place_is o offset bits i r q front w.some lt small refl from))
-              | inr past ↦ inl (omega arith)
-            ]
-        ] in
+    elim (cases_lt q (offset % 8)) [
+      | inl before ↦ inr (omega arith)
+      | inr from ↦ elim (cases_lt q (offset % 8 + bits)) [
+        | inl within ↦ absurd (none (q - offset % 8) (omega arith) (bit_place_is o offset bits i r q front w.some lt small refl from))
+        | inr past ↦ inl (omega arith)
+      ]
+    ] in
     new ∙ rw w.number (bit_at-replaced (number_in o xs) (tail_of offset bits) bits value at w.spelled apart) ∙ sym was
 
 -- a bit that is none of the field is as it was
@@ -173,19 +172,19 @@ bit-after o offset bits value old ys w k none =
     elim (cases_lt (k / 8) first) [
       | inl before ↦ new ∙ rw (get_or-put_mid_below first (span offset bits) old ys (k / 8) before (omega arith)) (sym was)
       | inr from ↦ elim (cases_lt (k / 8) (first + span offset bits)) [
-          | inr past ↦ new ∙ rw (get_or-put_mid_past first (span offset bits) old ys (k / 8) len past (omega arith)) (sym was)
-          | inl within ↦
-              let i : ℕ = k / 8 - first in
-              let byte : k / 8 ≡ first + i = omega arith in
-              let place : k ≡ 8 * (first + i) + k % 8 = omega arith in
-              let count : reach_of o offset bits - first ≡ span offset bits = omega arith in
-              let inside = bit-after_inside o offset bits value old ys w i (k % 8) (omega arith) (omega arith) (λ j lt e. none j lt (place ∙ e)) in
-              let ours : get_or (after o offset bits old ys) (k / 8) 0 ≡ get_or ys i 0 =
-                  ap (λ (x : ℕ). get_or (after o offset bits old ys) x 0) byte ∙ get_or-put_mid first (span offset bits) old ys i (omega arith) (omega arith) in
-              let theirs : get_or (window o offset bits old) i 0 ≡ get_or old (k / 8) 0 =
-                  get_or-take (reach_of o offset bits - first) (drop first old) i 0 (omega arith) ∙ get_or-drop first old i 0 ∙ ap (λ (x : ℕ). get_or old x 0) (sym byte) in
-              new ∙ ap (λ (b : ℕ). bit_at b (7 - k % 8)) ours ∙ inside ∙ ap (λ (b : ℕ). bit_at b (7 - k % 8)) theirs ∙ sym was
-        ]
+        | inr past ↦ new ∙ rw (get_or-put_mid_past first (span offset bits) old ys (k / 8) len past (omega arith)) (sym was)
+        | inl within ↦
+            let i : ℕ = k / 8 - first in
+            let byte : k / 8 ≡ first + i = omega arith in
+            let place : k ≡ 8 * (first + i) + k % 8 = omega arith in
+            let count : reach_of o offset bits - first ≡ span offset bits = omega arith in
+            let inside = bit-after_inside o offset bits value old ys w i (k % 8) (omega arith) (omega arith) (λ j lt e. none j lt (place ∙ e)) in
+            let ours : get_or (after o offset bits old ys) (k / 8) 0 ≡ get_or ys i 0 =
+            ap (λ (x : ℕ). get_or (after o offset bits old ys) x 0) byte ∙ get_or-put_mid first (span offset bits) old ys i (omega arith) (omega arith) in
+            let theirs : get_or (window o offset bits old) i 0 ≡ get_or old (k / 8) 0 =
+            get_or-take (reach_of o offset bits - first) (drop first old) i 0 (omega arith) ∙ get_or-drop first old i 0 ∙ ap (λ (x : ℕ). get_or old x 0) (sym byte) in
+            new ∙ ap (λ (b : ℕ). bit_at b (7 - k % 8)) ours ∙ inside ∙ ap (λ (b : ℕ). bit_at b (7 - k % 8)) theirs ∙ sym was
+      ]
     ]
 
 -- bytes in an order are the bytes

@@ -1,6 +1,7 @@
 -- The field at a place of a buffer: a run of bits of the buffer's bytes, or of some of them in reversed
 -- order.
-use Rattle.std.specs.Prelude.{ℕ, ℤ, ◌≡◌, ◌<◌, ◌+◌, ◌-◌, ◌*◌, ◌/◌, ◌%◌, List, length, take, drop, reverse, slice_index, slice_range, if◌then◌else◌}
+use Rattle.std.specs.Prelude.{ℕ, ℤ, ◌≡◌, ◌<◌, ◌+◌, ◌-◌, ◌*◌, ◌/◌, ◌%◌, List, length, take, drop, map, reverse, slice_index, slice_range, if◌then◌else◌}
+use Rattle.std.specs.List.{range_with_len}
 use Rattle.cts_bits.specs.Bits.{bits_of, number_of_bits, twos_complement}
 use Rattle.cts_bits.specs.Places.{is_whole, reach_of, span}
 use Rattle.cts_bits.specs.declared.order.Order.{Order}
@@ -35,6 +36,16 @@ bit_place_at Little offset bits j =
     let q = offset % 8 + j in
     8 * (reach_of Little offset bits - 1 - q / 8) + q % 8
 
+-- what a place shows: its offset and size in bits, and the order of its bytes
+abbrev pub offset_of : Place → ℕ
+offset_of p = p.offset
+
+abbrev pub size_of : Place → ℕ
+size_of p = p.bits
+
+abbrev pub order_of : Place → Order
+order_of p = p.order
+
 -- how many leading bytes of a buffer hold the field
 abbrev pub reach : Place → ℕ
 reach p = reach_of p.order p.offset p.bits
@@ -50,6 +61,10 @@ signed_field p bytes = twos_complement p.bits (field p bytes)
 -- where bit j of the field, counted from its most significant one, stands in the buffer's bits
 abbrev pub bit_place : Place → ℕ → ℕ
 bit_place p j = bit_place_at p.order p.offset p.bits j
+
+-- the bits of the field in order, each taken from where it stands in the buffer
+abbrev pub field_bits : Place → List ℕ → List ℕ
+field_bits p bytes = map (λ j. slice_index (bits_of bytes) (bit_place p j)) (range_with_len 0 p.bits)
 
 -- bit k of the buffer is a bit of the field
 abbrev pub IsFieldBit : Place → ℕ → Type 0

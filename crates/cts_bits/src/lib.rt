@@ -11,7 +11,7 @@ mod sign;
 mod window;
 mod write;
 
-pub use laws::field_is_its_bits;
+pub use laws::{field_is_its_bits, write_has_one_outcome};
 pub use order::Order;
 pub use place::{Place, PlaceFault};
 pub use read::{read_bytes, read_int, read_uint};

@@ -1,8 +1,10 @@
 // The order of a field's bytes.
 
-/// Which byte of a field comes first: the most significant one or the least significant one.
+/// The order of a field's bytes.
 #[derive(Clone, Copy, Debug, PartialEq, Eq)]
 pub enum Order {
+    /// The most significant byte first.
     Big,
+    /// The least significant byte first.
     Little,
 }

@@ -48,14 +48,20 @@ impl fmt::Display for PlaceFault {
 impl Error for PlaceFault {}
 
 impl Place {
-    ghost use Rattle.cts_bits.specs.Fields.{IsFieldBit, reach};
+    ghost use Rattle.cts_bits.specs.Fields.{IsFieldBit, offset_of, order_of, reach, size_of};
     ghost use Rattle.cts_bits.specs.Windows.{tail_of};
 
-    /// The place of a field of `bits` bits from bit `offset` on.
+    /// The place of a field of `bits` bits whose most significant bit, or, where it is whole
+    /// little-endian bytes, whose first byte, stands at bit `offset`.
+    ///
+    /// # Errors
+    ///
+    /// [`PlaceFault::Size`] where a field has no bits or more than 64, or ends past bit 8,388,608, and else
+    /// [`PlaceFault::BeforeStart`] where it would begin before byte 0.
     pub fn new(offset: u32, bits: u32, order: Order) -> Result<Place, PlaceFault>
-        ensures offset { IfOk result (λ p. p.offset ≡ offset) }
-        ensures bits { IfOk result (λ p. p.bits ≡ bits) }
-        ensures order { IfOk result (λ p. p.order ≡ order) }
+        ensures offset { IfOk result (λ p. offset_of p ≡ offset) }
+        ensures bits { IfOk result (λ p. size_of p ≡ bits) }
+        ensures order { IfOk result (λ p. order_of p ≡ order) }
         ensures size { (result ≡ Err PlaceFault.Size) ↔ IsBadSize offset bits }
         ensures before_start { (result ≡ Err PlaceFault.BeforeStart)
             ↔ ((IsBadSize offset bits → ⊥) × IsBeforeStart order offset bits) }
@@ -75,14 +81,14 @@ impl Place {
 
     /// The offset in bits.
     pub fn offset(&self) -> u32
-        ensures { result ≡ self.now.offset }
+        ensures { result ≡ offset_of self.now }
     {
         self.offset
     }
 
     /// The size in bits.
     pub fn bits(&self) -> u32
-        ensures size { result ≡ self.now.bits }
+        ensures size { result ≡ size_of self.now }
         ensures some { 1 ≤ result }
         ensures at_most_64 { result ≤ 64 }
     {
@@ -91,7 +97,7 @@ impl Place {
 
     /// The order of the bytes.
     pub fn order(&self) -> Order
-        ensures { result ≡ self.now.order }
+        ensures { result ≡ order_of self.now }
     {
         self.order
     }
@@ -118,14 +124,14 @@ impl Place {
 
     /// The first byte that holds a bit of the field.
     pub(crate) fn first(&self) -> u32
-        ensures { result + span self.now.offset self.now.bits ≡ reach self.now }
+        ensures { result + span (offset_of self.now) (size_of self.now) ≡ reach self.now }
     {
         self.reach() - span(self.offset, self.bits)
     }
 
     /// How many bits stand after the field, among those of its bytes as it reads them.
     pub(crate) fn tail(&self) -> u32
-        ensures value { result ≡ tail_of self.now.offset self.now.bits }
+        ensures value { result ≡ tail_of (offset_of self.now) (size_of self.now) }
         ensures short { result < 8 }
     {
         8 * span(self.offset, self.bits) - (self.offset % 8 + self.bits)

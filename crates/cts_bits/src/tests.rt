@@ -119,6 +119,8 @@ fn writes_every_small_place_as_a_walk_over_its_bits(rt: HostRuntime) {
                         write_uint(&mut written, &place, value);
                         put(&mut want, offset as usize, bits as usize, order, value);
                         assert_eq!(rt; written, want, "{bits} bits at {offset}");
+                        field_is_its_bits(&written, &place);
+                        write_has_one_outcome(&place, &BYTES, &written, &written);
                     }
                 }
             }
@@ -182,7 +184,11 @@ fn refuses_places_by_size_and_start(rt: HostRuntime) {
         (0, 16, Order::Little, None),
     ];
     for (offset, bits, order, want) in table {
-        assert_eq!(rt; Place::new(offset, bits, order).err(), want, "{bits} bits at {offset}");
+        assert_eq!(rt;
+            Place::new(offset, bits, order).err(),
+            want,
+            "{bits} bits at {offset}"
+        );
     }
 }
 

@@ -3,5 +3,5 @@ use Rattle.cts_bits.proofs.laws.field_is_its_bits.Goals as goal
 
 pub returns : goal.returns
 returns c =
-    let p = c.args._place.now in
-    field_by_bits p.order p.offset p.bits c.args._buffer.now p.some_bits p.after_start c.requires
+    let p = c.args.place.now in
+    field_by_bits p.order p.offset p.bits c.args.buffer.now p.some_bits p.after_start c.requires

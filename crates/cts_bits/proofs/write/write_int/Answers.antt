@@ -9,5 +9,5 @@ pub returns-clause-same : goal.returns-clause-same
 returns-clause-same c =
     let p = c.args.place.now in
     λ e. c.write_uint.ensures.same
-        (twos_complement-same p.bits c.unsigned.result (field p c.args.buffer.now) (rw c.bits.ensures.size at c.unsigned.ensures.fits)
-        (field_at-lt p.order p.offset p.bits c.args.buffer.now) (rw c.bits.ensures.size at c.unsigned.ensures.value ∙ to_z-of_z w64 c.args.value c.ranges.value ∙ e))
+    (twos_complement-same p.bits c.unsigned.result (field p c.args.buffer.now) (rw c.bits.ensures.size at c.unsigned.ensures.fits)
+    (field_at-lt p.order p.offset p.bits c.args.buffer.now) (rw c.bits.ensures.size at c.unsigned.ensures.value ∙ to_z-of_z w64 c.args.value c.ranges.value ∙ e))

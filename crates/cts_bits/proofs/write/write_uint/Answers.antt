@@ -1,4 +1,4 @@
-use Rattle.std.proofs.Common.{◌≡◌, ◌-◌, ◌≤◌, ◌∙◌, List, ℕ, length, refl, sym, ap, arith, slice_range}
+use Rattle.std.proofs.Common.{◌≡◌, ◌-◌, ◌∙◌, List, ℕ, length, refl, ap, arith, slice_range}
 use borrow.Rule.Slice.PartMut.{put_mid}
 use Rattle.cts_bits.specs.Fields.{KeepsOtherBits, reach}
 use Rattle.cts_bits.specs.Places.{span}
@@ -39,9 +39,9 @@ returns c =
     let same : slice_range old c.first-first.result c.reach.result ≡ window p.order p.offset p.bits old = rw (f, c.reach.ensures.value) refl in
     let was : c.number_in.result ≡ number_in p.order (window p.order p.offset p.bits old) = c.number_in.ensures.value ∙ rw (c.order-order.ensures, same) refl in
     let now : number_in p.order ys ≡ replaced (number_in p.order (window p.order p.offset p.bits old)) (tail_of p.offset p.bits) p.bits c.args.value =
-        rw c.order-order.ensures at c.put.ensures ∙ c.replaced-number.ensures ∙ rw (was, c.tail.ensures.value, c.bits.ensures.size) refl in
+    rw c.order-order.ensures at c.put.ensures ∙ c.replaced-number.ensures ∙ rw (was, c.tail.ensures.value, c.bits.ensures.size) refl in
     let len : length ys ≡ span p.offset p.bits =
-        c.put.auto.window ∙ ap length same ∙ length-window p.order p.offset p.bits old front c.requires.fits in
+    c.put.auto.window ∙ ap length same ∙ length-window p.order p.offset p.bits old front c.requires.fits in
     let w : IsWritten p.order p.offset p.bits c.args.value old ys = record {
       some = p.some_bits;
       after_start = p.after_start;
