@@ -1,0 +1,10 @@
+pub mod BitLists
+pub mod Digits
+pub mod FieldBits
+pub mod Middles
+pub mod Outcomes
+pub mod Runs
+pub mod Shifts
+pub mod Signs
+pub mod Turns
+pub mod Writes

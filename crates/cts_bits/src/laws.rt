@@ -1,0 +1,23 @@
+// What holds of the definitions that the contracts cite.
+ghost use Rattle.std.specs.Prelude.{◌≡◌, ◌≤◌, length};
+ghost use Rattle.cts_bits.specs.Bits.{number_of_bits};
+ghost use Rattle.cts_bits.specs.Fields.{KeepsOtherBits, field, field_bits, reach};
+
+use crate::Place;
+
+/// A field is the number that its bits spell, each taken from where it stands in the buffer. So the
+/// places of its bits alone say which fields share a bit.
+pub fn field_is_its_bits(buffer: &[u8], place: &Place)
+    requires { reach place.now ≤ length buffer.now }
+    ensures { field place.now buffer.now ≡ number_of_bits (field_bits place.now buffer.now) }
+{}
+
+/// A field's value and the bits outside it leave no choice for the bytes: two buffers that keep the bits
+/// outside the field, and have the same value in it, are the same.
+pub fn write_has_one_outcome(place: &Place, old: &[u8], one: &[u8], other: &[u8])
+    requires fits { reach place.now ≤ length old.now }
+    requires one { KeepsOtherBits place.now old.now one.now }
+    requires other { KeepsOtherBits place.now old.now other.now }
+    requires same { field place.now one.now ≡ field place.now other.now }
+    ensures { one.now ≡ other.now }
+{}

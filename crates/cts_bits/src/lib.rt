@@ -1,0 +1,21 @@
+//! Bit fields of a buffer, in both byte orders.
+//!
+//! A field is read and written as one number, whatever bits it begins and ends at. No call takes memory.
+#![tactic(auto)]
+
+mod laws;
+mod order;
+mod place;
+mod read;
+mod sign;
+mod window;
+mod write;
+
+pub use laws::{field_is_its_bits, write_has_one_outcome};
+pub use order::Order;
+pub use place::{Place, PlaceFault};
+pub use read::{read_bytes, read_int, read_uint};
+pub use write::{write_int, write_uint};
+
+#[cfg(test)]
+mod tests;
