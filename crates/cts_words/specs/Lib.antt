@@ -1,0 +1,4 @@
+pub mod Grammar
+pub mod Statements
+pub mod Seen
+pub mod Joining
