@@ -2,9 +2,10 @@
 use Rattle.std.proofs.Common.{◌≡◌, ℕ, zero, suc, ◌+◌, ◌<◌, ◌≤◌, Bool, true, false, cond, List, [], ◌∷◌, ◌++◌, length, take, drop, Result, Ok, Err, refl, sym, ap, ◌∙◌, arith, ◌==◌, map, subst, add-one, get_or}
 use Rattle.std.proofs.lemmas.List.{append-nil, map-append}
 use Rattle.cts_words.specs.Grammar.{Word, Between, text, words}
-use Rattle.cts_words.specs.Statements.{lines, with_front, rows, or_open, is_join, joins, own, unless_dangling, said, ◌>>=◌}
-use Rattle.cts_words.specs.Seen.{Fails, word_of}
-use Rattle.cts_words.specs.Joining.{ends, Adds}
+use Rattle.cts_words.specs.Statements.{lines, with_front, is_join, joins, own}
+use Rattle.cts_words.specs.Answers.{IsRefused}
+use Rattle.cts_words.specs.Seen.{word_of}
+use Rattle.cts_words.specs.Joining.{ends, Adds, rows, or_open, unless_dangling, lines_said, ◌>>=◌}
 use Rattle.cts_words.specs.declared.fault.WordFault.{WordFault}
 use Rattle.cts_words.specs.declared.fault.WordFault.TheVariants as fault
 use Rattle.cts_words.specs.declared.line.Piece.{Piece}
@@ -66,7 +67,7 @@ bind_same : {A : Type 0} (r : Result A WordFault) (f g : A → Result (List Stat
 bind_same (Ok x) f g h = h x
 bind_same (Err e) f g h = refl
 
-pub start : (j : Joiner) (lines : List (List ℕ)) (n : ℕ) → n ≡ 1 → ((rows : List (List Word)) → ends j rows ≡ unless_dangling rows) → (rows n lines >>= ends j) ≡ said lines
+pub start : (j : Joiner) (lines : List (List ℕ)) (n : ℕ) → n ≡ 1 → ((rows : List (List Word)) → ends j rows ≡ unless_dangling rows) → (rows n lines >>= ends j) ≡ lines_said lines
 start j lines n e h = rw e (bind_same (rows 1 lines) (ends j) unless_dangling h)
 
 rows_then : (r : Result (List (List Word)) WordFault) (row : List Word) (f : List (List Word) → Result (List Statement) WordFault) → ((r >>= (λ others. Ok (row ∷ others))) >>= f) ≡ (r >>= (λ others. f (row ∷ others)))
@@ -78,18 +79,18 @@ pub one_line : (old new : Joiner) (row : List Word) (line : List ℕ) (others : 
 one_line old new row line others n e h =
     rw e (rows_then (rows (suc n) others) row (ends old) ∙ bind_same (rows (suc n) others) (λ others. ends old (row ∷ others)) (ends new) (λ rows. sym (h rows)))
 
-pub fails_first : (e : WordFault) (line : List ℕ) (others : List (List ℕ)) (n : ℕ) (f : List (List Word) → Result (List Statement) WordFault) → Fails e (or_open n (words Between line)) → Fails e (rows n (line ∷ others) >>= f)
+pub fails_first : (e : WordFault) (line : List ℕ) (others : List (List ℕ)) (n : ℕ) (f : List (List Word) → Result (List Statement) WordFault) → IsRefused e (or_open n (words Between line)) → IsRefused e (rows n (line ∷ others) >>= f)
 fails_first fault.Memory line others n f h = tt
 fails_first (fault.OpenQuote k) line others n f h = rw h refl
 fails_first (fault.DanglingJoin k) line others n f h = rw h refl
 fails_first (fault.NotText k) line others n f h = rw h refl
 
-pub fails_along : (e : WordFault) (r s : Result (List Statement) WordFault) → r ≡ s → Fails e r → Fails e s
-fails_along e r s p h = subst (Fails e) p h
+pub fails_along : (e : WordFault) (r s : Result (List Statement) WordFault) → r ≡ s → IsRefused e r → IsRefused e s
+fails_along e r s p h = subst (IsRefused e) p h
 
 -- what holds as the lines are read
 pub record IsReading (joiner : Joiner) (rest text : List ℕ) : Type 0 where
-  pub said : (rows (joiner.line + 1) (lines rest) >>= ends joiner) ≡ said (lines text)
+  pub said : (rows (joiner.line + 1) (lines rest) >>= ends joiner) ≡ lines_said (lines text)
   pub room : joiner.line + length rest ≤ length text
   pub idle : joiner.joined ≡ false → joiner.words.items ≡ []
 

@@ -1,25 +1,12 @@
--- How the code's values and answers are seen.
-use Rattle.std.specs.Prelude.{Bool, false, ◌∷◌, not, ◌==◌, ◌≡◌, ℕ, ◌<◌, List, [], length, Some, None, Result, Ok, Err}
+-- How the values of the reading code are seen.
+use Rattle.std.specs.Prelude.{Bool, false, ◌∷◌, not, ◌==◌, ◌≡◌, ℕ, ◌<◌, List, [], length, Some, None}
 use Rattle.cts_words.specs.Grammar.{Word, Bare, Quoted, Between, words, with_word, is_white}
-use Rattle.cts_words.specs.declared.fault.WordFault.{WordFault}
-use Rattle.cts_words.specs.declared.fault.WordFault.TheVariants.{OpenQuote, DanglingJoin, NotText, Memory}
 use Rattle.cts_words.specs.declared.line.Piece.{Piece}
 use Rattle.cts_words.specs.declared.line.Piece.TheVariants as piece
 use Rattle.cts_words.specs.declared.line.Stop.{Stop}
 use Rattle.cts_words.specs.declared.line.Stop.TheVariants as stop
 use Rattle.cts_words.specs.declared.line.Next.{Next}
 use Rattle.cts_words.specs.declared.line.Next.TheVariants as next
-
--- What a function returned is what reading gives, unless memory ran out.
-abbrev pub Fails : {Y : Type 0} → WordFault → Result Y WordFault → Type 0
-Fails Memory read = Unit {0}
-Fails (OpenQuote n) read = read ≡ Err (OpenQuote n)
-Fails (DanglingJoin n) read = read ≡ Err (DanglingJoin n)
-Fails (NotText n) read = read ≡ Err (NotText n)
-
-abbrev pub Gives : {X Y : Type 0} → (X → Y) → Result X WordFault → Result Y WordFault → Type 0
-Gives view (Ok x) read = read ≡ Ok (view x)
-Gives view (Err e) read = Fails e read
 
 abbrev pub word_of : Piece → Word
 word_of (piece.Bare w) = Bare w.now

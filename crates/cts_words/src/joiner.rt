@@ -3,7 +3,8 @@
 ghost use Rattle.std.specs.Prelude.{◌≡◌, ◌+◌, ◌<◌, ◌^◌, ◌++◌, [], map, false, OnOk, Result};
 ghost use Rattle.cts_words.specs.Grammar.{text};
 ghost use Rattle.cts_words.specs.Statements.{joins, own, statement, is_join};
-ghost use Rattle.cts_words.specs.Seen.{word_of, Gives};
+ghost use Rattle.cts_words.specs.Answers.{Gives};
+ghost use Rattle.cts_words.specs.Seen.{word_of};
 ghost use Rattle.cts_words.specs.Joining.{ends, Adds, IsStart};
 
 use crate::fault::WordFault;

@@ -10,6 +10,7 @@
 
 mod fault;
 mod joiner;
+pub mod laws;
 mod line;
 mod reading;
 mod statement;

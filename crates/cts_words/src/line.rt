@@ -3,8 +3,9 @@
 ghost use Rattle.std.specs.Prelude.{◌≡◌, ◌≤◌, ◌<◌, ◌-◌, length, List, [], ◌==◌, not, Some, None, map, IfSome, IfNone};
 ghost use Rattle.std.specs.List.{position_or_len};
 ghost use Rattle.cts_words.specs.Grammar.{words, with_word, Quoted, Between, InWord, InQuotes, is_white, is_quote, hash};
-ghost use Rattle.cts_words.specs.Statements.{or_open};
-ghost use Rattle.cts_words.specs.Seen.{IsBlackFirst, NextIs, word_of, Gives, stops};
+ghost use Rattle.cts_words.specs.Answers.{Gives};
+ghost use Rattle.cts_words.specs.Joining.{or_open};
+ghost use Rattle.cts_words.specs.Seen.{IsBlackFirst, NextIs, word_of, stops};
 
 use crate::fault::WordFault;
 use std::alloc::Global;

@@ -1,6 +1,9 @@
-ghost use Rattle.std.specs.Prelude.{◌≡◌, ◌+◌, ◌<◌, ◌^◌, ◌∷◌, length};
-ghost use Rattle.cts_words.specs.Statements.{lines, said, statements_of};
-ghost use Rattle.cts_words.specs.Seen.{Gives};
+//! A text read line by line.
+
+ghost use Rattle.std.specs.Prelude.{◌≡◌, ◌+◌, ◌<◌, ◌^◌, ◌∷◌, ◌↔◌, ℕ, length, IsErrOf};
+ghost use Rattle.cts_words.specs.Statements.{lines, said, IsNotTextAt, IsOpenAt, IsDanglingAt};
+ghost use Rattle.cts_words.specs.Joining.{lines_said};
+ghost use Rattle.cts_words.specs.Answers.{Gives, UnlessMemory};
 
 use crate::fault::WordFault;
 use crate::joiner::Joiner;
@@ -25,7 +28,7 @@ fn cut_line(text: &[u8]) -> (&[u8], &[u8])
 
 fn read_lines(alloc: Global, text: &[u8]) -> Result<Vec<Statement>, WordFault>
     requires { length text.now + 1 < 2 ^ 32 }
-    ensures { Gives (λ v. v.items) result (said (lines text.now)) }
+    ensures { Gives (λ v. v.items) result (lines_said (lines text.now)) }
 {
     let mut joiner = Joiner::new(alloc);
     let mut rest = text;
@@ -38,10 +41,23 @@ fn read_lines(alloc: Global, text: &[u8]) -> Result<Vec<Statement>, WordFault>
     joiner.finish()
 }
 
-/// The statements of a text, or the first fault.
+/// The statements of a text, or its first fault. Only want of memory is not told by the text.
 pub fn statements(alloc: Global, text: &[u8]) -> Result<Vec<Statement>, WordFault>
     requires { length text.now + 1 < 2 ^ 32 }
-    ensures exact { Gives (λ v. v.items) result (statements_of text.now) }
+
+    // What the text says, unless memory ran out.
+    ensures statements { Gives (λ v. v.items) result (said text.now) }
+
+    // Each fault comes exactly where the text has it.
+    ensures not_text {
+        UnlessMemory result ((n : ℕ) → IsErrOf result (WordFault.NotText n) ↔ IsNotTextAt text.now n)
+    }
+    ensures open_quote {
+        UnlessMemory result ((n : ℕ) → IsErrOf result (WordFault.OpenQuote n) ↔ IsOpenAt text.now n)
+    }
+    ensures dangling_join {
+        UnlessMemory result ((n : ℕ) → IsErrOf result (WordFault.DanglingJoin n) ↔ IsDanglingAt text.now n)
+    }
 {
     match str::from_utf8(text) {
         Ok(_) => read_lines(alloc, text),

@@ -1,6 +1,22 @@
-use Rattle.std.proofs.lemmas.Bool.{eq-eqb}
+use Rattle.std.proofs.Common.{List, Vec, Global, sym, subst}
 use Rattle.std.proofs.lemmas.Str.{utf8_valid_len-IsUtf8}
+use Rattle.cts_words.specs.Answers.{Gives}
+use Rattle.cts_words.specs.declared.statement.Statement.{Statement}
+use Rattle.cts_words.proofs.Faults.{said-lines, exact_not_text, exact_open, exact_dangling}
 use Rattle.cts_words.proofs.reading.statements.Goals as goal
 
-pub returns-in-Ok : goal.returns-in-Ok
-returns-in-Ok c = record { exact = rw (eq-eqb _ _ (utf8_valid_len-IsUtf8 c.args.text.now c.in-Ok.ensures.cases.1)) c.read_lines.ensures }
+abbrev items : Vec Statement Global → List Statement
+items v = v.items
+
+pub returns-in-Ok-clause-statements : goal.returns-in-Ok-clause-statements
+returns-in-Ok-clause-statements c =
+    subst (Gives items c.read_lines.result) (sym (said-lines c.args.text.now (utf8_valid_len-IsUtf8 c.args.text.now c.in-Ok.ensures.cases.1))) c.read_lines.ensures
+
+pub returns-in-Ok-clause-not_text : goal.returns-in-Ok-clause-not_text
+returns-in-Ok-clause-not_text c = exact_not_text items c.read_lines.result c.args.text.now (returns-in-Ok-clause-statements c)
+
+pub returns-in-Ok-clause-open_quote : goal.returns-in-Ok-clause-open_quote
+returns-in-Ok-clause-open_quote c = exact_open items c.read_lines.result c.args.text.now (returns-in-Ok-clause-statements c)
+
+pub returns-in-Ok-clause-dangling_join : goal.returns-in-Ok-clause-dangling_join
+returns-in-Ok-clause-dangling_join c = exact_dangling items c.read_lines.result c.args.text.now (returns-in-Ok-clause-statements c)
