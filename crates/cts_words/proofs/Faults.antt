@@ -1,8 +1,9 @@
 -- Lines read one by one say what the text says, and each fault comes exactly where the text has it.
 use Rattle.std.proofs.Common.{◌≡◌, ℕ, suc, Bool, true, false, List, [], ◌∷◌, length, map, Option, Some, None, Result, Ok, Err, refl, sym, ap, ◌∙◌}
 use Rattle.std.specs.Prelude.{◌↔◌, if◌then◌else◌}
+use Rattle.std.specs.Str.{IsUtf8, is_utf8}
 use Rattle.std.specs.Str.Lossy.{utf8_valid_len}
-use Rattle.std.proofs.lemmas.Bool.{eq-eqb}
+use Rattle.std.proofs.lemmas.Str.{is_utf8-from_IsUtf8, IsUtf8-from_is_utf8}
 use Rattle.std.proofs.lemmas.List.{length-map}
 use Rattle.cts_words.specs.Answers.{Gives, UnlessMemory}
 use Rattle.cts_words.specs.Grammar.{Word, Between, words}
@@ -44,8 +45,15 @@ lines_said-lines text =
     rw rows-at (then_dangling (open_quote text) (map line_words (lines text)))
     ∙ ap (unless_fault OpenQuote (open_quote text)) (dangling_last (dangles false (map line_words (lines text))) (lines text) refl)
 
-pub said-lines : (text : List ℕ) → utf8_valid_len text ≡ length text → said text ≡ lines_said (lines text)
-said-lines text e = rw (eq-eqb _ _ e) (sym (lines_said-lines text))
+pub said-lines : (text : List ℕ) → IsUtf8 text → said text ≡ lines_said (lines text)
+said-lines text is = rw (is_utf8-from_IsUtf8 text is) (sym (lines_said-lines text))
+
+no_text_step : (b : Bool) (text : List ℕ) → is_utf8 text ≡ b → ¬ (IsUtf8 text) → said text ≡ Err (NotText (utf8_valid_len text))
+no_text_step true text e is_not = absurd (is_not (IsUtf8-from_is_utf8 text e))
+no_text_step false text e is_not = rw e refl
+
+pub said-no_text : (text : List ℕ) (place : ℕ) → ¬ (IsUtf8 text) → place ≡ utf8_valid_len text → said text ≡ Err (NotText place)
+said-no_text text place is_not e = no_text_step (is_utf8 text) text refl is_not ∙ ap (λ (n : ℕ). Err (NotText n)) (sym e)
 
 -- ---- each fault where the text has it
 

@@ -4,7 +4,7 @@ use Rattle.std.specs.Prelude.{not, ◌⊎◌, ◌&&◌}
 use Rattle.std.proofs.lemmas.Bool.{and_parts, and_from, or_cases, eqb-true}
 use Rattle.std.proofs.lemmas.List.{append-nil}
 use Rattle.cts_words.specs.Grammar.{Word, Bare, Quoted, Place, Between, InWord, InQuotes, words, with_word, is_white, is_quote, hash}
-use Rattle.cts_words.specs.Spelling.{IsBlank, IsBareWord, IsQuotedWord, IsOpenWord, IsWord, SpellsThen, Spells, LeavesOpen, ends_word, ends_line, begins_bare, all_white, none_white, is_without}
+use Rattle.cts_words.specs.Spelling.{IsBlank, IsOpenWord, IsWord, SpellsThen, Spells, LeavesOpen, ends_word, ends_line, begins_bare, all_white, none_white, is_without}
 use Rattle.cts_words.proofs.Words.{with_words, with_words-none, at_hash, at_quote, at_bare}
 
 not_false : (b : Bool) → not b ≡ true → b ≡ false
@@ -182,15 +182,15 @@ bare_start : (c : ℕ) (rest : List ℕ) (o : Option (List Word)) → is_white c
 bare_start c rest o e h q s =
     subst (λ (o : Option (List Word)). Says o (c ∷ rest)) (sym s.is)
     (word_more (Bare (c ∷ s.word)) s.tail (c ∷ rest) s.rest
-     (record {
-       white = [];
-       parts = ap (λ l. c ∷ l) s.parts;
-       blank = refl;
-       begin = and_from _ _ (and_from _ _ (not_true (is_white c) e) (not_true (c == hash) h)) (not_true (is_quote c) q);
-       bytes = and_from _ _ (not_true (is_white c) e) s.bytes;
-       over = s.over;
-     })
-     s.says)
+    (record {
+      white = [];
+      parts = ap (λ l. c ∷ l) s.parts;
+      blank = refl;
+      begin = and_from _ _ (and_from _ _ (not_true (is_white c) e) (not_true (c == hash) h)) (not_true (is_quote c) q);
+      bytes = and_from _ _ (not_true (is_white c) e) s.bytes;
+      over = s.over;
+    })
+    s.says)
 
 between_step : (a b d : Bool) (c : ℕ) (rest : List ℕ) → is_white c ≡ a → (c == hash) ≡ b → is_quote c ≡ d
     → Says (words Between rest) rest → SaysAt (InWord (c ∷ [])) (words (InWord (c ∷ [])) rest) rest → SaysAt (InQuotes c []) (words (InQuotes c []) rest) rest

@@ -1,5 +1,6 @@
 -- The statements of a text, and its faults.
 use Rattle.std.specs.Prelude.{ℕ, suc, Bool, false, ◌==◌, ◌≡◌, if◌then◌else◌, List, [], ◌∷◌, ◌++◌, length, map, Option, Some, None, is_some, unwrap_or, Result, Ok, Err}
+use Rattle.std.specs.Str.{is_utf8}
 use Rattle.std.specs.Str.Lossy.{utf8_valid_len}
 use Rattle.cts_words.specs.Grammar.{Word, Bare, Quoted, Between, text, words}
 use Rattle.cts_words.specs.declared.fault.WordFault.{WordFault}
@@ -65,9 +66,9 @@ statements_of text = joined (map line_words (lines text))
 
 -- ---- faults
 
--- The place of the first byte that begins no whole character of UTF-8.
+-- Where a text is not UTF-8, the place of the first byte that begins no whole character.
 abbrev pub not_text : List ℕ → Option ℕ
-not_text text = if utf8_valid_len text == length text then None else Some (utf8_valid_len text)
+not_text text = if is_utf8 text then None else Some (utf8_valid_len text)
 
 abbrev pub first_open : ℕ → List (List ℕ) → Option ℕ
 first_open n [] = None

@@ -1,4 +1,4 @@
-//! Lines joined to statements.
+//! Lines that are joined to statements.
 
 ghost use Rattle.std.specs.Prelude.{◌≡◌, ◌+◌, ◌<◌, ◌^◌, ◌++◌, [], map, false, OnOk, Result};
 ghost use Rattle.cts_words.specs.Grammar.{text};
@@ -14,13 +14,17 @@ use cts_base::{Bytes, List, Memory};
 use std::alloc::Global;
 use std::mem;
 
-/// The statements of the lines so far, and the words of a joined line that goes on.
+/// The statements of the lines so far, and what is known of the statement that goes on.
 #[derive(Drop)]
 pub struct Joiner {
     pub done: Vec<Statement>,
+    /// The words of the statement that goes on.
     pub words: Vec<Bytes>,
+    /// The number of its first line.
     pub first: u32,
+    /// How many lines there were.
     pub line: u32,
+    /// Whether the last of them ends with the join word.
     pub joined: bool,
 }
 
@@ -56,6 +60,7 @@ fn split_join<'a, 'b>(row: &'a [Piece<'b>]) -> (bool, &'a [Piece<'b>])
     }
 }
 
+/// Copies words behind others.
 fn push_texts(alloc: Global, words: &mut Vec<Bytes>, pieces: &[Piece]) -> Result<(), Memory>
     ensures { OnOk result (words.new.items ≡ words.old.items ++ map text (map word_of pieces.now)) }
 {
@@ -80,9 +85,11 @@ impl Joiner {
         }
     }
 
+    /// Ends the statement: the next line begins another.
     fn end_statement(&mut self, alloc: Global) -> Result<(), Memory>
         requires { self.old.line + 1 < 2 ^ 32 }
-        ensures done { OnOk result (self.new.done.items ≡ self.old.done.items ++ statement self.old.first self.old.words.items) }
+        ensures done { let next = statement self.old.first self.old.words.items in
+            OnOk result (self.new.done.items ≡ self.old.done.items ++ next) }
         ensures words { OnOk result (self.new.words.items ≡ []) }
         ensures first { OnOk result (self.new.first ≡ self.old.line + 1) }
         ensures line { self.new.line ≡ self.old.line }
@@ -116,6 +123,7 @@ impl Joiner {
         Ok(())
     }
 
+    /// The statements of all lines, or the fault that the last line joins.
     pub fn finish(self) -> Result<Vec<Statement>, WordFault>
         requires { self.joined ≡ false → self.words.items ≡ [] }
         ensures { Gives (λ v. v.items) result (ends self []) }

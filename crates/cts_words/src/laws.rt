@@ -7,5 +7,4 @@ ghost use Rattle.cts_words.specs.Spelling.{WordsAreSpelled, OpenQuotesAreLeft};
 pub fn words_are_spelled()
     ensures words { WordsAreSpelled }
     ensures open { OpenQuotesAreLeft }
-{
-}
+{}

@@ -19,3 +19,5 @@ pub use fault::WordFault;
 pub use reading::statements;
 pub use statement::Statement;
 
+#[cfg(test)]
+mod tests;

@@ -2,15 +2,15 @@
 
 ghost use Rattle.std.specs.Prelude.{◌≡◌, ◌≤◌, ◌<◌, ◌-◌, length, List, [], ◌==◌, not, Some, None, map, IfSome, IfNone};
 ghost use Rattle.std.specs.List.{position_or_len};
-ghost use Rattle.cts_words.specs.Grammar.{words, with_word, Quoted, Between, InWord, InQuotes, is_white, is_quote, hash};
 ghost use Rattle.cts_words.specs.Answers.{Gives};
+ghost use Rattle.cts_words.specs.Grammar.{words, with_word, Quoted, Between, InWord, InQuotes, is_white, is_quote, hash};
 ghost use Rattle.cts_words.specs.Joining.{or_open};
 ghost use Rattle.cts_words.specs.Seen.{IsBlackFirst, NextIs, word_of, stops};
 
 use crate::fault::WordFault;
 use std::alloc::Global;
 
-/// A word as it stands in its line.
+/// A word as it stands in its line, without its quotes.
 #[derive(Clone, Copy)]
 pub enum Piece<'a> {
     Bare(&'a [u8]),
@@ -18,21 +18,18 @@ pub enum Piece<'a> {
 }
 
 /// What stands next in a line.
-pub enum Next<'a> {
+enum Next<'a> {
+    /// A word, and what follows it.
     Word(Piece<'a>, &'a [u8]),
+    /// A quote that does not end.
     Open,
+    /// Nothing, or a comment.
     End,
-}
-
-fn is_space(byte: u8) -> bool
-    ensures { result ≡ is_white byte }
-{
-    byte == b' ' || byte == b'\t' || byte == b'\r'
 }
 
 /// What a run of bytes ends before.
 #[derive(Clone, Copy)]
-pub enum Stop {
+enum Stop {
     White,
     Black,
     Byte(u8),
@@ -48,6 +45,18 @@ impl Stop {
             Stop::Byte(stop) => byte == *stop,
         }
     }
+}
+
+fn is_space(byte: u8) -> bool
+    ensures { result ≡ is_white byte }
+{
+    byte == b' ' || byte == b'\t' || byte == b'\r'
+}
+
+fn is_quote_mark(byte: u8) -> bool
+    ensures { result ≡ is_quote byte }
+{
+    byte == b'"' || byte == b'\''
 }
 
 /// How many bytes stand before the first at which to stop.
@@ -75,7 +84,8 @@ fn skip_white(line: &[u8]) -> &[u8]
 /// The rest of a quoted word, and what follows the quote that ends it.
 fn close_quote(quote: u8, line: &[u8]) -> Option<(&[u8], &[u8])>
     ensures open { IfNone result (words (InQuotes quote []) line.now ≡ None) }
-    ensures word { IfSome result (λ x. words (InQuotes quote []) line.now ≡ with_word (Quoted x.0.now) (words Between x.1.now)) }
+    ensures word { IfSome result (λ x.
+        words (InQuotes quote []) line.now ≡ with_word (Quoted x.0.now) (words Between x.1.now)) }
     ensures shorter { IfSome result (λ x. length x.1.now < length line.now) }
 {
     let len = run_len(Stop::Byte(quote), line);
@@ -85,13 +95,7 @@ fn close_quote(quote: u8, line: &[u8]) -> Option<(&[u8], &[u8])>
     Some((&line[..len], &line[len + 1..]))
 }
 
-fn is_quote_mark(byte: u8) -> bool
-    ensures { result ≡ is_quote byte }
-{
-    byte == b'"' || byte == b'\''
-}
-
-fn next_word(line: &[u8]) -> Next
+fn next_word(line: &[u8]) -> Next<'_>
     ensures { NextIs line.now result }
 {
     let line = skip_white(line);
@@ -111,7 +115,8 @@ fn next_word(line: &[u8]) -> Next
     Next::Word(Piece::Bare(&line[..len]), &line[len..])
 }
 
-pub fn words_of(alloc: Global, number: u32, line: &[u8]) -> Result<Vec<Piece>, WordFault>
+/// The words of the line with this number, or the fault that a quoted word does not end on it.
+pub fn words_of(alloc: Global, number: u32, line: &[u8]) -> Result<Vec<Piece<'_>>, WordFault>
     ensures { Gives (λ v. map word_of v.items) result (or_open number (words Between line.now)) }
 {
     let mut found = Vec::new(alloc);

@@ -26,6 +26,7 @@ fn cut_line(text: &[u8]) -> (&[u8], &[u8])
     (text, &text[text.len()..])
 }
 
+/// The statements of a text that is UTF-8.
 fn read_lines(alloc: Global, text: &[u8]) -> Result<Vec<Statement>, WordFault>
     requires { length text.now + 1 < 2 ^ 32 }
     ensures { Gives (λ v. v.items) result (lines_said (lines text.now)) }
@@ -49,15 +50,12 @@ pub fn statements(alloc: Global, text: &[u8]) -> Result<Vec<Statement>, WordFaul
     ensures statements { Gives (λ v. v.items) result (said text.now) }
 
     // Each fault comes exactly where the text has it.
-    ensures not_text {
-        UnlessMemory result ((n : ℕ) → IsErrOf result (WordFault.NotText n) ↔ IsNotTextAt text.now n)
-    }
-    ensures open_quote {
-        UnlessMemory result ((n : ℕ) → IsErrOf result (WordFault.OpenQuote n) ↔ IsOpenAt text.now n)
-    }
-    ensures dangling_join {
-        UnlessMemory result ((n : ℕ) → IsErrOf result (WordFault.DanglingJoin n) ↔ IsDanglingAt text.now n)
-    }
+    ensures not_text { UnlessMemory result
+        ((place : ℕ) → IsErrOf result (WordFault.NotText place) ↔ IsNotTextAt text.now place) }
+    ensures open_quote { UnlessMemory result
+        ((line : ℕ) → IsErrOf result (WordFault.OpenQuote line) ↔ IsOpenAt text.now line) }
+    ensures dangling_join { UnlessMemory result
+        ((line : ℕ) → IsErrOf result (WordFault.DanglingJoin line) ↔ IsDanglingAt text.now line) }
 {
     match str::from_utf8(text) {
         Ok(_) => read_lines(alloc, text),
