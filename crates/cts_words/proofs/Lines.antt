@@ -12,7 +12,7 @@ use Rattle.cts_words.specs.declared.line.Piece.{Piece}
 use Rattle.cts_words.specs.declared.joiner.Joiner.{Joiner}
 use Rattle.cts_words.specs.declared.statement.Statement.{Statement}
 
-joins_last : (ws : List Word) (w : Word) → joins (ws ++ w ∷ []) ≡ is_join w
+pub joins_last : (ws : List Word) (w : Word) → joins (ws ++ w ∷ []) ≡ is_join w
 joins_last [] w = refl
 joins_last (v ∷ []) w = refl
 joins_last (v ∷ u ∷ ws) w = joins_last (u ∷ ws) w
@@ -20,7 +20,7 @@ joins_last (v ∷ u ∷ ws) w = joins_last (u ∷ ws) w
 own_step : (b : Bool) (w : Word) → is_join w ≡ b → own (w ∷ []) ≡ cond b [] (text w ∷ [])
 own_step b w e = rw e refl
 
-own_last : (ws : List Word) (w : Word) → own (ws ++ w ∷ []) ≡ map text ws ++ cond (is_join w) [] (text w ∷ [])
+pub own_last : (ws : List Word) (w : Word) → own (ws ++ w ∷ []) ≡ map text ws ++ cond (is_join w) [] (text w ∷ [])
 own_last [] w = refl
 own_last (v ∷ []) w = refl
 own_last (v ∷ u ∷ ws) w = ap (λ (ts : List (List ℕ)). text v ∷ ts) (own_last (u ∷ ws) w)
@@ -49,7 +49,7 @@ pub no_feed : (text : List ℕ) → 0 < length text → ((k : ℕ) → k < lengt
 no_feed [] lt none = absurd (omega arith)
 no_feed (c ∷ rest) lt none = no_feed_step (c == 10) c rest refl (λ more. no_feed rest more (λ k below. none (suc k) (omega arith))) none
 
-feed_front : (c : ℕ) (rest : List ℕ) (e : (c == 10) ≡ false) → lines (c ∷ rest) ≡ with_front c (lines rest)
+pub feed_front : (c : ℕ) (rest : List ℕ) (e : (c == 10) ≡ false) → lines (c ∷ rest) ≡ with_front c (lines rest)
 feed_front c rest e = rw e refl
 
 suc-plus-one : (n : ℕ) → suc n + 1 ≡ suc (n + 1)

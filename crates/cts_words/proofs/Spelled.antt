@@ -7,7 +7,7 @@ use Rattle.cts_words.specs.Grammar.{Word, Bare, Quoted, Place, Between, InWord, 
 use Rattle.cts_words.specs.Spelling.{IsBlank, IsOpenWord, IsWord, SpellsThen, Spells, LeavesOpen, ends_word, ends_line, begins_bare, all_white, none_white, is_without}
 use Rattle.cts_words.proofs.Words.{with_words, with_words-none, at_hash, at_quote, at_bare}
 
-not_false : (b : Bool) → not b ≡ true → b ≡ false
+pub not_false : (b : Bool) → not b ≡ true → b ≡ false
 not_false true e = cc
 not_false false e = refl
 

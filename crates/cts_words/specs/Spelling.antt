@@ -1,7 +1,8 @@
--- The words of a line, said of the line as a whole.
-use Rattle.std.specs.Prelude.{ℕ, Bool, true, false, ◌==◌, ◌&&◌, ◌≡◌, not, List, [], ◌∷◌, ◌++◌, Some, None, IsTrue, ◌↔◌}
-use Rattle.std.specs.List.{list_all}
-use Rattle.cts_words.specs.Grammar.{Word, Bare, Quoted, Between, words, is_white, is_quote, hash}
+-- Lines, words and statements, each said of the text, the line or the lines as a whole.
+use Rattle.std.specs.Prelude.{ℕ, Bool, true, false, ◌==◌, ◌&&◌, ◌≡◌, ◌+◌, not, List, [], ◌∷◌, ◌++◌, length, map, if◌then◌else◌, Some, None, IsTrue, ◌↔◌}
+use Rattle.std.specs.List.{list_all, flat_map}
+use Rattle.cts_words.specs.Grammar.{Word, Bare, Quoted, Between, text, words, is_white, is_quote, hash}
+use Rattle.cts_words.specs.Statements.{lines, is_join, joins, own, statement, joined_from}
 
 -- whether a line ends here, or white space or a comment follows
 abbrev pub ends_word : List ℕ → Bool
@@ -78,8 +79,27 @@ Spells line ws = SpellsThen IsBlank ws line
 abbrev pub LeavesOpen : List ℕ → Type 0
 LeavesOpen line = (ws : List Word) × SpellsThen IsOpenWord ws line
 
+-- A text is cut behind each line feed, and its last line may end with the text.
+abbrev pub LinesEndAtFeeds : Type 0
+LinesEndAtFeeds = (line rest : List ℕ) → IsTrue (is_without 10 line) → lines (line ++ 10 ∷ rest) ≡ line ∷ lines rest
+
+abbrev pub LastLineEndsTheText : Type 0
+LastLineEndsTheText = (c : ℕ) (line : List ℕ) → IsTrue (is_without 10 (c ∷ line)) → lines (c ∷ line) ≡ (c ∷ line) ∷ []
+
+-- A line has words exactly where it spells them, and none exactly where it leaves a quote open.
 abbrev pub WordsAreSpelled : Type 0
 WordsAreSpelled = (line : List ℕ) (ws : List Word) → (words Between line ≡ Some ws) ↔ Spells line ws
 
 abbrev pub OpenQuotesAreLeft : Type 0
 OpenQuotesAreLeft = (line : List ℕ) → (words Between line ≡ None) ↔ LeavesOpen line
+
+-- Lines that join, up to the first that does not, make one statement of all their own words, with
+-- the number of the first of them.
+abbrev pub JoinedLinesAreStatements : Type 0
+JoinedLinesAreStatements = (n : ℕ) (front : List (List Word)) (last : List Word) (rest : List (List Word))
+    → IsTrue (list_all joins front) → joins last ≡ false
+    → joined_from n (front ++ last ∷ rest) ≡ statement n (flat_map own (front ++ last ∷ [])) ++ joined_from (n + length front + 1) rest
+
+-- The words of a line are its own words, and the join word where it joins.
+abbrev pub JoinWordEndsTheLine : Type 0
+JoinWordEndsTheLine = (ws : List Word) (w : Word) → (joins (ws ++ w ∷ []) ≡ is_join w) × (own (ws ++ w ∷ []) ≡ map text (if is_join w then ws else ws ++ w ∷ []))

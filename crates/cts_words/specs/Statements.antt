@@ -56,9 +56,12 @@ cut n (row ∷ rows) =
     let next = cut (suc n) rows in
     if joins row then (own row ++ next.0, next.1) else (own row, statement (suc n) next.0 ++ next.1)
 
--- the statements of these lines
+-- the statements of these lines, the first of which has number n
+abbrev pub joined_from : ℕ → List (List Word) → List Statement
+joined_from n rows = let first = cut n rows in statement n first.0 ++ first.1
+
 abbrev pub joined : List (List Word) → List Statement
-joined rows = let first = cut 1 rows in statement 1 first.0 ++ first.1
+joined rows = joined_from 1 rows
 
 -- the statements of a text without fault
 abbrev pub statements_of : List ℕ → List Statement
