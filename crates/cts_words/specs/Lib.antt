@@ -1,0 +1,6 @@
+pub mod Grammar
+pub mod Statements
+pub mod Spelling
+pub mod Answers
+pub mod Seen
+pub mod Joining

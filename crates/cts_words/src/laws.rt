@@ -1,0 +1,22 @@
+//! Laws of the definitions: what they give byte by byte and line by line, said of the whole.
+
+ghost use Rattle.cts_words.specs.Spelling.{LinesEndAtFeeds, LastLineEndsTheText, WordsAreSpelled, OpenQuotesAreLeft, JoinedLinesAreStatements, JoinWordEndsTheLine};
+
+/// The lines of a text, each without its line feed.
+pub fn lines_are_cut()
+    ensures feeds { LinesEndAtFeeds }
+    ensures last { LastLineEndsTheText }
+{}
+
+/// The words of a line are white space, quotes and words in their order. A line has none exactly
+/// where a quoted word in it does not end.
+pub fn words_are_spelled()
+    ensures words { WordsAreSpelled }
+    ensures open { OpenQuotesAreLeft }
+{}
+
+/// The statements of lines that join.
+pub fn lines_are_joined()
+    ensures statements { JoinedLinesAreStatements }
+    ensures join_word { JoinWordEndsTheLine }
+{}
