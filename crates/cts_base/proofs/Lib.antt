@@ -1,0 +1,4 @@
+pub mod DecimalLemmas
+pub mod Numerals
+pub mod SignLemmas
+pub mod WholeLemmas
