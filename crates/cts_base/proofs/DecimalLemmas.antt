@@ -86,7 +86,7 @@ decimal-form text w =
 
 -- ---- from the text's parts to the digits
 
-point_text-numeral : (fraction : List ℕ) → is_numeral 10 fraction ≡ true → point_text fraction ≡ 46 ∷ fraction
+pub point_text-numeral : (fraction : List ℕ) → is_numeral 10 fraction ≡ true → point_text fraction ≡ 46 ∷ fraction
 point_text-numeral [] h = absurd cc
 point_text-numeral (f ∷ fs) h = refl
 

@@ -1,4 +1,5 @@
 pub mod DecimalLemmas
 pub mod Numerals
+pub mod PrintLemmas
 pub mod SignLemmas
 pub mod WholeLemmas
