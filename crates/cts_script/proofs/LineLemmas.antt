@@ -16,7 +16,7 @@ entry_lines-append names n (e ∷ es) fs =
 
 -- the line of one more entry
 pub entry_lines-take_more : (names : Names) (n : ℕ) (es : List Entry) (i : ℕ) (e : Entry) → i < length es → e ≡ get_or es i e
-  → entry_lines names n (take (i + 1) es) ≡ entry_lines names n (take i es) ++ entry_line names (n + i) e
+    → entry_lines names n (take (i + 1) es) ≡ entry_lines names n (take i es) ++ entry_line names (n + i) e
 entry_lines-take_more names n es i e below is =
     let count : length (take i es) ≡ i = grind (arith, length-take {A = Entry}) in
     let one : take (i + 1) es ≡ take i es ++ e ∷ [] = take_more es i e below ∙ ap (λ x. take i es ++ x ∷ []) (sym is) in

@@ -5,6 +5,8 @@ mod limits;
 mod lines;
 mod makers;
 mod naming;
+#[cfg(test)]
+mod tests;
 mod texts;
 mod times;
 mod what;

@@ -1,11 +1,11 @@
 // Words and numbers, put behind what a line has so far.
 ghost use Rattle.std.specs.Prelude.{◌≡◌, ◌++◌, ◌∷◌, OnOk};
 ghost use Rattle.std.specs.Fmt.{decimal, signed_decimal};
+ghost use Rattle.hex.specs.Hex.{encode_lower};
 ghost use Rattle.cts_script.specs.Lines.{hex_or_dash};
 
 use cts_base::Memory;
 use itoa::Buffer;
-use std::alloc::Global;
 
 // The text as it is.
 pub fn put_text(out: &mut Vec<u8>, text: &[u8]) -> Result<(), Memory>
@@ -48,12 +48,24 @@ pub fn put_signed_word(out: &mut Vec<u8>, number: i128) -> Result<(), Memory>
 }
 
 // A space and the bytes in hexadecimal, or a dash for none.
-pub fn put_hex_word(alloc: Global, out: &mut Vec<u8>, bytes: &[u8]) -> Result<(), Memory>
+pub fn put_hex_word(out: &mut Vec<u8>, bytes: &[u8]) -> Result<(), Memory>
     ensures { OnOk result (out.new.items ≡ out.old.items ++ 32 ∷ hex_or_dash bytes.now) }
 {
     if bytes.is_empty() {
         return put_word(out, b"-");
     }
-    let digits = hex::encode(alloc, bytes)?;
-    put_word(out, digits.as_bytes())
+    out.push(b' ')?;
+    put_hex(out, bytes)
+}
+
+// The digits are written in place, since a packet may be large.
+fn put_hex(out: &mut Vec<u8>, bytes: &[u8]) -> Result<(), Memory>
+    ensures { OnOk result (out.new.items ≡ out.old.items ++ encode_lower bytes.now) }
+{
+    let start = out.len();
+    let digits = bytes.len().checked_mul(2).ok_or(Memory)?;
+    let end = start.checked_add(digits).ok_or(Memory)?;
+    out.resize(end, 0)?;
+    hex::encode_to_slice(bytes, &mut out[start..]).unwrap();
+    Ok(())
 }

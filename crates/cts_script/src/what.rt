@@ -24,28 +24,16 @@ pub fn put_what_words<N: Naming>(
     match what {
         What::Opened => put_word(out, b"OPENED"),
         What::Packet { ident, bytes } => {
-            put_bytes_words(
-                alloc,
-                out,
-                b"PACKET",
-                names_of(naming, *ident),
-                bytes.as_slice(),
-            )
+            put_bytes_words(out, b"PACKET", names_of(naming, *ident), bytes.as_slice())
         }
         What::Closed {
             why,
             loss,
             unposted,
             unsent,
-        } => { put_closed_words(out, *why, loss, *unposted, *unsent) }
+        } => put_closed_words(out, *why, loss, *unposted, *unsent),
         What::Command { command, bytes, .. } => {
-            put_bytes_words(
-                alloc,
-                out,
-                b"COMMAND",
-                naming.command(*command),
-                bytes.as_slice(),
-            )
+            put_bytes_words(out, b"COMMAND", naming.command(*command), bytes.as_slice())
         }
         What::SetLimits {
             packet,
@@ -63,20 +51,14 @@ pub fn put_what_words<N: Naming>(
             packet,
             item,
             enabled,
-        } => { put_item_words(out, switch(*enabled), naming, *packet, *item) }
+        } => put_item_words(out, switch(*enabled), naming, *packet, *item),
         What::LimitsSetIs { set } => put_pair_words(out, b"LIMITSSET", set.as_slice()),
         What::Injected { packet, bytes } => {
-            put_bytes_words(
-                alloc,
-                out,
-                b"INJECTED",
-                naming.packet(*packet),
-                bytes.as_slice(),
-            )
+            put_bytes_words(out, b"INJECTED", naming.packet(*packet), bytes.as_slice())
         }
         What::Unrouted { why, bytes } => {
             put_pair_words(out, b"UNROUTED", not_sent(*why))?;
-            put_hex_word(alloc, out, bytes.as_slice())
+            put_hex_word(out, bytes.as_slice())
         }
         What::Stop => put_word(out, b"STOP"),
         What::Ended => put_word(out, b"ENDED"),
@@ -105,7 +87,6 @@ fn put_pair_words(out: &mut Vec<u8>, word: &[u8], next: &[u8]) -> Result<(), Mem
 
 // A space, a word, a target and a name, and then bytes.
 fn put_bytes_words(
-    alloc: Global,
     out: &mut Vec<u8>,
     word: &[u8],
     names: (&[u8], &[u8]),
@@ -117,7 +98,7 @@ fn put_bytes_words(
     let (target, name) = names;
     put_pair_words(out, word, target)?;
     put_word(out, name)?;
-    put_hex_word(alloc, out, bytes)
+    put_hex_word(out, bytes)
 }
 
 // A space, a word, and the names of an item.
