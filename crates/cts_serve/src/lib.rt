@@ -2,6 +2,11 @@
 #![tactic(auto)]
 
 mod enabling;
+mod loading;
 mod posting;
 mod refusal;
+mod refused;
+mod status;
 mod world;
+
+pub use status::Status;

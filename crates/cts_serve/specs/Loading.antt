@@ -1,0 +1,46 @@
+-- What is loaded from the three files, or why the command ends.
+use Rattle.std.specs.Prelude.{◌≡◌, ℕ, List, Option, Some, None, Result, Ok, Err}
+use Rattle.cts_entry.specs.declared.event.Event.{Event}
+use Rattle.cts_outside.specs.Causes.{Rose}
+use Rattle.cts_serve.specs.Texts.{read_fault_line}
+use Rattle.cts_serve.specs.Outcomes.{Request, refusal, first_refusal, events_asked}
+use Rattle.cts_serve.specs.Printing.{IsRead}
+use Rattle.cts_serve.specs.declared.refused.Refused.{Refused}
+use Rattle.cts_serve.specs.declared.refused.Refused.TheVariants.{Said, Memory as NoMemory}
+use Rattle.cts_serve.specs.declared.status.Status.{Status}
+use Rattle.cts_serve.specs.declared.status.Status.TheVariants.{Ok as Fine, Memory, Usage, ReadFault, Absent, WriteFault, ScriptRefused, HistoryFull, NotBuilt}
+
+-- the status and the line with which a command ends for files with this content
+abbrev pub Says : (List ℕ → Option (List ℕ)) → Request → Status → List ℕ → Type 0
+Says files r ReadFault line = (name : List ℕ) × IsRead files (Some r) name × (line ≡ read_fault_line name)
+Says files r Absent line = first_refusal files r ≡ Some (refusal Absent line)
+Says files r NotBuilt line = first_refusal files r ≡ Some (refusal NotBuilt line)
+Says files r Fine line = ⊥
+Says files r Memory line = ⊥
+Says files r Usage line = ⊥
+Says files r WriteFault line = ⊥
+Says files r ScriptRefused line = ⊥
+Says files r HistoryFull line = ⊥
+
+-- what is loaded from files with this content
+abbrev pub Loads : (List ℕ → Option (List ℕ)) → Request → Result (List (ℕ × Event)) Refused → Type 0
+Loads files r (Ok events) = (first_refusal files r ≡ None) × (events_asked files r ≡ events)
+Loads files r (Err (Said status line)) = Says files r status line.items
+Loads files r (Err NoMemory) = Unit {0}
+
+-- a fault and an absent file have their counts, and every other answer leaves both
+abbrev pub SaidCause : Status → ℕ → ℕ → ℕ → ℕ → Type 0
+SaidCause ReadFault faults faults' absences absences' = Rose faults faults' × (absences' ≡ absences)
+SaidCause Absent faults faults' absences absences' = (faults' ≡ faults) × Rose absences absences'
+SaidCause NotBuilt faults faults' absences absences' = (faults' ≡ faults) × (absences' ≡ absences)
+SaidCause Fine faults faults' absences absences' = ⊥
+SaidCause Memory faults faults' absences absences' = ⊥
+SaidCause Usage faults faults' absences absences' = ⊥
+SaidCause WriteFault faults faults' absences absences' = ⊥
+SaidCause ScriptRefused faults faults' absences absences' = ⊥
+SaidCause HistoryFull faults faults' absences absences' = ⊥
+
+abbrev pub LoadCause : {T : Type 0} → Result T Refused → ℕ → ℕ → ℕ → ℕ → Type 0
+LoadCause (Ok events) faults faults' absences absences' = (faults' ≡ faults) × (absences' ≡ absences)
+LoadCause (Err (Said status line)) faults faults' absences absences' = SaidCause status faults faults' absences absences'
+LoadCause (Err NoMemory) faults faults' absences absences' = (faults' ≡ faults) × (absences' ≡ absences)

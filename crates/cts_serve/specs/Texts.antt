@@ -1,0 +1,29 @@
+-- The lines that a command prints for itself. Each ends with byte 0A.
+use Rattle.std.specs.Prelude.{ℕ, List, [], ◌∷◌, ◌++◌, codes}
+use Rattle.std.specs.Fmt.{decimal}
+
+abbrev pub usage_line : List ℕ
+usage_line = codes "usage: check DEFS SITE | replay DEFS SITE SCRIPT | rehearse N | dump LOG | serve DEFS SITE\n"
+
+abbrev pub memory_line : List ℕ
+memory_line = codes "out of memory\n"
+
+abbrev pub read_fault_line : List ℕ → List ℕ
+read_fault_line name = codes "read fault: " ++ name ++ 10 ∷ []
+
+abbrev pub absent_line : List ℕ → List ℕ
+absent_line name = codes "absent: " ++ name ++ 10 ∷ []
+
+abbrev pub not_built_line : List ℕ → List ℕ
+not_built_line name = codes "not built: " ++ name ++ 10 ∷ []
+
+-- a file, a line of it and a cause
+abbrev pub refused_line : List ℕ → ℕ → List ℕ → List ℕ
+refused_line name line cause = codes "refused: " ++ name ++ codes " line " ++ decimal line ++ codes ": " ++ cause ++ 10 ∷ []
+
+abbrev pub full_line : ℕ → ℕ → List ℕ
+full_line entries bytes = codes "history full: " ++ decimal entries ++ codes " entries, " ++ decimal bytes ++ codes " bytes\n"
+
+-- how many entries the history has at the end
+abbrev pub end_line : ℕ → List ℕ
+end_line entries = codes "END " ++ decimal entries ++ 10 ∷ []

@@ -1,0 +1,41 @@
+// How a command ends.
+
+/// How a command ends. Each has an exit status of its own, but that both faults of a file have 3.
+#[derive(Clone, Copy, Debug, PartialEq, Eq)]
+pub enum Status {
+    /// All was done.
+    Ok,
+    /// Memory ran out.
+    Memory,
+    /// The words fit no command.
+    Usage,
+    /// A file could not be read.
+    ReadFault,
+    /// A file is not there.
+    Absent,
+    /// The output could not be written.
+    WriteFault,
+    /// A line of the script is refused.
+    ScriptRefused,
+    /// An event's entries would pass a limit of the history.
+    HistoryFull,
+    /// A file asks for what is not built yet.
+    NotBuilt,
+}
+
+impl Status {
+    /// The exit status of the program.
+    pub fn code(self) -> u8 {
+        match self {
+            Status::Ok => 0,
+            Status::Memory => 1,
+            Status::Usage => 2,
+            Status::ReadFault => 3,
+            Status::Absent => 3,
+            Status::WriteFault => 4,
+            Status::ScriptRefused => 7,
+            Status::HistoryFull => 8,
+            Status::NotBuilt => 13,
+        }
+    }
+}
