@@ -1,2 +1,5 @@
 pub mod Postings
 pub mod WorldSteps
+pub mod LastLines
+pub mod Progress
+pub mod Commands

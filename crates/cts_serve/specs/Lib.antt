@@ -5,3 +5,5 @@ pub mod FirstForm
 pub mod Outcomes
 pub mod Printing
 pub mod Loading
+pub mod Replays
+pub mod Causing

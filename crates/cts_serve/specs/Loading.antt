@@ -1,10 +1,10 @@
 -- What is loaded from the three files, or why the command ends.
-use Rattle.std.specs.Prelude.{◌≡◌, ℕ, List, Option, Some, None, Result, Ok, Err}
+use Rattle.std.specs.Prelude.{◌≡◌, ℕ, List, [], Option, Some, None, Result, Ok, Err}
 use Rattle.cts_entry.specs.declared.event.Event.{Event}
 use Rattle.cts_outside.specs.Causes.{Rose}
-use Rattle.cts_serve.specs.Texts.{read_fault_line}
+use Rattle.cts_serve.specs.Texts.{memory_line, read_fault_line}
 use Rattle.cts_serve.specs.Outcomes.{Request, refusal, first_refusal, events_asked}
-use Rattle.cts_serve.specs.Printing.{IsRead}
+use Rattle.cts_serve.specs.Printing.{IsRead, Puts, Printed}
 use Rattle.cts_serve.specs.declared.refused.Refused.{Refused}
 use Rattle.cts_serve.specs.declared.refused.Refused.TheVariants.{Said, Memory as NoMemory}
 use Rattle.cts_serve.specs.declared.status.Status.{Status}
@@ -22,11 +22,15 @@ Says files r WriteFault line = ⊥
 Says files r ScriptRefused line = ⊥
 Says files r HistoryFull line = ⊥
 
--- what is loaded from files with this content
-abbrev pub Loads : (List ℕ → Option (List ℕ)) → Request → Result (List (ℕ × Event)) Refused → Type 0
-Loads files r (Ok events) = (first_refusal files r ≡ None) × (events_asked files r ≡ events)
-Loads files r (Err (Said status line)) = Says files r status line.items
-Loads files r (Err NoMemory) = Unit {0}
+-- how a command ends for files with this content
+abbrev pub RefusesFor : (List ℕ → Option (List ℕ)) → Request → Refused → Type 0
+RefusesFor files r (Said status line) = Says files r status line.items
+RefusesFor files r NoMemory = Unit {0}
+
+-- what is loaded from files with this content, where a result holds the list of events
+abbrev pub Loads : {V : Type 0} → (V → List (ℕ × Event)) → (List ℕ → Option (List ℕ)) → Request → Result V Refused → Type 0
+Loads events files r (Ok v) = (first_refusal files r ≡ None) × (events_asked files r ≡ events v)
+Loads events files r (Err refused) = RefusesFor files r refused
 
 -- a fault and an absent file have their counts, and every other answer leaves both
 abbrev pub SaidCause : Status → ℕ → ℕ → ℕ → ℕ → Type 0
@@ -44,3 +48,8 @@ abbrev pub LoadCause : {T : Type 0} → Result T Refused → ℕ → ℕ → ℕ
 LoadCause (Ok events) faults faults' absences absences' = (faults' ≡ faults) × (absences' ≡ absences)
 LoadCause (Err (Said status line)) faults faults' absences absences' = SaidCause status faults faults' absences absences'
 LoadCause (Err NoMemory) faults faults' absences absences' = (faults' ≡ faults) × (absences' ≡ absences)
+
+-- what is put where a command ends so
+abbrev pub RefusedPuts : Refused → Status → Puts → Type 0
+RefusedPuts (Said status line) result p = (result ≡ status) × Printed p.old p.new p.before p.now [] line.items
+RefusedPuts NoMemory result p = (result ≡ Memory) × Printed p.old p.new p.before p.now [] memory_line

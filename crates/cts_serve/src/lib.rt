@@ -1,12 +1,21 @@
 //! The top call of the program: `run`, from the words of the command line to the last printed line.
 #![tactic(auto)]
 
+mod command;
 mod enabling;
+mod events;
+mod last;
 mod loading;
+mod naming;
 mod posting;
 mod refusal;
 mod refused;
+mod replay;
+
 mod status;
+mod stop;
+mod texts;
 mod world;
 
+pub use command::run;
 pub use status::Status;

@@ -17,6 +17,7 @@ pub fn load<F: Files>(
     _script: &str,
 ) -> Result<Vec<(u32, Event)>, Refused>
     ensures stays { F.told _files.new ≡ F.told _files.old }
+    ensures content { IfSome (F.told _files.old) (λ all. Loads (λ v. v.items) all (record { definitions = _definitions.now; site = _site.now; script = _script.now }) result) }
     ensures cause { LoadCause result (F.faults _files.old) (F.faults _files.new) (F.absences _files.old) (F.absences _files.new) }
 {
     Err(Refused::Memory)

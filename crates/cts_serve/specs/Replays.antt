@@ -1,0 +1,86 @@
+-- What a replay puts, event by event and as a whole.
+use Rattle.std.specs.Prelude.{◌≡◌, ℕ, List, [], ◌∷◌, ◌++◌, length, take, codes, ◌⊎◌, Result, Ok, Err}
+use Rattle.cts_entry.specs.declared.entry.Entry.{Entry}
+use Rattle.cts_entry.specs.declared.event.Event.{Event}
+use Rattle.cts_core.specs.States.{State}
+use Rattle.cts_core.specs.Runs.{Did, Does, after, Refuses, NotEnabled, HistoryFull}
+use Rattle.cts_entry.specs.Histories.{entries_in, bytes_in}
+use Rattle.cts_outside.specs.Causes.{Rose}
+use Rattle.cts_outside.specs.Contents.{appended, IsPartPut}
+use Rattle.cts_script.specs.Lines.{entry_lines}
+use Rattle.cts_serve.specs.Path.{path_ground}
+use Rattle.cts_serve.specs.Worlds.{Held, Stands}
+use Rattle.cts_serve.specs.Texts.{memory_line, refused_line, full_line, end_line}
+use Rattle.cts_serve.specs.Outcomes.{Outcome, path_names, IsReplay}
+use Rattle.cts_serve.specs.Printing.{Puts, Printed}
+use Rattle.cts_serve.specs.declared.refusal.Refusal.{Refusal}
+use Rattle.cts_serve.specs.declared.refusal.Refusal.TheVariants.{NotEnabled as RefusedEvent, HistoryFull as FullHistory, Memory as NoMemory}
+use Rattle.cts_serve.specs.declared.stop.Stop.{Stop}
+use Rattle.cts_serve.specs.declared.stop.Stop.TheVariants.{Refused, WriteFault as PutFault}
+use Rattle.cts_serve.specs.declared.status.Status.{Status}
+use Rattle.cts_serve.specs.declared.status.Status.TheVariants.{Ok as Fine, Memory, Usage, ReadFault, Absent, WriteFault, ScriptRefused, HistoryFull as FullStatus, NotBuilt}
+
+-- nothing was put
+abbrev pub IsUntouched : Puts → Type 0
+IsUntouched p = (p.now ≡ p.before) × (p.new ≡ p.old)
+
+-- the lines of entries were put, of which the first has number n
+abbrev pub PutsEntries : ℕ → List Entry → Result (Unit {0}) Stop → Puts → Type 0
+PutsEntries n entries (Ok done) p = (p.now ≡ p.before) × (p.new ≡ appended p.old (entry_lines path_names n entries))
+PutsEntries n entries (Err PutFault) p = Rose p.before p.now × IsPartPut p.old p.new (entry_lines path_names n entries)
+PutsEntries n entries (Err (Refused NoMemory)) p = IsUntouched p
+PutsEntries n entries (Err (Refused RefusedEvent)) p = ⊥
+PutsEntries n entries (Err (Refused FullHistory)) p = ⊥
+
+-- An event was done and its lines were put, or why not.
+abbrev pub DoesEvent : State → Event → Result (Unit {0}) Stop → Held → Puts → Type 0
+DoesEvent s event (Ok done) w p =
+    (did : Did) × Does path_ground s event did × Stands w (after s event did) × (p.now ≡ p.before) × (p.new ≡ appended p.old (entry_lines path_names (length s.history) did.entries))
+DoesEvent s event (Err PutFault) w p =
+    (did : Did) × Does path_ground s event did × Rose p.before p.now × IsPartPut p.old p.new (entry_lines path_names (length s.history) did.entries)
+DoesEvent s event (Err (Refused RefusedEvent)) w p = Refuses path_ground s event NotEnabled × IsUntouched p
+DoesEvent s event (Err (Refused FullHistory)) w p =
+    Refuses path_ground s event HistoryFull × (w.entries ≡ entries_in s.history) × (w.bytes ≡ bytes_in s.history) × IsUntouched p
+DoesEvent s event (Err (Refused NoMemory)) w p = IsUntouched p
+
+-- what a replay with this outcome puts at each status
+abbrev pub ReplayPuts : Outcome → Status → Puts → Type 0
+ReplayPuts o Fine p = (o.status ≡ Fine) × (p.now ≡ p.before) × (p.new ≡ appended p.old o.body)
+ReplayPuts o Memory p = (n : ℕ) × Printed p.old p.new p.before p.now (take n o.body) memory_line
+ReplayPuts o WriteFault p = Rose p.before p.now × IsPartPut p.old p.new (o.body ++ o.last)
+ReplayPuts o ScriptRefused p = (o.status ≡ ScriptRefused) × Printed p.old p.new p.before p.now o.body o.last
+ReplayPuts o FullStatus p = (o.status ≡ FullStatus) × Printed p.old p.new p.before p.now o.body o.last
+ReplayPuts o Usage p = ⊥
+ReplayPuts o ReadFault p = ⊥
+ReplayPuts o Absent p = ⊥
+ReplayPuts o NotBuilt p = ⊥
+
+-- The events of a script were replayed.
+pub record Replays (script : List ℕ) (events : List (ℕ × Event)) (status : Status) (p : Puts) : Type 0 where
+  pub outcome : Outcome
+  pub is : IsReplay script events outcome
+  pub puts : ReplayPuts outcome status p
+
+-- a last line was put, and the status is its own; or want of memory was told in its place
+abbrev pub SaysOrWants : Status → List ℕ → Status → Puts → Type 0
+SaysOrWants status line result p =
+    ((result ≡ status) × Printed p.old p.new p.before p.now [] line) ⊎ ((result ≡ Memory) × Printed p.old p.new p.before p.now [] memory_line)
+
+-- what is put after a stop
+abbrev pub StopPuts : List ℕ → ℕ → Stop → Held → Status → Puts → Type 0
+StopPuts script line PutFault w result p = (result ≡ WriteFault) × IsUntouched p
+StopPuts script line (Refused NoMemory) w result p = (result ≡ Memory) × Printed p.old p.new p.before p.now [] memory_line
+StopPuts script line (Refused RefusedEvent) w result p = SaysOrWants ScriptRefused (refused_line script line (codes "NotEnabled")) result p
+StopPuts script line (Refused FullHistory) w result p = SaysOrWants FullStatus (full_line w.entries w.bytes) result p
+
+-- what is put after the last event
+abbrev pub EndPuts : ℕ → Status → Puts → Type 0
+EndPuts entries Fine p = (p.now ≡ p.before) × (p.new ≡ appended p.old (end_line entries))
+EndPuts entries WriteFault p = Rose p.before p.now × IsPartPut p.old p.new (end_line entries)
+EndPuts entries Memory p = Printed p.old p.new p.before p.now [] memory_line
+EndPuts entries Usage p = ⊥
+EndPuts entries ReadFault p = ⊥
+EndPuts entries Absent p = ⊥
+EndPuts entries ScriptRefused p = ⊥
+EndPuts entries FullStatus p = ⊥
+EndPuts entries NotBuilt p = ⊥

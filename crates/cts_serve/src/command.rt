@@ -1,0 +1,94 @@
+// The top call.
+ghost use Rattle.std.specs.Prelude.{◌≡◌, ◌≢◌, ◌↔◌, map, IfSome, None, Some, MatchOption};
+ghost use Rattle.cts_outside.specs.Causes.{Rose, Steady};
+ghost use Rattle.cts_serve.specs.Causing.{IsCaused};
+ghost use Rattle.cts_serve.specs.Loading.{RefusedPuts};
+ghost use Rattle.cts_serve.specs.Outcomes.{asked};
+ghost use Rattle.cts_serve.specs.Printing.{Answers, Completes};
+
+use crate::Status;
+use crate::last::{put_last, put_memory};
+use crate::loading::load;
+use crate::refused::Refused;
+use crate::replay::replay;
+use crate::texts::usage_text;
+use cts_outside::{Files, Sink};
+use std::alloc::Global;
+
+/// Runs one command: reads the files that its words name, does what it asks, puts what it prints,
+/// and answers how it ended.
+///
+/// The words are those after the program's name. So far there is `replay DEFS SITE SCRIPT`; other
+/// words are `Usage`.
+pub fn run<F: Files, O: Sink>(alloc: Global, words: &[&str], files: &mut F, out: &mut O) -> Status
+    // Exactly where the words fit no command.
+    ensures usage { result ≡ Status.Usage ↔ (asked (map (λ w. w.now) words.now) ≡ None) }
+    // Only where a read failed in this call.
+    ensures read { result ≡ Status.ReadFault → Rose (F.faults files.old) (F.faults files.new) }
+    // Only where a file was not there in this call.
+    ensures absent { result ≡ Status.Absent → Rose (F.absences files.old) (F.absences files.new) }
+    // Only where a put failed in this call.
+    ensures write { result ≡ Status.WriteFault → Rose (O.faults out.old) (O.faults out.new) }
+    // Only where nothing failed.
+    ensures fine { result ≡ Status.Ok → (F.faults files.new ≡ F.faults files.old) × (F.absences files.new ≡ F.absences files.old) × (O.faults out.new ≡ O.faults out.old) }
+    // The outcome that the content of the files has, and what was put for it.
+    ensures transcript { IfSome (F.told files.old) (λ all. Answers all (asked (map (λ w. w.now) words.now)) result
+        (record { old = O.told out.old; new = O.told out.new; before = O.faults out.old; now = O.faults out.new })) }
+    // Where no count rose, the outcome's status comes, or want of memory.
+    ensures complete { Steady (F.faults files.old) (F.faults files.new) → Steady (O.faults out.old) (O.faults out.new)
+        → IfSome (F.told files.old) (λ all. Completes all (asked (map (λ w. w.now) words.now)) result) }
+{
+    match read_words(words) {
+        None => put_last(out, usage_text(), Status::Usage),
+        Some(request) => replay_files(alloc, request, files, out),
+    }
+}
+
+/// The three files of a replay.
+#[derive(Clone, Copy, Debug)]
+struct Request<'a> {
+    definitions: &'a str,
+    site: &'a str,
+    script: &'a str,
+}
+
+// What the words ask for.
+fn read_words<'a>(words: &[&'a str]) -> Option<Request<'a>>
+    ensures { MatchOption result (asked (map (λ w. w.now) words.now) ≡ None)
+        (λ r. asked (map (λ w. w.now) words.now) ≡ Some (record { definitions = r.definitions.now; site = r.site.now; script = r.script.now })) }
+{
+    match words {
+        [command, definitions, site, script] if *command == "replay" => Some(Request {
+            definitions: *definitions,
+            site: *site,
+            script: *script,
+        }),
+        _ => None,
+    }
+}
+
+fn replay_files<F: Files, O: Sink>(
+    alloc: Global,
+    request: Request<'_>,
+    files: &mut F,
+    out: &mut O,
+) -> Status
+    ensures usage { result ≢ Status.Usage }
+    ensures caused { IsCaused result (record { faults = F.faults files.old; faults_now = F.faults files.new; absences = F.absences files.old; absences_now = F.absences files.new; put_faults = O.faults out.old; put_faults_now = O.faults out.new }) }
+    ensures transcript { IfSome (F.told files.old) (λ all. Answers all (Some (record { definitions = request.entry.definitions.now; site = request.entry.site.now; script = request.entry.script.now })) result
+        (record { old = O.told out.old; new = O.told out.new; before = O.faults out.old; now = O.faults out.new })) }
+{
+    match load(alloc, files, request.definitions, request.site, request.script) {
+        Ok(events) => replay(alloc, request.script, events.as_slice(), out),
+        Err(refused) => put_refused(out, &refused),
+    }
+}
+
+fn put_refused<O: Sink>(out: &mut O, refused: &Refused) -> Status
+    ensures { RefusedPuts refused.now result (record { old = O.told out.old; new = O.told out.new; before = O.faults out.old; now = O.faults out.new }) }
+{
+    match refused {
+        Refused::Said { status, line } => put_last(out, line, *status),
+        Refused::Memory => put_memory(out),
+    }
+}

@@ -1,0 +1,77 @@
+// The events of a script, one after another.
+ghost use Rattle.cts_serve.specs.Replays.{Replays, StopPuts, EndPuts};
+ghost use Rattle.cts_serve.specs.Worlds.{held_in};
+
+use crate::Status;
+use crate::events::do_event;
+use crate::last::{put_last, put_memory};
+use crate::refusal::Refusal;
+use crate::stop::Stop;
+use crate::texts;
+use crate::world::World;
+use cts_entry::Event;
+use cts_outside::Sink;
+use std::alloc::Global;
+
+/// Does the events of a script in order, each with its line, and puts the lines of each when it is
+/// done; then `END n`, or the line that says why the replay stops there.
+pub fn replay<O: Sink>(
+    alloc: Global,
+    script: &str,
+    events: &[(u32, Event)],
+    out: &mut O,
+) -> Status
+    ensures { Replays script.now events.now result (record { old = O.told out.old; new = O.told out.new; before = O.faults out.old; now = O.faults out.new }) }
+{
+    let mut world = World::new(alloc);
+    let mut left = events;
+    'events: while let Some((next, after)) = left.split_first() {
+        match do_event(alloc, &mut world, &next.1, out) {
+            Ok(()) => left = after,
+            Err(stop) => return put_stop(alloc, script, next.0, stop, &world, out),
+        }
+    }
+    put_end(alloc, world.history.len(), out)
+}
+
+// Puts the last line of a replay that stops at the event of this line.
+fn put_stop<O: Sink>(
+    alloc: Global,
+    script: &str,
+    line: u32,
+    stop: Stop,
+    world: &World,
+    out: &mut O,
+) -> Status
+    ensures { StopPuts script.now line stop (held_in world.now) result (record { old = O.told out.old; new = O.told out.new; before = O.faults out.old; now = O.faults out.new }) }
+{
+    match stop {
+        Stop::WriteFault => Status::WriteFault,
+        Stop::Refused(Refusal::Memory) => put_memory(out),
+        Stop::Refused(Refusal::NotEnabled) => {
+            match texts::refused(alloc, script, line, b"NotEnabled") {
+                Ok(text) => put_last(out, &text, Status::ScriptRefused),
+                Err(_) => put_memory(out),
+            }
+        }
+        Stop::Refused(Refusal::HistoryFull) => {
+            match texts::history_full(alloc, world.entries, world.bytes) {
+                Ok(text) => put_last(out, &text, Status::HistoryFull),
+                Err(_) => put_memory(out),
+            }
+        }
+    }
+}
+
+// Puts the number of entries. A replay is done only where this is put too.
+fn put_end<O: Sink>(alloc: Global, entries: usize, out: &mut O) -> Status
+    ensures { EndPuts entries result (record { old = O.told out.old; new = O.told out.new; before = O.faults out.old; now = O.faults out.new }) }
+{
+    match texts::end(alloc, entries as u64) {
+        Ok(text) => match out.put(&text) {
+            Ok(()) => Status::Ok,
+            Err(_) => Status::WriteFault,
+        },
+        Err(_) => put_memory(out),
+    }
+}
