@@ -1,0 +1,42 @@
+//! The program: it takes the words of the command line, the files of the system and standard output, and ends with the
+//! status of the command that the words ask for. All else stands in the crates below.
+#![tactic(auto)]
+
+mod console;
+mod disk;
+
+use crate::console::Console;
+use crate::disk::DiskFiles;
+use cts_base::Memory;
+use cts_serve::{Status, run};
+use std::fs::File;
+use std::io::ErrorKind;
+use std::process::ExitCode;
+use std::rt::{Env, Files};
+use std::{env, io};
+
+fn main(rt: HostRuntime) -> ExitCode {
+    let status = perform(&rt).unwrap_or(Status::Memory);
+    ExitCode::from(status.code())
+}
+
+// Runs the command that the words ask for. Where no memory is found for its own objects nothing is printed.
+fn perform<R: Env + Print + AllocGlobal + Files<File = File>>(rt: &R) -> Result<Status, Memory> {
+    let owned = words_of(rt)?;
+    let words = owned
+        .iter()
+        .map(|word| word.as_str())
+        .collect::<Vec<&str>>(rt.alloc())?;
+    let mut files = DiskFiles::new(rt);
+    let mut out = Console::new(io::writer(rt));
+    Ok(run(rt.alloc(), words.as_slice(), &mut files, &mut out))
+}
+
+// The words behind the program's name. Where one of them is not UTF-8 there are none, which no command takes.
+fn words_of<R: Env + AllocGlobal>(rt: &R) -> Result<Vec<String>, Memory> {
+    match env::args(rt) {
+        Ok(all) => Ok(all.skip(1).collect(rt.alloc())?),
+        Err(error) if error.kind() == ErrorKind::InvalidData => Ok(Vec::new(rt.alloc())),
+        Err(_) => Err(Memory),
+    }
+}
