@@ -1,5 +1,6 @@
 pub mod DecimalLemmas
 pub mod Numerals
 pub mod PrintLemmas
+pub mod PrintUnique
 pub mod SignLemmas
 pub mod WholeLemmas

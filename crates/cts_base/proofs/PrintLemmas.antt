@@ -81,11 +81,11 @@ digits-behind_one n text is small =
 
 -- ---- zeros at the end
 
-value_after-append : (m : ℕ) (xs ys : List ℕ) → digits_value_after 10 m (xs ++ ys) ≡ digits_value_after 10 (digits_value_after 10 m xs) ys
+pub value_after-append : (m : ℕ) (xs ys : List ℕ) → digits_value_after 10 m (xs ++ ys) ≡ digits_value_after 10 (digits_value_after 10 m xs) ys
 value_after-append m [] ys = refl
 value_after-append m (x ∷ xs) ys = value_after-append (m * 10 + digit_value x) xs ys
 
-value_after-zeros : (m : ℕ) (zs : List ℕ) → ((k : ℕ) → k < length zs → get_or zs k 0 ≡ 48) → digits_value_after 10 m zs ≡ m * 10 ^ length zs
+pub value_after-zeros : (m : ℕ) (zs : List ℕ) → ((k : ℕ) → k < length zs → get_or zs k 0 ≡ 48) → digits_value_after 10 m zs ≡ m * 10 ^ length zs
 value_after-zeros m [] h = let e : 10 ^ 0 ≡ 1 = refl in omega arith
 value_after-zeros m (z ∷ zs) h =
     let first : z ≡ 48 = h 0 (omega arith) in

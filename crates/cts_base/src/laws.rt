@@ -27,3 +27,9 @@ pub fn printed_decimal_is_read()
     ensures { (value : Decimal) → unsigned_abs value.parts < 10 ^ 37
         → decimal_of (decimal_text value.parts) ≡ Ok value }
 {}
+
+/// One text alone is the print of a decimal.
+pub fn decimal_has_one_print()
+    ensures { (parts : ℤ) (first second : List ℕ)
+        → PrintsDecimal parts first → PrintsDecimal parts second → first ≡ second }
+{}
