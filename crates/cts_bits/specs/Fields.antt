@@ -9,8 +9,8 @@ use Rattle.cts_bits.specs.declared.order.Order.TheVariants.{Big, Little}
 use Rattle.cts_bits.specs.declared.place.Place.{Place}
 
 -- The bytes among whose bits the field is one run: of a big-endian field those of the buffer, of
--- little-endian whole bytes those bytes reversed, and of another little-endian field the bytes up to that
--- of its offset reversed.
+-- little-endian whole bytes those bytes reversed, and of another little-endian field the bytes that it
+-- touches, the last of them that of its offset, reversed.
 abbrev pub laid_out : Order → ℕ → ℕ → List ℕ → List ℕ
 laid_out Big offset bits bytes = bytes
 laid_out Little offset bits bytes =

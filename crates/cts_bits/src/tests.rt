@@ -212,3 +212,15 @@ fn tells_a_place_and_its_reach(rt: HostRuntime) -> Result<(), Fail> {
     assert_eq!(rt; read_bytes(&BYTES, 2, 5), &BYTES[2..5]);
     Ok(())
 }
+
+#[test]
+fn prints_why_a_place_is_refused(rt: HostRuntime) -> Result<(), Fail> {
+    let size = PlaceFault::Size.to_string(rt.alloc())?;
+    assert_eq!(rt;
+        size.as_str(),
+        "a field has 1 to 64 bits and ends by bit 8388608"
+    );
+    let start = PlaceFault::BeforeStart.to_string(rt.alloc())?;
+    assert_eq!(rt; start.as_str(), "the field would begin before byte 0");
+    Ok(())
+}
