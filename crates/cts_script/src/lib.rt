@@ -1,4 +1,5 @@
-//! The printed lines of the history's entries.
+//! The printed lines of the history's entries, in the format of this project's own transcript: the number, the time, the maker and what
+//! the entry says, with one space between each two words.
 #![tactic(auto)]
 
 mod limits;

@@ -1,11 +1,11 @@
 // Each kind of entry, with its line written out by hand.
-ghost use Rattle.std.specs.Prelude.{◌==◌, if◌then◌else◌, codes, pos, ◌+ℤ◌, ◌≤ℤ◌};
+ghost use Rattle.std.specs.Prelude.{◌==◌, if◌then◌else◌, codes};
 
 use crate::{Naming, entry_line, entry_lines};
 use cts_base::{Bytes, Decimal, Memory, Name};
 use cts_def::{BadCause, Ident, Limits, Loss, Time};
 use cts_entry::{Entry, NotSent, What, Why};
-use std::alloc::Global;
+use std::process::Abort;
 use std::test::Fail;
 
 /// Two of each kind of name, the second for every number but 0.
@@ -66,194 +66,264 @@ const NO_LOSS: Loss = Loss {
     empty: 0,
 };
 
-fn tenths(n: i128) -> Decimal
-    requires low { pos 0 ≤ℤ (n +ℤ pos 1000) }
-    requires high { n ≤ℤ pos 1000 }
-{
+const LIMITS: Limits = Limits {
+    red_low: Decimal {
+        parts: -80_000_000_000_000,
+    },
+    yellow_low: Decimal {
+        parts: -70_000_000_000_000,
+    },
+    yellow_high: Decimal {
+        parts: 500_000_000_000,
+    },
+    red_high: Decimal {
+        parts: 80_000_000_000_000,
+    },
+    green: None,
+};
+
+const GREEN: (Decimal, Decimal) = (
     Decimal {
-        parts: n * 100_000_000_000,
-    }
+        parts: -100_000_000_000,
+    },
+    Decimal { parts: 1 },
+);
+
+// An entry with this number, maker, time and text has this line.
+fn prints<R: Abort + AllocGlobal>(
+    rt: &R,
+    number: u64,
+    by: u32,
+    time: Time,
+    what: What,
+    line: &str,
+) -> Result<(), Memory> {
+    let text = entry_line(rt.alloc(), &Demo, number, &Entry { by, time, what })?;
+    assert_eq!(rt; text.as_slice(), line.as_bytes(), "{line}");
+    Ok(())
 }
 
-fn bytes(alloc: Global, held: &[u8]) -> Result<Bytes, Memory> {
-    Bytes::copy(alloc, held)
-}
-
-fn limits(green: Option<(Decimal, Decimal)>) -> Limits {
-    Limits {
-        red_low: tenths(-800),
-        yellow_low: tenths(-700),
-        yellow_high: tenths(5),
-        red_high: tenths(800),
-        green,
-    }
-}
-
-// The line of an entry that a maker made at a time.
-fn printed(alloc: Global, number: u64, by: u32, time: Time, what: What) -> Result<Bytes, Memory> {
-    entry_line(alloc, &Demo, number, &Entry { by, time, what })
+fn bytes<R: AllocGlobal>(rt: &R, held: &[u8]) -> Result<Bytes, Memory> {
+    Bytes::copy(rt.alloc(), held)
 }
 
 #[test]
-fn each_packet_and_command_has_its_line(rt: HostRuntime) -> Result<(), Fail> {
-    let alloc = rt.alloc();
-    let known = Ident::Known(0);
-    let rows = [
-        (0, What::Opened, "0 0.000000 I OPENED\n"),
-        (
-            1,
-            What::Packet {
-                ident: Ident::Unknown,
-                bytes: bytes(alloc, b"\x00\x04\xaa\xbb")?,
-            },
-            "1 0.000000 I PACKET UNKNOWN UNKNOWN 0004aabb\n",
-        ),
-        (
-            4,
-            What::Packet {
-                ident: known,
-                bytes: bytes(alloc, b"\x01\x80\x00\x01")?,
-            },
-            "4 0.000000 I PACKET INST HS 01800001\n",
-        ),
-        (
-            5,
-            What::Packet {
-                ident: Ident::Known(1),
-                bytes: bytes(alloc, b"")?,
-            },
-            "5 0.000000 I PACKET AUX LINE -\n",
-        ),
-        (
-            6,
-            What::Command {
-                interface: 0,
-                command: 0,
-                bytes: bytes(alloc, b"\x07\x00\x0a")?,
-            },
-            "6 0.000000 I COMMAND INST COLLECT 07000a\n",
-        ),
-        (
-            18446744073709551615,
-            What::Injected {
-                packet: 1,
-                bytes: bytes(alloc, b"HI")?,
-            },
-            "18446744073709551615 0.000000 I INJECTED AUX LINE 4849\n",
-        ),
-        (
-            7,
-            What::Unrouted {
-                why: NotSent::Unknown,
-                bytes: bytes(alloc, b"")?,
-            },
-            "7 0.000000 I UNROUTED UNKNOWN -\n",
-        ),
-        (
-            8,
-            What::Unrouted {
-                why: NotSent::NotConnected,
-                bytes: bytes(alloc, b"\xff")?,
-            },
-            "8 0.000000 I UNROUTED NOTCONNECTED ff\n",
-        ),
-        (9, What::Stop, "9 0.000000 I STOP\n"),
-        (10, What::Ended, "10 0.000000 I ENDED\n"),
-    ];
-    for (number, what, line) in rows {
-        let text = printed(alloc, number, 0, START, what)?;
-        assert_eq!(rt; text.as_slice(), line.as_bytes(), "{line}");
-    }
+fn entries_without_a_text_have_their_lines(rt: HostRuntime) -> Result<(), Fail> {
+    prints(&rt, 0, 0, START, What::Opened, "0 0.000000 I OPENED\n")?;
+    prints(&rt, 9, 31, START, What::Stop, "9 0.000000 SERVER STOP\n")?;
+    prints(&rt, 10, 0, START, What::Ended, "10 0.000000 I ENDED\n")?;
     Ok(())
 }
 
 #[test]
-fn limits_have_their_lines(rt: HostRuntime) -> Result<(), Fail> {
-    let alloc = rt.alloc();
-    let rows = [
-        (
-            What::SetLimits {
-                packet: 0,
-                item: 1,
-                set: Name::read(alloc, b"CUSTOM")?,
-                limits: limits(None),
-                persistence: 1,
-                enabled: true,
-            },
-            "1 0.000000 DESK/0 LIMITS INST HS TEMP1 CUSTOM 1 ENABLED -80.0 -70.0 0.5 80.0\n",
-        ),
-        (
-            What::SetLimits {
-                packet: 1,
-                item: 0,
-                set: Name::read(alloc, b"tvac")?,
-                limits: limits(Some((tenths(-1), tenths(3)))),
-                persistence: 12,
-                enabled: false,
-            },
-            "1 0.000000 DESK/0 LIMITS AUX LINE TEXT TVAC 12 DISABLED -80.0 -70.0 0.5 80.0 -0.1 0.3\n",
-        ),
-        (
-            What::Enable {
-                packet: 0,
-                item: 0,
-                enabled: true,
-            },
-            "1 0.000000 DESK/0 ENABLE INST HS PKTID\n",
-        ),
-        (
-            What::Enable {
-                packet: 1,
-                item: 1,
-                enabled: false,
-            },
-            "1 0.000000 DESK/0 DISABLE AUX LINE TEMP1\n",
-        ),
-        (
-            What::LimitsSetIs {
-                set: Name::read(alloc, b"TVAC")?,
-            },
-            "1 0.000000 DESK/0 LIMITSSET TVAC\n",
-        ),
-    ];
-    for (what, line) in rows {
-        let text = printed(alloc, 1, 24, START, what)?;
-        assert_eq!(rt; text.as_slice(), line.as_bytes(), "{line}");
-    }
+fn packets_have_their_lines(rt: HostRuntime) -> Result<(), Fail> {
+    let unknown = What::Packet {
+        ident: Ident::Unknown,
+        bytes: bytes(&rt, b"\x00\x04\xaa\xbb")?,
+    };
+    prints(
+        &rt,
+        1,
+        0,
+        START,
+        unknown,
+        "1 0.000000 I PACKET UNKNOWN UNKNOWN 0004aabb\n",
+    )?;
+    let known = What::Packet {
+        ident: Ident::Known(0),
+        bytes: bytes(&rt, b"\x01\x80\x00\x01")?,
+    };
+    prints(
+        &rt,
+        4,
+        1,
+        START,
+        known,
+        "4 0.000000 INST_INT PACKET INST HS 01800001\n",
+    )?;
+    let empty = What::Packet {
+        ident: Ident::Known(1),
+        bytes: bytes(&rt, b"")?,
+    };
+    prints(&rt, 5, 0, START, empty, "5 0.000000 I PACKET AUX LINE -\n")?;
+    let injected = What::Injected {
+        packet: 1,
+        bytes: bytes(&rt, b"HI")?,
+    };
+    let line = "18446744073709551615 0.000000 DESK/0 INJECTED AUX LINE 4849\n";
+    prints(&rt, u64::MAX, 24, START, injected, line)?;
+    Ok(())
+}
+
+#[test]
+fn commands_have_their_lines(rt: HostRuntime) -> Result<(), Fail> {
+    let command = What::Command {
+        interface: 0,
+        command: 0,
+        bytes: bytes(&rt, b"\x07\x00\x0a")?,
+    };
+    prints(
+        &rt,
+        6,
+        24,
+        START,
+        command,
+        "6 0.000000 DESK/0 COMMAND INST COLLECT 07000a\n",
+    )?;
+    let unknown = What::Unrouted {
+        why: NotSent::Unknown,
+        bytes: bytes(&rt, b"")?,
+    };
+    prints(
+        &rt,
+        7,
+        16,
+        START,
+        unknown,
+        "7 0.000000 OUT/0 UNROUTED UNKNOWN -\n",
+    )?;
+    let unsent = What::Unrouted {
+        why: NotSent::NotConnected,
+        bytes: bytes(&rt, b"\xff")?,
+    };
+    prints(
+        &rt,
+        8,
+        16,
+        START,
+        unsent,
+        "8 0.000000 OUT/0 UNROUTED NOTCONNECTED ff\n",
+    )?;
+    Ok(())
+}
+
+#[test]
+fn new_limits_have_their_lines(rt: HostRuntime) -> Result<(), Fail> {
+    let plain = What::SetLimits {
+        packet: 0,
+        item: 1,
+        set: Name::read(rt.alloc(), b"CUSTOM")?,
+        limits: LIMITS,
+        persistence: 1,
+        enabled: true,
+    };
+    let line = "1 0.000000 DESK/0 LIMITS INST HS TEMP1 CUSTOM 1 ENABLED -80.0 -70.0 0.5 80.0\n";
+    prints(&rt, 1, 24, START, plain, line)?;
+    let green = What::SetLimits {
+        packet: 1,
+        item: 0,
+        set: Name::read(rt.alloc(), b"tvac")?,
+        limits: Limits {
+            green: Some(GREEN),
+            ..LIMITS
+        },
+        persistence: 12,
+        enabled: false,
+    };
+    let line =
+        "2 0.000000 DESK/0 LIMITS AUX LINE TEXT TVAC 12 DISABLED -80.0 -70.0 0.5 80.0 -0.1 0.000000000001\n";
+    prints(&rt, 2, 24, START, green, line)?;
+    Ok(())
+}
+
+#[test]
+fn switches_of_limits_have_their_lines(rt: HostRuntime) -> Result<(), Fail> {
+    let on = What::Enable {
+        packet: 0,
+        item: 0,
+        enabled: true,
+    };
+    prints(
+        &rt,
+        1,
+        24,
+        START,
+        on,
+        "1 0.000000 DESK/0 ENABLE INST HS PKTID\n",
+    )?;
+    let off = What::Enable {
+        packet: 1,
+        item: 1,
+        enabled: false,
+    };
+    prints(
+        &rt,
+        1,
+        24,
+        START,
+        off,
+        "1 0.000000 DESK/0 DISABLE AUX LINE TEMP1\n",
+    )?;
+    let set = What::LimitsSetIs {
+        set: Name::read(rt.alloc(), b"TVAC")?,
+    };
+    prints(&rt, 1, 27, START, set, "1 0.000000 DESK/3 LIMITSSET TVAC\n")?;
     Ok(())
 }
 
 #[test]
 fn each_reason_of_a_close_is_printed(rt: HostRuntime) -> Result<(), Fail> {
-    let alloc = rt.alloc();
-    let bad = |stage, cause| Why::BadFrame { stage, cause };
     let rows = [
         (Why::PeerEnded, "PEER"),
         (Why::ReadFault, "READ"),
         (Why::WriteFault, "WRITE"),
-        (bad(1, BadCause::Short(1)), "BAD 1 SHORT 1"),
-        (bad(2, BadCause::Short(-32768)), "BAD 2 SHORT -32768"),
-        (bad(3, BadCause::OverMax(1048577)), "BAD 3 OVERMAX 1048577"),
-        (bad(4, BadCause::TooLong), "BAD 4 TOOLONG"),
-        (bad(1, BadCause::UnknownStart), "BAD 1 UNKNOWN"),
+        (
+            Why::BadFrame {
+                stage: 1,
+                cause: BadCause::Short(1),
+            },
+            "BAD 1 SHORT 1",
+        ),
+        (
+            Why::BadFrame {
+                stage: 2,
+                cause: BadCause::Short(-32768),
+            },
+            "BAD 2 SHORT -32768",
+        ),
+        (
+            Why::BadFrame {
+                stage: 3,
+                cause: BadCause::OverMax(1048577),
+            },
+            "BAD 3 OVERMAX 1048577",
+        ),
+        (
+            Why::BadFrame {
+                stage: 4,
+                cause: BadCause::TooLong,
+            },
+            "BAD 4 TOOLONG",
+        ),
+        (
+            Why::BadFrame {
+                stage: 1,
+                cause: BadCause::UnknownStart,
+            },
+            "BAD 1 UNKNOWN",
+        ),
         (Why::Stopped, "STOP"),
         (Why::NoMemory, "MEMORY"),
         (Why::Full, "FULL"),
     ];
     for (why, text) in rows {
-        let what = What::Closed {
-            why,
-            loss: NO_LOSS,
-            unposted: 0,
-            unsent: 0,
-        };
-        let line = format!(in alloc;
-            "2 0.000000 I CLOSED {text} held 0 0 0 0 skipped 0 empty 0 unposted 0 unsent 0\n"
-        )?;
-        let got = printed(alloc, 2, 0, START, what)?;
-        assert_eq!(rt; got.as_slice(), line.as_bytes(), "{line}");
+        closes(&rt, why, text)?;
     }
     Ok(())
+}
+
+// A close for this reason, with nothing lost, is printed with this text.
+fn closes<R: Abort + AllocGlobal>(rt: &R, why: Why, text: &str) -> Result<(), Memory> {
+    let what = What::Closed {
+        why,
+        loss: NO_LOSS,
+        unposted: 0,
+        unsent: 0,
+    };
+    let line = format!(in rt.alloc();
+        "2 0.000000 I CLOSED {text} held 0 0 0 0 skipped 0 empty 0 unposted 0 unsent 0\n"
+    )?;
+    prints(rt, 2, 0, START, what, line.as_str())
 }
 
 #[test]
@@ -269,10 +339,9 @@ fn a_close_counts_what_was_lost(rt: HostRuntime) -> Result<(), Fail> {
         unposted: 9,
         unsent: 10,
     };
-    let text = printed(rt.alloc(), 2, 0, START, what)?;
     let line =
-        b"2 0.000000 I CLOSED MEMORY held 3 40 500 6000 skipped 7 empty 8 unposted 9 unsent 10\n";
-    assert_eq!(rt; text.as_slice(), line.as_slice());
+        "2 0.000000 I CLOSED MEMORY held 3 40 500 6000 skipped 7 empty 8 unposted 9 unsent 10\n";
+    prints(&rt, 2, 0, START, what, line)?;
     Ok(())
 }
 
@@ -283,7 +352,6 @@ fn each_maker_has_its_name(rt: HostRuntime) -> Result<(), Fail> {
         (15, "0 0.000000 INST_INT OPENED\n"),
         (16, "0 0.000000 OUT/0 OPENED\n"),
         (17, "0 0.000000 OUT/1 OPENED\n"),
-        (18, "0 0.000000 BACK/0 OPENED\n"),
         (23, "0 0.000000 BACK/1 OPENED\n"),
         (24, "0 0.000000 DESK/0 OPENED\n"),
         (27, "0 0.000000 DESK/3 OPENED\n"),
@@ -292,8 +360,7 @@ fn each_maker_has_its_name(rt: HostRuntime) -> Result<(), Fail> {
         (31, "0 0.000000 SERVER OPENED\n"),
     ];
     for (by, line) in rows {
-        let text = printed(rt.alloc(), 0, by, START, What::Opened)?;
-        assert_eq!(rt; text.as_slice(), line.as_bytes(), "{line}");
+        prints(&rt, 0, by, START, What::Opened, line)?;
     }
     Ok(())
 }
@@ -307,29 +374,34 @@ fn micros_have_six_digits_at_least(rt: HostRuntime) -> Result<(), Fail> {
         (1, 4294967295, "0 1.4294967295 I OPENED\n"),
     ];
     for (seconds, micros, line) in rows {
-        let time = Time { seconds, micros };
-        let text = printed(rt.alloc(), 0, 0, time, What::Opened)?;
-        assert_eq!(rt; text.as_slice(), line.as_bytes(), "{line}");
+        prints(&rt, 0, 0, Time { seconds, micros }, What::Opened, line)?;
     }
     Ok(())
 }
 
 #[test]
 fn lines_follow_one_another(rt: HostRuntime) -> Result<(), Fail> {
-    let entry = |by, what| Entry {
-        by,
-        time: START,
-        what,
-    };
     let entries = [
-        entry(0, What::Opened),
-        entry(16, What::Opened),
-        entry(31, What::Ended),
+        Entry {
+            by: 0,
+            time: START,
+            what: What::Opened,
+        },
+        Entry {
+            by: 31,
+            time: START,
+            what: What::Ended,
+        },
     ];
-    let text = entry_lines(rt.alloc(), &Demo, 9, entries.as_slice())?;
-    let lines = b"9 0.000000 I OPENED\n10 0.000000 OUT/0 OPENED\n11 0.000000 SERVER ENDED\n";
-    assert_eq!(rt; text.as_slice(), lines.as_slice());
-    let none = entry_lines(rt.alloc(), &Demo, 9, &entries[..0])?;
-    assert_eq!(rt; none.as_slice(), b"".as_slice());
+    let text = entry_lines(rt.alloc(), &Demo, 9, &entries)?;
+    let lines = "9 0.000000 I OPENED\n10 0.000000 SERVER ENDED\n";
+    assert_eq!(rt; text.as_slice(), lines.as_bytes());
+    Ok(())
+}
+
+#[test]
+fn no_entries_have_no_lines(rt: HostRuntime) -> Result<(), Fail> {
+    let text = entry_lines(rt.alloc(), &Demo, 9, &[])?;
+    assert_eq!(rt; text.as_slice().len(), 0);
     Ok(())
 }
