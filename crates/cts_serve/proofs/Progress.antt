@@ -64,7 +64,7 @@ goes_on events rest x w new text p did d h = record {
   stands = h;
   history = ap (λ (t : List Entry). t ++ did.entries) p.history ∙ (ap (λ (t : List Entry). all_entries p.prior ++ t) (sym (append-nil did.entries)) ∙ sym (all_entries_append p.prior (did ∷ [])));
   text_is = ap (λ (t : List ℕ). t ++ entry_lines path_names (length p.state.history) did.entries) p.text_is
-    ∙ (ap (λ (t : List ℕ). transcript 0 p.prior ++ t) (sym (append-nil (entry_lines path_names (length p.state.history) did.entries))) ∙ sym (transcript_more p.prior [] p.state did p.history));
+      ∙ (ap (λ (t : List ℕ). transcript 0 p.prior ++ t) (sym (append-nil (entry_lines path_names (length p.state.history) did.entries))) ∙ sym (transcript_more p.prior [] p.state did p.history));
   runs = λ dids ending r. subst (λ (t : List Did). Runs path_ground opening (events_of events) t ending) (sym (append_assoc p.prior (did ∷ []) dids)) (p.runs (did ∷ dids) ending (inr (did, dids, refl, d, r)));
   lines = λ dids. ap (λ (t : List Did). next_line t events) (append_assoc p.prior (did ∷ []) dids) ∙ p.lines (did ∷ dids);
 }
@@ -107,12 +107,13 @@ whole_run events left w text p =
 -- the text so far is a front of the body of any run that goes on from here
 text_front : (script : List ℕ) (events left : List (ℕ × Event)) (w : Held) (text : List ℕ) (p : IsProgress events left w text) (dids : List Did) (ending : Ending)
     → (more : List ℕ) × ((replay_outcome script events (p.prior ++ dids) ending).body ≡ text ++ more)
-text_front script events left w text p dids ending =
-    (transcript (0 + length (all_entries p.prior)) dids ++ body_tail script events (p.prior ++ dids) ending,
-      body_is script events (p.prior ++ dids) ending
+text_front script events left w text p dids ending = (
+  transcript (0 + length (all_entries p.prior)) dids ++ body_tail script events (p.prior ++ dids) ending,
+  body_is script events (p.prior ++ dids) ending
       ∙ (ap (λ (t : List ℕ). t ++ body_tail script events (p.prior ++ dids) ending) (transcript_append 0 p.prior dids)
       ∙ (append_assoc (transcript 0 p.prior) (transcript (0 + length (all_entries p.prior)) dids) (body_tail script events (p.prior ++ dids) ending)
-      ∙ ap (λ (t : List ℕ). t ++ (transcript (0 + length (all_entries p.prior)) dids ++ body_tail script events (p.prior ++ dids) ending)) (sym p.text_is))))
+      ∙ ap (λ (t : List ℕ). t ++ (transcript (0 + length (all_entries p.prior)) dids ++ body_tail script events (p.prior ++ dids) ending)) (sym p.text_is))),
+)
 
 -- memory was wanted after this text
 pub wants : (script : List ℕ) (events left : List (ℕ × Event)) (w : Held) (text : List ℕ) (p : IsProgress events left w text) (old new : Option (List ℕ)) (before now : ℕ) (status : Status)
@@ -143,15 +144,15 @@ faulted script events rest x w text p did d old mid new before now status e m ro
     let lines = entry_lines path_names (length p.state.history) did.entries in
     let more = transcript (length p.state.history + length did.entries) r.0 ++ (body_tail script events dids r.1 ++ o.last) in
     let text_begins : o.body ++ o.last ≡ (text ++ lines) ++ more =
-        ap (λ (t : List ℕ). t ++ o.last) (body_is script events dids r.1 ∙ ap (λ (t : List ℕ). t ++ body_tail script events dids r.1) (transcript_more p.prior r.0 p.state did p.history))
-        ∙ (ap (λ (t : List ℕ). ((t ++ (lines ++ transcript (length p.state.history + length did.entries) r.0)) ++ body_tail script events dids r.1) ++ o.last) (sym p.text_is)
-        ∙ regroup text lines (transcript (length p.state.history + length did.entries) r.0) (body_tail script events dids r.1) o.last) in
+    ap (λ (t : List ℕ). t ++ o.last) (body_is script events dids r.1 ∙ ap (λ (t : List ℕ). t ++ body_tail script events dids r.1) (transcript_more p.prior r.0 p.state did p.history))
+    ∙ (ap (λ (t : List ℕ). ((t ++ (lines ++ transcript (length p.state.history + length did.entries) r.0)) ++ body_tail script events dids r.1) ++ o.last) (sym p.text_is)
+    ∙ regroup text lines (transcript (length p.state.history + length did.entries) r.0) (body_tail script events dids r.1) o.last) in
     let puts : Puts = record { old = old; new = new; before = before; now = now } in
     record {
       outcome = o;
       is = record { dids = dids; ending = r.1; runs = p.runs (did ∷ r.0) r.1 (inr (did, r.0, refl, d, r.2)); outcome = refl };
       puts = subst (λ (st : Status). ReplayPuts o st puts) (sym e)
-        (rose, subst (IsPartPut old new) (sym text_begins) (part_first old new (text ++ lines) more (part_then old mid new text lines m part)));
+          (rose, subst (IsPartPut old new) (sym text_begins) (part_first old new (text ++ lines) more (part_then old mid new text lines m part)));
     }
 
 -- a replay that stops at an event which is refused so
@@ -176,7 +177,7 @@ said_refused script events rest x w text p old mid new before now status m r (in
       outcome = o;
       is = refused script events rest x w text p NotEnabled r;
       puts = subst (λ (st : Status). ReplayPuts o st puts) (sym h.0)
-        (refl, subst (λ (t : List ℕ). Printed old new before now t o.last) (sym (nothing_more script events (x ∷ rest) w text p)) (subst (λ (l : List ℕ). Printed old new before now text l) line printed));
+          (refl, subst (λ (t : List ℕ). Printed old new before now t o.last) (sym (nothing_more script events (x ∷ rest) w text p)) (subst (λ (l : List ℕ). Printed old new before now text l) line printed));
     }
 said_refused script events rest x w text p old mid new before now status m r (inr h) = wants script events (x ∷ rest) w text p old new before now status h.0 (printed_then old mid new before now text memory_line m h.1)
 
@@ -194,7 +195,7 @@ said_full script events rest x w text p old mid new before now entries bytes sta
       outcome = o;
       is = refused script events rest x w text p HistoryFull r;
       puts = subst (λ (st : Status). ReplayPuts o st puts) (sym h.0)
-        (refl, subst (λ (t : List ℕ). Printed old new before now t o.last) (sym (nothing_more script events (x ∷ rest) w text p)) (subst (λ (l : List ℕ). Printed old new before now text l) line printed));
+          (refl, subst (λ (t : List ℕ). Printed old new before now t o.last) (sym (nothing_more script events (x ∷ rest) w text p)) (subst (λ (l : List ℕ). Printed old new before now text l) line printed));
     }
 said_full script events rest x w text p old mid new before now entries bytes status m r n b (inr h) = wants script events (x ∷ rest) w text p old new before now status h.0 (printed_then old mid new before now text memory_line m h.1)
 

@@ -7,3 +7,4 @@ pub mod Printing
 pub mod Loading
 pub mod Replays
 pub mod Causing
+pub mod Statuses

@@ -78,7 +78,13 @@ fn replay_files<F: Files, O: Sink>(
     ensures transcript { IfSome (F.told files.old) (λ all. Answers all (Some (record { definitions = request.entry.definitions.now; site = request.entry.site.now; script = request.entry.script.now })) result
         (record { old = O.told out.old; new = O.told out.new; before = O.faults out.old; now = O.faults out.new })) }
 {
-    match load(alloc, files, request.definitions, request.site, request.script) {
+    match load(
+        alloc,
+        files,
+        request.definitions,
+        request.site,
+        request.script,
+    ) {
         Ok(events) => replay(alloc, request.script, events.as_slice(), out),
         Err(refused) => put_refused(out, &refused),
     }

@@ -11,7 +11,6 @@ mod posting;
 mod refusal;
 mod refused;
 mod replay;
-
 mod status;
 mod stop;
 mod texts;
@@ -19,3 +18,6 @@ mod world;
 
 pub use command::run;
 pub use status::Status;
+
+#[cfg(test)]
+mod tests;

@@ -2,25 +2,19 @@
 ghost use Rattle.cts_serve.specs.Replays.{Replays, StopPuts, EndPuts};
 ghost use Rattle.cts_serve.specs.Worlds.{held_in};
 
-use crate::Status;
 use crate::events::do_event;
 use crate::last::{put_last, put_memory};
 use crate::refusal::Refusal;
 use crate::stop::Stop;
-use crate::texts;
 use crate::world::World;
+use crate::{Status, texts};
 use cts_entry::Event;
 use cts_outside::Sink;
 use std::alloc::Global;
 
 /// Does the events of a script in order, each with its line, and puts the lines of each when it is
 /// done; then `END n`, or the line that says why the replay stops there.
-pub fn replay<O: Sink>(
-    alloc: Global,
-    script: &str,
-    events: &[(u32, Event)],
-    out: &mut O,
-) -> Status
+pub fn replay<O: Sink>(alloc: Global, script: &str, events: &[(u32, Event)], out: &mut O) -> Status
     ensures { Replays script.now events.now result (record { old = O.told out.old; new = O.told out.new; before = O.faults out.old; now = O.faults out.new }) }
 {
     let mut world = World::new(alloc);

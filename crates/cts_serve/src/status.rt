@@ -1,4 +1,5 @@
 // How a command ends.
+ghost use Rattle.std.specs.Prelude.{◌≡◌};
 
 /// How a command ends. Each has an exit status of its own, but that both faults of a file have 3.
 #[derive(Clone, Copy, Debug, PartialEq, Eq)]
@@ -24,8 +25,12 @@ pub enum Status {
 }
 
 impl Status {
+    ghost use Rattle.cts_serve.specs.Statuses.{exit_status};
+
     /// The exit status of the program.
-    pub fn code(self) -> u8 {
+    pub fn code(self) -> u8
+        ensures { result ≡ exit_status self }
+    {
         match self {
             Status::Ok => 0,
             Status::Memory => 1,
