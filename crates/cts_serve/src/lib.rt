@@ -7,6 +7,7 @@ mod posting;
 mod refusal;
 mod refused;
 mod status;
+mod texts;
 mod world;
 
 pub use status::Status;
