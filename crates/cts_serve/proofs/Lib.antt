@@ -1,2 +1,3 @@
 pub mod Postings
 pub mod WorldSteps
+pub mod Loadings

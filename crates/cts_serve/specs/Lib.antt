@@ -5,3 +5,4 @@ pub mod FirstForm
 pub mod Outcomes
 pub mod Printing
 pub mod Loading
+pub mod Fetching

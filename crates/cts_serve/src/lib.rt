@@ -4,6 +4,7 @@
 mod enabling;
 mod loading;
 mod posting;
+mod reading;
 mod refusal;
 mod refused;
 mod status;
