@@ -1,3 +1,4 @@
 pub mod Postings
 pub mod WorldSteps
 pub mod Loadings
+pub mod Forms

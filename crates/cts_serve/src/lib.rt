@@ -2,6 +2,7 @@
 #![tactic(auto)]
 
 mod enabling;
+mod form;
 mod loading;
 mod posting;
 mod reading;
