@@ -1,8 +1,6 @@
 -- Reading a whole file, up to a limit, and what a command says of a file that it does not take.
 use Rattle.std.specs.Prelude.{◌≡◌, ℕ, ◌<◌, ◌≤◌, Bool, List, length, Option, Some, None, Result, Ok, Err, IsSomeAnd}
-use Rattle.std.specs.declared.vec.Vec.{Vec}
 use Rattle.cts_outside.specs.Causes.{Rose}
-use Rattle.cts_entry.specs.declared.event.Event.{Event}
 use Rattle.cts_serve.specs.Texts.{read_fault_line, absent_line, not_built_line}
 use Rattle.cts_serve.specs.FirstForm.{file_limit}
 use Rattle.cts_serve.specs.Outcomes.{refusal, file_refusal}
@@ -11,7 +9,7 @@ use Rattle.cts_serve.specs.declared.reading.FetchFault.TheVariants.{TooLarge, Ab
 use Rattle.cts_serve.specs.declared.refused.Refused.{Refused}
 use Rattle.cts_serve.specs.declared.refused.Refused.TheVariants.{Said, Memory as NoMemory}
 use Rattle.cts_serve.specs.declared.status.Status.{Status}
-use Rattle.cts_serve.specs.declared.status.Status.TheVariants as status
+use Rattle.cts_serve.specs.declared.status.Status.TheVariants as is
 
 -- what a fetch says of the file; want of memory and faults say nothing of it
 abbrev pub FetchGives : ℕ → Option (List ℕ) → Result (List ℕ) FetchFault → Type 0
@@ -39,15 +37,15 @@ FetchAbsence (Err Memory) before now = now ≡ before
 
 -- what a command says of a file that is not read: it is not there, or it is too large, or a read failed
 abbrev pub SaysUnread : List ℕ → Option (List ℕ) → Status → List ℕ → Type 0
-SaysUnread name file status.ReadFault line = line ≡ read_fault_line name
-SaysUnread name file status.Absent line = (file ≡ None) × (line ≡ absent_line name)
-SaysUnread name file status.NotBuilt line = IsSomeAnd file (λ bytes. file_limit < length bytes) × (line ≡ not_built_line name)
-SaysUnread name file status.Ok line = ⊥
-SaysUnread name file status.Memory line = ⊥
-SaysUnread name file status.Usage line = ⊥
-SaysUnread name file status.WriteFault line = ⊥
-SaysUnread name file status.ScriptRefused line = ⊥
-SaysUnread name file status.HistoryFull line = ⊥
+SaysUnread name file is.ReadFault line = line ≡ read_fault_line name
+SaysUnread name file is.Absent line = (file ≡ None) × (line ≡ absent_line name)
+SaysUnread name file is.NotBuilt line = IsSomeAnd file (λ bytes. file_limit < length bytes) × (line ≡ not_built_line name)
+SaysUnread name file is.Ok line = ⊥
+SaysUnread name file is.Memory line = ⊥
+SaysUnread name file is.Usage line = ⊥
+SaysUnread name file is.WriteFault line = ⊥
+SaysUnread name file is.ScriptRefused line = ⊥
+SaysUnread name file is.HistoryFull line = ⊥
 
 -- the bytes of a file of this name, or what is said of it; want of memory says nothing
 abbrev pub IsReadAs : List ℕ → Option (List ℕ) → Result (List ℕ) Refused → Type 0
@@ -57,18 +55,28 @@ IsReadAs name file (Err NoMemory) = Unit {0}
 
 -- what a command says of a file that it does not take by this test
 abbrev pub SaysUntaken : (List ℕ → Bool) → List ℕ → Option (List ℕ) → Status → List ℕ → Type 0
-SaysUntaken takes name file status.ReadFault line = line ≡ read_fault_line name
-SaysUntaken takes name file status.Absent line = file_refusal takes name file ≡ Some (refusal status.Absent line)
-SaysUntaken takes name file status.NotBuilt line = file_refusal takes name file ≡ Some (refusal status.NotBuilt line)
-SaysUntaken takes name file status.Ok line = ⊥
-SaysUntaken takes name file status.Memory line = ⊥
-SaysUntaken takes name file status.Usage line = ⊥
-SaysUntaken takes name file status.WriteFault line = ⊥
-SaysUntaken takes name file status.ScriptRefused line = ⊥
-SaysUntaken takes name file status.HistoryFull line = ⊥
+SaysUntaken takes name file is.ReadFault line = line ≡ read_fault_line name
+SaysUntaken takes name file is.Absent line = file_refusal takes name file ≡ Some (refusal is.Absent line)
+SaysUntaken takes name file is.NotBuilt line = file_refusal takes name file ≡ Some (refusal is.NotBuilt line)
+SaysUntaken takes name file is.Ok line = ⊥
+SaysUntaken takes name file is.Memory line = ⊥
+SaysUntaken takes name file is.Usage line = ⊥
+SaysUntaken takes name file is.WriteFault line = ⊥
+SaysUntaken takes name file is.ScriptRefused line = ⊥
+SaysUntaken takes name file is.HistoryFull line = ⊥
 
 -- a file of this name is taken by this test, or what is said of it
 abbrev pub IsTakenAs : {T : Type 0} → (List ℕ → Bool) → List ℕ → Option (List ℕ) → Result T Refused → Type 0
 IsTakenAs takes name file (Ok x) = file_refusal takes name file ≡ None
 IsTakenAs takes name file (Err (Said status line)) = SaysUntaken takes name file status line.items
 IsTakenAs takes name file (Err NoMemory) = Unit {0}
+
+-- the same answer, with the value of an Ok seen so
+abbrev pub answer_seen : {V T E : Type 0} → (V → T) → Result V E → Result T E
+answer_seen view (Ok x) = Ok (view x)
+answer_seen view (Err e) = Err e
+
+-- the line of a file that asks for what is not built yet, or want of memory
+abbrev pub IsNotBuilt : List ℕ → Refused → Type 0
+IsNotBuilt name (Said status line) = (status ≡ is.NotBuilt) × (line.items ≡ not_built_line name)
+IsNotBuilt name NoMemory = Unit {0}

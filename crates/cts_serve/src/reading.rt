@@ -1,5 +1,5 @@
 // Reads a whole file, up to a limit.
-ghost use Rattle.std.specs.Prelude.{◌≡◌, ◌<◌, ◌^◌, length, vec_len, IfOk, IfSome};
+ghost use Rattle.std.specs.Prelude.{◌≡◌, ◌<◌, ◌≤◌, ◌^◌, length, vec_len, IfOk, IfSome};
 ghost use Rattle.cts_serve.specs.Fetching.{FetchGives, FetchCause, FetchAbsence};
 ghost use Rattle.cts_serve.specs.declared.reading.FetchFault.TheVariants.{Memory as NoMemory};
 
@@ -49,6 +49,7 @@ pub fn fetch<F: Files>(
     requires { limit < 2 ^ 32 }
     ensures stays { F.told files.new ≡ F.told files.old }
     ensures content { IfSome (F.told files.old) (λ all. FetchGives limit (all name.now) result) }
+    ensures small { IfOk result (λ bytes. length bytes ≤ limit) }
     ensures cause { FetchCause result (F.faults files.old) (F.faults files.new) }
     ensures absence { FetchAbsence result (F.absences files.old) (F.absences files.new) }
 {
@@ -74,6 +75,7 @@ fn fetch_by<F: Files>(
     requires room { 0 < length piece.old }
     ensures stays { F.told files.new ≡ F.told files.old }
     ensures content { IfSome (F.told files.old) (λ all. FetchGives limit (all name.now) result) }
+    ensures small { IfOk result (λ bytes. length bytes ≤ limit) }
     ensures cause { FetchCause result (F.faults files.old) (F.faults files.new) }
     ensures absence { FetchAbsence result (F.absences files.old) (F.absences files.new) }
 {
