@@ -1,4 +1,4 @@
-use Rattle.std.proofs.Common.{◌+◌, sym, ◌∙◌}
+use Rattle.std.proofs.Common.{sym, ◌∙◌}
 use Rattle.cts_serve.proofs.Forms.{goes_on}
 use Rattle.cts_serve.proofs.form.script_events.Goals as goal
 
