@@ -13,3 +13,6 @@ mod texts;
 mod world;
 
 pub use status::Status;
+
+#[cfg(test)]
+mod loading_tests;

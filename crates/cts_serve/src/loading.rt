@@ -5,11 +5,10 @@ ghost use Rattle.cts_serve.specs.Fetching.{IsReadAs, IsTakenAs, IsNotBuilt, answ
 ghost use Rattle.cts_serve.specs.Loading.{Loads, LoadCause};
 ghost use Rattle.cts_serve.specs.declared.refused.Refused.TheVariants.{Memory as NoMemory};
 
-use crate::Status;
 use crate::form::{is_site, script_events};
 use crate::reading::{FetchFault, fetch};
 use crate::refused::Refused;
-use crate::texts;
+use crate::{Status, texts};
 use cts_base::{Bytes, Memory};
 use cts_entry::Event;
 use cts_outside::Files;
