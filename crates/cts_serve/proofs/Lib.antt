@@ -3,3 +3,5 @@ pub mod WorldSteps
 pub mod LastLines
 pub mod Progress
 pub mod Commands
+pub mod Loadings
+pub mod Forms

@@ -5,6 +5,7 @@ pub mod FirstForm
 pub mod Outcomes
 pub mod Printing
 pub mod Loading
+pub mod Fetching
 pub mod Replays
 pub mod Causing
 pub mod Statuses

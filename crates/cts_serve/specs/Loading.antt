@@ -27,10 +27,10 @@ abbrev pub RefusesFor : (List ℕ → Option (List ℕ)) → Request → Refused
 RefusesFor files r (Said status line) = Says files r status line.items
 RefusesFor files r NoMemory = Unit {0}
 
--- what is loaded from files with this content, where a result holds the list of events
-abbrev pub Loads : {V : Type 0} → (V → List (ℕ × Event)) → (List ℕ → Option (List ℕ)) → Request → Result V Refused → Type 0
-Loads events files r (Ok v) = (first_refusal files r ≡ None) × (events_asked files r ≡ events v)
-Loads events files r (Err refused) = RefusesFor files r refused
+-- what is loaded from files with this content
+abbrev pub Loads : (List ℕ → Option (List ℕ)) → Request → Result (List (ℕ × Event)) Refused → Type 0
+Loads files r (Ok events) = (first_refusal files r ≡ None) × (events_asked files r ≡ events)
+Loads files r (Err refused) = RefusesFor files r refused
 
 -- a fault and an absent file have their counts, and every other answer leaves both
 abbrev pub SaidCause : Status → ℕ → ℕ → ℕ → ℕ → Type 0

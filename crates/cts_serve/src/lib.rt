@@ -4,10 +4,12 @@
 mod command;
 mod enabling;
 mod events;
+mod form;
 mod last;
 mod loading;
 mod naming;
 mod posting;
+mod reading;
 mod refusal;
 mod refused;
 mod replay;
@@ -19,5 +21,7 @@ mod world;
 pub use command::run;
 pub use status::Status;
 
+#[cfg(test)]
+mod loading_tests;
 #[cfg(test)]
 mod tests;
