@@ -96,3 +96,30 @@ pub last_byte : (o : Order) (offset bits : ℕ) → 1 ≤ bits
     → (k : ℕ) × ((j : ℕ) × (j < bits) × (k ≡ bit_place_at o offset bits j)) × (8 * reach_of o offset bits ≤ k + 8)
 last_byte Big offset bits some = (bit_place_at Big offset bits (bits - 1), (bits - 1, omega arith, refl), omega arith)
 last_byte Little offset bits some = (bit_place_at Little offset bits 0, (0, omega arith, refl), omega arith)
+
+-- the bits of a field stand in the bytes that it touches
+pub bit_place_within : (o : Order) (offset bits j : ℕ) → 1 ≤ bits → span offset bits ≤ reach_of o offset bits → j < bits
+    → (8 * (reach_of o offset bits - span offset bits) ≤ bit_place_at o offset bits j) × (bit_place_at o offset bits j < 8 * reach_of o offset bits)
+bit_place_within Big offset bits j some front lt = (omega arith, omega arith)
+bit_place_within Little offset bits j some front lt = (omega arith, omega arith)
+
+-- fields that touch no byte in common share no bit
+pub apart_by_bytes : (p q : Place) → reach p + span q.offset q.bits ≤ reach q → IsApart p q
+apart_by_bytes p q before = λ k f g.
+    let a = bit_place_within p.order p.offset p.bits f.0 p.some_bits (span_le_reach p.order p.offset p.bits p.some_bits p.after_start) f.1 in
+    let b = bit_place_within q.order q.offset q.bits g.0 q.some_bits (span_le_reach q.order q.offset q.bits q.some_bits q.after_start) g.1 in
+    let ka = f.2 in
+    let kb = g.2 in
+    omega arith
+
+-- big-endian fields share no bit where one ends before the other begins
+pub apart_big : (p q : Place) → p.order ≡ Big → q.order ≡ Big → p.offset + p.bits ≤ q.offset → IsApart p q
+apart_big p q ep eq before = λ k f g.
+    let lf = f.1 in
+    let ka : k ≡ p.offset + f.0 = f.2 ∙ ap (λ (o : Order). bit_place_at o p.offset p.bits f.0) ep in
+    let kb : k ≡ q.offset + g.0 = g.2 ∙ ap (λ (o : Order). bit_place_at o q.offset q.bits g.0) eq in
+    omega arith
+
+-- to share no bit goes both ways
+pub apart-swap : (p q : Place) → IsApart p q → IsApart q p
+apart-swap p q h = λ k f g. h k g f

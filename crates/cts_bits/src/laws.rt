@@ -1,9 +1,10 @@
 // What holds of the definitions that the contracts cite.
-ghost use Rattle.std.specs.Prelude.{◌≡◌, ◌≤◌, length};
+ghost use Rattle.std.specs.Prelude.{◌≡◌, ◌≤◌, ◌+◌, length};
 ghost use Rattle.cts_bits.specs.Bits.{number_of_bits};
-ghost use Rattle.cts_bits.specs.Fields.{KeepsOtherBits, field, field_bits, reach};
+ghost use Rattle.cts_bits.specs.Fields.{IsApart, KeepsOtherBits, field, field_bits, offset_of, order_of, reach, size_of};
+ghost use Rattle.cts_bits.specs.Places.{span};
 
-use crate::Place;
+use crate::{Order, Place};
 
 /// A field is the number that its bits spell, each taken from where it stands in the buffer. So the
 /// places of its bits alone say which fields share a bit.
@@ -20,4 +21,20 @@ pub fn write_has_one_outcome(place: &Place, old: &[u8], one: &[u8], other: &[u8]
     requires other { KeepsOtherBits place.now old.now other.now }
     requires same { field place.now one.now ≡ field place.now other.now }
     ensures { one.now ≡ other.now }
+{}
+
+/// Big-endian fields share no bit where one ends before the other begins.
+pub fn big_fields_in_turn_are_apart(first: &Place, second: &Place)
+    requires first_is_big { order_of first.now ≡ Order.Big }
+    requires second_is_big { order_of second.now ≡ Order.Big }
+    requires in_turn { offset_of first.now + size_of first.now ≤ offset_of second.now }
+    ensures forth { IsApart first.now second.now }
+    ensures back { IsApart second.now first.now }
+{}
+
+/// Fields of any order share no bit where one reaches no byte that the other touches.
+pub fn fields_of_other_bytes_are_apart(first: &Place, second: &Place)
+    requires { reach first.now + span (offset_of second.now) (size_of second.now) ≤ reach second.now }
+    ensures forth { IsApart first.now second.now }
+    ensures back { IsApart second.now first.now }
 {}

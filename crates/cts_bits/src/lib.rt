@@ -11,7 +11,10 @@ mod sign;
 mod window;
 mod write;
 
-pub use laws::{field_is_its_bits, write_has_one_outcome};
+pub use laws::{
+    big_fields_in_turn_are_apart, field_is_its_bits, fields_of_other_bytes_are_apart,
+    write_has_one_outcome,
+};
 pub use order::Order;
 pub use place::{Place, PlaceFault};
 pub use read::{read_bytes, read_int, read_uint};

@@ -224,3 +224,18 @@ fn prints_why_a_place_is_refused(rt: HostRuntime) -> Result<(), Fail> {
     assert_eq!(rt; start.as_str(), "the field would begin before byte 0");
     Ok(())
 }
+
+#[test]
+fn a_write_leaves_the_fields_beside_it(rt: HostRuntime) -> Result<(), Fail> {
+    let first = Place::new(4, 12, Order::Big)?;
+    let second = Place::new(16, 9, Order::Big)?;
+    let third = Place::new(32, 16, Order::Little)?;
+    big_fields_in_turn_are_apart(&first, &second);
+    fields_of_other_bytes_are_apart(&second, &third);
+    let mut bytes = [0u8; 6];
+    write_uint(&mut bytes, &first, 0x123);
+    write_uint(&mut bytes, &second, 0x1aa);
+    write_uint(&mut bytes, &third, 0xbeef);
+    assert_eq!(rt; bytes, [0x01, 0x23, 0xd5, 0, 0xef, 0xbe]);
+    Ok(())
+}
