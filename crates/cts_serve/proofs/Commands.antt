@@ -1,12 +1,12 @@
 -- What a command answers and puts, from its parts.
-use Rattle.std.proofs.Common.{◌≡◌, ◌≢◌, ℕ, ◌<◌, List, [], ◌++◌, Option, Some, None, IfSome, MatchOption, refl, sym, ◌∙◌, ap, subst, arith, ◌⊎◌, inl, inr}
+use Rattle.std.proofs.Common.{◌≡◌, ◌≢◌, ℕ, List, [], Option, Some, None, IfSome, MatchOption, refl, sym, subst, arith, ◌⊎◌, inl, inr}
 use Rattle.cts_core.specs.States.{opening}
 use Rattle.cts_core.proofs.OneRun.{has_run}
 use Rattle.cts_outside.specs.Causes.{Rose, Steady}
 use Rattle.cts_serve.specs.Path.{path_ground}
-use Rattle.cts_serve.specs.Texts.{usage_line, memory_line, read_fault_line}
+use Rattle.cts_serve.specs.Texts.{usage_line}
 use Rattle.cts_serve.specs.Outcomes.{Outcome, Request, refusal, first_refusal, events_asked, events_of, replay_outcome, IsReplay, IsOutcome}
-use Rattle.cts_serve.specs.Printing.{Puts, Printed, PutsFor, IsRead, Answers, Completes}
+use Rattle.cts_serve.specs.Printing.{Puts, Printed, PutsFor, Answers, Completes}
 use Rattle.cts_serve.specs.Loading.{Says, RefusesFor, RefusedPuts}
 use Rattle.cts_serve.specs.declared.refused.Refused.{Refused}
 use Rattle.cts_serve.specs.declared.refused.Refused.TheVariants.{Said, Memory as NoMemory}

@@ -1,5 +1,5 @@
 -- What a put of a last line leaves.
-use Rattle.std.proofs.Common.{◌≡◌, ℕ, ◌<◌, ◌≤◌, List, [], length, Option, Result, Ok, Err, sym, ◌∙◌, ap, arith}
+use Rattle.std.proofs.Common.{ℕ, List, [], length, Option, Result, Ok, Err, sym, ◌∙◌, ap, arith}
 use Rattle.std.proofs.Math.Seq.{take-length}
 use Rattle.cts_outside.specs.Causes.{Cause}
 use Rattle.cts_outside.specs.Contents.{appended, Puts}

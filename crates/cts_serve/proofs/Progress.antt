@@ -1,5 +1,5 @@
 -- How far a replay has come, and what it has put when it ends.
-use Rattle.std.proofs.Common.{◌≡◌, ℕ, zero, suc, ◌+◌, ◌≤◌, List, [], ◌∷◌, ◌++◌, length, map, take, Option, Result, Ok, Err, refl, sym, ◌∙◌, ap, subst, arith, append_assoc, length-append, ◌⊎◌, inl, inr, codes}
+use Rattle.std.proofs.Common.{◌≡◌, ℕ, ◌+◌, List, [], ◌∷◌, ◌++◌, length, take, Option, Err, refl, sym, ◌∙◌, ap, subst, arith, append_assoc, length-append, inl, inr, codes}
 use Rattle.std.proofs.lemmas.List.{append-nil, take_at}
 use Rattle.cts_entry.specs.declared.entry.Entry.{Entry}
 use Rattle.cts_entry.specs.declared.event.Event.{Event}
@@ -9,14 +9,14 @@ use Rattle.cts_core.specs.States.{State, opening}
 use Rattle.cts_core.specs.Runs.{Did, Does, after, Ending, Finished, NotEnabled, HistoryFull, Refuses, Runs}
 use Rattle.cts_core.specs.Laws.{IsSoundGround}
 use Rattle.cts_core.proofs.OneRun.{has_run}
-use Rattle.cts_outside.specs.Causes.{Rose, Steady}
+use Rattle.cts_outside.specs.Causes.{Rose}
 use Rattle.cts_outside.specs.Contents.{appended, IsPartPut}
-use Rattle.cts_outside.proofs.Putting.{appended-append, whole_then, part_first, part_then}
+use Rattle.cts_outside.proofs.Putting.{whole_then, part_first, part_then}
 use Rattle.cts_script.specs.Lines.{entry_lines}
 use Rattle.cts_serve.specs.Path.{path_ground}
 use Rattle.cts_serve.specs.Worlds.{Held, Stands}
 use Rattle.cts_serve.specs.Texts.{memory_line, refused_line, full_line, end_line}
-use Rattle.cts_serve.specs.Outcomes.{Outcome, events_of, path_names, all_entries, transcript, next_line, replay_outcome, IsReplay}
+use Rattle.cts_serve.specs.Outcomes.{events_of, path_names, all_entries, transcript, next_line, replay_outcome, IsReplay}
 use Rattle.cts_serve.specs.Printing.{Puts, Printed}
 use Rattle.cts_serve.specs.Replays.{DoesEvent, StopPuts, SaysOrWants, EndPuts, ReplayPuts, Replays}
 use Rattle.cts_serve.specs.declared.refusal.Refusal.TheVariants.{NotEnabled as RefusedEvent, HistoryFull as FullHistory, Memory as NoMemory}

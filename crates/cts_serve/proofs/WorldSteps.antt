@@ -1,5 +1,5 @@
 -- What the world stands for after each event.
-use Rattle.std.proofs.Common.{◌≡◌, ℕ, zero, suc, ◌+◌, ◌-◌, ◌≤◌, ◌<◌, ◌^◌, Bool, true, false, ◌&&◌, ◌||◌, not, nat_eq, List, [], ◌∷◌, ◌++◌, length, drop, Option, Some, None, refl, sym, ◌∙◌, ap, subst, arith, unwrap_or, min, option_map, append_assoc, length-drop}
+use Rattle.std.proofs.Common.{◌≡◌, ℕ, zero, suc, ◌+◌, ◌≤◌, ◌<◌, ◌^◌, Bool, true, false, ◌&&◌, ◌||◌, not, List, [], ◌∷◌, ◌++◌, length, drop, Option, Some, None, refl, sym, ◌∙◌, ap, subst, arith, unwrap_or, option_map, append_assoc, length-drop}
 use Rattle.std.specs.Prelude.{◌==◌, nat_le, nat_lt, ℤ}
 use Rattle.std.proofs.lemmas.List.{append-nil}
 use Rattle.std.proofs.lemmas.Bool.Decides.{nat_tests}
@@ -8,26 +8,25 @@ use Rattle.cts_entry.specs.declared.entry.Entry.{Entry}
 use Rattle.cts_entry.specs.declared.what.What.TheVariants.{Opened, Closed, Stop as StopEntry}
 use Rattle.cts_entry.specs.declared.why.Why.{Why}
 use Rattle.cts_entry.specs.declared.why.Why.TheVariants.{BadFrame}
-use Rattle.cts_entry.specs.declared.event.Event.{Event}
 use Rattle.cts_entry.specs.declared.event.Event.TheVariants.{SetTime, Opens, Piece, Finish, Stop}
 use Rattle.cts_entry.specs.declared.event.Effect.TheVariants.{Posted}
 use Rattle.cts_entry.specs.Histories.{or_earlier, latest, connects_maker, is_connected, is_stopped, entries_in, bytes_in}
 use Rattle.cts_entry.proofs.Appending.{latest-append, connected-append, stopped-append}
-use Rattle.cts_proto.specs.Framing.{Output, plain}
+use Rattle.cts_proto.specs.Framing.{Output}
 use Rattle.cts_proto.specs.Cuts.{Pieces, IsCut}
 use Rattle.cts_def.specs.declared.loss.Loss.{Loss}
 use Rattle.cts_def.specs.declared.bad_cause.BadCause.{BadCause}
 use Rattle.cts_def.specs.declared.bad_cause.BadCause.TheVariants.{Short}
 use Rattle.cts_proto.specs.declared.cutting.Cutting.{Cutting}
-use Rattle.cts_proto.specs.Cuttings.{IsCutting, Tiles, frames_at, pieces_in}
-use Rattle.cts_proto.specs.Packets.{IsPackets, joined, and_then, loss_of, capped, fault_of}
+use Rattle.cts_proto.specs.Cuttings.{IsCutting, frames_at, pieces_in}
+use Rattle.cts_proto.specs.Packets.{IsPackets, joined, loss_of, capped, fault_of}
 use Rattle.cts_proto.proofs.Takings.{cut_more}
 use Rattle.cts_proto.specs.LengthRow.{length_framing}
 use Rattle.cts_proto.proofs.Framings.{taken_none, ends_nil}
 use Rattle.cts_proto.proofs.LengthSound.{length_is_sound}
 use Rattle.cts_proto.proofs.Stagings.{plain_bytes, joined_append}
 use Rattle.cts_core.specs.States.{State, is_enabled, has_room, may_close}
-use Rattle.cts_core.specs.Runs.{Did, Does, Refuses, HistoryFull, Closes, Receives, after, closed_entry, packet_entries, closing}
+use Rattle.cts_core.specs.Runs.{Did, Does, Refuses, HistoryFull, Receives, after, closed_entry, packet_entries, closing}
 use Rattle.cts_serve.specs.Path.{path_ground}
 use Rattle.cts_serve.specs.Worlds.{Held, Stands, IsRest, lost, closed, posted, settled}
 use Rattle.cts_serve.proofs.Postings.{stopped_kept, connected_kept, entries_grow, bytes_grow, room_holds, packets_connect_none, packets_stop_none, packets_count, packets_bytes, frames_count}

@@ -2,7 +2,7 @@
 use Rattle.std.specs.Prelude.{◌≡◌, ℕ}
 use Rattle.cts_outside.specs.Causes.{Rose}
 use Rattle.cts_serve.specs.declared.status.Status.{Status}
-use Rattle.cts_serve.specs.declared.status.Status.TheVariants.{Ok as Fine, ReadFault, Absent, WriteFault, Usage}
+use Rattle.cts_serve.specs.declared.status.Status.TheVariants.{Ok as Fine, ReadFault, Absent, WriteFault}
 
 -- the counts of files and sink before a call and after it
 pub record Counts : Type 0 where

@@ -1,5 +1,5 @@
 -- The ground of the first path: one interface, whose frames state their length, and no definitions.
-use Rattle.std.specs.Prelude.{ℕ, ◌==◌, List, [], ◌∷◌}
+use Rattle.std.specs.Prelude.{◌==◌, [], ◌∷◌}
 use Rattle.cts_def.specs.declared.ident.Ident.TheVariants.{Unknown}
 use Rattle.cts_core.specs.States.{Ground}
 use Rattle.cts_proto.specs.LengthRow.{length_framing}

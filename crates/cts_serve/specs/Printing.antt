@@ -1,5 +1,5 @@
 -- What stands in the sink at each status, and the outcome for which it stands.
-use Rattle.std.specs.Prelude.{◌≡◌, ℕ, ◌≤◌, List, [], ◌++◌, length, take, Option, Some, None, ◌⊎◌}
+use Rattle.std.specs.Prelude.{◌≡◌, ℕ, ◌≤◌, List, [], ◌++◌, take, Option, Some, None, ◌⊎◌}
 use Rattle.cts_outside.specs.Causes.{Steady}
 use Rattle.cts_outside.specs.Contents.{appended, IsPartPut}
 use Rattle.cts_serve.specs.Texts.{memory_line, read_fault_line}

@@ -1,5 +1,5 @@
 -- What a replay puts, event by event and as a whole.
-use Rattle.std.specs.Prelude.{◌≡◌, ℕ, List, [], ◌∷◌, ◌++◌, length, take, codes, ◌⊎◌, Result, Ok, Err}
+use Rattle.std.specs.Prelude.{◌≡◌, ℕ, List, [], ◌++◌, length, take, codes, ◌⊎◌, Result, Ok, Err}
 use Rattle.cts_entry.specs.declared.entry.Entry.{Entry}
 use Rattle.cts_entry.specs.declared.event.Event.{Event}
 use Rattle.cts_core.specs.States.{State}
@@ -13,7 +13,6 @@ use Rattle.cts_serve.specs.Worlds.{Held, Stands}
 use Rattle.cts_serve.specs.Texts.{memory_line, refused_line, full_line, end_line}
 use Rattle.cts_serve.specs.Outcomes.{Outcome, path_names, IsReplay}
 use Rattle.cts_serve.specs.Printing.{Puts, Printed}
-use Rattle.cts_serve.specs.declared.refusal.Refusal.{Refusal}
 use Rattle.cts_serve.specs.declared.refusal.Refusal.TheVariants.{NotEnabled as RefusedEvent, HistoryFull as FullHistory, Memory as NoMemory}
 use Rattle.cts_serve.specs.declared.stop.Stop.{Stop}
 use Rattle.cts_serve.specs.declared.stop.Stop.TheVariants.{Refused, WriteFault as PutFault}

@@ -1,4 +1,3 @@
-use Rattle.std.proofs.Common.{rules}
 use Rattle.cts_serve.proofs.Commands.{usage_answers, completes}
 use Rattle.cts_serve.proofs.command.run.Goals as goal
 

@@ -1,4 +1,4 @@
-use Rattle.std.proofs.Common.{rules, ◌≡◌, ◌≤◌, length, ℕ, List, ◌∷◌, subst, arith}
+use Rattle.std.proofs.Common.{rules, ◌≡◌, ◌≤◌, ℕ, List, ◌∷◌, subst, arith}
 use Rattle.cts_proto.specs.Cuttings.{Tiles}
 use Rattle.cts_proto.proofs.LengthFrames.{tiles_end}
 use Rattle.cts_serve.proofs.posting.packets.Goals as goal

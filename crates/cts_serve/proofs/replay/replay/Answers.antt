@@ -1,4 +1,4 @@
-use Rattle.std.proofs.Common.{rules, ◌≡◌, ◌∷◌, ◌++◌, [], ℕ, List, length, refl, sym, ◌∙◌, ap, subst, arith}
+use Rattle.std.proofs.Common.{rules, ◌≡◌, ◌∷◌, ◌++◌, [], ℕ, List, length, refl, sym, ◌∙◌, subst, arith}
 use Rattle.cts_entry.specs.declared.event.Event.{Event}
 use Rattle.cts_outside.proofs.Putting.{appended-nil, whole_then}
 use Rattle.cts_script.specs.Lines.{entry_lines}

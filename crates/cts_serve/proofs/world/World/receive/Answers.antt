@@ -1,4 +1,4 @@
-use Rattle.std.proofs.Common.{arith, rules, sym, ◌∙◌, ◌≡◌, ◌++◌, length, List, ℕ, ap, subst}
+use Rattle.std.proofs.Common.{arith, rules, ◌∙◌, ◌≡◌, ◌++◌, length, List, ℕ, ap, subst}
 use Rattle.cts_proto.specs.Cuttings.{IsCutting}
 use Rattle.cts_serve.specs.Worlds.{Held, held_in, posted, settled}
 use Rattle.cts_serve.proofs.WorldSteps.{received, piece_full}

@@ -1,4 +1,4 @@
-use Rattle.std.proofs.Common.{arith, rules}
+use Rattle.std.proofs.Common.{rules}
 use Rattle.cts_serve.specs.Worlds.{held_in}
 use Rattle.cts_serve.proofs.WorldSteps.{stopped}
 use Rattle.cts_serve.proofs.world.World.stop.Goals as goal
