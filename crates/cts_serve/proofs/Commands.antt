@@ -5,13 +5,14 @@ use Rattle.cts_core.proofs.OneRun.{has_run}
 use Rattle.cts_outside.specs.Causes.{Rose, Steady}
 use Rattle.cts_serve.specs.Path.{path_ground}
 use Rattle.cts_serve.specs.Texts.{usage_line}
-use Rattle.cts_serve.specs.Outcomes.{Outcome, Request, refusal, first_refusal, events_asked, events_of, replay_outcome, IsReplay, IsOutcome}
+use Rattle.cts_serve.specs.Judging.{Outcome, refusal}
+use Rattle.cts_serve.specs.Outcomes.{Request, first_refusal, events_asked, events_of, replay_outcome, IsReplay, IsOutcome}
 use Rattle.cts_serve.specs.Printing.{Puts, Printed, PutsFor, Answers, Completes}
 use Rattle.cts_serve.specs.Loading.{Says, RefusesFor, RefusedPuts}
 use Rattle.cts_serve.specs.declared.refused.Refused.{Refused}
 use Rattle.cts_serve.specs.declared.refused.Refused.TheVariants.{Said, Memory as NoMemory}
 use Rattle.cts_serve.specs.declared.status.Status.{Status}
-use Rattle.cts_serve.specs.declared.status.Status.TheVariants.{Ok as Fine, Memory, Usage, ReadFault, Absent, WriteFault, ScriptRefused, HistoryFull, NotBuilt}
+use Rattle.cts_serve.specs.declared.status.Status.TheVariants.{Ok as Fine, Memory, Usage, ReadFault, Absent, WriteFault, ConfigRefused, ScriptRefused, HistoryFull, NotBuilt}
 use Rattle.cts_serve.proofs.Progress.{path_sound}
 
 -- there is an outcome, whatever the files hold
@@ -43,7 +44,8 @@ says_answers files r Fine line p s h = absurd s
 says_answers files r Memory line p s h = absurd s
 says_answers files r Usage line p s h = absurd s
 says_answers files r WriteFault line p s h = absurd s
-says_answers files r ScriptRefused line p s h = absurd s
+says_answers files r ConfigRefused line p s h = record { outcome = refusal ConfigRefused line; is = is_refused files r (refusal ConfigRefused line) s; puts = (refl, h) }
+says_answers files r ScriptRefused line p s h = record { outcome = refusal ScriptRefused line; is = is_refused files r (refusal ScriptRefused line) s; puts = (refl, h) }
 says_answers files r HistoryFull line p s h = absurd s
 
 refused_puts : (all : List ℕ → Option (List ℕ)) (r : Request) (refused : Refused) (result : Status) (p : Puts)
@@ -74,6 +76,7 @@ status_of files r o ReadFault p a b h = absurd (a refl)
 status_of files r o WriteFault p a b h = absurd (b refl)
 status_of files r o Usage p a b h = inl (sym h.0)
 status_of files r o Absent p a b h = inl (sym h.0)
+status_of files r o ConfigRefused p a b h = inl (sym h.0)
 status_of files r o ScriptRefused p a b h = inl (sym h.0)
 status_of files r o HistoryFull p a b h = inl (sym h.0)
 status_of files r o NotBuilt p a b h = inl (sym h.0)

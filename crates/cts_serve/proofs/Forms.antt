@@ -1,9 +1,9 @@
--- Events that are read line by line are the events of the script.
-use Rattle.std.proofs.Common.{◌≡◌, ℕ, ◌+◌, ◌<◌, ◌≤◌, List, [], ◌∷◌, ◌++◌, length, Option, Some, None, refl, sym, ap, ◌∙◌, arith, append_assoc}
+-- Events that are read statement by statement are the events of the script.
+use Rattle.std.proofs.Common.{◌≡◌, ℕ, List, [], ◌∷◌, ◌++◌, length, Option, Some, None, refl, sym, ap, ◌∙◌, arith, append_assoc}
 use Rattle.std.proofs.lemmas.List.{append-nil}
 use Rattle.cts_entry.specs.declared.event.Event.{Event}
-use Rattle.cts_words.specs.Statements.{lines}
-use Rattle.cts_serve.specs.FirstForm.{line_event, and_events, events_from, script_events}
+use Rattle.cts_words.specs.declared.statement.Statement.{Statement}
+use Rattle.cts_serve.specs.FirstForm.{words_event, and_events, script_events}
 
 -- these events, with others behind them
 abbrev pub behind : List (ℕ × Event) → Option (List (ℕ × Event)) → Option (List (ℕ × Event))
@@ -18,39 +18,30 @@ behind_more : (before : List (ℕ × Event)) (n : ℕ) (event : Event) (o : Opti
 behind_more before n event (Some events) = ap Some (append_assoc before ((n, event) ∷ []) events)
 behind_more before n event None = refl
 
--- what holds as the lines are read: so many were read, and these are their events
-pub record IsReading (done : List (ℕ × Event)) (number : ℕ) (rest text : List ℕ) : Type 0 where
-  pub said : behind done (events_from (number + 1) (lines rest)) ≡ script_events text
-  pub room : number + length rest ≤ length text
+-- what holds as the statements are read: these are the events of those that were read
+abbrev pub IsReading : List (ℕ × Event) → List Statement → List Statement → Type 0
+IsReading done left all = behind done (script_events left) ≡ script_events all
 
-pub start : (text : List ℕ) → IsReading [] 0 text text
-start text = record { said = behind_none (events_from 1 (lines text)); room = omega arith }
+pub start : (all : List Statement) → IsReading [] all all
+start all = behind_none (script_events all)
 
-pub goes_on : (done more : List (ℕ × Event)) (number : ℕ) (line rest after text : List ℕ) (event : Event)
-    → IsReading done number rest text → lines rest ≡ line ∷ lines after → length after < length rest → Some event ≡ line_event line
-    → more ≡ done ++ (number + 1, event) ∷ [] → IsReading more (number + 1) after text
-goes_on done more number line rest after text event so_far cut shorter is added = record {
-  said =
-      ap (λ (events : List (ℕ × Event)). behind events (events_from (number + 1 + 1) (lines after))) added
-      ∙ behind_more done (number + 1) event (events_from (number + 1 + 1) (lines after))
-      ∙ ap (λ (o : Option Event). behind done (and_events (number + 1) o (events_from (number + 1 + 1) (lines after)))) is
-      ∙ ap (λ (ls : List (List ℕ)). behind done (events_from (number + 1) ls)) (sym cut)
-      ∙ so_far.said;
-  room = omega arith;
-}
+pub goes_on : (done : List (ℕ × Event)) (s : Statement) (after all : List Statement) (event : Event)
+    → IsReading done (s ∷ after) all → Some event ≡ words_event s.words → IsReading (done ++ (s.line, event) ∷ []) after all
+goes_on done s after all event so_far is =
+    behind_more done s.line event (script_events after)
+    ∙ ap (λ (o : Option Event). behind done (and_events s.line o (script_events after))) is
+    ∙ so_far
 
 none_and : (n : ℕ) (o : Option (List (ℕ × Event))) → and_events n None o ≡ None
 none_and n (Some events) = refl
 none_and n None = refl
 
-pub refused_at : (done : List (ℕ × Event)) (number : ℕ) (line rest after text : List ℕ)
-    → IsReading done number rest text → lines rest ≡ line ∷ lines after → None ≡ line_event line → None ≡ script_events text
-refused_at done number line rest after text so_far cut is =
-    ap (behind done) (sym (none_and (number + 1) (events_from (number + 1 + 1) (lines after))))
-    ∙ ap (λ (o : Option Event). behind done (and_events (number + 1) o (events_from (number + 1 + 1) (lines after)))) is
-    ∙ ap (λ (ls : List (List ℕ)). behind done (events_from (number + 1) ls)) (sym cut)
-    ∙ so_far.said
+pub refused_at : (done : List (ℕ × Event)) (s : Statement) (after all : List Statement) → IsReading done (s ∷ after) all → None ≡ words_event s.words → None ≡ script_events all
+refused_at done s after all so_far is =
+    ap (behind done) (sym (none_and s.line (script_events after)))
+    ∙ ap (λ (o : Option Event). behind done (and_events s.line o (script_events after))) is
+    ∙ so_far
 
-pub all_read : (done : List (ℕ × Event)) (number : ℕ) (rest text : List ℕ) → IsReading done number rest text → length rest ≡ 0 → Some done ≡ script_events text
-all_read done number [] text so_far none = ap Some (sym (append-nil done)) ∙ so_far.said
-all_read done number (c ∷ rest) text so_far none = absurd (omega arith)
+pub all_read : (done : List (ℕ × Event)) (left all : List Statement) → IsReading done left all → length left ≡ 0 → Some done ≡ script_events all
+all_read done [] all so_far none = ap Some (sym (append-nil done)) ∙ so_far
+all_read done (s ∷ left) all so_far none = absurd (omega (arith, none))

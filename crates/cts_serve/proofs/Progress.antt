@@ -23,7 +23,7 @@ use Rattle.cts_serve.specs.declared.refusal.Refusal.TheVariants.{NotEnabled as R
 use Rattle.cts_serve.specs.declared.stop.Stop.{Stop}
 use Rattle.cts_serve.specs.declared.stop.Stop.TheVariants.{Refused, WriteFault as PutFault}
 use Rattle.cts_serve.specs.declared.status.Status.{Status}
-use Rattle.cts_serve.specs.declared.status.Status.TheVariants.{Ok as Fine, Memory, Usage, ReadFault, Absent, WriteFault, ScriptRefused, HistoryFull as FullStatus, NotBuilt}
+use Rattle.cts_serve.specs.declared.status.Status.TheVariants.{Ok as Fine, Memory, Usage, ReadFault, Absent, WriteFault, ConfigRefused, ScriptRefused, HistoryFull as FullStatus, NotBuilt}
 
 -- Some events were done and their lines put, and these are left.
 pub record IsProgress (events left : List (ℕ × Event)) (w : Held) (text : List ℕ) : Type 0 where
@@ -246,4 +246,5 @@ ends script events w text p old mid new before now ReadFault m e = absurd e
 ends script events w text p old mid new before now Absent m e = absurd e
 ends script events w text p old mid new before now ScriptRefused m e = absurd e
 ends script events w text p old mid new before now FullStatus m e = absurd e
+ends script events w text p old mid new before now ConfigRefused m e = absurd e
 ends script events w text p old mid new before now NotBuilt m e = absurd e

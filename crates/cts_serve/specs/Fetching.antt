@@ -1,9 +1,12 @@
 -- Reading a whole file, up to a limit, and what a command says of a file that it does not take.
-use Rattle.std.specs.Prelude.{◌≡◌, ℕ, ◌<◌, ◌≤◌, Bool, List, length, Option, Some, None, Result, Ok, Err, IsSomeAnd}
+use Rattle.std.specs.Prelude.{◌≡◌, ℕ, ◌<◌, ◌≤◌, Bool, List, length, Option, Some, None, Result, Ok, Err, IsSomeAnd, codes}
 use Rattle.cts_outside.specs.Causes.{Rose}
-use Rattle.cts_serve.specs.Texts.{read_fault_line, absent_line, not_built_line}
-use Rattle.cts_serve.specs.FirstForm.{file_limit}
-use Rattle.cts_serve.specs.Outcomes.{refusal, file_refusal}
+use Rattle.cts_words.specs.declared.statement.Statement.{Statement}
+use Rattle.cts_words.specs.Statements.{said}
+use Rattle.cts_serve.specs.Texts.{read_fault_line, absent_line, not_built_line, refused_line}
+use Rattle.cts_serve.specs.Judging.{Outcome, refusal, file_limit, refused_as, judge}
+use Rattle.cts_serve.specs.Outcomes.{file_refusal}
+use Rattle.cts_serve.specs.declared.file_kind.FileKind.{FileKind}
 use Rattle.cts_serve.specs.declared.reading.FetchFault.{FetchFault}
 use Rattle.cts_serve.specs.declared.reading.FetchFault.TheVariants.{TooLarge, Absent, Failed, Memory}
 use Rattle.cts_serve.specs.declared.refused.Refused.{Refused}
@@ -35,41 +38,56 @@ FetchAbsence (Err Absent) before now = Rose before now
 FetchAbsence (Err Failed) before now = now ≡ before
 FetchAbsence (Err Memory) before now = now ≡ before
 
--- what a command says of a file that is not read: it is not there, or it is too large, or a read failed
-abbrev pub SaysUnread : List ℕ → Option (List ℕ) → Status → List ℕ → Type 0
-SaysUnread name file is.ReadFault line = line ≡ read_fault_line name
-SaysUnread name file is.Absent line = (file ≡ None) × (line ≡ absent_line name)
-SaysUnread name file is.NotBuilt line = IsSomeAnd file (λ bytes. file_limit < length bytes) × (line ≡ not_built_line name)
-SaysUnread name file is.Ok line = ⊥
-SaysUnread name file is.Memory line = ⊥
-SaysUnread name file is.Usage line = ⊥
-SaysUnread name file is.WriteFault line = ⊥
-SaysUnread name file is.ScriptRefused line = ⊥
-SaysUnread name file is.HistoryFull line = ⊥
+-- a file of this kind is too large
+abbrev pub IsTooLarge : FileKind → List ℕ → Option (List ℕ) → Status → List ℕ → Type 0
+IsTooLarge kind name file status line = IsSomeAnd file (λ bytes. file_limit < length bytes) × (status ≡ refused_as kind) × (line ≡ refused_line name 0 (codes "TooLarge"))
 
--- the bytes of a file of this name, or what is said of it; want of memory says nothing
-abbrev pub IsReadAs : List ℕ → Option (List ℕ) → Result (List ℕ) Refused → Type 0
-IsReadAs name file (Ok bytes) = (file ≡ Some bytes) × (length bytes ≤ file_limit)
-IsReadAs name file (Err (Said status line)) = SaysUnread name file status line.items
-IsReadAs name file (Err NoMemory) = Unit {0}
+-- the bytes of a file of this name, or what is said of it, where it is of this kind; want of memory says nothing
+abbrev pub SaysUnread : FileKind → List ℕ → Option (List ℕ) → Status → List ℕ → Type 0
+SaysUnread kind name file is.ReadFault line = line ≡ read_fault_line name
+SaysUnread kind name file is.Absent line = (file ≡ None) × (line ≡ absent_line name)
+SaysUnread kind name file is.ConfigRefused line = IsTooLarge kind name file is.ConfigRefused line
+SaysUnread kind name file is.ScriptRefused line = IsTooLarge kind name file is.ScriptRefused line
+SaysUnread kind name file is.NotBuilt line = ⊥
+SaysUnread kind name file is.Ok line = ⊥
+SaysUnread kind name file is.Memory line = ⊥
+SaysUnread kind name file is.Usage line = ⊥
+SaysUnread kind name file is.WriteFault line = ⊥
+SaysUnread kind name file is.HistoryFull line = ⊥
 
--- what a command says of a file that it does not take by this test
-abbrev pub SaysUntaken : (List ℕ → Bool) → List ℕ → Option (List ℕ) → Status → List ℕ → Type 0
-SaysUntaken takes name file is.ReadFault line = line ≡ read_fault_line name
-SaysUntaken takes name file is.Absent line = file_refusal takes name file ≡ Some (refusal is.Absent line)
-SaysUntaken takes name file is.NotBuilt line = file_refusal takes name file ≡ Some (refusal is.NotBuilt line)
-SaysUntaken takes name file is.Ok line = ⊥
-SaysUntaken takes name file is.Memory line = ⊥
-SaysUntaken takes name file is.Usage line = ⊥
-SaysUntaken takes name file is.WriteFault line = ⊥
-SaysUntaken takes name file is.ScriptRefused line = ⊥
-SaysUntaken takes name file is.HistoryFull line = ⊥
+abbrev pub IsReadAs : FileKind → List ℕ → Option (List ℕ) → Result (List ℕ) Refused → Type 0
+IsReadAs kind name file (Ok bytes) = (file ≡ Some bytes) × (length bytes ≤ file_limit)
+IsReadAs kind name file (Err (Said status line)) = SaysUnread kind name file status line.items
+IsReadAs kind name file (Err NoMemory) = Unit {0}
 
--- a file of this name is taken by this test, or what is said of it
-abbrev pub IsTakenAs : {T : Type 0} → (List ℕ → Bool) → List ℕ → Option (List ℕ) → Result T Refused → Type 0
-IsTakenAs takes name file (Ok x) = file_refusal takes name file ≡ None
-IsTakenAs takes name file (Err (Said status line)) = SaysUntaken takes name file status line.items
-IsTakenAs takes name file (Err NoMemory) = Unit {0}
+-- what a command says of a file that it does not take, as it is judged so
+abbrev pub SaysUntaken : (List ℕ → List ℕ → Option Outcome) → List ℕ → Option (List ℕ) → Status → List ℕ → Type 0
+SaysUntaken judges name file is.ReadFault line = line ≡ read_fault_line name
+SaysUntaken judges name file is.Absent line = file_refusal judges name file ≡ Some (refusal is.Absent line)
+SaysUntaken judges name file is.ConfigRefused line = file_refusal judges name file ≡ Some (refusal is.ConfigRefused line)
+SaysUntaken judges name file is.ScriptRefused line = file_refusal judges name file ≡ Some (refusal is.ScriptRefused line)
+SaysUntaken judges name file is.NotBuilt line = file_refusal judges name file ≡ Some (refusal is.NotBuilt line)
+SaysUntaken judges name file is.Ok line = ⊥
+SaysUntaken judges name file is.Memory line = ⊥
+SaysUntaken judges name file is.Usage line = ⊥
+SaysUntaken judges name file is.WriteFault line = ⊥
+SaysUntaken judges name file is.HistoryFull line = ⊥
+
+-- why a file of this kind gives no statements, whatever is asked of them
+abbrev pub GivesNone : FileKind → List ℕ → Option (List ℕ) → Refused → Type 0
+GivesNone kind name file (Said status line) = (takes : List Statement → Bool) → SaysUntaken (judge kind takes) name file status line.items
+GivesNone kind name file NoMemory = Unit {0}
+
+-- the statements of a file of this kind, or why it gives none
+abbrev pub GivesStatements : FileKind → List ℕ → Option (List ℕ) → Result (List Statement) Refused → Type 0
+GivesStatements kind name file (Ok statements) = IsSomeAnd file (λ bytes. (length bytes ≤ file_limit) × (said bytes ≡ Ok statements))
+GivesStatements kind name file (Err refused) = GivesNone kind name file refused
+
+-- a file of this name is taken, or what is said of it, as it is judged so
+abbrev pub IsTakenAs : {T : Type 0} → (List ℕ → List ℕ → Option Outcome) → List ℕ → Option (List ℕ) → Result T Refused → Type 0
+IsTakenAs judges name file (Ok x) = file_refusal judges name file ≡ None
+IsTakenAs judges name file (Err (Said status line)) = SaysUntaken judges name file status line.items
+IsTakenAs judges name file (Err NoMemory) = Unit {0}
 
 -- the same answer, with the value of an Ok seen so
 abbrev pub answer_seen : {V T E : Type 0} → (V → T) → Result V E → Result T E
@@ -80,3 +98,8 @@ answer_seen view (Err e) = Err e
 abbrev pub IsNotBuilt : List ℕ → Refused → Type 0
 IsNotBuilt name (Said status line) = (status ≡ is.NotBuilt) × (line.items ≡ not_built_line name)
 IsNotBuilt name NoMemory = Unit {0}
+
+-- the line of a refused line of a file, or want of memory
+abbrev pub IsRefusedAt : FileKind → List ℕ → ℕ → List ℕ → Refused → Type 0
+IsRefusedAt kind name line cause (Said status text) = (status ≡ refused_as kind) × (text.items ≡ refused_line name line cause)
+IsRefusedAt kind name line cause NoMemory = Unit {0}

@@ -2,6 +2,7 @@ pub mod Path
 pub mod Worlds
 pub mod Texts
 pub mod FirstForm
+pub mod Judging
 pub mod Outcomes
 pub mod Printing
 pub mod Loading

@@ -3,23 +3,25 @@ use Rattle.std.specs.Prelude.{◌≡◌, ℕ, List, [], Option, Some, None, Resu
 use Rattle.cts_entry.specs.declared.event.Event.{Event}
 use Rattle.cts_outside.specs.Causes.{Rose}
 use Rattle.cts_serve.specs.Texts.{memory_line, read_fault_line}
-use Rattle.cts_serve.specs.Outcomes.{Request, refusal, first_refusal, events_asked}
+use Rattle.cts_serve.specs.Judging.{refusal}
+use Rattle.cts_serve.specs.Outcomes.{Request, first_refusal, events_asked}
 use Rattle.cts_serve.specs.Printing.{IsRead, Puts, Printed}
 use Rattle.cts_serve.specs.declared.refused.Refused.{Refused}
 use Rattle.cts_serve.specs.declared.refused.Refused.TheVariants.{Said, Memory as NoMemory}
 use Rattle.cts_serve.specs.declared.status.Status.{Status}
-use Rattle.cts_serve.specs.declared.status.Status.TheVariants.{Ok as Fine, Memory, Usage, ReadFault, Absent, WriteFault, ScriptRefused, HistoryFull, NotBuilt}
+use Rattle.cts_serve.specs.declared.status.Status.TheVariants.{Ok as Fine, Memory, Usage, ReadFault, Absent, WriteFault, ConfigRefused, ScriptRefused, HistoryFull, NotBuilt}
 
 -- the status and the line with which a command ends for files with this content
 abbrev pub Says : (List ℕ → Option (List ℕ)) → Request → Status → List ℕ → Type 0
 Says files r ReadFault line = (name : List ℕ) × IsRead files (Some r) name × (line ≡ read_fault_line name)
 Says files r Absent line = first_refusal files r ≡ Some (refusal Absent line)
+Says files r ConfigRefused line = first_refusal files r ≡ Some (refusal ConfigRefused line)
+Says files r ScriptRefused line = first_refusal files r ≡ Some (refusal ScriptRefused line)
 Says files r NotBuilt line = first_refusal files r ≡ Some (refusal NotBuilt line)
 Says files r Fine line = ⊥
 Says files r Memory line = ⊥
 Says files r Usage line = ⊥
 Says files r WriteFault line = ⊥
-Says files r ScriptRefused line = ⊥
 Says files r HistoryFull line = ⊥
 
 -- how a command ends for files with this content
@@ -41,7 +43,8 @@ SaidCause Fine faults faults' absences absences' = ⊥
 SaidCause Memory faults faults' absences absences' = ⊥
 SaidCause Usage faults faults' absences absences' = ⊥
 SaidCause WriteFault faults faults' absences absences' = ⊥
-SaidCause ScriptRefused faults faults' absences absences' = ⊥
+SaidCause ConfigRefused faults faults' absences absences' = (faults' ≡ faults) × (absences' ≡ absences)
+SaidCause ScriptRefused faults faults' absences absences' = (faults' ≡ faults) × (absences' ≡ absences)
 SaidCause HistoryFull faults faults' absences absences' = ⊥
 
 abbrev pub LoadCause : {T : Type 0} → Result T Refused → ℕ → ℕ → ℕ → ℕ → Type 0

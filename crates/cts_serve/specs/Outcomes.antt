@@ -1,5 +1,5 @@
 -- What `replay` answers and prints, from the content of the files alone.
-use Rattle.std.specs.Prelude.{◌≡◌, ℕ, ◌+◌, nat_eq, Bool, List, [], ◌∷◌, ◌++◌, length, map, codes, Option, Some, None, MatchOption, unwrap_or, if◌then◌else◌}
+use Rattle.std.specs.Prelude.{◌≡◌, ℕ, ◌+◌, nat_eq, List, [], ◌∷◌, ◌++◌, length, map, codes, Option, Some, None, MatchOption, unwrap_or, if◌then◌else◌}
 use Rattle.std.specs.Cmp.Lexicographic.{pointwise}
 use Rattle.cts_entry.specs.declared.entry.Entry.{Entry}
 use Rattle.cts_entry.specs.declared.event.Event.{Event}
@@ -8,16 +8,13 @@ use Rattle.cts_core.specs.States.{opening}
 use Rattle.cts_core.specs.Runs.{Did, Ending, Finished, NotEnabled, HistoryFull, Runs}
 use Rattle.cts_script.specs.Lines.{Names, entry_lines}
 use Rattle.cts_serve.specs.Path.{path_ground}
-use Rattle.cts_serve.specs.Texts.{usage_line, absent_line, not_built_line, refused_line, full_line, end_line}
-use Rattle.cts_serve.specs.FirstForm.{takes_definitions, takes_site, takes_script, script_events}
-use Rattle.cts_serve.specs.declared.status.Status.{Status}
-use Rattle.cts_serve.specs.declared.status.Status.TheVariants.{Ok as Fine, Usage, Absent, ScriptRefused, HistoryFull as FullHistory, NotBuilt}
-
--- a status, what is printed before its last line, and that line
-pub record Outcome : Type 0 where
-  pub status : Status
-  pub body : List ℕ
-  pub last : List ℕ
+use Rattle.cts_serve.specs.Texts.{usage_line, absent_line, refused_line, full_line, end_line}
+use Rattle.std.specs.Result.{result_unwrap_or}
+use Rattle.cts_words.specs.declared.statement.Statement.{Statement}
+use Rattle.cts_words.specs.Statements.{said}
+use Rattle.cts_serve.specs.FirstForm.{script_events}
+use Rattle.cts_serve.specs.Judging.{Outcome, refusal, judge_definitions, judge_site, judge_script}
+use Rattle.cts_serve.specs.declared.status.Status.TheVariants.{Ok as Fine, Usage, Absent, ScriptRefused, HistoryFull as FullHistory}
 
 -- the files that a command asks for, by their names
 pub record Request : Type 0 where
@@ -31,24 +28,24 @@ asked (command ∷ definitions ∷ site ∷ script ∷ []) =
     if pointwise nat_eq command (codes "replay") then Some (record { definitions = definitions; site = site; script = script }) else None
 asked words = None
 
--- a status with its line alone
-abbrev pub refusal : Status → List ℕ → Outcome
-refusal status line = record { status = status; body = []; last = line }
-
--- why a file is not taken, if it is not: it is absent, or its bytes do not pass the test
-abbrev pub file_refusal : (List ℕ → Bool) → List ℕ → Option (List ℕ) → Option Outcome
-file_refusal takes name None = Some (refusal Absent (absent_line name))
-file_refusal takes name (Some bytes) = if takes bytes then None else Some (refusal NotBuilt (not_built_line name))
+-- why a file is not taken, if it is not: it is absent, or its bytes are refused
+abbrev pub file_refusal : (List ℕ → List ℕ → Option Outcome) → List ℕ → Option (List ℕ) → Option Outcome
+file_refusal judges name None = Some (refusal Absent (absent_line name))
+file_refusal judges name (Some bytes) = judges name bytes
 
 -- the refusal of the first of the three files that is not taken
 abbrev pub first_refusal : (List ℕ → Option (List ℕ)) → Request → Option Outcome
 first_refusal files r =
-    or_earlier (file_refusal takes_definitions r.definitions (files r.definitions))
-    (or_earlier (file_refusal takes_site r.site (files r.site)) (file_refusal takes_script r.script (files r.script)))
+    or_earlier (file_refusal judge_definitions r.definitions (files r.definitions))
+    (or_earlier (file_refusal judge_site r.site (files r.site)) (file_refusal judge_script r.script (files r.script)))
+
+-- the statements of a text, none where it is refused
+abbrev pub statements_in : List ℕ → List Statement
+statements_in text = result_unwrap_or (said text) []
 
 -- the events of the script
 abbrev pub events_asked : (List ℕ → Option (List ℕ)) → Request → List (ℕ × Event)
-events_asked files r = unwrap_or (script_events (unwrap_or (files r.script) [])) []
+events_asked files r = unwrap_or (script_events (statements_in (unwrap_or (files r.script) []))) []
 
 abbrev pub events_of : List (ℕ × Event) → List Event
 events_of events = map (λ e. e.1) events

@@ -3,10 +3,10 @@ use Rattle.std.specs.Prelude.{◌≡◌, ℕ, ◌≤◌, List, [], ◌++◌, tak
 use Rattle.cts_outside.specs.Causes.{Steady}
 use Rattle.cts_outside.specs.Contents.{appended, IsPartPut}
 use Rattle.cts_serve.specs.Texts.{memory_line, read_fault_line}
-use Rattle.cts_serve.specs.FirstForm.{takes_definitions, takes_site}
-use Rattle.cts_serve.specs.Outcomes.{Outcome, Request, file_refusal, IsOutcome}
+use Rattle.cts_serve.specs.Judging.{Outcome, judge_definitions, judge_site}
+use Rattle.cts_serve.specs.Outcomes.{Request, file_refusal, IsOutcome}
 use Rattle.cts_serve.specs.declared.status.Status.{Status}
-use Rattle.cts_serve.specs.declared.status.Status.TheVariants.{Ok as Fine, Memory, Usage, ReadFault, Absent, WriteFault, ScriptRefused, HistoryFull, NotBuilt}
+use Rattle.cts_serve.specs.declared.status.Status.TheVariants.{Ok as Fine, Memory, Usage, ReadFault, Absent, WriteFault, ConfigRefused, ScriptRefused, HistoryFull, NotBuilt}
 
 -- A body was put in whole and then a last line, or a prefix of that line where its put failed.
 pub record Printed (old new : Option (List ℕ)) (before now : ℕ) (body last : List ℕ) : Type 0 where
@@ -20,8 +20,8 @@ abbrev pub IsRead : (List ℕ → Option (List ℕ)) → Option Request → List
 IsRead files None name = ⊥
 IsRead files (Some r) name =
     (name ≡ r.definitions)
-    ⊎ ((file_refusal takes_definitions r.definitions (files r.definitions) ≡ None) × (name ≡ r.site))
-    ⊎ ((file_refusal takes_definitions r.definitions (files r.definitions) ≡ None) × (file_refusal takes_site r.site (files r.site) ≡ None) × (name ≡ r.script))
+    ⊎ ((file_refusal judge_definitions r.definitions (files r.definitions) ≡ None) × (name ≡ r.site))
+    ⊎ ((file_refusal judge_definitions r.definitions (files r.definitions) ≡ None) × (file_refusal judge_site r.site (files r.site) ≡ None) × (name ≡ r.script))
 
 -- the sink before a call and after it, and its count of faults
 pub record Puts : Type 0 where
@@ -39,6 +39,7 @@ PutsFor files r o ReadFault p = (name : List ℕ) × IsRead files r name × Prin
 PutsFor files r o WriteFault p = IsPartPut p.old p.new (o.body ++ o.last)
 PutsFor files r o Usage p = (o.status ≡ Usage) × Printed p.old p.new p.before p.now o.body o.last
 PutsFor files r o Absent p = (o.status ≡ Absent) × Printed p.old p.new p.before p.now o.body o.last
+PutsFor files r o ConfigRefused p = (o.status ≡ ConfigRefused) × Printed p.old p.new p.before p.now o.body o.last
 PutsFor files r o ScriptRefused p = (o.status ≡ ScriptRefused) × Printed p.old p.new p.before p.now o.body o.last
 PutsFor files r o HistoryFull p = (o.status ≡ HistoryFull) × Printed p.old p.new p.before p.now o.body o.last
 PutsFor files r o NotBuilt p = (o.status ≡ NotBuilt) × Printed p.old p.new p.before p.now o.body o.last

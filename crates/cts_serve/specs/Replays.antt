@@ -11,13 +11,14 @@ use Rattle.cts_script.specs.Lines.{entry_lines}
 use Rattle.cts_serve.specs.Path.{path_ground}
 use Rattle.cts_serve.specs.Worlds.{Held, Stands}
 use Rattle.cts_serve.specs.Texts.{memory_line, refused_line, full_line, end_line}
-use Rattle.cts_serve.specs.Outcomes.{Outcome, path_names, IsReplay}
+use Rattle.cts_serve.specs.Judging.{Outcome}
+use Rattle.cts_serve.specs.Outcomes.{path_names, IsReplay}
 use Rattle.cts_serve.specs.Printing.{Puts, Printed}
 use Rattle.cts_serve.specs.declared.refusal.Refusal.TheVariants.{NotEnabled as RefusedEvent, HistoryFull as FullHistory, Memory as NoMemory}
 use Rattle.cts_serve.specs.declared.stop.Stop.{Stop}
 use Rattle.cts_serve.specs.declared.stop.Stop.TheVariants.{Refused, WriteFault as PutFault}
 use Rattle.cts_serve.specs.declared.status.Status.{Status}
-use Rattle.cts_serve.specs.declared.status.Status.TheVariants.{Ok as Fine, Memory, Usage, ReadFault, Absent, WriteFault, ScriptRefused, HistoryFull as FullStatus, NotBuilt}
+use Rattle.cts_serve.specs.declared.status.Status.TheVariants.{Ok as Fine, Memory, Usage, ReadFault, Absent, WriteFault, ConfigRefused, ScriptRefused, HistoryFull as FullStatus, NotBuilt}
 
 -- nothing was put
 abbrev pub IsUntouched : Puts → Type 0
@@ -52,6 +53,7 @@ ReplayPuts o FullStatus p = (o.status ≡ FullStatus) × Printed p.old p.new p.b
 ReplayPuts o Usage p = ⊥
 ReplayPuts o ReadFault p = ⊥
 ReplayPuts o Absent p = ⊥
+ReplayPuts o ConfigRefused p = ⊥
 ReplayPuts o NotBuilt p = ⊥
 
 -- The events of a script were replayed.
@@ -82,4 +84,5 @@ EndPuts entries ReadFault p = ⊥
 EndPuts entries Absent p = ⊥
 EndPuts entries ScriptRefused p = ⊥
 EndPuts entries FullStatus p = ⊥
+EndPuts entries ConfigRefused p = ⊥
 EndPuts entries NotBuilt p = ⊥

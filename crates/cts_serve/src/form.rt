@@ -1,26 +1,58 @@
 // The form of the files that can be replayed so far.
-ghost use Rattle.std.specs.Prelude.{◌≡◌, ◌<◌, ◌^◌, ◌∷◌, length, option_map, IfOk};
+ghost use Rattle.std.specs.Prelude.{◌≡◌, [], ◌∷◌, map, option_map, IfOk};
 ghost use Rattle.hex.specs.Hex.{decode_of};
-ghost use Rattle.cts_words.specs.Statements.{lines};
-ghost use Rattle.cts_serve.specs.FirstForm.{is_text, is_site, piece_of, line_event, script_events};
+ghost use Rattle.cts_serve.specs.FirstForm.{is_text, are_words, is_site, site_words, piece_of, third_event, words_event, script_events};
 
 use crate::enabling::is_piece;
 use cts_base::{Bytes, Memory};
 use cts_entry::{Event, Why};
+use cts_words::Statement;
 use hex::FromHexError;
 use std::alloc::Global;
 
-/// Whether a site is the one line that is taken, with or without a line feed at its end.
-pub fn is_site(bytes: &[u8]) -> bool
-    ensures { result ≡ is_site bytes.now }
+const SITE_WORDS: [&[u8]; 13] = [
+    b"INTERFACE",
+    b"I",
+    b"tcpip_client_interface.rb",
+    b"localhost",
+    b"8080",
+    b"8080",
+    b"10.0",
+    b"nil",
+    b"LENGTH",
+    b"0",
+    b"16",
+    b"0",
+    b"1",
+];
+
+/// Whether a site is the one statement that is taken.
+pub fn is_site(statements: &[Statement]) -> bool
+    ensures { result ≡ is_site statements.now }
 {
-    is_text(
-        bytes,
-        b"INTERFACE I tcpip_client_interface.rb localhost 8080 8080 10.0 nil LENGTH 0 16 0 1",
-    ) || is_text(
-        bytes,
-        b"INTERFACE I tcpip_client_interface.rb localhost 8080 8080 10.0 nil LENGTH 0 16 0 1\n",
-    )
+    match statements {
+        [statement] => are_site_words(statement.words.as_slice()),
+        _ => false,
+    }
+}
+
+fn are_site_words(words: &[Bytes]) -> bool
+    ensures { result ≡ are_words words.now site_words }
+{
+    are_words(words, &SITE_WORDS)
+}
+
+// The words are these texts and no others. It calls itself no more often than there are texts.
+fn are_words(words: &[Bytes], texts: &[&[u8]]) -> bool
+    ensures { result ≡ are_words words.now (map (λ t. t.now) texts.now) }
+{
+    let Some((word, more_words)) = words.split_first() else {
+        return texts.is_empty();
+    };
+    let Some((text, more_texts)) = texts.split_first() else {
+        return false;
+    };
+    is_text(word.as_slice(), text) && are_words(more_words, more_texts)
 }
 
 fn is_text(bytes: &[u8], text: &[u8]) -> bool
@@ -29,19 +61,57 @@ fn is_text(bytes: &[u8], text: &[u8]) -> bool
     bytes == text
 }
 
-/// The event of one line of a script, if it has one.
-pub fn line_event(alloc: Global, line: &[u8]) -> Result<Option<Event>, Memory>
-    ensures { IfOk result (λ event. event ≡ line_event line.now) }
+/// The events of a script with the numbers of their lines, if each of its statements has one.
+pub fn script_events(
+    alloc: Global,
+    statements: &[Statement],
+) -> Result<Option<Vec<(u32, Event)>>, Memory>
+    ensures { IfOk result (λ events. option_map (λ v. v.items) events ≡ script_events statements.now) }
 {
-    if is_text(line, b"OPEN I") {
-        return Ok(Some(Event::Opens(0)));
+    let mut events = Vec::new(alloc);
+    let mut left = statements;
+    'statements: while let Some((statement, after)) = left.split_first() {
+        let Some(event) = words_event(alloc, statement.words.as_slice())? else {
+            return Ok(None);
+        };
+        events.push((statement.line, event))?;
+        left = after;
     }
-    if is_text(line, b"CLOSE I PEER") {
-        return Ok(Some(Event::Finish(0, Why::PeerEnded)));
+    Ok(Some(events))
+}
+
+// The event of a statement's words, if they have one.
+fn words_event(alloc: Global, words: &[Bytes]) -> Result<Option<Event>, Memory>
+    ensures { IfOk result (λ event. event ≡ words_event words.now) }
+{
+    match words {
+        [keyword, interface] => Ok(opening(keyword.as_slice(), interface.as_slice())),
+        [keyword, interface, word] if is_text(interface.as_slice(), b"I") => {
+            third_event(alloc, keyword.as_slice(), word.as_slice())
+        }
+        _ => Ok(None),
     }
-    match line.strip_prefix(b"BYTES I ") {
-        Some(digits) => piece(alloc, digits),
-        None => Ok(None),
+}
+
+fn opening(keyword: &[u8], interface: &[u8]) -> Option<Event>
+    ensures { result ≡ words_event (keyword.now ∷ interface.now ∷ []) }
+{
+    if is_text(keyword, b"OPEN") && is_text(interface, b"I") {
+        Some(Event::Opens(0))
+    } else {
+        None
+    }
+}
+
+fn third_event(alloc: Global, keyword: &[u8], word: &[u8]) -> Result<Option<Event>, Memory>
+    ensures { IfOk result (λ event. event ≡ third_event keyword.now word.now) }
+{
+    if is_text(keyword, b"BYTES") {
+        piece(alloc, word)
+    } else if is_text(keyword, b"CLOSE") && is_text(word, b"PEER") {
+        Ok(Some(Event::Finish(0, Why::PeerEnded)))
+    } else {
+        Ok(None)
     }
 }
 
@@ -60,38 +130,4 @@ fn piece(alloc: Global, digits: &[u8]) -> Result<Option<Event>, Memory>
         Err(FromHexError::OutOfMemory) => Err(Memory),
         Err(_) => Ok(None),
     }
-}
-
-/// The events of a script with the numbers of their lines, if each of its lines has one.
-pub fn script_events(alloc: Global, text: &[u8]) -> Result<Option<Vec<(u32, Event)>>, Memory>
-    requires { length text.now < 2 ^ 32 }
-    ensures { IfOk result (λ events. option_map (λ v. v.items) events ≡ script_events text.now) }
-{
-    let mut events = Vec::new(alloc);
-    let mut number = 0u32;
-    let mut rest = text;
-    while !rest.is_empty() {
-        let (line, after) = cut_line(rest);
-        let Some(event) = line_event(alloc, line)? else {
-            return Ok(None);
-        };
-        number += 1;
-        events.push((number, event))?;
-        rest = after;
-    }
-    Ok(Some(events))
-}
-
-// The first line, and what follows it.
-fn cut_line(text: &[u8]) -> (&[u8], &[u8])
-    requires { 0 < length text.now }
-    ensures cut { lines text.now ≡ result.0.now ∷ lines result.1.now }
-    ensures shorter { length result.1.now < length text.now }
-{
-    for (at, byte) in text.iter().enumerate() {
-        if *byte == b'\n' {
-            return (&text[..at], &text[at + 1..]);
-        }
-    }
-    (text, &text[text.len()..])
 }

@@ -4,6 +4,7 @@
 mod command;
 mod enabling;
 mod events;
+mod file_kind;
 mod form;
 mod last;
 mod loading;

@@ -1,10 +1,13 @@
 // The three files of a command, read and taken.
-ghost use Rattle.std.specs.Prelude.{◌≡◌, ◌≤◌, [], length, unwrap_or, IfOk, IfSome};
-ghost use Rattle.cts_serve.specs.FirstForm.{file_limit, takes_definitions, takes_site, takes_script, script_events};
-ghost use Rattle.cts_serve.specs.Fetching.{IsReadAs, IsTakenAs, IsNotBuilt, answer_seen};
+ghost use Rattle.std.specs.Prelude.{◌≡◌, ◌≤◌, [], ◌∷◌, length, codes, unwrap_or, IfOk, IfSome};
+ghost use Rattle.cts_serve.specs.FirstForm.{script_events};
+ghost use Rattle.cts_serve.specs.Judging.{file_limit, judge_definitions, judge_site, judge_script};
+ghost use Rattle.cts_serve.specs.Outcomes.{statements_in};
+ghost use Rattle.cts_serve.specs.Fetching.{IsReadAs, GivesStatements, IsTakenAs, IsNotBuilt, IsRefusedAt, answer_seen};
 ghost use Rattle.cts_serve.specs.Loading.{Loads, LoadCause};
 ghost use Rattle.cts_serve.specs.declared.refused.Refused.TheVariants.{Memory as NoMemory};
 
+use crate::file_kind::{FileKind, fault_line};
 use crate::form::{is_site, script_events};
 use crate::reading::{FetchFault, fetch};
 use crate::refused::Refused;
@@ -12,10 +15,11 @@ use crate::{Status, texts};
 use cts_base::{Bytes, Memory};
 use cts_entry::Event;
 use cts_outside::Files;
+use cts_words::{Statement, WordFault, statements};
 use std::alloc::Global;
 
 // The greatest file that is taken.
-const FILE_LIMIT: usize = 1_048_576;
+const FILE_LIMIT: usize = 67_108_864;
 
 impl From<Memory> for Refused {
     ghost from_gives = { λ _ refused. refused ≡ NoMemory };
@@ -46,11 +50,11 @@ pub fn load<F: Files>(
 
 fn take_definitions<F: Files>(alloc: Global, files: &mut F, name: &str) -> Result<(), Refused>
     ensures stays { F.told files.new ≡ F.told files.old }
-    ensures content { IfSome (F.told files.old) (λ all. IsTakenAs takes_definitions name.now (all name.now) result) }
+    ensures content { IfSome (F.told files.old) (λ all. IsTakenAs judge_definitions name.now (all name.now) result) }
     ensures cause { LoadCause result (F.faults files.old) (F.faults files.new) (F.absences files.old) (F.absences files.new) }
 {
-    let bytes = read(alloc, files, name)?;
-    if bytes.as_slice().is_empty() {
+    let found = read_statements(alloc, files, name, FileKind::Configuration)?;
+    if found.is_empty() {
         return Ok(());
     }
     Err(not_built(alloc, name))
@@ -58,11 +62,11 @@ fn take_definitions<F: Files>(alloc: Global, files: &mut F, name: &str) -> Resul
 
 fn take_site<F: Files>(alloc: Global, files: &mut F, name: &str) -> Result<(), Refused>
     ensures stays { F.told files.new ≡ F.told files.old }
-    ensures content { IfSome (F.told files.old) (λ all. IsTakenAs takes_site name.now (all name.now) result) }
+    ensures content { IfSome (F.told files.old) (λ all. IsTakenAs judge_site name.now (all name.now) result) }
     ensures cause { LoadCause result (F.faults files.old) (F.faults files.new) (F.absences files.old) (F.absences files.new) }
 {
-    let bytes = read(alloc, files, name)?;
-    if is_site(bytes.as_slice()) {
+    let found = read_statements(alloc, files, name, FileKind::Configuration)?;
+    if is_site(&found) {
         return Ok(());
     }
     Err(not_built(alloc, name))
@@ -74,23 +78,47 @@ fn take_script<F: Files>(
     name: &str,
 ) -> Result<Vec<(u32, Event)>, Refused>
     ensures stays { F.told files.new ≡ F.told files.old }
-    ensures content { IfSome (F.told files.old) (λ all. IsTakenAs takes_script name.now (all name.now) result) }
+    ensures content { IfSome (F.told files.old) (λ all. IsTakenAs judge_script name.now (all name.now) result) }
     ensures events { IfSome (F.told files.old) (λ all.
-        IfOk result (λ events. unwrap_or (script_events (unwrap_or (all name.now) [])) [] ≡ events.items)) }
+        IfOk result (λ events. unwrap_or (script_events (statements_in (unwrap_or (all name.now) []))) [] ≡ events.items)) }
     ensures cause { LoadCause result (F.faults files.old) (F.faults files.new) (F.absences files.old) (F.absences files.new) }
 {
-    let bytes = read(alloc, files, name)?;
-    match script_events(alloc, bytes.as_slice())? {
+    let found = read_statements(alloc, files, name, FileKind::Script)?;
+    match script_events(alloc, &found)? {
         Some(events) => Ok(events),
         None => Err(not_built(alloc, name)),
     }
 }
 
+// The statements of a file. Its bytes are let go before anything is made of them.
+fn read_statements<F: Files>(
+    alloc: Global,
+    files: &mut F,
+    name: &str,
+    kind: FileKind,
+) -> Result<Vec<Statement>, Refused>
+    ensures stays { F.told files.new ≡ F.told files.old }
+    ensures content { IfSome (F.told files.old) (λ all. GivesStatements kind name.now (all name.now) (answer_seen (λ v. v.items) result)) }
+    ensures cause { LoadCause result (F.faults files.old) (F.faults files.new) (F.absences files.old) (F.absences files.new) }
+{
+    let bytes = read(alloc, files, name, kind)?;
+    match statements(alloc, bytes.as_slice()) {
+        Ok(found) => Ok(found),
+        Err(WordFault::Memory) => Err(Refused::Memory),
+        Err(fault) => Err(refused_at(alloc, name, kind, fault_line(fault), kind.cause(fault))),
+    }
+}
+
 // The bytes of a file. Its lines stand ready before it is read, so that a fault is told even
 // where memory runs out.
-fn read<F: Files>(alloc: Global, files: &mut F, name: &str) -> Result<Bytes, Refused>
+fn read<F: Files>(
+    alloc: Global,
+    files: &mut F,
+    name: &str,
+    kind: FileKind,
+) -> Result<Bytes, Refused>
     ensures stays { F.told files.new ≡ F.told files.old }
-    ensures content { IfSome (F.told files.old) (λ all. IsReadAs name.now (all name.now) result) }
+    ensures content { IfSome (F.told files.old) (λ all. IsReadAs kind name.now (all name.now) result) }
     ensures small { IfOk result (λ bytes. length bytes ≤ file_limit) }
     ensures cause { LoadCause result (F.faults files.old) (F.faults files.new) (F.absences files.old) (F.absences files.new) }
 {
@@ -106,8 +134,21 @@ fn read<F: Files>(alloc: Global, files: &mut F, name: &str) -> Result<Bytes, Ref
             status: Status::ReadFault,
             line: fault,
         }),
-        Err(FetchFault::TooLarge) => Err(not_built(alloc, name)),
+        Err(FetchFault::TooLarge) => Err(refused_at(alloc, name, kind, 0, b"TooLarge")),
         Err(FetchFault::Memory) => Err(Refused::Memory),
+    }
+}
+
+// Why a command ends at a line of a file.
+fn refused_at(alloc: Global, name: &str, kind: FileKind, line: u32, cause: &[u8]) -> Refused
+    ensures { IsRefusedAt kind name.now line cause.now result }
+{
+    match texts::refused(alloc, name, line, cause) {
+        Ok(text) => Refused::Said {
+            status: kind.status(),
+            line: text,
+        },
+        Err(Memory) => Refused::Memory,
     }
 }
 

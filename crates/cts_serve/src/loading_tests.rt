@@ -10,8 +10,11 @@ use std::test::Fail;
 const SITE: &[u8] =
     b"INTERFACE I tcpip_client_interface.rb localhost 8080 8080 10.0 nil LENGTH 0 16 0 1";
 
-const SITE_ENDED: &[u8] =
-    b"INTERFACE I tcpip_client_interface.rb localhost 8080 8080 10.0 nil LENGTH 0 16 0 1\n";
+const SITE_SPACED: &[u8] =
+    b"# one interface\n INTERFACE I tcpip_client_interface.rb localhost 8080 &\r\n\t8080 10.0 'nil' LENGTH 0 16 0 1\n\n";
+
+const TWO_SITES: &[u8] =
+    b"INTERFACE I tcpip_client_interface.rb localhost 8080 8080 10.0 nil LENGTH 0 16 0 1\nTITLE x\n";
 
 // The files `d`, `s` and `p`, where they are given.
 fn files(
@@ -74,19 +77,49 @@ fn shown_events(alloc: Global, events: &[(u32, Event)]) -> Result<Vec<u8>, Alloc
 #[test]
 fn each_file_has_its_refusals_before_the_next(rt: HostRuntime) -> Result<(), Fail> {
     let alloc = rt.alloc();
-    let rows: [([Option<&[u8]>; 3], &[u8]); 9] = [
+    let rows: [([Option<&[u8]>; 3], &[u8]); 15] = [
         ([None, None, None], b"Absent absent: d\n"),
+        (
+            [Some(b"A 'b"), None, None],
+            b"ConfigRefused refused: d line 1: OpenQuote\n",
+        ),
+        (
+            [Some(b"\nA &"), None, None],
+            b"ConfigRefused refused: d line 2: DanglingJoin\n",
+        ),
+        (
+            [Some(b"A\n\xff '"), None, None],
+            b"ConfigRefused refused: d line 0: NotText\n",
+        ),
         ([Some(b"x"), None, None], b"NotBuilt not built: d\n"),
-        ([Some(b"\n"), None, None], b"NotBuilt not built: d\n"),
-        ([Some(b""), None, None], b"Absent absent: s\n"),
+        (
+            [Some(b"\n # no statement\n"), None, None],
+            b"Absent absent: s\n",
+        ),
+        (
+            [Some(b""), Some(b"\""), None],
+            b"ConfigRefused refused: s line 1: OpenQuote\n",
+        ),
         ([Some(b""), Some(b""), None], b"NotBuilt not built: s\n"),
         ([Some(b""), Some(b"x"), None], b"NotBuilt not built: s\n"),
+        (
+            [Some(b""), Some(TWO_SITES), None],
+            b"NotBuilt not built: s\n",
+        ),
         ([Some(b""), Some(SITE), None], b"Absent absent: p\n"),
         (
-            [Some(b""), Some(SITE_ENDED), Some(b"x")],
+            [Some(b""), Some(SITE_SPACED), Some(b"OPEN I\nx '\n")],
+            b"ScriptRefused refused: p line 2: WrongCount\n",
+        ),
+        (
+            [Some(b""), Some(SITE), Some(b"OPEN I\n\x80")],
+            b"ScriptRefused refused: p line 0: WrongCount\n",
+        ),
+        (
+            [Some(b""), Some(SITE), Some(b"x")],
             b"NotBuilt not built: p\n",
         ),
-        ([Some(b""), Some(SITE_ENDED), Some(b"OPEN I")], b"1 opens\n"),
+        ([Some(b""), Some(SITE), Some(b"OPEN I")], b"1 opens\n"),
     ];
     for (contents, expected) in rows {
         let mut files = files(alloc, contents, Vec::new(alloc))?;
@@ -97,30 +130,29 @@ fn each_file_has_its_refusals_before_the_next(rt: HostRuntime) -> Result<(), Fai
 }
 
 #[test]
-fn each_line_of_a_script_has_one_event(rt: HostRuntime) -> Result<(), Fail> {
+fn each_statement_of_a_script_has_one_event(rt: HostRuntime) -> Result<(), Fail> {
     let alloc = rt.alloc();
-    let rows: [(&[u8], &[u8]); 18] = [
+    let rows: [(&[u8], &[u8]); 17] = [
         (b"", b""),
+        (b"\n\n# nothing\n", b""),
         (b"OPEN I", b"1 opens\n"),
-        (b"OPEN I\n", b"1 opens\n"),
+        (b"\nOPEN I\r\n", b"2 opens\n"),
         (
-            b"OPEN I\nBYTES I 00fFaB\nCLOSE I PEER",
-            b"1 opens\n2 00ffab\n3 finish\n",
+            b"OPEN I # first\n\nBYTES I &\n 00fFaB\n\t'CLOSE' I \"PEER\"",
+            b"1 opens\n3 00ffab\n5 finish\n",
         ),
-        (b"\n", b"NotBuilt not built: p\n"),
-        (b"OPEN I\n\n", b"NotBuilt not built: p\n"),
-        (b"OPEN I\r\n", b"NotBuilt not built: p\n"),
-        (b"OPEN  I\n", b"NotBuilt not built: p\n"),
-        (b"OPEN I \n", b"NotBuilt not built: p\n"),
-        (b" OPEN I\n", b"NotBuilt not built: p\n"),
         (b"open I\n", b"NotBuilt not built: p\n"),
+        (b"OPEN i\n", b"NotBuilt not built: p\n"),
         (b"OPEN J\n", b"NotBuilt not built: p\n"),
+        (b"OPEN I I\n", b"NotBuilt not built: p\n"),
         (b"CLOSE I\n", b"NotBuilt not built: p\n"),
-        (b"BYTES I \n", b"NotBuilt not built: p\n"),
+        (b"CLOSE I READ\n", b"NotBuilt not built: p\n"),
+        (b"BYTES I\n", b"NotBuilt not built: p\n"),
+        (b"BYTES I ''\n", b"NotBuilt not built: p\n"),
         (b"BYTES I 0\n", b"NotBuilt not built: p\n"),
         (b"BYTES I 0g\n", b"NotBuilt not built: p\n"),
         (b"BYTES I 00 11\n", b"NotBuilt not built: p\n"),
-        (b"BYTES  I 00\n", b"NotBuilt not built: p\n"),
+        (b"BYTES J 00\n", b"NotBuilt not built: p\n"),
     ];
     for (script, expected) in rows {
         let contents = [Some(b"".as_slice()), Some(SITE), Some(script)];
@@ -186,18 +218,30 @@ fn a_piece_has_65536_bytes_at_most(rt: HostRuntime) -> Result<(), Fail> {
     Ok(())
 }
 
+// Bytes that are one word.
+fn one_word(alloc: Global, length: usize) -> Result<Bytes, AllocError> {
+    let text = vec![in alloc; b'a'; length]?;
+    Ok(Bytes::of(text))
+}
+
+// What is said of a definitions file that is one word.
+fn said_of_one_word(alloc: Global, length: usize) -> Result<Vec<u8>, AllocError> {
+    let mut held = Vec::new(alloc);
+    held.push((Bytes::of(b"d".to_vec(alloc)?), one_word(alloc, length)?))?;
+    let mut files = MemFiles::new(held, Vec::new(alloc));
+    shown(alloc, load(alloc, &mut files, "d", "s", "p"))
+}
+
 #[test]
-fn a_file_has_1048576_bytes_at_most(rt: HostRuntime) -> Result<(), Fail> {
+fn a_file_has_67108864_bytes_at_most(rt: HostRuntime) -> Result<(), Fail> {
     let alloc = rt.alloc();
-    let mut script = Vec::new(alloc);
-    add_times(&mut script, b"CLOSE I PEER\n", 3)?;
-    add_times(&mut script, b"OPEN I\n", 149_791)?;
-    assert_eq!(rt; script.len(), 1_048_576);
-    assert_eq!(rt; count_events(alloc, &script)?, Some(149_794));
-    let mut script = Vec::new(alloc);
-    add_times(&mut script, b"CLOSE I PEER\n", 2)?;
-    add_times(&mut script, b"OPEN I\n", 149_793)?;
-    assert_eq!(rt; script.len(), 1_048_577);
-    assert_eq!(rt; count_events(alloc, &script)?, None);
+    assert_eq!(rt;
+        said_of_one_word(alloc, 67_108_864)?.as_slice(),
+        b"NotBuilt not built: d\n".as_slice()
+    );
+    assert_eq!(rt;
+        said_of_one_word(alloc, 67_108_865)?.as_slice(),
+        b"ConfigRefused refused: d line 0: TooLarge\n".as_slice()
+    );
     Ok(())
 }

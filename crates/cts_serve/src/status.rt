@@ -16,7 +16,9 @@ pub enum Status {
     Absent,
     /// The output could not be written.
     WriteFault,
-    /// A line of the script is refused.
+    /// A line of the definitions or the site is refused, or such a file is too large.
+    ConfigRefused,
+    /// A line of the script is refused, or the script is too large.
     ScriptRefused,
     /// An event's entries would pass a limit of the history.
     HistoryFull,
@@ -38,6 +40,7 @@ impl Status {
             Status::ReadFault => 3,
             Status::Absent => 3,
             Status::WriteFault => 4,
+            Status::ConfigRefused => 5,
             Status::ScriptRefused => 7,
             Status::HistoryFull => 8,
             Status::NotBuilt => 13,

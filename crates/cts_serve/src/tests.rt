@@ -195,7 +195,7 @@ const REFUSALS: [Refusal; 9] = [
     },
     Refusal {
         words: REPLAY,
-        definitions: b"\n",
+        definitions: b"TELEMETRY T A BIG_ENDIAN\n",
         site: b"",
         script: b"OPEN J\n",
         status: Status::NotBuilt,
@@ -203,11 +203,11 @@ const REFUSALS: [Refusal; 9] = [
     },
     Refusal {
         words: REPLAY,
-        definitions: b"",
-        site: b"",
+        definitions: b"\n",
+        site: b"INTERFACE I &",
         script: b"OPEN J\n",
-        status: Status::NotBuilt,
-        printed: b"not built: s\n",
+        status: Status::ConfigRefused,
+        printed: b"refused: s line 1: DanglingJoin\n",
     },
     Refusal {
         words: REPLAY,
@@ -221,9 +221,9 @@ const REFUSALS: [Refusal; 9] = [
         words: REPLAY,
         definitions: b"",
         site: SITE,
-        script: b"OPEN I\n\n",
-        status: Status::NotBuilt,
-        printed: b"not built: c\n",
+        script: b"OPEN I\n\n'\n",
+        status: Status::ScriptRefused,
+        printed: b"refused: c line 3: WrongCount\n",
     },
 ];
 
@@ -302,7 +302,7 @@ fn a_put_that_fails_ends_the_command(rt: HostRuntime) -> Result<(), Fail> {
 #[test]
 fn a_last_line_that_fails_leaves_the_status(rt: HostRuntime) -> Result<(), Fail> {
     let alloc = rt.alloc();
-    let mut files = files(alloc, b"\n", SITE, SCRIPT, Vec::new(alloc))?;
+    let mut files = files(alloc, b"A", SITE, SCRIPT, Vec::new(alloc))?;
     let mut sink = MemSink::new(alloc, vec![in alloc; 0u64]?);
     assert_eq!(rt; run(alloc, REPLAY, &mut files, &mut sink), Status::NotBuilt);
     assert_eq!(rt; sink.bytes(), b"".as_slice());
@@ -318,6 +318,7 @@ fn exit_statuses(rt: HostRuntime) -> Result<(), Fail> {
         (Status::ReadFault, 3),
         (Status::Absent, 3),
         (Status::WriteFault, 4),
+        (Status::ConfigRefused, 5),
         (Status::ScriptRefused, 7),
         (Status::HistoryFull, 8),
         (Status::NotBuilt, 13),
