@@ -8,7 +8,7 @@ use cts_entry::Why;
 
 const MOST_PIECE: usize = 65_536;
 
-/// Why a script may close a connection.
+/// Whether a script may close a connection for this reason: a stop only after a Stop.
 pub fn may_close(why: Why, stopped: bool) -> bool
     ensures { (history : List Entry) → is_stopped history ≡ stopped → result ≡ may_close history why }
 {

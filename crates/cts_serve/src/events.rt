@@ -1,5 +1,5 @@
 // One event of a script: done, and its lines put.
-ghost use Rattle.std.specs.Prelude.{◌≡◌, drop, min, length, vec_len};
+ghost use Rattle.std.specs.Prelude.{drop, min, length};
 ghost use Rattle.cts_core.specs.States.{State};
 ghost use Rattle.cts_serve.specs.Replays.{PutsEntries, DoesEvent};
 ghost use Rattle.cts_serve.specs.Worlds.{Stands, held_in};

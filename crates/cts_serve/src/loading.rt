@@ -1,5 +1,5 @@
 // The three files of a command, read and taken.
-ghost use Rattle.std.specs.Prelude.{◌≡◌, ◌≤◌, [], ◌∷◌, length, codes, unwrap_or, IfOk, IfSome};
+ghost use Rattle.std.specs.Prelude.{◌≡◌, ◌≤◌, [], length, unwrap_or, IfOk, IfSome};
 ghost use Rattle.cts_serve.specs.FirstForm.{script_events};
 ghost use Rattle.cts_serve.specs.Judging.{file_limit, judge_definitions, judge_site, judge_script};
 ghost use Rattle.cts_serve.specs.Outcomes.{statements_in};

@@ -1,6 +1,4 @@
 // Why a replay does not go on after an event.
-ghost use Rattle.std.specs.Prelude.{◌≡◌};
-
 use crate::refusal::Refusal;
 
 /// Why a replay does not go on after an event.

@@ -35,7 +35,7 @@ pub struct World {
 }
 
 impl World {
-    ghost use Rattle.std.specs.Prelude.{◌≡◌, ◌==◌, ◌&&◌, ◌≤◌, nat_le, nat_lt, not, length, List, drop, vec_len, IfOk, ◌++◌, ◌∷◌, [], ◌+◌, ◌-◌, ◌<◌, ◌^◌, OnOk};
+    ghost use Rattle.std.specs.Prelude.{◌≡◌, ◌==◌, ◌&&◌, ◌≤◌, ◌+◌, nat_le, not, length, List, vec_len, OnOk};
     ghost use Rattle.cts_core.specs.States.{State, opening, may_close};
     ghost use Rattle.cts_entry.specs.declared.entry.Entry.{Entry};
     ghost use Rattle.cts_entry.specs.declared.event.Event.TheVariants as event;
