@@ -2,7 +2,7 @@
 ghost use Rattle.std.specs.Prelude.{◌≤◌};
 
 use crate::enabling::{is_piece, may_close};
-use crate::posting::{INTERFACE, packets};
+use crate::posting::{INTERFACE, drop_front, packets};
 use crate::refusal::Refusal;
 use cts_base::Memory;
 use cts_def::{BadCause, Loss, Time};
@@ -183,9 +183,7 @@ impl World {
     {
         let mut entries = packets(alloc, self.time, &self.rest, cutting)?;
         self.history.append(&mut entries)?;
-        let left = self.rest.len() - cutting.rest;
-        self.rest.copy_within(cutting.rest.., 0);
-        self.rest.truncate(left);
+        drop_front(&mut self.rest, cutting.rest);
         self.entries += cutting.frames.as_slice().len() as u64;
         self.bytes += cutting.rest as u64;
         Ok(())
