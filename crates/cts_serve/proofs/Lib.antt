@@ -5,3 +5,4 @@ pub mod Progress
 pub mod Commands
 pub mod Loadings
 pub mod Forms
+pub mod OneOutcome

@@ -10,3 +10,4 @@ pub mod Fetching
 pub mod Replays
 pub mod Causing
 pub mod Statuses
+pub mod Laws

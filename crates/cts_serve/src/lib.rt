@@ -7,6 +7,7 @@ mod events;
 mod file_kind;
 mod form;
 mod last;
+mod laws;
 mod loading;
 mod naming;
 mod posting;
@@ -20,6 +21,7 @@ mod texts;
 mod world;
 
 pub use command::run;
+pub use laws::outcomes;
 pub use status::Status;
 
 #[cfg(test)]
