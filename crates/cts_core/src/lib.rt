@@ -1,7 +1,9 @@
 //! The definition of the server's core: what each event does, and what a list of events does, with
-//! its laws. The core that runs events stands above it.
+//! its laws and tests of what is enabled. The core that runs events stands above it.
 #![tactic(auto)]
 
+mod enabling;
 mod laws;
 
+pub use enabling::{is_piece, may_close};
 pub use laws::runs;

@@ -1,7 +1,9 @@
 // An entry of the history.
 
-use crate::What;
-use cts_def::Time;
+use crate::{What, Why};
+use cts_def::{Loss, Time};
+
+const SERVER: u32 = 31;
 
 /// One entry of the server's history: who appended it, when, and what it says.
 #[derive(Debug, Drop)]
@@ -13,4 +15,48 @@ pub struct Entry {
     pub time: Time,
     /// What happened.
     pub what: What,
+}
+
+impl Entry {
+    ghost use Rattle.std.specs.Prelude.{◌≡◌};
+    ghost use Rattle.cts_entry.specs.declared.what.What.TheVariants.{Opened, Closed, Stop};
+
+    /// A connection of this maker is opened.
+    pub fn opened(by: u32, time: Time) -> Entry
+        ensures { result ≡ record { by = by; time = time; what = Opened } }
+    {
+        Entry {
+            by,
+            time,
+            what: What::Opened,
+        }
+    }
+
+    /// A connection of this maker is closed; all its packets found room, and all that was for its
+    /// peer was put whole.
+    pub fn closed(by: u32, time: Time, why: Why, loss: Loss) -> Entry
+        ensures { result ≡ record { by = by; time = time; what = Closed why loss 0 0 } }
+    {
+        Entry {
+            by,
+            time,
+            what: What::Closed {
+                why,
+                loss,
+                unposted: 0,
+                unsent: 0,
+            },
+        }
+    }
+
+    /// The server is to stop, by its own entry.
+    pub fn stop(time: Time) -> Entry
+        ensures { result ≡ record { by = 31; time = time; what = Stop } }
+    {
+        Entry {
+            by: SERVER,
+            time,
+            what: What::Stop,
+        }
+    }
 }

@@ -3,8 +3,8 @@ ghost use Rattle.std.specs.Prelude.{◌≡◌, [], ◌∷◌, map, option_map, I
 ghost use Rattle.hex.specs.Hex.{decode_of};
 ghost use Rattle.cts_serve.specs.FirstForm.{is_text, are_words, is_site, site_words, piece_of, third_event, words_event, script_events};
 
-use crate::enabling::is_piece;
 use cts_base::{Bytes, Memory};
+use cts_core::is_piece;
 use cts_entry::{Event, Why};
 use cts_words::Statement;
 use hex::FromHexError;

@@ -2,7 +2,6 @@
 #![tactic(auto)]
 
 mod command;
-mod enabling;
 mod events;
 mod file_kind;
 mod form;

@@ -1,22 +1,18 @@
 // The core that runs events: one interface, whose frames state their length.
 ghost use Rattle.std.specs.Prelude.{◌≤◌};
 
-use crate::enabling::{is_piece, may_close};
 use crate::posting::{INTERFACE, drop_front, packets};
 use crate::refusal::Refusal;
 use cts_base::Memory;
+use cts_core::{is_piece, may_close};
 use cts_def::{BadCause, Loss, Time};
-use cts_entry::{Entry, Event, What, Why};
+use cts_entry::{Entry, Event, Why};
 use cts_proto::{Cutting, cut_length};
 use std::alloc::Global;
 
 const MOST_ENTRIES: u64 = 4_000_000;
 
 const MOST_BYTES: u64 = 1_073_741_824;
-
-const MICROS: u32 = 1_000_000;
-
-const SERVER: u32 = 31;
 
 /// The server's history, and of the connection that stands the bytes that no packet has yet.
 #[derive(Debug, Drop)]
@@ -81,7 +77,7 @@ impl World {
     fn set_time(&mut self, time: Time) -> Result<(), Refusal>
         ensures { (s : State) → Stands (held_in self.old) s → Steps s (event.SetTime time) result (held_in self.new) }
     {
-        if time.micros >= MICROS {
+        if !time.is_of_clock() {
             return Err(Refusal::NotEnabled);
         }
         self.time = time;
@@ -97,11 +93,7 @@ impl World {
         if self.entries >= MOST_ENTRIES {
             return Err(Refusal::HistoryFull);
         }
-        self.history.push(Entry {
-            by: INTERFACE,
-            time: self.time,
-            what: What::Opened,
-        })?;
+        self.history.push(Entry::opened(INTERFACE, self.time))?;
         self.connected = true;
         self.rest.clear();
         self.entries += 1;
@@ -198,16 +190,8 @@ impl World {
             skipped: 0,
             empty: 0,
         };
-        self.history.push(Entry {
-            by: INTERFACE,
-            time: self.time,
-            what: What::Closed {
-                why,
-                loss,
-                unposted: 0,
-                unsent: 0,
-            },
-        })?;
+        self.history
+            .push(Entry::closed(INTERFACE, self.time, why, loss))?;
         self.connected = false;
         self.rest.clear();
         Ok(())
@@ -219,11 +203,7 @@ impl World {
         if self.stopped {
             return Err(Refusal::NotEnabled);
         }
-        self.history.push(Entry {
-            by: SERVER,
-            time: self.time,
-            what: What::Stop,
-        })?;
+        self.history.push(Entry::stop(self.time))?;
         self.stopped = true;
         Ok(())
     }
