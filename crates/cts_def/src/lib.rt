@@ -1,15 +1,45 @@
-//! Plain types of definitions and sites: what later parts of the server say of a time, a packet's
-//! identity, a limit, and what a protocol could not frame.
+//! Plain types of definitions and sites, with the rules that each keeps: packets and their items, interfaces and
+//! routers with their protocols, times, a packet's identity, and what a protocol could not frame.
 #![tactic(auto)]
 
 mod bad_cause;
+mod color;
+mod conversion;
+mod definitions;
 mod ident;
+mod interface;
+mod item;
+mod item_kind;
+mod label;
 mod limits;
+mod limits_setup;
 mod loss;
+mod packet;
+mod proto_spec;
+mod proto_use;
+mod site;
+mod span;
+mod start;
+mod state_def;
 mod time;
 
 pub use bad_cause::BadCause;
+pub use color::Color;
+pub use conversion::{Conversion, Segment};
+pub use definitions::Definitions;
 pub use ident::Ident;
+pub use interface::{Interface, Router};
+pub use item::Item;
+pub use item_kind::{ItemKind, Overflow, Preset};
+pub use label::Label;
 pub use limits::Limits;
+pub use limits_setup::LimitsSetup;
 pub use loss::Loss;
+pub use packet::Packet;
+pub use proto_spec::{Kind, ProtoSpec};
+pub use proto_use::ProtoUse;
+pub use site::Site;
+pub use span::Span;
+pub use start::Start;
+pub use state_def::StateDef;
 pub use time::Time;

@@ -1,0 +1,79 @@
+-- Packets and definitions: what contracts see of them, and the rules that they keep.
+use Rattle.std.specs.Prelude.{◌≡◌, ℕ, ◌+◌, ◌≤◌, max, Bool, false, not, ◌&&◌, ◌||◌, List, [], ◌∷◌, map, length, codes, int_lt, pos, IsTrue}
+use Rattle.std.specs.Int.{is_negative}
+use Rattle.std.specs.List.{list_any, list_all, IsDistinct}
+use Rattle.cts_def.specs.Items.{ItemData, span_of, is_same}
+use Rattle.cts_def.specs.Spans.{bytes_needed, is_variable}
+
+-- what contracts see of a packet or command: its fields
+pub record PacketData : Type 0 where
+  pub target : List ℕ
+  pub name : List ℕ
+  pub items : List ItemData
+  pub length : ℕ
+  pub variable : Bool
+  pub hazardous : Bool
+
+-- the greatest of some numbers, and 0 of none
+abbrev pub greatest : List ℕ → ℕ
+greatest [] = 0
+greatest (n ∷ ns) = max n (greatest ns)
+
+-- the least number of bytes in which each of these items lies
+abbrev pub length_of : List ItemData → ℕ
+length_of items = greatest (map (λ (i : ItemData). bytes_needed (span_of i)) items)
+
+-- one of these items has a place or length that is known only with the packet's bytes
+abbrev pub are_variable : List ItemData → Bool
+are_variable items = list_any (λ (i : ItemData). is_variable (span_of i)) items
+
+-- the item that every packet has of itself, and no definition may name
+abbrev pub received_count : List ℕ
+received_count = codes "RECEIVED_COUNT"
+
+-- the target of the packets that no definition fits
+abbrev pub unknown : List ℕ
+unknown = codes "UNKNOWN"
+
+-- what every packet and command keeps
+pub record IsSoundPacket (p : PacketData) : Type 0 where
+  pub least : p.length ≡ length_of p.items
+  pub varies : p.variable ≡ are_variable p.items
+  pub few : length p.items ≤ 4096
+  pub distinct : IsDistinct is_same (map (λ (i : ItemData). i.name) p.items)
+  pub known_target : is_same p.target unknown ≡ false
+  pub no_counts : list_any (λ (i : ItemData). is_same i.name received_count) p.items ≡ false
+
+-- ---- definitions
+
+pub record DefinitionsData : Type 0 where
+  pub telemetry : List PacketData
+  pub commands : List PacketData
+  pub set_names : List (List ℕ)
+
+-- two packets have the same target and name
+abbrev pub have_same_names : PacketData → PacketData → Bool
+have_same_names p q = is_same p.target q.target && is_same p.name q.name
+
+-- how many items these packets have
+abbrev pub items_in : List PacketData → ℕ
+items_in [] = 0
+items_in (p ∷ ps) = length p.items + items_in ps
+
+-- a command has no place that is counted from the end, and no size below 0
+abbrev pub is_from_start : ItemData → Bool
+is_from_start i = not (is_negative i.offset) && not (is_negative i.size)
+
+abbrev pub is_command : PacketData → Bool
+is_command p = list_all is_from_start p.items
+
+-- what all definitions keep
+pub record AreSoundDefinitions (d : DefinitionsData) : Type 0 where
+  pub telemetry : IsDistinct have_same_names d.telemetry
+  pub commands : IsDistinct have_same_names d.commands
+  pub few_telemetry : length d.telemetry ≤ 4096
+  pub few_commands : length d.commands ≤ 4096
+  pub few_items : items_in d.telemetry + items_in d.commands ≤ 65536
+  pub from_start : IsTrue (list_all is_command d.commands)
+  pub sets : IsDistinct is_same d.set_names
+  pub few_sets : length d.set_names ≤ 64

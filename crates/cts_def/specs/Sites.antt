@@ -1,0 +1,64 @@
+-- Interfaces, routers and sites: what contracts see of them, and the rules that they keep.
+use Rattle.std.specs.Prelude.{ℕ, ℤ, pos, ◌≤◌, ◌<◌, Bool, ◌&&◌, int_le, nat_lt, List, map, length, IsTrue}
+use Rattle.std.specs.List.{list_all, IsDistinct, flat_map}
+use Rattle.cts_base.specs.declared.decimal.Decimal.{Decimal}
+use Rattle.cts_def.specs.Items.{is_same}
+use Rattle.cts_def.specs.Packets.{DefinitionsData}
+use Rattle.cts_def.specs.Protocols.{UseData, is_chain}
+use Rattle.std.specs.Prelude.{nat_eq}
+
+-- what contracts see of an interface: its fields
+pub record InterfaceData : Type 0 where
+  pub name : List ℕ
+  pub aim_host : List ℕ
+  pub port : ℕ
+  pub serves : Bool
+  pub targets : List (List ℕ)
+  pub chain : List UseData
+  pub reconnect : Bool
+  pub delay : Decimal
+  pub logged : Bool
+
+pub record IsSoundInterface (i : InterfaceData) : Type 0 where
+  pub port : 1 ≤ i.port
+  pub chain : IsTrue (is_chain i.chain)
+  pub delay : IsTrue (int_le (pos 0) i.delay.parts)
+
+-- what contracts see of a router: its fields
+pub record RouterData : Type 0 where
+  pub name : List ℕ
+  pub port : ℕ
+  pub routes : List ℕ
+  pub chain : List UseData
+
+pub record IsSoundRouter (r : RouterData) : Type 0 where
+  pub port : 1 ≤ r.port
+  pub chain : IsTrue (is_chain r.chain)
+  pub routes : IsDistinct nat_eq r.routes
+
+-- what contracts see of a site: its fields
+pub record SiteData : Type 0 where
+  pub definitions : DefinitionsData
+  pub interfaces : List InterfaceData
+  pub routers : List RouterData
+  pub api_port : ℕ
+  pub desks : ℕ
+
+-- each route names one of so many interfaces
+abbrev pub routes_within : ℕ → RouterData → Bool
+routes_within interfaces r = list_all (λ n. nat_lt n interfaces) r.routes
+
+-- the targets of these interfaces, one interface after the other
+abbrev pub targets_of : List InterfaceData → List (List ℕ)
+targets_of interfaces = flat_map (λ (i : InterfaceData). i.targets) interfaces
+
+pub record IsSoundSite (s : SiteData) : Type 0 where
+  pub few_interfaces : length s.interfaces ≤ 16
+  pub few_routers : length s.routers ≤ 4
+  pub interface_names : IsDistinct is_same (map (λ (i : InterfaceData). i.name) s.interfaces)
+  pub router_names : IsDistinct is_same (map (λ (r : RouterData). r.name) s.routers)
+  pub targets : IsDistinct is_same (targets_of s.interfaces)
+  pub routes : IsTrue (list_all (routes_within (length s.interfaces)) s.routers)
+  pub api_port : 1 ≤ s.api_port
+  pub some_desks : 1 ≤ s.desks
+  pub few_desks : s.desks ≤ 4

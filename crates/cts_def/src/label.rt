@@ -1,0 +1,15 @@
+// What the head of a preidentified frame says.
+
+use crate::Time;
+use cts_base::Name;
+
+/// The time and the names of a packet, as a log entry and a preidentified frame carry them.
+#[derive(Debug, Drop)]
+pub struct Label {
+    /// The packet's time.
+    pub time: Time,
+    /// The target that sent it.
+    pub target: Name,
+    /// The packet's name.
+    pub packet: Name,
+}

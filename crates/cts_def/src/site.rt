@@ -1,0 +1,30 @@
+// All that a server is configured with.
+
+use crate::{Definitions, Interface, Router};
+use cts_base::List;
+use std::marker::Model;
+
+/// The definitions, the interfaces and routers, and the desks of JSON clients.
+#[derive(Debug, Drop)]
+pub struct Site {
+    /// The packets and commands.
+    pub definitions: Definitions,
+    /// The interfaces, in order of the site file.
+    pub interfaces: List<Interface>,
+    /// The routers, in order of the site file.
+    pub routers: List<Router>,
+    /// The port of the JSON interface.
+    pub api_port: u16,
+    /// How many of its clients are served at once.
+    pub desks: u32,
+}
+
+impl Model for Site {
+    ghost use Rattle.cts_def.specs.Sites.{SiteData, IsSoundSite};
+
+    ghost Value = { SiteData };
+
+    ghost view = { λ s. record { definitions = s.definitions; interfaces = s.interfaces; routers = s.routers; api_port = s.api_port; desks = s.desks } };
+
+    ghost invariant = { λ s. IsSoundSite (record { definitions = s.definitions; interfaces = s.interfaces; routers = s.routers; api_port = s.api_port; desks = s.desks }) };
+}
