@@ -1,3 +1,4 @@
+pub mod Beginnings
 pub mod Formats
 pub mod Items
 pub mod Packets

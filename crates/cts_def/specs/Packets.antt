@@ -1,7 +1,7 @@
 -- Packets and definitions: what contracts see of them, and the rules that they keep.
 use Rattle.std.specs.Prelude.{◌≡◌, ℕ, ◌+◌, ◌≤◌, max, Bool, false, not, ◌&&◌, ◌||◌, List, [], ◌∷◌, map, length, codes, int_lt, pos, IsTrue}
 use Rattle.std.specs.Int.{is_negative}
-use Rattle.std.specs.List.{list_any, list_all, IsDistinct}
+use Rattle.std.specs.List.{filter, list_any, list_all, IsDistinct}
 use Rattle.cts_def.specs.Items.{ItemData, span_of, is_same}
 use Rattle.cts_def.specs.Spans.{bytes_needed, is_variable}
 
@@ -54,6 +54,10 @@ pub record DefinitionsData : Type 0 where
 -- two packets have the same target and name
 abbrev pub have_same_names : PacketData → PacketData → Bool
 have_same_names p q = is_same p.target q.target && is_same p.name q.name
+
+-- those of these packets that the targets send or take, in order
+abbrev pub of_targets : List (List ℕ) → List PacketData → List PacketData
+of_targets targets packets = filter (λ (p : PacketData). list_any (is_same p.target) targets) packets
 
 -- how many items these packets have
 abbrev pub items_in : List PacketData → ℕ

@@ -1,5 +1,5 @@
 -- Interfaces, routers and sites: what contracts see of them, and the rules that they keep.
-use Rattle.std.specs.Prelude.{ℕ, ℤ, pos, ◌≤◌, ◌<◌, Bool, ◌&&◌, int_le, nat_lt, List, map, length, IsTrue}
+use Rattle.std.specs.Prelude.{ℕ, zero, suc, ℤ, pos, ◌≤◌, ◌<◌, Bool, ◌&&◌, int_le, nat_lt, List, [], ◌∷◌, map, length, IsTrue}
 use Rattle.std.specs.List.{list_all, IsDistinct, flat_map}
 use Rattle.cts_base.specs.declared.decimal.Decimal.{Decimal}
 use Rattle.cts_def.specs.Items.{is_same}
@@ -43,6 +43,16 @@ pub record SiteData : Type 0 where
   pub routers : List RouterData
   pub api_port : ℕ
   pub desks : ℕ
+
+-- the targets of the interface of this number, and none where there is none
+abbrev pub targets_at : List InterfaceData → ℕ → List (List ℕ)
+targets_at [] n = []
+targets_at (i ∷ interfaces) zero = i.targets
+targets_at (i ∷ interfaces) (suc n) = targets_at interfaces n
+
+-- the targets of the interfaces of these numbers
+abbrev pub routed_targets : List InterfaceData → List ℕ → List (List ℕ)
+routed_targets interfaces routes = flat_map (targets_at interfaces) routes
 
 -- each route names one of so many interfaces
 abbrev pub routes_within : ℕ → RouterData → Bool
