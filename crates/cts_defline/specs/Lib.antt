@@ -1,0 +1,6 @@
+pub mod Fields
+pub mod Forms
+pub mod Lines
+pub mod Numbers
+pub mod Reading
+pub mod Refusals
