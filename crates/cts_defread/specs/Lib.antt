@@ -1,0 +1,5 @@
+pub mod Causes
+pub mod Definitions
+pub mod Drafts
+pub mod Standing
+pub mod Steps

@@ -1,0 +1,32 @@
+// Why statements are no definitions.
+
+use cts_base::Memory;
+use cts_defline::DefCause;
+use std::alloc::{AllocError, AllocFailed};
+
+/// Why statements define nothing.
+#[derive(Clone, Copy, Debug, PartialEq, Eq)]
+pub enum DefFault {
+    /// The statement of this line is refused: the first one that is, by its first cause.
+    Refused { line: u32, cause: DefCause },
+    /// No memory was found.
+    Memory,
+}
+
+impl From<Memory> for DefFault {
+    fn from(_: Memory) -> DefFault {
+        DefFault::Memory
+    }
+}
+
+impl From<AllocError> for DefFault {
+    fn from(_: AllocError) -> DefFault {
+        DefFault::Memory
+    }
+}
+
+impl<T: Drop> From<AllocFailed<T>> for DefFault {
+    fn from(_: AllocFailed<T>) -> DefFault {
+        DefFault::Memory
+    }
+}

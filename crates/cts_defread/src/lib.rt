@@ -1,0 +1,13 @@
+//! Definitions files, read from their statements: the telemetry packets and the commands of all targets, with their items,
+//! or the first statement that is refused, and why.
+//!
+//! The statements are those of the COSMOS 4 documentation for command and telemetry definitions, in this project's profile;
+//! what is refused, and in which order causes are tried, is this project's own rule.
+#![tactic(auto)]
+
+mod draft;
+mod drafted;
+mod fault;
+
+pub use cts_defline::DefCause;
+pub use fault::DefFault;
