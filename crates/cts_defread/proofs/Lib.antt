@@ -1,3 +1,4 @@
 pub mod Lists
 pub mod More
+pub mod Rules
 pub mod Sets

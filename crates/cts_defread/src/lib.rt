@@ -5,9 +5,12 @@
 //! what is refused, and in which order causes are tried, is this project's own rule.
 #![tactic(auto)]
 
+mod adding;
 mod draft;
 mod drafted;
 mod fault;
+mod items;
+mod packets;
 
 pub use cts_defline::DefCause;
 pub use fault::DefFault;
