@@ -1,4 +1,6 @@
+pub mod Clean
 pub mod Lists
 pub mod More
+pub mod PacketRules
 pub mod Rules
 pub mod Sets

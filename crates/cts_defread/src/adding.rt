@@ -1,5 +1,5 @@
 // What one more statement adds to the draft.
-ghost use Rattle.std.specs.Prelude.{◌≡◌, ◌+◌, ◌≤◌, ◌++◌, ℕ, List as Items, None as NoCause, IfOk, OnOk};
+ghost use Rattle.std.specs.Prelude.{◌≡◌, ◌+◌, ◌≤◌, ◌++◌, ℕ, true, List as Items, None as NoCause, IfOk, OnOk};
 ghost use Rattle.std.specs.BTreeSet.{Updates};
 ghost use Rattle.std.specs.Cmp.Lexicographic.{slice_cmp};
 ghost use Rattle.std.specs.Ordering.{nat_cmp};
