@@ -1,11 +1,15 @@
 -- What the draft keeps beside the definitions stays what would be found.
 use Rattle.std.proofs.Common.{◌≡◌, ℕ, ◌+◌, ◌≤◌, max, Bool, true, false, cond, ◌||◌, List, [], ◌∷◌, ◌++◌, map, length, Option, Some, None, refl, sym, ap, ◌∙◌, subst, arith}
-use Rattle.std.specs.Prelude.{is_some, option_map}
+use Rattle.std.specs.Prelude.{pos, not, ◌&&◌, nat_le, int_le, is_some, option_map}
+use Rattle.std.specs.Int.{is_negative}
 use Rattle.std.specs.BTreeSet.{BTreeSet, IsEmpty}
 use Rattle.std.specs.Cmp.Lexicographic.{slice_cmp}
 use Rattle.std.specs.List.{list_any, list_all, IsDistinct}
-use Rattle.std.specs.Ordering.{nat_cmp}
-use Rattle.std.proofs.lemmas.List.{append-nil, map-append}
+use Rattle.std.specs.Ordering.{nat_cmp, int_eq}
+use Rattle.std.proofs.lemmas.Bool.{leb-false}
+use Rattle.std.proofs.lemmas.Cmp.{nat_list_eq_equiv}
+use Rattle.std.proofs.lemmas.List.{append-nil, map-append, length-append}
+use Rattle.std.proofs.lemmas.Map.Keys.{IsDistinct-push}
 use Rattle.cts_base.specs.Known.{Knows, pair_cmp}
 use Rattle.cts_base.proofs.Known.{knows_none}
 use Rattle.cts_def.specs.declared.span.Span.{Span}
@@ -15,15 +19,17 @@ use Rattle.cts_def.specs.Packets.{is_from_start, is_command}
 use Rattle.cts_def.specs.Spans.{end_of}
 use Rattle.cts_defline.specs.declared.details.Detail.{Detail}
 use Rattle.cts_defline.specs.declared.details.Detail.TheVariants as detail
+use Rattle.cts_defline.specs.declared.line.Line.TheVariants as line
 use Rattle.cts_defline.specs.declared.open.PacketKind.{PacketKind}
 use Rattle.cts_defline.specs.declared.open.PacketKind.TheVariants.{Telemetry, Command}
 use Rattle.cts_defread.specs.declared.draft.Draft.{Draft}
 use Rattle.cts_defread.specs.declared.drafted.Drafted.{Drafted}
-use Rattle.cts_defread.specs.Causes.{items_in, open_items, open_item, open_end, is_open_ended, is_to_the_end, count_items}
+use Rattle.cts_defread.specs.Causes.{items_in, open_items, open_item, open_end, is_open_ended, is_to_the_end, count_items, is_too_many, place_cause}
 use Rattle.cts_defread.specs.Drafts.{IsKept, names_of, item_names, state_names, state_name, taken_name}
 use Rattle.cts_defread.specs.Sound.{AreSound}
 use Rattle.cts_defread.specs.Standing.{end_from, are_same_kind, packets_of}
-use Rattle.cts_defread.specs.Steps.{change_item, add_detail, make_hazardous}
+use Rattle.cts_defread.specs.Steps.{change_item, add_detail, make_hazardous, place_set}
+use Rattle.cts_defread.proofs.Clean.{clean}
 use Rattle.cts_defread.proofs.Lists.{on_last_same, map_on_last, any_on_last, all_same_on_last, last_on_last, length_on_last}
 use Rattle.cts_defread.proofs.More.{same_name, same_span}
 use Rattle.cts_defread.proofs.Names.{names_on_last, same_count, distinct_kept, commands_on_last, count_on_last}
@@ -162,3 +168,108 @@ hazardous_kept old new h same states sets names placed =
     (subst (λ (s : BTreeSet (List ℕ)). Knows (slice_cmp nat_cmp) s new.set_names.items) (sym sets) (subst (λ (ns : List (List ℕ)). Knows (slice_cmp nat_cmp) old.sets ns) (sym names) h.sets))
     (sound_kept new.packets.items old.packets.items old.set_names.items new.set_names.items packets
     (subst (λ (ns : List (List ℕ)). IsDistinct is_same ns) (sym names) h.sound.distinct_sets) (omega (arith, ap (λ (ns : List (List ℕ)). length ns) names, h.sound.few_sets)) h.sound)
+
+-- ---- nothing was changed
+
+pub unchanged_kept : (old new : Draft) → IsKept old → SameDraft new old → new.states ≡ old.states → new.sets ≡ old.sets → new.set_names.items ≡ old.set_names.items → new.packets.items ≡ old.packets.items → IsKept new
+unchanged_kept old new h same states sets names placed =
+    let packets : SamePackets new.packets.items old.packets.items = record {
+      telemetry = ap (names_of Telemetry) placed;
+      commands = ap (names_of Command) placed;
+      count = ap count_items placed;
+      items = same_items (open_items new.packets.items) (open_items old.packets.items) (ap open_items placed);
+      from_start = λ all. ap (λ (rs : List Drafted). list_all is_command (packets_of Command rs)) placed ∙ all;
+    } in
+    changed_kept old new h same packets
+    (subst (λ (s : BTreeSet (List ℕ)). Knows (slice_cmp nat_cmp) s (state_names (open_item new.packets.items))) (sym states)
+    (subst (λ (ps : List Drafted). Knows (slice_cmp nat_cmp) old.states (state_names (open_item ps))) (sym placed) h.states))
+    (subst (λ (s : BTreeSet (List ℕ)). Knows (slice_cmp nat_cmp) s new.set_names.items) (sym sets) (subst (λ (ns : List (List ℕ)). Knows (slice_cmp nat_cmp) old.sets ns) (sym names) h.sets))
+    (sound_kept new.packets.items old.packets.items old.set_names.items new.set_names.items packets
+    (subst (λ (ns : List (List ℕ)). IsDistinct is_same ns) (sym names) h.sound.distinct_sets) (omega (arith, ap (λ (ns : List (List ℕ)). length ns) names, h.sound.few_sets)) h.sound)
+
+-- ---- a detail
+
+detail_items : (d : Detail) (o : Option Drafted) → items_in (option_map (add_detail d) o) ≡ on_last (change_item d) (items_in o)
+detail_items d None = refl
+detail_items d (Some p) = refl
+
+detail_open : (d : Detail) (ps : List Drafted) → open_items (on_last (add_detail d) ps) ≡ on_last (change_item d) (open_items ps)
+detail_open d ps = ap items_in (last_on_last (add_detail d) ps) ∙ detail_items d (last_of ps)
+
+end_on_last : (f : ItemData → ItemData) (end : ℕ) (is : List ItemData) → ((i : ItemData) → span_of (f i) ≡ span_of i) → end_from end (on_last f is) ≡ end_from end is
+end_on_last f end [] same = refl
+end_on_last f end (i ∷ []) same = ap (λ (s : Span). max end (end_of s)) (same i)
+end_on_last f end (i ∷ j ∷ is) same = end_on_last f (max end (end_of (span_of i))) (j ∷ is) same
+
+detail_same_items : (d : Detail) (is js : List ItemData) → is ≡ on_last (change_item d) js → SameItems is js
+detail_same_items d is js e = record {
+  names = ap item_names e ∙ map_on_last (λ (i : ItemData). i.name) (change_item d) js (same_name d);
+  ends = ap (end_from 0) e ∙ end_on_last (change_item d) 0 js (same_span d);
+  ended = ap (list_any is_open_ended) e ∙ any_on_last is_open_ended (change_item d) js (λ i. ap (λ (s : Span). int_le s.size (pos 0)) (same_span d i));
+  filled = ap (list_any is_to_the_end) e ∙ any_on_last is_to_the_end (change_item d) js (λ i. ap (λ (s : Span). int_eq s.size (pos 0)) (same_span d i));
+}
+
+detail_command : (d : Detail) (p : Drafted) → is_command (add_detail d p).packet ≡ is_command p.packet
+detail_command d p =
+    all_same_on_last is_from_start (change_item d) p.packet.items (λ i. ap (λ (s : Span). not (is_negative s.offset) && not (is_negative s.size)) (same_span d i))
+
+detail_same : (d : Detail) (ps qs : List Drafted) → ps ≡ on_last (add_detail d) qs → SamePackets ps qs
+detail_same d ps qs e = record {
+  telemetry = ap (names_of Telemetry) e ∙ names_on_last Telemetry (add_detail d) qs (λ p. refl);
+  commands = ap (names_of Command) e ∙ names_on_last Command (add_detail d) qs (λ p. refl);
+  count = ap count_items e ∙ count_on_last (add_detail d) qs (λ p. length_on_last (change_item d) p.packet.items);
+  items = detail_same_items d (open_items ps) (open_items qs) (ap open_items e ∙ detail_open d qs);
+  from_start = λ all.
+      ap (λ (rs : List Drafted). list_all is_command (packets_of Command rs)) e
+      ∙ commands_on_last (add_detail d) qs (λ p. refl) (λ p last kind fine. detail_command d p ∙ fine) all;
+}
+
+detail_states : (d : Detail) (o : Option ItemData) → state_names (option_map (change_item d) o) ≡ state_names o ++ taken_name (is_some o) (state_name d)
+detail_states d None = refl
+detail_states (detail.State s) (Some i) = map-append (λ (t : StateDef). t.name) i.states (s ∷ [])
+detail_states (detail.Limits l) (Some i) = sym (append-nil (map (λ (t : StateDef). t.name) i.states))
+detail_states (detail.Poly coefficients) (Some i) = sym (append-nil (map (λ (t : StateDef). t.name) i.states))
+detail_states (detail.Segment s) (Some i) = sym (append-nil (map (λ (t : StateDef). t.name) i.states))
+detail_states (detail.Units full short) (Some i) = sym (append-nil (map (λ (t : StateDef). t.name) i.states))
+detail_states (detail.Format text) (Some i) = sym (append-nil (map (λ (t : StateDef). t.name) i.states))
+detail_states (detail.Overflow o) (Some i) = sym (append-nil (map (λ (t : StateDef). t.name) i.states))
+detail_states detail.Required (Some i) = sym (append-nil (map (λ (t : StateDef). t.name) i.states))
+
+-- one more set, where it is no other one and there is room
+more_sets : (sets : List (List ℕ)) (set : List ℕ) (b : Bool) → list_any (is_same set) sets ≡ b → nat_le 64 (length sets) && not b ≡ false → IsDistinct is_same sets → length sets ≤ 64
+    → IsDistinct is_same (cond b sets (sets ++ set ∷ [])) × (length (cond b sets (sets ++ set ∷ [])) ≤ 64)
+more_sets sets set true e few distinct count = (distinct, count)
+more_sets sets set false e few distinct count =
+    let room : nat_le 64 (length sets) ≡ false = and_one (nat_le 64 (length sets)) few in
+    let less : length sets ≤ 63 = omega (arith, leb-false 64 (length sets) room) in
+    (IsDistinct-push nat_list_eq_equiv sets set distinct e, omega (arith, length-append sets (set ∷ []), less)) where
+      and_one : (b : Bool) → b && true ≡ false → b ≡ false
+      and_one true e = e
+      and_one false e = e
+
+sets_placed : (d : Detail) (packets : List Drafted) (sets : List (List ℕ)) → is_too_many packets sets (line.Detail d) ≡ false → IsDistinct is_same sets → length sets ≤ 64
+    → IsDistinct is_same (place_set (line.Detail d) sets) × (length (place_set (line.Detail d) sets) ≤ 64)
+sets_placed (detail.State s) packets sets few distinct count = (distinct, count)
+sets_placed (detail.Limits l) packets sets few distinct count = more_sets sets l.set (list_any (is_same l.set) sets) refl few distinct count
+sets_placed (detail.Poly coefficients) packets sets few distinct count = (distinct, count)
+sets_placed (detail.Segment s) packets sets few distinct count = (distinct, count)
+sets_placed (detail.Units full short) packets sets few distinct count = (distinct, count)
+sets_placed (detail.Format text) packets sets few distinct count = (distinct, count)
+sets_placed (detail.Overflow o) packets sets few distinct count = (distinct, count)
+sets_placed detail.Required packets sets few distinct count = (distinct, count)
+
+pub detail_kept : (old new : Draft) (d : Detail) → IsKept old → place_cause old.packets.items old.set_names.items (line.Detail d) ≡ None → SameDraft new old
+    → new.packets.items ≡ on_last (add_detail d) old.packets.items
+    → Knows (slice_cmp nat_cmp) new.states (state_names (open_item old.packets.items) ++ taken_name (is_some (open_item old.packets.items)) (state_name d))
+    → Knows (slice_cmp nat_cmp) new.sets new.set_names.items → new.set_names.items ≡ place_set (line.Detail d) old.set_names.items → IsKept new
+detail_kept old new d h none same placed states sets names =
+    let packets : SamePackets new.packets.items old.packets.items = detail_same d new.packets.items old.packets.items placed in
+    let item : open_item new.packets.items ≡ option_map (change_item d) (open_item old.packets.items) =
+    ap last_of (ap open_items placed ∙ detail_open d old.packets.items) ∙ last_on_last (change_item d) (open_items old.packets.items) in
+    let fine : IsDistinct is_same (place_set (line.Detail d) old.set_names.items) × (length (place_set (line.Detail d) old.set_names.items) ≤ 64) =
+    sets_placed d old.packets.items old.set_names.items (clean old.packets.items old.set_names.items (line.Detail d) none).few h.sound.distinct_sets h.sound.few_sets in
+    changed_kept old new h same packets
+    (subst (λ (ns : List (List ℕ)). Knows (slice_cmp nat_cmp) new.states ns) (sym (ap state_names item ∙ detail_states d (open_item old.packets.items))) states)
+    sets
+    (sound_kept new.packets.items old.packets.items old.set_names.items new.set_names.items packets
+    (subst (λ (ns : List (List ℕ)). IsDistinct is_same ns) (sym names) fine.0) (subst (λ (ns : List (List ℕ)). length ns ≤ 64) (sym names) fine.1) h.sound)

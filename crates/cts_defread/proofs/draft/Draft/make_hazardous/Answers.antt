@@ -1,7 +1,7 @@
 use Rattle.std.proofs.Common.{◌∙◌, ap, List, ◌++◌, ◌∷◌, [], refl, sym}
 use Rattle.cts_defread.specs.declared.drafted.Drafted.{Drafted}
 use Rattle.cts_defread.specs.Steps.{make_hazardous}
-use Rattle.cts_defread.proofs.Kept.{hazardous_kept}
+use Rattle.cts_defread.proofs.Kept.{hazardous_kept, unchanged_kept, detail_kept}
 use Rattle.cts_words.proofs.Blocks.{put_back}
 use Rattle.cts_defread.proofs.draft.Draft.make_hazardous.Goals as goal
 
@@ -19,4 +19,4 @@ returns-in_ok-push-clause-kept c =
     (c.in_ok-push.ensures.items ∙ ap (λ (d : Drafted). c.pop.new.self.items ++ d ∷ []) c.made_hazardous.ensures))
 
 pub returns-in_default-clause-kept : goal.returns-in_default-clause-kept
-returns-in_default-clause-kept c = ?
+returns-in_default-clause-kept c = let h = c.in_default in let k = c.in_default.ensures.cases in let l = c.in_default.ensures.items in ?
