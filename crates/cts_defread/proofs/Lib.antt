@@ -1,8 +1,10 @@
 pub mod Clean
 pub mod Kept
+pub mod KeptItem
 pub mod Lists
 pub mod More
 pub mod Names
 pub mod PacketRules
 pub mod Rules
 pub mod Sets
+pub mod Taken
