@@ -179,11 +179,11 @@ item_sound old new front d sets head popped placed h sound = record {
       ap (λ (ps : List Drafted). list_all is_command (packets_of Command ps)) placed
       ∙ commands_on_last (add_item head) old (λ p. refl)
       (λ p last kind fine.
-          let here : d ≡ p = same_some d p (sym (open_of old front d popped) ∙ last) in
-          all_more is_from_start p.packet.items (new_item head p)
-          ∙ both (list_all is_from_start p.packet.items) (is_from_start (new_item head p)) fine
-          (subst (λ (q : Drafted). is_from_start (new_item head q) ≡ true) here
-          (from_start old front d sets head popped h (ap (λ (q : Drafted). are_same_kind Command q.kind) here ∙ kind))))
+      let here : d ≡ p = same_some d p (sym (open_of old front d popped) ∙ last) in
+      all_more is_from_start p.packet.items (new_item head p)
+      ∙ both (list_all is_from_start p.packet.items) (is_from_start (new_item head p)) fine
+      (subst (λ (q : Drafted). is_from_start (new_item head q) ≡ true) here
+      (from_start old front d sets head popped h (ap (λ (q : Drafted). are_same_kind Command q.kind) here ∙ kind))))
       sound.from_start;
   distinct_sets = sound.distinct_sets;
   few_sets = sound.few_sets;

@@ -1,6 +1,8 @@
 pub mod Clean
+pub mod Finished
 pub mod Kept
 pub mod KeptItem
+pub mod KeptPacket
 pub mod Lists
 pub mod More
 pub mod Names

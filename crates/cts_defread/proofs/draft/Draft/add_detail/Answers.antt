@@ -13,11 +13,11 @@ pub returns-clause-kept : goal.returns-clause-kept
 returns-clause-kept c =
     both_ok c.know_set.result
     (λ known added.
-        detail_kept c.args.self.now _ c.args.detail c.requires.kept c.requires.clean
-        (record { telemetry = refl; commands = refl; items = refl; telemetry_count = refl; command_count = refl; item_count = refl; ends = refl; ended = refl; filled = refl })
-        c.in_ok-taken.ensures.changed
-        (states_taken c.know_state.new.states (state_names (open_item c.args.self.now.packets.items)) _ _ _ _ c.in_ok-taken.ensures.taken c.in_ok-state.ensures
-        (c.in_ok-know_state.ensures (state_names (open_item c.args.self.now.packets.items)) c.requires.kept.states))
-        known
-        (added ∙ ap (λ (o : Option (List ℕ)). add_name o c.args.self.now.set_names.items) c.in_ok-set.ensures ∙ set_placed c.args.detail c.args.self.now.set_names.items))
+    detail_kept c.args.self.now _ c.args.detail c.requires.kept c.requires.clean
+    (record { telemetry = refl; commands = refl; items = refl; telemetry_count = refl; command_count = refl; item_count = refl; ends = refl; ended = refl; filled = refl })
+    c.in_ok-taken.ensures.changed
+    (states_taken c.know_state.new.states (state_names (open_item c.args.self.now.packets.items)) _ _ _ _ c.in_ok-taken.ensures.taken c.in_ok-state.ensures
+    (c.in_ok-know_state.ensures (state_names (open_item c.args.self.now.packets.items)) c.requires.kept.states))
+    known
+    (added ∙ ap (λ (o : Option (List ℕ)). add_name o c.args.self.now.set_names.items) c.in_ok-set.ensures ∙ set_placed c.args.detail c.args.self.now.set_names.items))
     c.know_set.ensures.known c.know_set.ensures.added

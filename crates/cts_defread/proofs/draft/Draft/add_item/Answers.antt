@@ -56,13 +56,13 @@ pub returns-clause-kept : goal.returns-clause-kept
 returns-clause-kept c =
     let ended : c.if-self.self ≡ c.args.self.now.is_ended || is_open_ended c.new_item-item.result =
     elim c.if-self.branch [
-      then-self w ↦ w.self-is ∙ w.if-self.true ∙ sym (ap (λ (b : Bool). b || is_open_ended c.new_item-item.result) w.if-self.true)
-      | else-self w ↦ let k = w.self-is in ?
+      | then-self w ↦ w.self-is ∙ w.if-self.true ∙ sym (ap (λ (b : Bool). b || is_open_ended c.new_item-item.result) w.if-self.true)
+      | else-self w ↦ w.self-is ∙ c.is_open_ended-is_open_ended.ensures ∙ sym (ap (λ (b : Bool). b || is_open_ended c.new_item-item.result) w.if-self.false)
     ] in
     let filled : c.if-self-2.self ≡ c.args.self.now.is_filled || is_to_the_end c.new_item-item.result =
     elim c.if-self-2.branch [
-      then-self-2 w ↦ w.self-is ∙ w.if-self-2.true ∙ sym (ap (λ (b : Bool). b || is_to_the_end c.new_item-item.result) w.if-self-2.true)
-      | else-self-2 w ↦ let k = w.self-is in ?
+      | then-self-2 w ↦ w.self-is ∙ w.if-self-2.true ∙ sym (ap (λ (b : Bool). b || is_to_the_end c.new_item-item.result) w.if-self-2.true)
+      | else-self-2 w ↦ w.self-is ∙ c.is_to_the_end-is_to_the_end.ensures ∙ sym (ap (λ (b : Bool). b || is_to_the_end c.new_item-item.result) w.if-self-2.false)
     ] in
     item_kept c.args.self.now _ c.pop.new.self.items c.in-Some.drafted c.new_item-item.result c.args.head c.requires.kept
     (clean c.args.self.now.packets.items c.args.self.now.set_names.items (line.Item c.args.head) c.requires.clean)
@@ -73,5 +73,5 @@ returns-clause-kept c =
     (subst (λ (n : List ℕ). Knows (slice_cmp nat_cmp) c.insert.new.self (item_names (open_items c.args.self.now.packets.items) ++ n ∷ [])) c.in_ok-name.ensures.cases
     (knows_more nat_list_cmp_total c.args.self.now.items c.insert.new.self (item_names (open_items c.args.self.now.packets.items)) c.in_ok-name.name c.in_ok-insert.ensures.updates c.requires.kept.items))
     c.clear.ensures.empty refl
-    (c.max-self.ensures ∙ ap (max c.args.self.now.end) (c.end.ensures ∙ ap end_of c.span-span.ensures))
+    (c.max-self.ensures ∙ ap (max c.args.self.now.end) (c.end-end.ensures ∙ ap end_of c.span.ensures))
     ended filled
