@@ -8,6 +8,7 @@
 mod draft;
 mod drafted;
 mod fault;
+mod open;
 
 pub use cts_defline::DefCause;
 pub use fault::DefFault;
