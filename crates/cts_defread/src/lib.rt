@@ -5,10 +5,16 @@
 //! what is refused, and in which order causes are tried, is this project's own rule.
 #![tactic(auto)]
 
+mod causes;
+mod counts;
+mod doubles;
 mod draft;
 mod drafted;
 mod fault;
+mod kinds;
 mod open;
+mod places;
+mod values;
 
 pub use cts_defline::DefCause;
 pub use fault::DefFault;

@@ -48,7 +48,11 @@ fn opened_in(drafted: Option<&Drafted>) -> Open
 fn opened_with(kind: PacketKind, items: &[Item]) -> Open
     ensures { result ≡ opened_with kind items.now }
 {
-    if items.is_empty() { Open::Packet(kind) } else { Open::Item(kind) }
+    if items.is_empty() {
+        Open::Packet(kind)
+    } else {
+        Open::Item(kind)
+    }
 }
 
 fn is_command_in(drafted: Option<&Drafted>) -> bool
