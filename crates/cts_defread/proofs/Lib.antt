@@ -1,2 +1,5 @@
 pub mod Keeping
+pub mod Lists
 pub mod Misplaced
+pub mod More
+pub mod Sets

