@@ -14,7 +14,9 @@ mod fault;
 mod kinds;
 mod open;
 mod places;
+mod reading;
 mod values;
 
 pub use cts_defline::DefCause;
 pub use fault::DefFault;
+pub use reading::read_definitions;
