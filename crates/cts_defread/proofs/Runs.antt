@@ -8,27 +8,22 @@ use Rattle.std.proofs.lemmas.List.{take_more}
 use Rattle.std.proofs.Math.Seq.{drop-cons}
 use Rattle.cts_def.specs.Packets.{DefinitionsData}
 use Rattle.cts_defline.specs.declared.cause.DefCause.{DefCause}
-use Rattle.cts_defline.specs.declared.fault.LineFault.TheVariants as line_fault
 use Rattle.cts_defline.specs.declared.keyword.Keyword.{Keyword}
 use Rattle.cts_defline.specs.declared.keyword.Keyword.TheVariants as keyword
 use Rattle.cts_defline.specs.declared.line.Line.{Line}
-use Rattle.cts_defline.specs.declared.open.Open.{Open}
-use Rattle.cts_defline.specs.Forms.{word_at}
+use Rattle.cts_defline.specs.Forms.{word_at, keyword_of}
 use Rattle.cts_defline.specs.Lines.{line_in, line_of}
-use Rattle.cts_defline.specs.Numbers.{is_count, persistence}
-use Rattle.cts_defline.specs.Reading.{ReadsLine}
-use Rattle.cts_defline.specs.Refusals.{word_cause}
+use Rattle.cts_defline.specs.Numbers.{count_in, persistence}
 use Rattle.cts_base.specs.Wholes.{whole_of}
 use Rattle.cts_words.specs.declared.statement.Statement.{Statement}
-use Rattle.cts_words.specs.Refusals.{or_else}
 use Rattle.cts_words.proofs.Refused as refused
 use Rattle.cts_words.proofs.Refused.{Decides}
 use Rattle.cts_defread.specs.declared.draft.Draft.{Draft}
 use Rattle.cts_defread.specs.declared.drafted.Drafted.{Drafted}
 use Rattle.cts_defread.specs.declared.fault.DefFault.{DefFault}
 use Rattle.cts_defread.specs.declared.fault.DefFault.TheVariants as fault
-use Rattle.cts_defread.specs.Causes.{opened, place_cause}
-use Rattle.cts_defread.specs.Definitions.{cause_of, cause_of_line, lines_of, cause, at_line, at_end, refusal, unless_refused, definitions_of}
+use Rattle.cts_defread.specs.Causes.{place_cause}
+use Rattle.cts_defread.specs.Definitions.{cause_of, lines_of, cause, at_line, at_end, refusal, unless_refused, definitions_of}
 use Rattle.cts_defread.specs.Drafts.{IsKept}
 use Rattle.cts_defread.specs.Sound.{IsSoundLine}
 use Rattle.cts_defread.specs.Standing.{standing, set_names_of, definitions_in, definitions_at}
@@ -38,7 +33,7 @@ use Rattle.cts_defread.proofs.Sets.{set_names-more}
 
 -- ---- what a line that was read keeps
 
-some_samples : (o : Option ℤ) → 1 ≤ (if is_count o then unsigned_abs (unwrap_or o (pos 0)) else 1)
+some_samples : (o : Option ℤ) → 1 ≤ unwrap_or (count_in o) 1
 some_samples None = omega arith
 some_samples (Some (pos n)) = grind (arith, nat_tests)
 some_samples (Some (negsuc n)) = omega arith
@@ -64,22 +59,10 @@ known_keeps : (o : Option Keyword) (words : List (List ℕ)) (l : Line) → opti
 known_keeps None words l e = absurd cc
 known_keeps (Some k) words l e = let same : line_of k words ≡ l = cc in subst IsSoundLine same (keyword_keeps k words)
 
--- ---- the cause of a statement
-
--- Words that say a line are refused by what stands, or not at all.
-pub line_is_judged : (packets : List Drafted) (sets : List (List ℕ)) (o : Open) (words : List (List ℕ)) (l : Line) (c : Option DefCause)
-    → o ≡ opened packets → ReadsLine o words (Ok l) → c ≡ place_cause packets sets l → cause_of packets sets words ≡ c
-line_is_judged packets sets o words l c open reads is =
-    let none : word_cause (opened packets) words ≡ None = ap (λ (p : Open). word_cause p words) (sym open) ∙ reads.0 in
-    ap (λ (d : Option DefCause). or_else d (cause_of_line packets sets (line_in words))) none
-    ∙ ap (cause_of_line packets sets) reads.1
-    ∙ sym is
-
--- Words that are refused by themselves are refused by this cause.
-pub words_are_judged : (packets : List Drafted) (sets : List (List ℕ)) (o : Open) (words : List (List ℕ)) (c : DefCause)
-    → o ≡ opened packets → ReadsLine o words (Err (line_fault.Refused c)) → cause_of packets sets words ≡ Some c
-words_are_judged packets sets o words c open reads =
-    ap (λ (d : Option DefCause). or_else d (cause_of_line packets sets (line_in words))) (ap (λ (p : Open). word_cause p words) (sym open) ∙ reads)
+-- What words say keeps what they see to.
+pub line_keeps : (words : List (List ℕ)) (l : Line) → line_in words ≡ Some l → IsSoundLine l
+line_keeps [] l e = absurd cc
+line_keeps (word ∷ words) l e = known_keeps (keyword_of word) words l e
 
 -- ---- the loop
 
@@ -139,8 +122,3 @@ next old new all i s l lt item so_far judged placed sets kept =
     let front : take i all ++ s ∷ [] ≡ take (i + 1) all = ap (λ (x : Statement). take i all ++ x ∷ []) item ∙ sym (take_more all i s lt) in
     subst (λ (b : List Statement). IsReading new b (drop (i + 1) all) all) front
     (goes_on old new (take i all) (drop (i + 1) all) all s l (at old all i s lt item so_far) judged placed sets kept)
-
--- the first words of a statement that was read
-pub line_keeps : (words : List (List ℕ)) (l : Line) → line_in words ≡ Some l → IsSoundLine l
-line_keeps [] l e = absurd cc
-line_keeps (word ∷ words) l e = known_keeps _ words l e
