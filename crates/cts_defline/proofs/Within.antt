@@ -1,5 +1,5 @@
 -- A text within a word, found from one place on.
-use Rattle.std.proofs.Common.{◌≡◌, ℕ, zero, suc, ◌+◌, ◌<◌, Bool, false, ◌||◌, List, [], ◌∷◌, length, drop, refl, arith, add-one}
+use Rattle.std.proofs.Common.{◌≡◌, ℕ, zero, suc, ◌+◌, ◌<◌, false, List, [], ◌∷◌, length, drop, refl, arith, add-one}
 use Rattle.cts_defline.specs.Forms.{begins_with, is_within}
 
 behind_place : (text word : List ℕ) (at : ℕ) → at < length word → begins_with text (drop at word) ≡ false

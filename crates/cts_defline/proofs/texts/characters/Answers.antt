@@ -1,4 +1,4 @@
-use Rattle.std.proofs.Common.{◌∙◌, ◌++◌, ap, sym, ℕ, List, Option}
+use Rattle.std.proofs.Common.{◌∙◌, ap, sym, ℕ, List}
 use Rattle.cts_defline.specs.Numbers.{characters}
 use Rattle.cts_defline.proofs.Characters.{behind, behind_more}
 use Rattle.cts_defline.proofs.texts.characters.Goals as goal
