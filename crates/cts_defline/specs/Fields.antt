@@ -1,5 +1,5 @@
 -- What a word has to be at its field.
-use Rattle.std.specs.Prelude.{ℕ, Bool, true, false, not, ◌&&◌, ◌||◌, List, codes, Result, Ok, Err, is_none, is_ok}
+use Rattle.std.specs.Prelude.{ℕ, Bool, false, not, ◌||◌, List, codes, is_none, is_ok}
 use Rattle.cts_base.specs.Names.{is_name}
 use Rattle.cts_base.specs.Wholes.{whole_of}
 use Rattle.cts_base.specs.Decimals.{decimal_of}

@@ -1,5 +1,5 @@
 -- The table of statements: the keywords, and which words follow each.
-use Rattle.std.specs.Prelude.{ℕ, ◌+◌, Bool, true, false, ◌&&◌, ◌||◌, ◌==◌, nat_le, List, [], ◌∷◌, ◌++◌, length, find, zip, codes, Option, Some, None, option_map, if◌then◌else◌}
+use Rattle.std.specs.Prelude.{ℕ, ◌+◌, Bool, true, false, ◌&&◌, ◌||◌, ◌==◌, nat_le, List, [], ◌∷◌, ◌++◌, length, zip, codes, Option, Some, None, if◌then◌else◌}
 use Rattle.std.specs.List.{slice_index_or, list_all}
 use Rattle.cts_base.specs.Names.{upper}
 use Rattle.cts_def.specs.Items.{is_same}
@@ -15,7 +15,7 @@ abbrev pub agrees : List ℕ → List ℕ → Bool
 agrees word text = list_all (λ (p : ℕ × ℕ). upper p.0 == p.1) (zip word text)
 
 -- the word is this text in any case
-abbrev pub is_keyword : List ℕ → List ℕ → Bool
+unfoldable pub is_keyword : List ℕ → List ℕ → Bool
 is_keyword word text = length word == length text && agrees word text
 
 abbrev pub keywords : List (List ℕ × Keyword)
@@ -31,8 +31,13 @@ keywords =
     ∷ (codes "REQUIRED", Required) ∷ (codes "HAZARDOUS", Hazardous)
     ∷ (codes "META", Meta) ∷ (codes "ALLOW_SHORT", AllowShort) ∷ []
 
+-- the keyword of a list that the word is
+abbrev pub keyword_in : List (List ℕ × Keyword) → List ℕ → Option Keyword
+keyword_in [] word = None
+keyword_in (k ∷ list) word = if is_keyword word k.0 then Some k.1 else keyword_in list word
+
 abbrev pub keyword_of : List ℕ → Option Keyword
-keyword_of word = option_map (λ (k : List ℕ × Keyword). k.1) (find (λ (k : List ℕ × Keyword). is_keyword word k.0) keywords)
+keyword_of word = keyword_in keywords word
 
 -- the word begins with this text, in any case
 abbrev pub begins_with : List ℕ → List ℕ → Bool

@@ -10,7 +10,7 @@ use Rattle.cts_def.specs.declared.color.Color.{Color}
 use Rattle.cts_def.specs.declared.color.Color.TheVariants.{StateRed, StateYellow, StateGreen}
 use Rattle.cts_def.specs.declared.conversion.Segment.{Segment}
 use Rattle.cts_def.specs.declared.item_kind.ItemKind.{ItemKind}
-use Rattle.cts_def.specs.declared.item_kind.ItemKind.TheVariants.{Uint, Int, Str, Block}
+use Rattle.cts_def.specs.declared.item_kind.ItemKind.TheVariants.{Uint}
 use Rattle.cts_def.specs.declared.item_kind.Preset.{Preset}
 use Rattle.cts_def.specs.declared.item_kind.Preset.TheVariants.{Whole, Raw}
 use Rattle.cts_def.specs.declared.item_kind.Overflow.{Overflow}

@@ -4,7 +4,7 @@ use Rattle.std.specs.List.{list_any}
 use Rattle.cts_defline.specs.declared.cause.DefCause.{DefCause}
 use Rattle.cts_defline.specs.declared.cause.DefCause.TheVariants.{UnknownKeyword, OutsidePacket, WrongCount, BadName, FloatItem, DerivedItem, ArrayItem, NotNumber}
 use Rattle.cts_defline.specs.declared.keyword.Keyword.{Keyword}
-use Rattle.cts_defline.specs.declared.keyword.Keyword.TheVariants.{Command, Telemetry, Item, Parameter, State, Limits, Poly, Segment, Units, Format, Overflow, Required, Hazardous, Meta, AllowShort}
+use Rattle.cts_defline.specs.declared.keyword.Keyword.TheVariants.{Command, Telemetry, Item, Parameter, Hazardous, Meta, AllowShort}
 use Rattle.cts_defline.specs.declared.keyword.Field.{Field}
 use Rattle.cts_defline.specs.declared.open.Open.{Open}
 use Rattle.cts_defline.specs.declared.open.Open.TheVariants as open_

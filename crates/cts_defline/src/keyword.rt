@@ -1,8 +1,7 @@
 // The keywords, and what the words behind each have to be.
-ghost use Rattle.std.specs.Prelude.{◌≡◌, codes, find, option_map, zip, ◌==◌};
-ghost use Rattle.std.specs.List.{list_all};
+ghost use Rattle.std.specs.Prelude.{◌≡◌, map};
 ghost use Rattle.cts_base.specs.Names.{upper};
-ghost use Rattle.cts_defline.specs.Forms.{agrees, is_keyword, begins_with, is_within, keyword_of, is_array_keyword, kind_of_keyword};
+ghost use Rattle.cts_defline.specs.Forms.{agrees, is_keyword, begins_with, is_within, keyword_in, keyword_of, is_array_keyword, kind_of_keyword};
 
 use crate::PacketKind;
 
@@ -201,6 +200,7 @@ fn agrees(word: &[u8], text: &[u8]) -> bool
     word.iter().zip(text).all(|(a, b)| upper(*a) == *b)
 }
 
+#[tactic(auto, unfolding(crate::specs::Forms::is_keyword))]
 fn is_keyword(word: &[u8], text: &[u8]) -> bool
     ensures { result ≡ is_keyword word.now text.now }
 {
@@ -227,11 +227,14 @@ fn is_within(text: &[u8], word: &[u8]) -> bool
 
 // The keyword of this list that the word is.
 fn keyword_in(list: &[Spelled], word: &[u8]) -> Option<Keyword>
-    ensures { result ≡ option_map (λ k. k.keyword) (find (λ k. is_keyword word.now k.text.now) list.now) }
+    ensures { result ≡ keyword_in (map (λ s. (s.text.now, s.keyword)) list.now) word.now }
 {
-    list.iter()
-        .find(|k| is_keyword(word, k.text))
-        .map(|k| k.keyword)
+    for spelled in list {
+        if is_keyword(word, spelled.text) {
+            return Some(spelled.keyword);
+        }
+    }
+    None
 }
 
 /// The keyword that the word is, in any case.

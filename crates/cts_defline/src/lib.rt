@@ -29,3 +29,6 @@ pub use keyword::{Field, Keyword};
 pub use line::{ItemLine, Line, PacketLine};
 pub use open::{Open, PacketKind};
 pub use reading::read_line;
+
+#[cfg(test)]
+mod tests;

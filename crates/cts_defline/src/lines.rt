@@ -72,10 +72,10 @@ fn limits_line(alloc: Global, words: &[Bytes]) -> Result<LimitsLine, Memory>
 fn decimals(alloc: Global, words: &[Bytes]) -> Result<List<Decimal>, Memory>
     ensures { IfOk result (λ l. l ≡ map decimal words.now) }
 {
-    let held = words
-        .iter()
-        .map(|word| decimal(word.as_slice()))
-        .collect(alloc)?;
+    let mut held = Vec::new(alloc);
+    for word in words {
+        held.push(decimal(word.as_slice()))?;
+    }
     Ok(List::of(held))
 }
 
