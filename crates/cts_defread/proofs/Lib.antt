@@ -1,6 +1,11 @@
+pub mod Clean
 pub mod Keeping
+pub mod Kept
 pub mod Lists
 pub mod Misplaced
 pub mod More
+pub mod Names
+pub mod PacketRules
+pub mod Rules
 pub mod Runs
 pub mod Sets

@@ -1,5 +1,6 @@
 -- Lists whose last one is changed, tests and numbers of lists with one more at the end, and lists without doubles.
 use Rattle.std.proofs.Common.{◌≡◌, ℕ, suc, max, Bool, true, false, cond, ◌||◌, ◌&&◌, List, [], ◌∷◌, ◌++◌, map, length, Option, Some, None, refl, sym, ap, ◌∙◌, subst, arith}
+use Rattle.std.specs.Prelude.{is_some, option_map}
 use Rattle.std.specs.List.{list_any, list_all, filter, AllByRecursion, IsDistinct}
 use Rattle.std.proofs.lemmas.Map.Keys.{IsDistinct-head, IsDistinct-tail, IsDistinct-cons}
 use Rattle.cts_base.proofs.Known.{any_snoc}
@@ -28,14 +29,37 @@ length_on_last f [] = refl
 length_on_last f (x ∷ []) = refl
 length_on_last f (x ∷ y ∷ xs) = ap suc (length_on_last f (y ∷ xs))
 
--- What a function gives of the changed list, where it gives the same of the last one alone.
-pub last_on_last : {X : Type 0} (f : X → X) (xs : List X) (x : X) → last_of xs ≡ Some x → last_of (on_last f xs) ≡ Some (f x)
-last_on_last f [] x e = absurd cc
-last_on_last f (y ∷ []) x e = let same : y ≡ x = cc in ap (λ z. Some (f z)) same
-last_on_last f (y ∷ z ∷ xs) x e = last_through (on_last f (z ∷ xs)) y (f x) (last_on_last f (z ∷ xs) x e) where
-  last_through : {X : Type 0} (ys : List X) (y x : X) → last_of ys ≡ Some x → last_of (y ∷ ys) ≡ Some x
-  last_through [] y x e = absurd cc
-  last_through (z ∷ ys) y x e = e
+pub last_on_last : {X : Type 0} (f : X → X) (xs : List X) → last_of (on_last f xs) ≡ option_map f (last_of xs)
+last_on_last f [] = refl
+last_on_last f (x ∷ []) = refl
+last_on_last f (x ∷ y ∷ xs) = last_behind x (on_last f (y ∷ xs)) (not_empty f y xs) ∙ last_on_last f (y ∷ xs) where
+  not_empty : {X : Type 0} (f : X → X) (y : X) (xs : List X) → is_some (last_of (on_last f (y ∷ xs))) ≡ true
+  not_empty f y [] = refl
+  not_empty f y (z ∷ xs) = still_some y (on_last f (z ∷ xs)) (not_empty f z xs) where
+    still_some : {X : Type 0} (y : X) (ys : List X) → is_some (last_of ys) ≡ true → is_some (last_of (y ∷ ys)) ≡ true
+    still_some y [] e = absurd cc
+    still_some y (z ∷ ys) e = e
+  last_behind : {X : Type 0} (x : X) (ys : List X) → is_some (last_of ys) ≡ true → last_of (x ∷ ys) ≡ last_of ys
+  last_behind x [] e = absurd cc
+  last_behind x (y ∷ ys) e = refl
+
+pub all_on_last : {X : Type 0} (p : X → Bool) (f : X → X) (xs : List X) → ((x : X) → last_of xs ≡ Some x → p x ≡ true → p (f x) ≡ true) → list_all p xs ≡ true → list_all p (on_last f xs) ≡ true
+all_on_last p f [] h all = refl
+all_on_last p f (x ∷ []) h all = and_true (p (f x)) (h x refl (left_of (p x) true all)) where
+  left_of : (a b : Bool) → a && b ≡ true → a ≡ true
+  left_of true b e = refl
+  left_of false b e = e
+  and_true : (a : Bool) → a ≡ true → a && true ≡ true
+  and_true a e = rw e refl
+all_on_last p f (x ∷ y ∷ xs) h all = through (p x) (list_all p (y ∷ xs)) (list_all p (on_last f (y ∷ xs))) (all_on_last p f (y ∷ xs) h) all where
+  through : (a b c : Bool) → (b ≡ true → c ≡ true) → a && b ≡ true → a && c ≡ true
+  through true b c k e = k e
+  through false b c k e = e
+
+pub all_same_on_last : {X : Type 0} (p : X → Bool) (f : X → X) (xs : List X) → ((x : X) → p (f x) ≡ p x) → list_all p (on_last f xs) ≡ list_all p xs
+all_same_on_last p f [] h = refl
+all_same_on_last p f (x ∷ []) h = ap (λ b. b && true) (h x)
+all_same_on_last p f (x ∷ y ∷ xs) h = ap (λ b. p x && b) (all_same_on_last p f (y ∷ xs) h)
 
 -- ---- one more at the end
 

@@ -81,6 +81,17 @@ same_span (detail.Format text) i = refl
 same_span (detail.Overflow o) i = refl
 same_span detail.Required i = refl
 
+-- A detail does not name an item anew.
+pub same_name : (d : Detail) (i : ItemData) → (change_item d i).name ≡ i.name
+same_name (detail.State s) i = refl
+same_name (detail.Limits l) i = refl
+same_name (detail.Poly coefficients) i = refl
+same_name (detail.Segment s) i = refl
+same_name (detail.Units full short) i = refl
+same_name (detail.Format text) i = refl
+same_name (detail.Overflow o) i = refl
+same_name detail.Required i = refl
+
 pub length_on_last_item : (f : ItemData → ItemData) (items : List ItemData) → ((i : ItemData) → span_of (f i) ≡ span_of i) → length_of (on_last f items) ≡ length_of items
 length_on_last_item f items same = ap greatest (map_on_last (λ (i : ItemData). bytes_needed (span_of i)) f items (λ i. ap bytes_needed (same i)))
 

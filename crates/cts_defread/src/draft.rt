@@ -3,7 +3,6 @@
 use crate::drafted::Drafted;
 use cts_base::{Bytes, Memory, Name};
 use cts_def::Definitions;
-use cts_defline::Line;
 use std::alloc::Global;
 use std::collections::BTreeSet;
 
@@ -39,12 +38,9 @@ pub(crate) struct Draft {
 }
 
 impl Draft {
-    ghost use Rattle.std.specs.Prelude.{◌≡◌, [], OnOk, IfOk};
-    ghost use Rattle.cts_defread.specs.Causes.{place_cause};
+    ghost use Rattle.std.specs.Prelude.{◌≡◌, [], IfOk};
     ghost use Rattle.cts_defread.specs.Drafts.{IsKept};
-    ghost use Rattle.cts_defread.specs.Sound.{IsSoundLine};
     ghost use Rattle.cts_defread.specs.Standing.{definitions_in};
-    ghost use Rattle.cts_defread.specs.Steps.{place, place_set};
 
     /// No definitions. It takes no memory.
     pub(crate) fn new(alloc: Global) -> Draft
@@ -67,20 +63,6 @@ impl Draft {
             is_ended: false,
             is_filled: false,
         }
-    }
-
-    /// Adds what a statement without a cause says. Where no memory was found, the draft is of no more use.
-    pub(crate) fn add(&mut self, alloc: Global, line: Line) -> Result<(), Memory>
-        requires kept { IsKept self.old }
-        requires clean { place_cause self.old.packets.items self.old.set_names.items line ≡ None }
-        requires sound { IsSoundLine line }
-        ensures placed { OnOk result (self.new.packets.items ≡ place line self.old.packets.items) }
-        ensures set_names { OnOk result (self.new.set_names.items ≡ place_set line self.old.set_names.items) }
-        ensures kept { OnOk result (IsKept self.new) }
-    {
-        drop(line);
-        drop(alloc);
-        Ok(())
     }
 
     /// The packets and the commands, each in their order, and the names of the limits sets.

@@ -5,14 +5,17 @@
 //! what is refused, and in which order causes are tried, is this project's own rule.
 #![tactic(auto)]
 
+mod adding;
 mod causes;
 mod counts;
 mod doubles;
 mod draft;
 mod drafted;
 mod fault;
+mod items;
 mod kinds;
 mod open;
+mod packets;
 mod places;
 mod reading;
 mod values;
