@@ -1,41 +1,13 @@
 -- The definitions of a draft keep the rules of all definitions.
-use Rattle.std.proofs.Common.{◌≡◌, ℕ, ◌+◌, ◌≤◌, Bool, true, false, not, cond, List, [], ◌∷◌, ◌++◌, map, length, refl, sym, ap, ◌∙◌, subst, arith}
-use Rattle.std.specs.List.{list_all, filter, IsDistinct}
-use Rattle.cts_def.specs.Packets.{PacketData, DefinitionsData, AreSoundDefinitions, items_in, is_command}
-use Rattle.cts_defline.specs.declared.open.PacketKind.{PacketKind}
+use Rattle.std.proofs.Common.{◌≡◌, ℕ, ◌+◌, Bool, true, false, not, cond, List, [], ◌∷◌, map, length, refl, sym, subst, arith}
+use Rattle.std.specs.List.{filter}
+use Rattle.cts_def.specs.Packets.{PacketData, AreSoundDefinitions, items_in}
 use Rattle.cts_defline.specs.declared.open.PacketKind.TheVariants.{Telemetry, Command}
 use Rattle.cts_defread.specs.declared.draft.Draft.{Draft}
 use Rattle.cts_defread.specs.declared.drafted.Drafted.{Drafted}
 use Rattle.cts_defread.specs.Causes.{count_items}
 use Rattle.cts_defread.specs.Drafts.{IsKept}
 use Rattle.cts_defread.specs.Standing.{is_telemetry, are_same_kind, packets_of, definitions_in}
-use Rattle.cts_defread.proofs.Names.{packets-append}
-
--- ---- one more packet or command
-
-own_packet : (kind own : PacketKind) (d : Drafted) (ps : List Drafted) → d.kind ≡ own → are_same_kind kind own ≡ true → packets_of kind (ps ++ d ∷ []) ≡ packets_of kind ps ++ d.packet ∷ []
-own_packet kind own d ps e same =
-    packets-append kind ps (d ∷ [])
-    ∙ ap (λ (b : Bool). packets_of kind ps ++ map (λ (p : Drafted). p.packet) (cond b (d ∷ []) [])) (ap (are_same_kind kind) e ∙ same)
-
-other_packet : (kind own : PacketKind) (d : Drafted) (ps : List Drafted) → d.kind ≡ own → are_same_kind kind own ≡ false → packets_of kind (ps ++ d ∷ []) ≡ packets_of kind ps ++ []
-other_packet kind own d ps e other =
-    packets-append kind ps (d ∷ [])
-    ∙ ap (λ (b : Bool). packets_of kind ps ++ map (λ (p : Drafted). p.packet) (cond b (d ∷ []) [])) (ap (are_same_kind kind) e ∙ other)
-
--- the packets or commands of so many definitions
-pub own_more : (kind : PacketKind) (d : Drafted) (ps : List Drafted) (packets after : List PacketData) → d.kind ≡ kind → are_same_kind kind kind ≡ true → packets ≡ packets_of kind ps → after ≡ packets ++ d.packet ∷ []
-    → after ≡ packets_of kind (ps ++ d ∷ [])
-own_more kind d ps packets after e same so_far pushed = pushed ∙ ap (λ (qs : List PacketData). qs ++ d.packet ∷ []) so_far ∙ sym (own_packet kind kind d ps e same)
-
-append_nil : (qs : List PacketData) → qs ++ [] ≡ qs
-append_nil [] = refl
-append_nil (q ∷ qs) = ap (λ (rs : List PacketData). q ∷ rs) (append_nil qs)
-
-pub other_more : (kind own : PacketKind) (d : Drafted) (ps : List Drafted) (packets : List PacketData) → d.kind ≡ own → are_same_kind kind own ≡ false → packets ≡ packets_of kind ps → packets ≡ packets_of kind (ps ++ d ∷ [])
-other_more kind own d ps packets e other so_far = so_far ∙ sym (other_packet kind own d ps e other ∙ append_nil (packets_of kind ps))
-
--- ---- all of them
 
 count_cond : (b : Bool) (d : Drafted) (xs ys : List Drafted) (n : ℕ) → items_in (map (λ (p : Drafted). p.packet) xs) + items_in (map (λ (p : Drafted). p.packet) ys) ≡ n
     → items_in (map (λ (p : Drafted). p.packet) (cond b (d ∷ xs) xs)) + items_in (map (λ (p : Drafted). p.packet) (cond (not b) (d ∷ ys) ys)) ≡ length d.packet.items + n

@@ -6,11 +6,20 @@
 #![tactic(auto)]
 
 mod adding;
+mod causes;
+mod counts;
+mod doubles;
 mod draft;
 mod drafted;
 mod fault;
 mod items;
+mod kinds;
+mod open;
 mod packets;
+mod places;
+mod reading;
+mod values;
 
 pub use cts_defline::DefCause;
 pub use fault::DefFault;
+pub use reading::read_definitions;
