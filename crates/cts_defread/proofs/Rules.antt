@@ -171,7 +171,7 @@ keeps_poly coefficients i h fits =
       numbers_alone_have_states = h.numbers_alone_have_states;
       states = h.states;
       few_states = h.few_states;
-      conversion = both (is_number i.kind) (not (is_too_large (unsigned_abs i.size) coefficients)) number (not_true (is_too_large (unsigned_abs i.size) coefficients) fits.small);
+      conversion = both (is_number i.kind) (not (is_too_large (unsigned_abs i.size) coefficients)) number (not_true (is_too_large (unsigned_abs i.size) coefficients) (not_both (is_number i.kind) (is_too_large (unsigned_abs i.size) coefficients) fits.small number));
       limits = h.limits;
       format = h.format;
     }
@@ -197,7 +197,7 @@ keeps_segment s i h fits =
       numbers_alone_have_states = h.numbers_alone_have_states;
       states = h.states;
       few_states = h.few_states;
-      conversion = segments_fit i s i.conversion number (not_true (is_too_large (unsigned_abs i.size) s.coefficients) fits.small) h.conversion;
+      conversion = segments_fit i s i.conversion number (not_true (is_too_large (unsigned_abs i.size) s.coefficients) (not_both (is_number i.kind) (is_too_large (unsigned_abs i.size) s.coefficients) fits.small number)) h.conversion;
       limits = h.limits;
       format = h.format;
     }
