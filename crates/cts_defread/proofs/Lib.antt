@@ -1,4 +1,5 @@
 pub mod Clean
+pub mod InOrder
 pub mod Keeping
 pub mod Kept
 pub mod Lists
