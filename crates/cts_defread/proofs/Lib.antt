@@ -1,7 +1,10 @@
 pub mod Clean
+pub mod Finished
 pub mod InOrder
 pub mod Keeping
 pub mod Kept
+pub mod KeptItem
+pub mod KeptPacket
 pub mod Lists
 pub mod Misplaced
 pub mod More
@@ -10,3 +13,4 @@ pub mod PacketRules
 pub mod Rules
 pub mod Runs
 pub mod Sets
+pub mod Taken

@@ -39,6 +39,7 @@ last_on_last f (x ∷ y ∷ xs) = last_behind x (on_last f (y ∷ xs)) (not_empt
     still_some : {X : Type 0} (y : X) (ys : List X) → is_some (last_of ys) ≡ true → is_some (last_of (y ∷ ys)) ≡ true
     still_some y [] e = absurd cc
     still_some y (z ∷ ys) e = e
+
   last_behind : {X : Type 0} (x : X) (ys : List X) → is_some (last_of ys) ≡ true → last_of (x ∷ ys) ≡ last_of ys
   last_behind x [] e = absurd cc
   last_behind x (y ∷ ys) e = refl
@@ -49,6 +50,7 @@ all_on_last p f (x ∷ []) h all = and_true (p (f x)) (h x refl (left_of (p x) t
   left_of : (a b : Bool) → a && b ≡ true → a ≡ true
   left_of true b e = refl
   left_of false b e = e
+
   and_true : (a : Bool) → a ≡ true → a && true ≡ true
   and_true a e = rw e refl
 all_on_last p f (x ∷ y ∷ xs) h all = through (p x) (list_all p (y ∷ xs)) (list_all p (on_last f (y ∷ xs))) (all_on_last p f (y ∷ xs) h) all where

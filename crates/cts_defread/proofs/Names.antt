@@ -132,10 +132,10 @@ commands_on_last f ps same step all =
     commands_by (on_last f ps)
     ∙ all_on_last is_fine f ps
     (λ d last fine.
-        fine_from (are_same_kind Command (f d).kind) (is_command (f d).packet)
-        (λ command.
-            let before : are_same_kind Command d.kind ≡ true = ap (are_same_kind Command) (sym (same d)) ∙ command in
-            step d last before (fine_to (are_same_kind Command d.kind) (is_command d.packet) fine before)))
+    fine_from (are_same_kind Command (f d).kind) (is_command (f d).packet)
+    (λ command.
+    let before : are_same_kind Command d.kind ≡ true = ap (are_same_kind Command) (sym (same d)) ∙ command in
+    step d last before (fine_to (are_same_kind Command d.kind) (is_command d.packet) fine before)))
     (sym (commands_by ps) ∙ all)
 
 or_true : (b : Bool) → b || true ≡ true

@@ -11,7 +11,7 @@ ghost use Rattle.cts_defread.specs.Sound.{IsSoundLine};
 ghost use Rattle.cts_defread.specs.Steps.{place, place_set};
 
 use crate::draft::Draft;
-use crate::items::new_item;
+use crate::items::{is_open_ended, is_to_the_end, new_item};
 use crate::packets::{change_last_item, made_hazardous, new_packet, with_item};
 use cts_base::{Bytes, Memory, Name};
 use cts_defline::{Detail, ItemLine, Line, PacketKind, PacketLine};
@@ -125,14 +125,16 @@ impl Draft {
         };
         let name = head.name.clone()?;
         let item = new_item(alloc, drafted.order, self.end, head);
-        let span = item.span();
+        let end = item.span().end();
+        let is_open_ended = is_open_ended(&item);
+        let is_to_the_end = is_to_the_end(&item);
         self.packets.push(with_item(drafted, item)?)?;
         self.items.insert(name)?;
         self.states.clear();
         self.item_count += 1;
-        self.end = self.end.max(span.end());
-        self.is_ended = self.is_ended || span.size <= 0;
-        self.is_filled = self.is_filled || span.size == 0;
+        self.end = self.end.max(end);
+        self.is_ended = self.is_ended || is_open_ended;
+        self.is_filled = self.is_filled || is_to_the_end;
         Ok(())
     }
 

@@ -1,8 +1,12 @@
 // The definitions as they grow, statement by statement.
 
+ghost use Rattle.std.specs.Prelude.{◌≡◌, IfOk};
+ghost use Rattle.cts_defread.specs.Standing.{packets_of};
+
 use crate::drafted::Drafted;
-use cts_base::{Bytes, Memory, Name};
-use cts_def::Definitions;
+use cts_base::{Bytes, List, Memory, Name};
+use cts_def::{Definitions, Packet};
+use cts_defline::PacketKind;
 use std::alloc::Global;
 use std::collections::BTreeSet;
 
@@ -70,7 +74,27 @@ impl Draft {
         requires kept { IsKept self }
         ensures { IfOk result (λ d. d ≡ definitions_in self.packets.items self.set_names.items) }
     {
-        drop(alloc);
-        Err(Memory)
+        let (telemetry, commands) = split(alloc, self.packets)?;
+        Ok(Definitions {
+            telemetry,
+            commands,
+            set_names: List::of(self.set_names),
+        })
     }
+}
+
+// The packets and the commands, each in their order.
+fn split(alloc: Global, packets: Vec<Drafted>) -> Result<(List<Packet>, List<Packet>), Memory>
+    ensures telemetry { IfOk result (λ parts. parts.0 ≡ packets_of PacketKind.Telemetry packets.items) }
+    ensures commands { IfOk result (λ parts. parts.1 ≡ packets_of PacketKind.Command packets.items) }
+{
+    let mut telemetry = List::new(alloc);
+    let mut commands = List::new(alloc);
+    for drafted in packets {
+        match drafted.kind {
+            PacketKind::Telemetry => telemetry.push(drafted.packet)?,
+            PacketKind::Command => commands.push(drafted.packet)?,
+        }
+    }
+    Ok((telemetry, commands))
 }

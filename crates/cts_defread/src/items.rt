@@ -2,6 +2,7 @@
 ghost use Rattle.std.specs.Prelude.{◌≡◌, ◌≤◌, [], unsigned_abs, IfOk, Some as SomeOf};
 ghost use Rattle.cts_def.specs.Items.{IsSoundItem};
 ghost use Rattle.cts_defline.specs.declared.details.Detail.TheVariants as detail_;
+ghost use Rattle.cts_defread.specs.Causes.{is_open_ended, is_to_the_end};
 ghost use Rattle.cts_defread.specs.Sound.{Fits};
 ghost use Rattle.cts_defread.specs.Standing.{item_at, offset_or, preset_or};
 ghost use Rattle.cts_defread.specs.Steps.{add_limits, add_segment, change_item};
@@ -63,6 +64,20 @@ pub(crate) fn new_item(alloc: Global, order: Order, end: u32, head: ItemLine) ->
         required: false,
         overflow: Overflow::Error,
     }
+}
+
+/// Whether an item has no length of its own: it goes to the packet's end, or up to some bits before it.
+pub(crate) fn is_open_ended(item: &Item) -> bool
+    ensures { result ≡ is_open_ended item.now }
+{
+    item.size <= 0
+}
+
+/// Whether an item is all bytes to the packet's end.
+pub(crate) fn is_to_the_end(item: &Item) -> bool
+    ensures { result ≡ is_to_the_end item.now }
+{
+    item.size == 0
 }
 
 fn with_state(mut item: Item, state: StateDef) -> Result<Item, Memory>

@@ -9,7 +9,7 @@ pub invariant_of-packet : goal.invariant_of-packet
 invariant_of-packet c =
     let varies : c.if-packet.packet ≡ c.packet.inside.variable || is_variable (span_of c.args.item) =
     elim c.if-packet.branch [
-      then-packet w ↦ w.packet-is ∙ sym (ap (λ (b : Bool). b || is_variable (span_of c.args.item)) w.if-packet.true)
+      | then-packet w ↦ w.packet-is ∙ w.if-packet.true ∙ sym (ap (λ (b : Bool). b || is_variable (span_of c.args.item)) w.if-packet.true)
       | else-packet w ↦ w.packet-is ∙ w.is_variable.ensures ∙ ap is_variable c.span-span.ensures ∙ sym (ap (λ (b : Bool). b || is_variable (span_of c.args.item)) w.if-packet.false)
     ] in
     pushed_sound _ _ c.args.item _ _ _ c.packet.view_is c.packet.invariant c.requires.few c.requires.other c.requires.single c.in_ok-push.ensures.pushed
