@@ -55,8 +55,7 @@ pick_first all r (inr h) = absurd (let none : None ≡ Some r = h.1 in cc)
 
 pub refuses_the_first : RefusesTheFirst
 refuses_the_first all r =
-    let law = first_one_is_refused refusal at_end all (Some r) in
-    (
+    let law = first_one_is_refused refusal at_end all (Some r) in (
       λ e. pick_first all r (law.0 (refused_to all (first_refusal refusal at_end [] all) r e)),
       λ w. ap (unless_refused all) (law.1 (inl w)),
     )

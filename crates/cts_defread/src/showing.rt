@@ -149,11 +149,7 @@ fn show_conversion(
     }
 }
 
-fn show_segments(
-    alloc: Global,
-    out: &mut Vec<u8>,
-    segments: &[Segment],
-) -> Result<(), AllocError> {
+fn show_segments(alloc: Global, out: &mut Vec<u8>, segments: &[Segment]) -> Result<(), AllocError> {
     for segment in segments {
         show_numbers(alloc, out, b" segment", &[segment.bound])?;
         show_numbers(alloc, out, b" poly", segment.coefficients.as_slice())?;

@@ -18,7 +18,7 @@ fn refused(rt: &impl Abort, alloc: Global, text: &[u8]) -> Result<Option<(u32, D
     }
 }
 
-/// A text whose last line is not refused before its end: the packet or command, and these lines behind it.
+/// An opening, and these lines behind it.
 fn behind(alloc: Global, opening: &[u8], lines: &[u8]) -> Result<Vec<u8>, AllocError> {
     let mut text = Vec::from_slice(alloc, opening)?;
     text.extend_from_slice(lines)?;
@@ -26,6 +26,7 @@ fn behind(alloc: Global, opening: &[u8], lines: &[u8]) -> Result<Vec<u8>, AllocE
 }
 
 const TELEMETRY: &[u8] = b"TELEMETRY T P BIG_ENDIAN\n";
+
 const COMMAND: &[u8] = b"COMMAND T C BIG_ENDIAN\n";
 
 /// Each row has the lines behind an opened definition, the line that is refused, and its cause.
@@ -81,7 +82,11 @@ fn nothing_stands_outside_a_definition(rt: HostRuntime) -> Result<(), Fail> {
         (b"\n\nREQUIRED 1", 3, DefCause::OutsidePacket),
         (b"# no statement\nMETA", 2, DefCause::OutsidePacket),
         (b"HAZARDOUS", 1, DefCause::OutsidePacket),
-        (b"COMMAND T C BIG_ENDIAN\nITEM A", 2, DefCause::UnknownKeyword),
+        (
+            b"COMMAND T C BIG_ENDIAN\nITEM A",
+            2,
+            DefCause::UnknownKeyword,
+        ),
     ];
     check_rows(&rt, rt.alloc(), b"", &rows)
 }
@@ -90,9 +95,21 @@ fn nothing_stands_outside_a_definition(rt: HostRuntime) -> Result<(), Fail> {
 fn kinds_of_items_exclude_details(rt: HostRuntime) -> Result<(), Fail> {
     let rows: [(&[u8], u32, DefCause); 10] = [
         (b"ITEM A 0 8 STRING\nSTATE A 1", 3, DefCause::WrongKind),
-        (b"ITEM A 0 8 BLOCK\nLIMITS TVAC 1 ENABLED 4 3 2 1", 3, DefCause::WrongKind),
-        (b"ITEM A 0 8 STRING\nPOLY_READ_CONVERSION 1", 3, DefCause::WrongKind),
-        (b"ITEM A 0 8 STRING\nSEG_POLY_READ_CONVERSION 1 1", 3, DefCause::WrongKind),
+        (
+            b"ITEM A 0 8 BLOCK\nLIMITS TVAC 1 ENABLED 4 3 2 1",
+            3,
+            DefCause::WrongKind,
+        ),
+        (
+            b"ITEM A 0 8 STRING\nPOLY_READ_CONVERSION 1",
+            3,
+            DefCause::WrongKind,
+        ),
+        (
+            b"ITEM A 0 8 STRING\nSEG_POLY_READ_CONVERSION 1 1",
+            3,
+            DefCause::WrongKind,
+        ),
         (
             b"ITEM A 0 8 UINT\nSTATE A 1 RED\nLIMITS DEFAULT 1 ENABLED 1 2 3 4",
             4,
@@ -114,7 +131,11 @@ fn kinds_of_items_exclude_details(rt: HostRuntime) -> Result<(), Fail> {
             DefCause::WrongKind,
         ),
         (b"ID_ITEM A 0 8 STRING 1", 2, DefCause::IdNotWhole),
-        (b"ITEM A 0 8 UINT\nID_ITEM A 0 8 BLOCK 1", 3, DefCause::IdNotWhole),
+        (
+            b"ITEM A 0 8 UINT\nID_ITEM A 0 8 BLOCK 1",
+            3,
+            DefCause::IdNotWhole,
+        ),
     ];
     check_rows(&rt, rt.alloc(), TELEMETRY, &rows)
 }
@@ -122,12 +143,24 @@ fn kinds_of_items_exclude_details(rt: HostRuntime) -> Result<(), Fail> {
 #[test]
 fn names_stand_once(rt: HostRuntime) -> Result<(), Fail> {
     let rows: [(&[u8], u32, DefCause); 12] = [
-        (b"COMMAND T P BIG_ENDIAN\nTELEMETRY t p LITTLE_ENDIAN", 3, DefCause::DoubleName),
+        (
+            b"COMMAND T P BIG_ENDIAN\nTELEMETRY t p LITTLE_ENDIAN",
+            3,
+            DefCause::DoubleName,
+        ),
         (b"TELEMETRY unknown P BIG_ENDIAN", 2, DefCause::DoubleName),
         (b"COMMAND Unknown C BIG_ENDIAN", 2, DefCause::DoubleName),
         (b"ITEM received_count 0 8 UINT", 2, DefCause::DoubleName),
-        (b"ITEM A 0 8 UINT\nITEM B 8 8 UINT\nAPPEND_ITEM a 12 UINT '' LITTLE_ENDIAN", 4, DefCause::DoubleName),
-        (b"ITEM A 0 8 UINT\nSTATE on 1\nSTATE ON 2", 4, DefCause::DoubleName),
+        (
+            b"ITEM A 0 8 UINT\nITEM B 8 8 UINT\nAPPEND_ITEM a 12 UINT '' LITTLE_ENDIAN",
+            4,
+            DefCause::DoubleName,
+        ),
+        (
+            b"ITEM A 0 8 UINT\nSTATE on 1\nSTATE ON 2",
+            4,
+            DefCause::DoubleName,
+        ),
         (
             b"ITEM A 0 8 UINT\nLIMITS DEFAULT 1 ENABLED 1 2 3 4\nLIMITS default 1 ENABLED 4 3 2 1",
             4,
@@ -138,10 +171,26 @@ fn names_stand_once(rt: HostRuntime) -> Result<(), Fail> {
             4,
             DefCause::DoubleName,
         ),
-        (b"COMMAND T C BIG_ENDIAN\nPARAMETER A 0 8 UINT 0 1 0\nPARAMETER A 8 8 UINT 0 1 0", 4, DefCause::DoubleName),
-        (b"COMMAND T C BIG_ENDIAN\nCOMMAND T D BIG_ENDIAN\nCOMMAND T C BIG_ENDIAN", 4, DefCause::DoubleName),
-        (b"COMMAND T C BIG_ENDIAN\nPARAMETER RECEIVED_COUNT 0 8 UINT 0 1 0", 3, DefCause::DoubleName),
-        (b"TELEMETRY T Q BIG_ENDIAN\nTELEMETRY T P BIG_ENDIAN", 3, DefCause::DoubleName),
+        (
+            b"COMMAND T C BIG_ENDIAN\nPARAMETER A 0 8 UINT 0 1 0\nPARAMETER A 8 8 UINT 0 1 0",
+            4,
+            DefCause::DoubleName,
+        ),
+        (
+            b"COMMAND T C BIG_ENDIAN\nCOMMAND T D BIG_ENDIAN\nCOMMAND T C BIG_ENDIAN",
+            4,
+            DefCause::DoubleName,
+        ),
+        (
+            b"COMMAND T C BIG_ENDIAN\nPARAMETER RECEIVED_COUNT 0 8 UINT 0 1 0",
+            3,
+            DefCause::DoubleName,
+        ),
+        (
+            b"TELEMETRY T Q BIG_ENDIAN\nTELEMETRY T P BIG_ENDIAN",
+            3,
+            DefCause::DoubleName,
+        ),
     ];
     check_rows(&rt, rt.alloc(), TELEMETRY, &rows)
 }
@@ -171,25 +220,65 @@ fn names_of_others_are_free(rt: HostRuntime) -> Result<(), Fail> {
 #[test]
 fn places_are_refused(rt: HostRuntime) -> Result<(), Fail> {
     let rows: [(&[u8], u32, DefCause); 20] = [
-        (b"APPEND_ITEM A 12 UINT '' LITTLE_ENDIAN", 2, DefCause::AppendLittleBits),
-        (b"ITEM A 0 4 UINT\nAPPEND_ITEM B 8 INT '' LITTLE_ENDIAN", 3, DefCause::AppendLittleBits),
-        (b"ITEM A 0 0 STRING\nAPPEND_ITEM B 12 UINT '' LITTLE_ENDIAN", 3, DefCause::AppendLittleBits),
-        (b"APPEND_ITEM A -8 UINT '' LITTLE_ENDIAN", 2, DefCause::AppendLittleBits),
-        (b"ITEM A 0 12 UINT \"\" LITTLE_ENDIAN", 2, DefCause::BadPlace),
+        (
+            b"APPEND_ITEM A 12 UINT '' LITTLE_ENDIAN",
+            2,
+            DefCause::AppendLittleBits,
+        ),
+        (
+            b"ITEM A 0 4 UINT\nAPPEND_ITEM B 8 INT '' LITTLE_ENDIAN",
+            3,
+            DefCause::AppendLittleBits,
+        ),
+        (
+            b"ITEM A 0 0 STRING\nAPPEND_ITEM B 12 UINT '' LITTLE_ENDIAN",
+            3,
+            DefCause::AppendLittleBits,
+        ),
+        (
+            b"APPEND_ITEM A -8 UINT '' LITTLE_ENDIAN",
+            2,
+            DefCause::AppendLittleBits,
+        ),
+        (
+            b"ITEM A 0 12 UINT \"\" LITTLE_ENDIAN",
+            2,
+            DefCause::BadPlace,
+        ),
         (b"ITEM A 8388609 8 STRING", 2, DefCause::BadPlace),
-        (b"ITEM A 0 18446744073709551615 STRING", 2, DefCause::BadPlace),
-        (b"ITEM A -9223372036854775808 8 STRING", 2, DefCause::BadPlace),
+        (
+            b"ITEM A 0 18446744073709551615 STRING",
+            2,
+            DefCause::BadPlace,
+        ),
+        (
+            b"ITEM A -9223372036854775808 8 STRING",
+            2,
+            DefCause::BadPlace,
+        ),
         (b"ITEM A 0 65 UINT", 2, DefCause::BadPlace),
         (b"ID_ITEM A 0 0 UINT MAX", 2, DefCause::BadPlace),
         (b"ITEM A -12 8 UINT", 2, DefCause::BadPlace),
         (b"ITEM A -8 16 UINT", 2, DefCause::BadPlace),
-        (b"ITEM A -16 12 UINT '' LITTLE_ENDIAN", 2, DefCause::BadPlace),
+        (
+            b"ITEM A -16 12 UINT '' LITTLE_ENDIAN",
+            2,
+            DefCause::BadPlace,
+        ),
         (b"ITEM A 4 8 STRING", 2, DefCause::BadPlace),
         (b"ITEM A 0 12 BLOCK", 2, DefCause::BadPlace),
         (b"ITEM A -8 -16 BLOCK", 2, DefCause::BadPlace),
         (b"ITEM A 8388600 16 UINT", 2, DefCause::BadPlace),
-        (b"ITEM A 8388600 8 UINT\nAPPEND_ITEM B 1 UINT", 3, DefCause::BadPlace),
-        (b"ITEM A 0 -8 STRING\nITEM B 8 8 UINT\nAPPEND_ITEM C 8 UINT", 4, DefCause::BadPlace),
+        (
+            b"ITEM A 8388600 8 UINT\nAPPEND_ITEM B 1 UINT",
+            3,
+            DefCause::BadPlace,
+        ),
+        (
+            b"ITEM A 0 -8 STRING\nITEM B 8 8 UINT\nAPPEND_ITEM C 8 UINT",
+            4,
+            DefCause::BadPlace,
+        ),
         (b"ID_ITEM A -8 8 UINT 256", 2, DefCause::BadPlace),
     ];
     check_rows(&rt, rt.alloc(), TELEMETRY, &rows)
@@ -200,9 +289,17 @@ fn places_in_commands_are_refused(rt: HostRuntime) -> Result<(), Fail> {
     let rows: [(&[u8], u32, DefCause); 5] = [
         (b"PARAMETER A -8 8 UINT 0 1 0", 2, DefCause::BadPlace),
         (b"PARAMETER A 0 -8 STRING ''", 2, DefCause::BadPlace),
-        (b"PARAMETER A 0 0 STRING ''\nPARAMETER B 0 8 UINT 0 1 0", 3, DefCause::BadPlace),
+        (
+            b"PARAMETER A 0 0 STRING ''\nPARAMETER B 0 8 UINT 0 1 0",
+            3,
+            DefCause::BadPlace,
+        ),
         (b"PARAMETER A 0 0 UINT 0 1 256", 2, DefCause::BadPlace),
-        (b"APPEND_PARAMETER A 3 UINT 0 1 0 '' LITTLE_ENDIAN", 2, DefCause::AppendLittleBits),
+        (
+            b"APPEND_PARAMETER A 3 UINT 0 1 0 '' LITTLE_ENDIAN",
+            2,
+            DefCause::AppendLittleBits,
+        ),
     ];
     check_rows(&rt, rt.alloc(), COMMAND, &rows)
 }
@@ -210,15 +307,39 @@ fn places_in_commands_are_refused(rt: HostRuntime) -> Result<(), Fail> {
 #[test]
 fn values_do_not_fit(rt: HostRuntime) -> Result<(), Fail> {
     let rows: [(&[u8], u32, DefCause); 9] = [
-        (b"ID_PARAMETER A 0 8 UINT 0 1 256", 2, DefCause::IdOutOfRange),
+        (
+            b"ID_PARAMETER A 0 8 UINT 0 1 256",
+            2,
+            DefCause::IdOutOfRange,
+        ),
         (b"ID_PARAMETER A 0 8 INT 0 1 128", 2, DefCause::IdOutOfRange),
         (b"ID_PARAMETER A 0 8 UINT 0 1 -1", 2, DefCause::IdOutOfRange),
-        (b"PARAMETER A 0 8 UINT 0 1 256", 2, DefCause::DefaultOutOfRange),
-        (b"PARAMETER A 0 8 INT 0 1 -129", 2, DefCause::DefaultOutOfRange),
+        (
+            b"PARAMETER A 0 8 UINT 0 1 256",
+            2,
+            DefCause::DefaultOutOfRange,
+        ),
+        (
+            b"PARAMETER A 0 8 INT 0 1 -129",
+            2,
+            DefCause::DefaultOutOfRange,
+        ),
         (b"PARAMETER A 0 8 STRING ab", 2, DefCause::DefaultOutOfRange),
-        (b"PARAMETER A 0 8 BLOCK 0x0102", 2, DefCause::DefaultOutOfRange),
-        (b"PARAMETER A 0 0 STRING \xc4\x80", 2, DefCause::DefaultOutOfRange),
-        (b"PARAMETER A 0 8 UINT 0 1 MAX_UINT16", 2, DefCause::DefaultOutOfRange),
+        (
+            b"PARAMETER A 0 8 BLOCK 0x0102",
+            2,
+            DefCause::DefaultOutOfRange,
+        ),
+        (
+            b"PARAMETER A 0 0 STRING \xc4\x80",
+            2,
+            DefCause::DefaultOutOfRange,
+        ),
+        (
+            b"PARAMETER A 0 8 UINT 0 1 MAX_UINT16",
+            2,
+            DefCause::DefaultOutOfRange,
+        ),
     ];
     check_rows(&rt, rt.alloc(), COMMAND, &rows)
 }
@@ -227,17 +348,37 @@ fn values_do_not_fit(rt: HostRuntime) -> Result<(), Fail> {
 fn conversions_limits_and_formats_are_refused(rt: HostRuntime) -> Result<(), Fail> {
     let rows: [(&[u8], u32, DefCause); 8] = [
         (b"ID_ITEM A 0 8 UINT 256", 2, DefCause::IdOutOfRange),
-        (b"ITEM A 0 64 UINT\nPOLY_READ_CONVERSION 0 0 1", 3, DefCause::ConversionTooLarge),
+        (
+            b"ITEM A 0 64 UINT\nPOLY_READ_CONVERSION 0 0 1",
+            3,
+            DefCause::ConversionTooLarge,
+        ),
         (
             b"ITEM A 0 64 UINT\nSEG_POLY_READ_CONVERSION 0 0 0 -1",
             3,
             DefCause::ConversionTooLarge,
         ),
-        (b"ITEM A 0 8 UINT\nLIMITS TVAC 1 ENABLED 1 2 3 4", 3, DefCause::LimitsOrder),
-        (b"ITEM A 0 8 UINT\nLIMITS DEFAULT 1 ENABLED 1 2 2 4", 3, DefCause::LimitsOrder),
-        (b"ITEM A 0 8 UINT\nLIMITS DEFAULT 1 ENABLED 1 2 5 6 2 4", 3, DefCause::LimitsOrder),
+        (
+            b"ITEM A 0 8 UINT\nLIMITS TVAC 1 ENABLED 1 2 3 4",
+            3,
+            DefCause::LimitsOrder,
+        ),
+        (
+            b"ITEM A 0 8 UINT\nLIMITS DEFAULT 1 ENABLED 1 2 2 4",
+            3,
+            DefCause::LimitsOrder,
+        ),
+        (
+            b"ITEM A 0 8 UINT\nLIMITS DEFAULT 1 ENABLED 1 2 5 6 2 4",
+            3,
+            DefCause::LimitsOrder,
+        ),
         (b"ITEM A 0 8 UINT\nFORMAT_STRING 5", 3, DefCause::BadFormat),
-        (b"ITEM A 0 8 STRING\nFORMAT_STRING %s%s", 3, DefCause::BadFormat),
+        (
+            b"ITEM A 0 8 STRING\nFORMAT_STRING %s%s",
+            3,
+            DefCause::BadFormat,
+        ),
     ];
     check_rows(&rt, rt.alloc(), TELEMETRY, &rows)
 }
@@ -245,9 +386,21 @@ fn conversions_limits_and_formats_are_refused(rt: HostRuntime) -> Result<(), Fai
 #[test]
 fn the_first_refused_line_is_named(rt: HostRuntime) -> Result<(), Fail> {
     let rows: [(&[u8], u32, DefCause); 4] = [
-        (b"ITEM A 0 8 UINT\nITEM A 0 8 UINT\nFOO", 3, DefCause::DoubleName),
-        (b"FOO\nITEM A 0 8 UINT\nITEM A 0 8 UINT", 2, DefCause::UnknownKeyword),
-        (b"ITEM A 0 8 &\n  UINT\nITEM B 0 8 &\n  FLOAT\n", 4, DefCause::FloatItem),
+        (
+            b"ITEM A 0 8 UINT\nITEM A 0 8 UINT\nFOO",
+            3,
+            DefCause::DoubleName,
+        ),
+        (
+            b"FOO\nITEM A 0 8 UINT\nITEM A 0 8 UINT",
+            2,
+            DefCause::UnknownKeyword,
+        ),
+        (
+            b"ITEM A 0 8 &\n  UINT\nITEM B 0 8 &\n  FLOAT\n",
+            4,
+            DefCause::FloatItem,
+        ),
         (b"ITEM A 0 8 UINT\n\nBAR", 4, DefCause::UnknownKeyword),
     ];
     check_rows(&rt, rt.alloc(), TELEMETRY, &rows)
@@ -256,12 +409,7 @@ fn the_first_refused_line_is_named(rt: HostRuntime) -> Result<(), Fail> {
 // ---- more than the server can hold
 
 /// A packet with one item, and so many lines of `before`, a number and `after`.
-fn numbered(
-    alloc: Global,
-    before: &[u8],
-    count: u32,
-    after: &[u8],
-) -> Result<Vec<u8>, AllocError> {
+fn numbered(alloc: Global, before: &[u8], count: u32, after: &[u8]) -> Result<Vec<u8>, AllocError> {
     let mut text = behind(alloc, TELEMETRY, b"ITEM A 0 16 UINT\n")?;
     for n in 0..count {
         text.extend_from_slice(before)?;
@@ -273,16 +421,16 @@ fn numbered(
 
 #[test]
 fn the_server_holds_so_many(rt: HostRuntime) -> Result<(), Fail> {
-    let rows: [(&[u8], u32, &[u8]); 2] = [
-        (b"SEG_POLY_READ_CONVERSION ", 16, b" 0\n"),
-        (b"STATE S", 256, b" 0\n"),
+    let rows: [(&[u8], u32, u32, &[u8], u32); 2] = [
+        (b"SEG_POLY_READ_CONVERSION ", 16, 17, b" 0\n", 19),
+        (b"STATE S", 256, 257, b" 0\n", 259),
     ];
-    for (before, most, after) in rows {
+    for (before, most, more, after, line) in rows {
         let full = numbered(rt.alloc(), before, most, after)?;
         assert_eq!(rt; refused(&rt, rt.alloc(), &full)?, None, "of {before:?}");
-        let over = numbered(rt.alloc(), before, most + 1, after)?;
+        let over = numbered(rt.alloc(), before, more, after)?;
         let found = refused(&rt, rt.alloc(), &over)?;
-        assert_eq!(rt; found, Some((most + 3, DefCause::TooMany)), "of {before:?}");
+        assert_eq!(rt; found, Some((line, DefCause::TooMany)), "of {before:?}");
     }
     Ok(())
 }
@@ -302,10 +450,16 @@ fn earlier_causes_hide_too_many(rt: HostRuntime) -> Result<(), Fail> {
 
 #[test]
 fn a_65th_limits_set_is_refused(rt: HostRuntime) -> Result<(), Fail> {
-    let first = behind(rt.alloc(), TELEMETRY, b"ITEM A 0 8 UINT\nLIMITS DEFAULT 1 ENABLED 1 2 3 4\n")?;
+    let first = behind(
+        rt.alloc(),
+        TELEMETRY,
+        b"ITEM A 0 8 UINT\nLIMITS DEFAULT 1 ENABLED 1 2 3 4\n",
+    )?;
     let mut text = behind(rt.alloc(), &first, b"")?;
     for n in 1..64u32 {
-        text.extend_from_slice(format!(in rt.alloc(); "LIMITS S{n} 1 ENABLED 1 2 3 4\n")?.as_bytes())?;
+        text.extend_from_slice(format!(in rt.alloc();
+            "LIMITS S{n} 1 ENABLED 1 2 3 4\n"
+        )?.as_bytes())?;
     }
     assert_eq!(rt; refused(&rt, rt.alloc(), &text)?, None);
     let over = behind(rt.alloc(), &text, b"LIMITS S64 1 ENABLED 1 2 3 4")?;
@@ -381,7 +535,10 @@ sets DEFAULT TVAC";
 fn packets_end_behind_their_items(rt: HostRuntime) -> Result<(), Fail> {
     let rows: [(&[u8], &[u8]); 9] = [
         (b"", b"sets"),
-        (b"telemetry t p LITTLE_ENDIAN\nMETA X\nALLOW_SHORT", b"T T P 0\nsets"),
+        (
+            b"telemetry t p LITTLE_ENDIAN\nMETA X\nALLOW_SHORT",
+            b"T T P 0\nsets",
+        ),
         (
             b"TELEMETRY T P BIG_ENDIAN\nITEM A 32 8 UINT\nITEM B 0 8 UINT\nAPPEND_ITEM C 4 INT\nAPPEND_ITEM D 8 UINT",
             b"T T P 7\n  A 32 8 UINT = 0\n  B 0 8 UINT = 0\n  C 40 4 INT = 0\n  D 44 8 UINT = 0\nsets",
