@@ -1,5 +1,6 @@
 pub mod Clean
 pub mod Finished
+pub mod InOrder
 pub mod Keeping
 pub mod Kept
 pub mod KeptItem

@@ -14,6 +14,7 @@ mod drafted;
 mod fault;
 mod items;
 mod kinds;
+mod laws;
 mod open;
 mod packets;
 mod places;
@@ -22,4 +23,10 @@ mod values;
 
 pub use cts_defline::DefCause;
 pub use fault::DefFault;
+pub use laws::{definitions_are_in_order, first_statement_is_refused};
 pub use reading::read_definitions;
+
+#[cfg(test)]
+mod showing;
+#[cfg(test)]
+mod tests;
