@@ -1,0 +1,55 @@
+-- What statements define, or the first of them that is refused.
+use Rattle.std.specs.Prelude.{ℕ, List, [], ◌∷◌, Option, Some, None, option_map, Result, Ok, Err}
+use Rattle.std.specs.List.{filter_map}
+use Rattle.cts_def.specs.Packets.{DefinitionsData}
+use Rattle.cts_defline.specs.declared.cause.DefCause.{DefCause}
+use Rattle.cts_defline.specs.declared.line.Line.{Line}
+use Rattle.cts_defline.specs.Lines.{line_in}
+use Rattle.cts_defline.specs.Refusals.{word_cause}
+use Rattle.cts_defread.specs.declared.drafted.Drafted.{Drafted}
+use Rattle.cts_defread.specs.Causes.{opened, place_cause}
+use Rattle.cts_defread.specs.Standing.{standing, set_names_of, definitions_at}
+use Rattle.cts_words.specs.declared.statement.Statement.{Statement}
+use Rattle.cts_words.specs.Refusals.{Refusal, or_else, first_refusal}
+
+-- ---- the cause of a statement
+
+-- the cause that lies in what stands, of a line that is known
+abbrev pub cause_of_line : List Drafted → List (List ℕ) → Option Line → Option DefCause
+cause_of_line packets sets None = None
+cause_of_line packets sets (Some l) = place_cause packets sets l
+
+-- the first cause of a statement behind these definitions and limits sets
+abbrev pub cause_of : List Drafted → List (List ℕ) → List (List ℕ) → Option DefCause
+cause_of packets sets words = or_else (word_cause (opened packets) words) (cause_of_line packets sets (line_in words))
+
+-- what statements say, one line each
+abbrev pub lines_of : List Statement → List Line
+lines_of statements = filter_map (λ (s : Statement). line_in s.words) statements
+
+-- the first cause of a statement behind these statements, none of which is refused
+abbrev pub cause : List Statement → Statement → Option DefCause
+cause before s = cause_of (standing (lines_of before)) (set_names_of (lines_of before)) s.words
+
+-- ---- the refusal
+
+-- a cause with the statement's line
+abbrev pub at_line : Statement → Option DefCause → Option (Refusal DefCause)
+at_line s c = option_map (λ (d : DefCause). (s.line, d)) c
+
+abbrev pub refusal : List Statement → Statement → Option (Refusal DefCause)
+refusal before s = at_line s (cause before s)
+
+-- nothing more is judged behind the last statement
+abbrev pub at_end : List Statement → Option (Refusal DefCause)
+at_end all = None
+
+-- ---- the definitions
+
+abbrev pub unless_refused : List Statement → Option (Refusal DefCause) → Result DefinitionsData (Refusal DefCause)
+unless_refused statements None = Ok (definitions_at (lines_of statements))
+unless_refused statements (Some r) = Err r
+
+-- What the statements define, or the line and the cause of the first that is refused.
+abbrev pub definitions_of : List Statement → Result DefinitionsData (Refusal DefCause)
+definitions_of statements = unless_refused statements (first_refusal refusal at_end [] statements)
