@@ -75,7 +75,7 @@ SaysUntaken judges name file is.HistoryFull line = ⊥
 
 -- why a file of this kind gives no statements, whatever is asked of them
 abbrev pub GivesNone : FileKind → List ℕ → Option (List ℕ) → Refused → Type 0
-GivesNone kind name file (Said status line) = (takes : List Statement → Bool) → SaysUntaken (judge kind takes) name file status line.items
+GivesNone kind name file (Said status line) = (verdict : List Statement → Option Outcome) → SaysUntaken (judge kind verdict) name file status line.items
 GivesNone kind name file NoMemory = Unit {0}
 
 -- the statements of a file of this kind, or why it gives none

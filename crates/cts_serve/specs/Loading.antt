@@ -1,10 +1,11 @@
 -- What is loaded from the three files, or why the command ends.
 use Rattle.std.specs.Prelude.{◌≡◌, ℕ, List, [], Option, Some, None, Result, Ok, Err}
+use Rattle.cts_def.specs.Sites.{SiteData}
 use Rattle.cts_entry.specs.declared.event.Event.{Event}
 use Rattle.cts_outside.specs.Causes.{Rose}
 use Rattle.cts_serve.specs.Texts.{memory_line, read_fault_line}
 use Rattle.cts_serve.specs.Judging.{refusal}
-use Rattle.cts_serve.specs.Outcomes.{Request, first_refusal, events_asked}
+use Rattle.cts_serve.specs.Outcomes.{Request, first_refusal, definitions_refusal, site_refusal, script_refusal, site_asked, events_asked}
 use Rattle.cts_serve.specs.Printing.{IsRead, Puts, Printed}
 use Rattle.cts_serve.specs.declared.refused.Refused.{Refused}
 use Rattle.cts_serve.specs.declared.refused.Refused.TheVariants.{Said, Memory as NoMemory}
@@ -29,10 +30,15 @@ abbrev pub RefusesFor : (List ℕ → Option (List ℕ)) → Request → Refused
 RefusesFor files r (Said status line) = Says files r status line.items
 RefusesFor files r NoMemory = Unit {0}
 
--- what is loaded from files with this content
-abbrev pub Loads : (List ℕ → Option (List ℕ)) → Request → Result (List (ℕ × Event)) Refused → Type 0
-Loads files r (Ok events) = (first_refusal files r ≡ None) × (events_asked files r ≡ events)
-Loads files r (Err refused) = RefusesFor files r refused
+-- the site that is loaded from files with this content
+abbrev pub LoadsSite : (List ℕ → Option (List ℕ)) → Request → Result SiteData Refused → Type 0
+LoadsSite files r (Ok site) = (definitions_refusal files r ≡ None) × (site_refusal files r ≡ None) × (site ≡ site_asked files r)
+LoadsSite files r (Err refused) = RefusesFor files r refused
+
+-- the events that are loaded of a script, where the site is taken
+abbrev pub LoadsScript : (List ℕ → Option (List ℕ)) → Request → List ℕ → Result (List (ℕ × Event)) Refused → Type 0
+LoadsScript files r script (Ok events) = (script_refusal files r (Some script) ≡ None) × (events ≡ events_asked files r script)
+LoadsScript files r script (Err refused) = RefusesFor files r refused
 
 -- a fault and an absent file have their counts, and every other answer leaves both
 abbrev pub SaidCause : Status → ℕ → ℕ → ℕ → ℕ → Type 0

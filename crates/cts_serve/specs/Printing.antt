@@ -3,8 +3,8 @@ use Rattle.std.specs.Prelude.{◌≡◌, ℕ, ◌≤◌, List, [], ◌++◌, tak
 use Rattle.cts_outside.specs.Causes.{Steady}
 use Rattle.cts_outside.specs.Contents.{appended, IsPartPut}
 use Rattle.cts_serve.specs.Texts.{memory_line, read_fault_line}
-use Rattle.cts_serve.specs.Judging.{Outcome, judge_definitions, judge_site}
-use Rattle.cts_serve.specs.Outcomes.{Request, file_refusal, IsOutcome}
+use Rattle.cts_serve.specs.Judging.{Outcome}
+use Rattle.cts_serve.specs.Outcomes.{Request, definitions_refusal, site_refusal, IsOutcome}
 use Rattle.cts_serve.specs.declared.status.Status.{Status}
 use Rattle.cts_serve.specs.declared.status.Status.TheVariants.{Ok as Fine, Memory, Usage, ReadFault, Absent, WriteFault, ConfigRefused, ScriptRefused, HistoryFull, NotBuilt}
 
@@ -20,8 +20,8 @@ abbrev pub IsRead : (List ℕ → Option (List ℕ)) → Option Request → List
 IsRead files None name = ⊥
 IsRead files (Some r) name =
     (name ≡ r.definitions)
-    ⊎ ((file_refusal judge_definitions r.definitions (files r.definitions) ≡ None) × (name ≡ r.site))
-    ⊎ ((file_refusal judge_definitions r.definitions (files r.definitions) ≡ None) × (file_refusal judge_site r.site (files r.site) ≡ None) × (name ≡ r.script))
+    ⊎ ((definitions_refusal files r ≡ None) × (name ≡ r.site))
+    ⊎ ((definitions_refusal files r ≡ None) × (site_refusal files r ≡ None) × (Some name ≡ r.script))
 
 -- the sink before a call and after it, and its count of faults
 pub record Puts : Type 0 where

@@ -1,6 +1,8 @@
 -- The lines that a command prints for itself. Each ends with byte 0A.
-use Rattle.std.specs.Prelude.{ℕ, List, [], ◌∷◌, ◌++◌, codes}
+use Rattle.std.specs.Prelude.{ℕ, ◌+◌, List, [], ◌∷◌, ◌++◌, length, codes}
 use Rattle.std.specs.Fmt.{decimal}
+use Rattle.cts_def.specs.Packets.{items_in}
+use Rattle.cts_def.specs.Sites.{SiteData}
 
 abbrev pub usage_line : List ℕ
 usage_line = codes "usage: check DEFS SITE | replay DEFS SITE SCRIPT | rehearse N | dump LOG | serve DEFS SITE\n"
@@ -27,3 +29,12 @@ full_line entries bytes = codes "history full: " ++ decimal entries ++ codes " e
 -- how many entries the history has at the end
 abbrev pub end_line : ℕ → List ℕ
 end_line entries = codes "END " ++ decimal entries ++ 10 ∷ []
+
+-- what a site and its definitions have: packets, commands, items of both, interfaces and routers
+abbrev pub counts_line : SiteData → List ℕ
+counts_line site =
+    codes "telemetry " ++ decimal (length site.definitions.telemetry)
+    ++ codes " commands " ++ decimal (length site.definitions.commands)
+    ++ codes " items " ++ decimal (items_in site.definitions.telemetry + items_in site.definitions.commands)
+    ++ codes " interfaces " ++ decimal (length site.interfaces)
+    ++ codes " routers " ++ decimal (length site.routers) ++ 10 ∷ []
