@@ -1,8 +1,9 @@
 pub mod Postings
 pub mod WorldSteps
 pub mod LastLines
+pub mod Grounds
 pub mod Progress
-pub mod Commands
 pub mod Loadings
-pub mod Forms
+pub mod Commands
+pub mod Scripts
 pub mod OneOutcome

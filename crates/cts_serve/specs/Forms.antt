@@ -1,17 +1,16 @@
 -- What can be replayed so far: definitions without limits and state colours, interfaces whose frames state their length,
 -- and a script that opens them, brings them bytes and closes them.
-use Rattle.std.specs.Prelude.{ℕ, zero, suc, ◌==◌, ◌&&◌, ◌||◌, not, nat_eq, nat_le, Bool, true, false, List, [], ◌∷◌, length, codes, Option, Some, None, option_map, Result, Ok, Err, is_some, is_none, map, ℤ, pos, if◌then◌else◌}
+use Rattle.std.specs.Prelude.{ℕ, ◌==◌, ◌&&◌, ◌||◌, not, nat_le, Bool, true, false, List, [], ◌∷◌, length, codes, Option, Some, None, Result, Ok, Err, is_some, is_none, zip, pos, if◌then◌else◌}
 use Rattle.std.specs.Ordering.{int_eq}
 use Rattle.std.specs.List.{list_any, list_all, position}
 use Rattle.hex.specs.Hex.{decode_of}
 use Rattle.hex.specs.declared.FromHexError.{FromHexError}
 use Rattle.cts_base.specs.Names.{upper}
-use Rattle.cts_bits.specs.declared.order.Order.{Order}
-use Rattle.cts_bits.specs.declared.order.Order.TheVariants.{Big, Little}
 use Rattle.cts_def.specs.Items.{ItemData, is_same, has_color}
 use Rattle.cts_def.specs.Packets.{PacketData, DefinitionsData}
 use Rattle.cts_def.specs.Protocols.{SpecData, Burst, Fixed, Length, Terminated, Preidentified, LengthData, UseData}
 use Rattle.cts_def.specs.Sites.{InterfaceData, SiteData}
+use Rattle.cts_def.specs.Starts.{PlaceData}
 use Rattle.cts_def.specs.Spans.{is_little}
 use Rattle.cts_entry.specs.declared.event.Event.{Event}
 use Rattle.cts_entry.specs.declared.event.Event.TheVariants.{Opens, Piece, Finish}
@@ -32,11 +31,15 @@ are_built_definitions d = list_all is_built_packet d.telemetry && list_all is_bu
 
 -- ---- sites
 
--- a length in the first two bytes, the high one first, of the whole frame, and nothing else
+-- the first two bytes, the high one first
+abbrev pub is_first_two : PlaceData → Bool
+is_first_two p = p.offset == 0 && p.bits == 16 && not (is_little p.order)
+
+-- a length there of the whole frame, and nothing else
 abbrev pub is_stated_length : LengthData → Bool
 is_stated_length l =
-    l.place.offset == 0 && l.place.bits == 16 && not (is_little l.place.order) && int_eq l.value_offset (pos 0)
-    && l.per_count == 1 && l.discard == 0 && length l.sync == 0 && is_none l.max && not l.fill
+    is_first_two l.place && int_eq l.value_offset (pos 0) && l.per_count == 1 && l.discard == 0 && length l.sync == 0
+    && is_none l.max && not l.fill
 
 abbrev pub is_built_spec : SpecData → Bool
 is_built_spec (Length l) = is_stated_length l
@@ -63,12 +66,16 @@ is_built_site site = length site.routers == 0 && list_all is_built_interface sit
 
 -- ---- scripts
 
-abbrev pub is_text : List ℕ → List ℕ → Bool
-is_text word text = is_same (map upper word) text
+-- the word is this upper-case text, in any case
+abbrev pub spells : List ℕ → List ℕ → Bool
+spells word text = length word == length text && list_all (λ p. upper p.0 == p.1) (zip word text)
 
--- the number of the interface of this name, in any case
+-- the number of the first of these interfaces with this name, in any case
+abbrev pub maker_in : List InterfaceData → List ℕ → Option ℕ
+maker_in interfaces name = position (λ (i : InterfaceData). spells name i.name) interfaces
+
 abbrev pub maker_named : SiteData → List ℕ → Option ℕ
-maker_named site name = position (λ (i : InterfaceData). is_same (map upper name) i.name) site.interfaces
+maker_named site name = maker_in site.interfaces name
 
 -- a piece of 1 to 65,536 bytes
 abbrev pub piece_of : ℕ → Result (List ℕ) FromHexError → Option Event
@@ -79,13 +86,13 @@ piece_of by (Err fault) = None
 abbrev pub third_event : List ℕ → Option ℕ → List ℕ → Option Event
 third_event keyword None word = None
 third_event keyword (Some by) word =
-    if is_text keyword (codes "BYTES") then piece_of by (decode_of word)
-    else if is_text keyword (codes "CLOSE") && is_same word (codes "PEER") then Some (Finish by PeerEnded)
+    if spells keyword (codes "BYTES") then piece_of by (decode_of word)
+    else if spells keyword (codes "CLOSE") && is_same word (codes "PEER") then Some (Finish by PeerEnded)
     else None
 
 abbrev pub second_event : List ℕ → Option ℕ → Option Event
 second_event keyword None = None
-second_event keyword (Some by) = if is_text keyword (codes "OPEN") then Some (Opens by) else None
+second_event keyword (Some by) = if spells keyword (codes "OPEN") then Some (Opens by) else None
 
 -- the event of a statement's words; keywords and names are read in any case
 abbrev pub words_event : SiteData → List (List ℕ) → Option Event

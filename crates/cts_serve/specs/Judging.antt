@@ -1,4 +1,4 @@
--- How a file is refused by its bytes.
+-- How a file is refused by its bytes, and what one says that is not refused.
 use Rattle.std.specs.Prelude.{ℕ, nat_lt, Bool, List, [], length, codes, Option, Some, None, unwrap_or, Result, Ok, Err, if◌then◌else◌}
 use Rattle.std.specs.Result.{result_unwrap_or}
 use Rattle.cts_words.specs.declared.fault.WordFault.{WordFault}
@@ -8,11 +8,11 @@ use Rattle.cts_words.specs.Statements.{said}
 use Rattle.cts_serve.specs.Texts.{not_built_line, refused_line}
 use Rattle.cts_def.specs.Packets.{DefinitionsData}
 use Rattle.cts_def.specs.Sites.{SiteData}
-use Rattle.cts_defline.specs.Causes.{cause_name as definition_cause}
+use Rattle.cts_defline.specs.Causes.{cause_name}
 use Rattle.cts_defread.specs.Definitions.{definitions_of}
 use Rattle.cts_entry.specs.declared.event.Event.{Event}
 use Rattle.cts_plan.specs.SiteFiles.{site_of}
-use Rattle.cts_plan.specs.Causes.{cause_name as site_cause}
+use Rattle.cts_plan.specs.Causes.{name_of_cause}
 use Rattle.cts_serve.specs.Forms.{has_events, script_events}
 use Rattle.cts_serve.specs.declared.status.Status.{Status}
 use Rattle.cts_serve.specs.declared.status.Status.TheVariants.{ConfigRefused, ScriptRefused, NotBuilt}
@@ -79,11 +79,11 @@ abbrev pub with_text : {X C : Type 0} → (C → List ℕ) → Result X (ℕ × 
 with_text print (Ok x) = Ok x
 with_text print (Err r) = Err (r.0, print r.1)
 
-abbrev pub definitions_read : List Statement → Result DefinitionsData (ℕ × List ℕ)
-definitions_read statements = with_text definition_cause (definitions_of statements)
+unfoldable pub definitions_read : List Statement → Result DefinitionsData (ℕ × List ℕ)
+definitions_read statements = with_text cause_name (definitions_of statements)
 
-abbrev pub site_read : DefinitionsData → List Statement → Result SiteData (ℕ × List ℕ)
-site_read definitions statements = with_text site_cause (site_of definitions statements)
+unfoldable pub site_read : DefinitionsData → List Statement → Result SiteData (ℕ × List ℕ)
+site_read definitions statements = with_text name_of_cause (site_of definitions statements)
 
 abbrev pub judge_definitions : (DefinitionsData → Bool) → List ℕ → List ℕ → Option Outcome
 judge_definitions are_built name bytes = judge Configuration (λ statements. verdict are_built name (definitions_read statements)) name bytes

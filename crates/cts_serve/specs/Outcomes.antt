@@ -16,7 +16,7 @@ use Rattle.cts_serve.specs.Judging.{Outcome, refusal, judge_definitions, judge_s
 use Rattle.cts_serve.specs.declared.status.Status.TheVariants.{Ok as Fine, Usage, Absent, ScriptRefused, HistoryFull as FullHistory}
 
 -- the files that a command asks for, by their names; one that only checks has no script
-pub record Request : Type 0 where
+pub record RequestData : Type 0 where
   pub definitions : List ℕ
   pub site : List ℕ
   pub script : Option (List ℕ)
@@ -25,7 +25,7 @@ abbrev pub is_word : List ℕ → List ℕ → Bool
 is_word = pointwise nat_eq
 
 -- what the words of the command line ask for
-abbrev pub asked : List (List ℕ) → Option Request
+abbrev pub asked : List (List ℕ) → Option RequestData
 asked (command ∷ definitions ∷ site ∷ []) =
     if is_word command (codes "check") then Some (record { definitions = definitions; site = site; script = None }) else None
 asked (command ∷ definitions ∷ site ∷ script ∷ []) =
@@ -38,7 +38,7 @@ file_refusal judges name None = Some (refusal Absent (absent_line name))
 file_refusal judges name (Some bytes) = judges name bytes
 
 -- what a command may ask for: a check takes all that is read, and a replay what is built
-abbrev pub is_taken : {X : Type 0} → Request → (X → Bool) → X → Bool
+abbrev pub is_taken : {X : Type 0} → RequestData → (X → Bool) → X → Bool
 is_taken r is_built x = is_none r.script || is_built x
 
 -- the bytes of a file, none where it is not there
@@ -46,28 +46,28 @@ abbrev pub bytes_of : Option (List ℕ) → List ℕ
 bytes_of file = unwrap_or file []
 
 -- the definitions and the site that are asked for, and the events of a script
-abbrev pub definitions_asked : (List ℕ → Option (List ℕ)) → Request → DefinitionsData
+abbrev pub definitions_asked : (List ℕ → Option (List ℕ)) → RequestData → DefinitionsData
 definitions_asked files r = definitions_in (bytes_of (files r.definitions))
 
-abbrev pub site_asked : (List ℕ → Option (List ℕ)) → Request → SiteData
+abbrev pub site_asked : (List ℕ → Option (List ℕ)) → RequestData → SiteData
 site_asked files r = site_in (definitions_asked files r) (bytes_of (files r.site))
 
-abbrev pub events_asked : (List ℕ → Option (List ℕ)) → Request → List ℕ → List (ℕ × Event)
+abbrev pub events_asked : (List ℕ → Option (List ℕ)) → RequestData → List ℕ → List (ℕ × Event)
 events_asked files r script = events_in (site_asked files r) (bytes_of (files script))
 
 -- the refusal of each file, if it is not taken
-abbrev pub definitions_refusal : (List ℕ → Option (List ℕ)) → Request → Option Outcome
+abbrev pub definitions_refusal : (List ℕ → Option (List ℕ)) → RequestData → Option Outcome
 definitions_refusal files r = file_refusal (judge_definitions (is_taken r are_built_definitions)) r.definitions (files r.definitions)
 
-abbrev pub site_refusal : (List ℕ → Option (List ℕ)) → Request → Option Outcome
+abbrev pub site_refusal : (List ℕ → Option (List ℕ)) → RequestData → Option Outcome
 site_refusal files r = file_refusal (judge_site (is_taken r is_built_site) (definitions_asked files r)) r.site (files r.site)
 
-abbrev pub script_refusal : (List ℕ → Option (List ℕ)) → Request → Option (List ℕ) → Option Outcome
+abbrev pub script_refusal : (List ℕ → Option (List ℕ)) → RequestData → Option (List ℕ) → Option Outcome
 script_refusal files r None = None
 script_refusal files r (Some script) = file_refusal (judge_script (site_asked files r)) script (files script)
 
 -- the refusal of the first of the files that is not taken
-abbrev pub first_refusal : (List ℕ → Option (List ℕ)) → Request → Option Outcome
+abbrev pub first_refusal : (List ℕ → Option (List ℕ)) → RequestData → Option Outcome
 first_refusal files r =
     or_earlier (definitions_refusal files r) (or_earlier (site_refusal files r) (script_refusal files r r.script))
 
@@ -112,11 +112,11 @@ abbrev pub check_outcome : SiteData → Outcome
 check_outcome site = record { status = Fine; body = counts_line site; last = [] }
 
 -- what is asked of files that are taken
-abbrev pub IsDone : (List ℕ → Option (List ℕ)) → Request → Option (List ℕ) → Outcome → Type 0
+abbrev pub IsDone : (List ℕ → Option (List ℕ)) → RequestData → Option (List ℕ) → Outcome → Type 0
 IsDone files r None o = o ≡ check_outcome (site_asked files r)
 IsDone files r (Some script) o = IsReplay (site_asked files r) script (events_asked files r script) o
 
 -- The outcome of a command, for files with this content.
-abbrev pub IsOutcome : (List ℕ → Option (List ℕ)) → Option Request → Outcome → Type 0
+abbrev pub IsOutcome : (List ℕ → Option (List ℕ)) → Option RequestData → Outcome → Type 0
 IsOutcome files None o = o ≡ refusal Usage usage_line
 IsOutcome files (Some r) o = MatchOption (first_refusal files r) (IsDone files r r.script o) (λ refused. o ≡ refused)

@@ -30,11 +30,14 @@ full_line entries bytes = codes "history full: " ++ decimal entries ++ codes " e
 abbrev pub end_line : ℕ → List ℕ
 end_line entries = codes "END " ++ decimal entries ++ 10 ∷ []
 
--- what a site and its definitions have: packets, commands, items of both, interfaces and routers
+-- how many packets, commands, items of both, interfaces and routers there are
+abbrev pub numbers_line : ℕ → ℕ → ℕ → ℕ → ℕ → List ℕ
+numbers_line telemetry commands items interfaces routers =
+    codes "telemetry " ++ decimal telemetry ++ codes " commands " ++ decimal commands ++ codes " items " ++ decimal items
+    ++ codes " interfaces " ++ decimal interfaces ++ codes " routers " ++ decimal routers ++ 10 ∷ []
+
+-- what a site and its definitions have
 abbrev pub counts_line : SiteData → List ℕ
 counts_line site =
-    codes "telemetry " ++ decimal (length site.definitions.telemetry)
-    ++ codes " commands " ++ decimal (length site.definitions.commands)
-    ++ codes " items " ++ decimal (items_in site.definitions.telemetry + items_in site.definitions.commands)
-    ++ codes " interfaces " ++ decimal (length site.interfaces)
-    ++ codes " routers " ++ decimal (length site.routers) ++ 10 ∷ []
+    numbers_line (length site.definitions.telemetry) (length site.definitions.commands)
+    (items_in site.definitions.telemetry + items_in site.definitions.commands) (length site.interfaces) (length site.routers)

@@ -14,6 +14,8 @@ mod reading;
 mod refusal;
 mod refused;
 mod replay;
+mod request;
+mod script;
 mod status;
 mod stop;
 mod texts;
