@@ -1,3 +1,5 @@
+pub mod Lines
+pub mod Names
 pub mod Postings
 pub mod WorldSteps
 pub mod LastLines

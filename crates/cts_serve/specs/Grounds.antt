@@ -2,7 +2,7 @@
 use Rattle.std.specs.Prelude.{ℕ, zero, suc, nat_lt, List, [], ◌∷◌, length}
 use Rattle.cts_core.specs.States.{Ground}
 use Rattle.cts_def.specs.Packets.{PacketData}
-use Rattle.cts_def.specs.Sites.{InterfaceData, RouterData, SiteData}
+use Rattle.cts_def.specs.Sites.{InterfaceData, SiteData}
 use Rattle.cts_ident.specs.Identification.{identified}
 use Rattle.cts_proto.specs.Framing.{Output}
 use Rattle.cts_proto.specs.LengthRow.{length_framing}

@@ -2,6 +2,7 @@
 #![tactic(auto)]
 
 mod command;
+mod connection;
 mod events;
 mod file_kind;
 mod form;
