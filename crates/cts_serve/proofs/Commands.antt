@@ -19,14 +19,14 @@ use Rattle.cts_serve.specs.declared.refused.Refused.{Refused}
 use Rattle.cts_serve.specs.declared.refused.Refused.TheVariants.{Said, Memory as NoMemory}
 use Rattle.cts_serve.specs.declared.status.Status.{Status}
 use Rattle.cts_serve.specs.declared.status.Status.TheVariants.{Ok as Fine, Memory, Usage, ReadFault, Absent, WriteFault, ConfigRefused, ScriptRefused, HistoryFull, NotBuilt}
-use Rattle.cts_serve.proofs.Grounds.{ground_sound}
+use Rattle.cts_serve.proofs.Progress.{site_sound}
 use Rattle.cts_serve.proofs.Loadings.{first_refusal_is, script_answer}
 
 -- there is an outcome, whatever the files hold
 
 replay_of : (site : SiteData) (script : List ℕ) (events : List (ℕ × Event)) → (o : Outcome) × IsReplay site script events o
 replay_of site script events =
-    let run = has_run (site_ground site) opening (events_of events) (ground_sound site) in
+    let run = has_run (site_ground site) opening (events_of events) (site_sound site) in
     (replay_outcome site script events run.0 run.1, record { dids = run.0; ending = run.1; runs = run.2; outcome = refl })
 
 done_of : (files : List ℕ → Option (List ℕ)) (r : RequestData) (script : Option (List ℕ)) → (o : Outcome) × IsDone files r script o

@@ -3,7 +3,6 @@ pub mod Names
 pub mod Postings
 pub mod WorldSteps
 pub mod LastLines
-pub mod Grounds
 pub mod Progress
 pub mod Loadings
 pub mod Commands

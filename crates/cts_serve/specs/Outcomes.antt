@@ -1,4 +1,4 @@
--- What `replay` answers and prints, from the content of the files alone.
+-- What a command answers and prints, from the content of the files alone.
 use Rattle.std.specs.Prelude.{◌≡◌, ℕ, ◌+◌, nat_eq, List, [], ◌∷◌, ◌++◌, Bool, ◌||◌, length, map, codes, Option, Some, None, is_none, MatchOption, unwrap_or, if◌then◌else◌}
 use Rattle.std.specs.Cmp.Lexicographic.{pointwise}
 use Rattle.cts_entry.specs.declared.entry.Entry.{Entry}
