@@ -1,4 +1,5 @@
 pub mod DecimalLemmas
+pub mod Known
 pub mod Numerals
 pub mod PrintLemmas
 pub mod PrintUnique

@@ -4,3 +4,5 @@ pub mod Spelling
 pub mod Answers
 pub mod Seen
 pub mod Joining
+pub mod Refusals
+pub mod Blocks

@@ -1,6 +1,8 @@
 //! Laws of the definitions: what they give byte by byte and line by line, said of the whole.
 
 ghost use Rattle.cts_words.specs.Spelling.{LinesEndAtFeeds, LastLineEndsTheText, WordsAreSpelled, OpenQuotesAreLeft, JoinedLinesAreStatements, JoinWordEndsTheLine};
+ghost use Rattle.cts_words.specs.Refusals.{FirstOneIsRefused};
+ghost use Rattle.cts_words.specs.Blocks.{BlocksAreOfTheHeads, BlocksHaveTheirLines};
 
 /// The lines of a text, each without its line feed.
 pub fn lines_are_cut()
@@ -19,4 +21,15 @@ pub fn words_are_spelled()
 pub fn lines_are_joined()
     ensures statements { JoinedLinesAreStatements }
     ensures join_word { JoinWordEndsTheLine }
+{}
+
+/// Statements are refused at the first one that is refused behind those before it, and at their end where none is.
+pub fn first_one_is_refused<C>()
+    ensures { FirstOneIsRefused C }
+{}
+
+/// Lines that are cut at their heads give one block for each head, with the lines up to the next head.
+pub fn lines_are_cut_at_heads<L, H>()
+    ensures heads { BlocksAreOfTheHeads L H }
+    ensures lines { BlocksHaveTheirLines L H }
 {}
