@@ -1,0 +1,85 @@
+// The site as it grows, statement by statement.
+ghost use Rattle.std.specs.Prelude.{◌≡◌, ◌++◌, OnOk};
+ghost use Rattle.cts_plan.specs.Placing.{change_connection, place, Fits, FitsLast, FitsIn, seen};
+ghost use Rattle.cts_words.specs.Blocks.{last_of};
+ghost use Rattle.cts_plan.specs.declared.line.Line.TheVariants as line;
+
+use crate::connection::Connection;
+use crate::line::{Detail, Line};
+use cts_base::{List, Memory, Name};
+use std::alloc::Global;
+
+/// What stands so far.
+#[derive(Drop)]
+pub struct Draft {
+    /// The interfaces and routers, in order of their statements.
+    pub connections: Vec<Connection>,
+    /// The port of the desks.
+    pub api_port: u16,
+    /// The number of desks.
+    pub desks: u32,
+}
+
+fn append(names: &mut List<Name>, more: List<Name>) -> Result<(), Memory>
+    ensures { OnOk result (names.new ≡ names.old ++ more) }
+{
+    for name in more.into_vec() {
+        names.push(name)?;
+    }
+    Ok(())
+}
+
+fn change_connection(connection: &mut Connection, detail: Detail) -> Result<(), Memory>
+    requires fits { Fits detail connection.old }
+    ensures { OnOk result (connection.new ≡ change_connection detail connection.old) }
+{
+    match detail {
+        Detail::Target(name) => connection.targets.push(name)?,
+        Detail::Step(step) => connection.steps.push(step)?,
+        Detail::Route(number, targets) => {
+            append(&mut connection.targets, targets)?;
+            connection.routes.push(number)?;
+        }
+        Detail::Delay(delay) => connection.delay = delay,
+        Detail::DontReconnect => connection.reconnect = false,
+        Detail::Logged(logged) => connection.logged = logged,
+    }
+    Ok(())
+}
+
+impl Draft {
+    /// The draft before the first statement.
+    pub fn new(alloc: Global) -> Draft {
+        Draft {
+            connections: Vec::new(alloc),
+            api_port: 7777,
+            desks: 4,
+        }
+    }
+
+    fn add_detail(&mut self, detail: Detail) -> Result<(), Memory>
+        requires fits { FitsLast detail (last_of self.old.connections.items) }
+        ensures { OnOk result (seen self.new ≡ place (line.Detail detail) (seen self.old)) }
+    {
+        if let Some(mut connection) = self.connections.pop() {
+            change_connection(&mut connection, detail)?;
+            self.connections.push(connection)?;
+        }
+        Ok(())
+    }
+
+    /// Adds what a statement without a cause says. After `Memory` the draft is of no use.
+    pub fn add(&mut self, line: Line) -> Result<(), Memory>
+        requires fits { FitsIn line self.old.connections.items }
+        ensures { OnOk result (seen self.new ≡ place line (seen self.old)) }
+    {
+        match line {
+            Line::Nothing => {}
+            Line::ApiPort(port) => self.api_port = port,
+            Line::Desks(desks) => self.desks = desks,
+            Line::Opening(connection) => self.connections.push(connection)?,
+            Line::Detail(detail) => self.add_detail(detail)?,
+        }
+        Ok(())
+    }
+}
