@@ -1,7 +1,7 @@
 -- Format texts: plain characters, `%%` for the character `%`, and exactly one directive. A directive is `%`, flags among
 -- `-`, `0` and `+`, each at most once, a width of at most 3 digits, for `f` a point and a precision of 0 to 12, and one of
 -- the letters d i u x X o b s f. Flags are read as far as they go, and then the width.
-use Rattle.std.specs.Prelude.{ℕ, suc, Bool, true, false, not, ◌&&◌, ◌||◌, ◌==◌, nat_eq, nat_lt, nat_le, List, [], ◌∷◌, take, drop, codes, Option, Some, None, if◌then◌else◌}
+use Rattle.std.specs.Prelude.{ℕ, suc, Bool, true, false, not, ◌&&◌, ◌||◌, ◌==◌, nat_eq, nat_lt, nat_le, List, [], ◌∷◌, ◌++◌, take, drop, codes, Option, Some, None, if◌then◌else◌}
 use Rattle.std.specs.Char.{is_ascii_digit}
 use Rattle.std.specs.List.{list_any, prefix_len}
 use Rattle.std.specs.Str.Parse.{digits_value}
@@ -22,13 +22,21 @@ behind_percent (c ∷ d ∷ rest) =
 abbrev pub is_flag : ℕ → Bool
 is_flag c = c == 45 || c == 48 || c == 43
 
+-- a flag, where these were read before
+abbrev pub is_new_flag : List ℕ → ℕ → Bool
+is_new_flag seen c = is_flag c && not (list_any (nat_eq c) seen)
+
 -- how many flags stand first, where these were read before
 abbrev pub flags_len : List ℕ → List ℕ → ℕ
 flags_len seen [] = 0
-flags_len seen (c ∷ rest) = if is_flag c && not (list_any (nat_eq c) seen) then suc (flags_len (c ∷ seen) rest) else 0
+flags_len seen (c ∷ rest) = if is_new_flag seen c then suc (flags_len (seen ++ c ∷ []) rest) else 0
 
 abbrev pub is_letter : ℕ → Bool
 is_letter c = list_any (nat_eq c) (codes "diuxXobsf")
+
+-- digits, of a number above 12
+abbrev pub is_above_twelve : List ℕ → Bool
+is_above_twelve digits = nat_lt 12 (digits_value 10 digits)
 
 -- behind a precision stands `f`
 abbrev pub behind_f : List ℕ → Option (List ℕ)
@@ -38,7 +46,7 @@ behind_f (c ∷ rest) = if c == 102 then Some rest else None
 abbrev pub behind_point : List ℕ → Option (List ℕ)
 behind_point text =
     let digits = prefix_len is_ascii_digit text in
-    if digits == 0 || nat_lt 12 (digits_value 10 (take digits text)) then None else behind_f (drop digits text)
+    if digits == 0 || is_above_twelve (take digits text) then None else behind_f (drop digits text)
 
 -- what stands behind a directive whose flags and width were read
 abbrev pub behind_width : List ℕ → Option (List ℕ)

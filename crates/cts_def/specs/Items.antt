@@ -1,5 +1,5 @@
 -- Items: what a definition says of one, and the rules that every item keeps.
-use Rattle.std.specs.Prelude.{◌≡◌, ℕ, ℤ, pos, ◌+◌, ◌*◌, ◌^◌, ◌<◌, ◌≤◌, Bool, true, false, not, ◌&&◌, ◌||◌, ◌==◌, nat_eq, nat_lt, nat_le, int_lt, int_le, unsigned_abs, List, [], ◌∷◌, map, length, codes, Option, Some, None, is_some, is_none, IsTrue, if◌then◌else◌}
+use Rattle.std.specs.Prelude.{◌≡◌, ℕ, ℤ, pos, ◌+◌, ◌*◌, ◌^◌, ◌≤◌, Bool, true, false, not, ◌&&◌, ◌||◌, ◌==◌, nat_eq, nat_le, int_lt, int_le, unsigned_abs, List, [], ◌∷◌, map, length, codes, Option, Some, None, is_some, IsTrue}
 use Rattle.std.specs.Int.{is_negative}
 use Rattle.std.specs.List.{list_any, list_all, IsDistinct}
 use Rattle.std.specs.Cmp.Lexicographic.{pointwise}
@@ -87,11 +87,15 @@ are_greens_in_order yellow_low yellow_high None = true
 are_greens_in_order yellow_low yellow_high (Some green) =
     int_lt yellow_low.parts green.0.parts && int_lt green.0.parts green.1.parts && int_lt green.1.parts yellow_high.parts
 
--- red_low <= yellow_low < yellow_high <= red_high, and the green pair strictly between the yellow ones
-abbrev pub are_in_order : Limits → Bool
-are_in_order l =
+-- red_low <= yellow_low < yellow_high <= red_high
+abbrev pub are_pairs_in_order : Limits → Bool
+are_pairs_in_order l =
     int_le l.red_low.parts l.yellow_low.parts && int_lt l.yellow_low.parts l.yellow_high.parts
-    && int_le l.yellow_high.parts l.red_high.parts && are_greens_in_order l.yellow_low l.yellow_high l.green
+    && int_le l.yellow_high.parts l.red_high.parts
+
+-- and the green pair is strictly between the yellow ones
+abbrev pub are_in_order : Limits → Bool
+are_in_order l = are_pairs_in_order l && are_greens_in_order l.yellow_low l.yellow_high l.green
 
 -- the first set is DEFAULT
 abbrev pub begins_with_default : List (List ℕ × Limits) → Bool

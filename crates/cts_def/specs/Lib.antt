@@ -6,3 +6,4 @@ pub mod Protocols
 pub mod Sites
 pub mod Spans
 pub mod Starts
+pub mod Weights

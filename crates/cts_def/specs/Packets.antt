@@ -1,5 +1,5 @@
 -- Packets and definitions: what contracts see of them, and the rules that they keep.
-use Rattle.std.specs.Prelude.{◌≡◌, ℕ, ◌+◌, ◌≤◌, max, Bool, false, not, ◌&&◌, ◌||◌, List, [], ◌∷◌, map, length, codes, int_lt, pos, IsTrue}
+use Rattle.std.specs.Prelude.{◌≡◌, ℕ, ◌+◌, ◌≤◌, max, Bool, false, not, ◌&&◌, List, [], ◌∷◌, map, length, codes, IsTrue}
 use Rattle.std.specs.Int.{is_negative}
 use Rattle.std.specs.List.{filter, list_any, list_all, IsDistinct}
 use Rattle.cts_def.specs.Items.{ItemData, span_of, is_same}

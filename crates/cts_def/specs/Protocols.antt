@@ -1,5 +1,5 @@
 -- Protocols with their parameters: what contracts see of them, and the rules that they keep.
-use Rattle.std.specs.Prelude.{ℕ, ℤ, ◌+◌, Bool, true, false, not, ◌&&◌, ◌||◌, ◌==◌, nat_le, List, [], ◌∷◌, map, length, Option, IsTrue}
+use Rattle.std.specs.Prelude.{ℕ, ℤ, ◌+◌, Bool, true, false, not, ◌&&◌, ◌||◌, nat_le, List, [], ◌∷◌, length, Option, IsTrue}
 use Rattle.std.specs.List.{list_any, list_all}
 use Rattle.cts_bits.specs.Places.{reach_of}
 use Rattle.cts_def.specs.declared.proto_spec.Kind.{Kind}

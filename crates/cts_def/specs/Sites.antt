@@ -1,5 +1,5 @@
 -- Interfaces, routers and sites: what contracts see of them, and the rules that they keep.
-use Rattle.std.specs.Prelude.{ℕ, zero, suc, ℤ, pos, ◌≤◌, ◌<◌, Bool, ◌&&◌, int_le, nat_lt, List, [], ◌∷◌, map, length, IsTrue}
+use Rattle.std.specs.Prelude.{ℕ, zero, suc, pos, ◌≤◌, Bool, int_le, nat_lt, List, [], ◌∷◌, map, length, IsTrue}
 use Rattle.std.specs.List.{list_all, IsDistinct, flat_map}
 use Rattle.cts_base.specs.declared.decimal.Decimal.{Decimal}
 use Rattle.cts_def.specs.Items.{is_same}

@@ -1,7 +1,7 @@
 -- Where an item lies in its packet: by its kind, the order of its bytes, and its offset and size in bits. An offset
 -- below 0 counts from the packet's end. A size of 0 is all bytes to the end, and one below 0 leaves that many bits
 -- before the end.
-use Rattle.std.specs.Prelude.{ℕ, ℤ, pos, ◌+◌, ◌-◌, ◌*◌, ◌/◌, ◌%◌, ◌^◌, Bool, true, false, not, ◌&&◌, ◌||◌, ◌==◌, nat_lt, nat_le, int_lt, int_le, unsigned_abs, if◌then◌else◌}
+use Rattle.std.specs.Prelude.{ℕ, ℤ, pos, ◌+◌, ◌-◌, ◌*◌, ◌/◌, ◌%◌, ◌^◌, Bool, true, false, not, ◌&&◌, ◌||◌, ◌==◌, nat_lt, nat_le, int_le, unsigned_abs, if◌then◌else◌}
 use Rattle.std.specs.Int.{is_negative}
 use Rattle.cts_bits.specs.Places.{is_whole, span}
 use Rattle.cts_bits.specs.declared.order.Order.{Order}
@@ -69,11 +69,16 @@ abbrev pub is_bad_from_end : Span → Bool
 is_bad_from_end s =
     not (unsigned_abs s.offset % 8 == 0) || nat_lt (unsigned_abs s.offset) (unsigned_abs s.size) || is_little_bits s
 
+-- a number counted from the start that would pass the last place of a field, or begin before byte 0
+abbrev pub is_bad_from_start : Span → Bool
+is_bad_from_start s = nat_lt 8388608 (unsigned_abs s.offset + unsigned_abs s.size) || begins_before_start s
+
+abbrev pub is_bad_from_its_side : Span → Bool
+is_bad_from_its_side s = if is_negative s.offset then is_bad_from_end s else is_bad_from_start s
+
 -- a number has 1 to 64 bits
 abbrev pub is_misplaced_number : Span → Bool
-is_misplaced_number s =
-    int_le s.size (pos 0) || nat_lt 64 (unsigned_abs s.size)
-    || (if is_negative s.offset then is_bad_from_end s else begins_before_start s)
+is_misplaced_number s = int_le s.size (pos 0) || nat_lt 64 (unsigned_abs s.size) || is_bad_from_its_side s
 
 -- a text or block is whole bytes, and does not pass the end where it is counted from there
 abbrev pub is_misplaced_text : Span → Bool
@@ -81,12 +86,12 @@ is_misplaced_text s =
     not (unsigned_abs s.offset % 8 == 0) || not (unsigned_abs s.size % 8 == 0)
     || (is_negative s.offset && nat_lt (unsigned_abs s.offset) (unsigned_abs s.size))
 
+abbrev pub is_misplaced_by_kind : Span → Bool
+is_misplaced_by_kind s = if is_number s.kind then is_misplaced_number s else is_misplaced_text s
+
 -- the place is refused for every item
 abbrev pub is_misplaced : Span → Bool
-is_misplaced s =
-    is_far s.offset || is_far s.size
-    || (if is_number s.kind then is_misplaced_number s else is_misplaced_text s)
-    || nat_lt 8388608 (end_of s)
+is_misplaced s = is_far s.offset || is_far s.size || is_misplaced_by_kind s || nat_lt 8388608 (end_of s)
 
 -- ---- which numbers have a spelling
 

@@ -19,8 +19,11 @@ pub record IdField : Type 0 where
   pub value : ℤ
   pub signed : Bool
 
+abbrev pub id_field_data : Place × ℤ × Bool → IdField
+id_field_data i = record { place = place_data i.0; value = i.1; signed = i.2 }
+
 abbrev pub id_fields : List (Place × ℤ × Bool) → List IdField
-id_fields ids = map (λ (i : Place × ℤ × Bool). record { place = place_data i.0; value = i.1; signed = i.2 }) ids
+id_fields ids = map id_field_data ids
 
 -- how a packet begins, and its length
 pub record StartData : Type 0 where

@@ -2,7 +2,7 @@
 
 use crate::{Conversion, ItemKind, LimitsSetup, Overflow, Preset, StateDef};
 use cts_base::{Bytes, List, Name};
-use cts_bits::Order;
+use cts_bits::{Order, Place};
 use std::marker::Model;
 
 /// A telemetry item, or a parameter of a command.
@@ -51,8 +51,10 @@ impl Model for Item {
 }
 
 impl Item {
-    ghost use Rattle.std.specs.Prelude.{◌≡◌};
+    ghost use Rattle.std.specs.Prelude.{◌≡◌, option_map};
+    ghost use Rattle.cts_def.specs.Beginnings.{id_field_of};
     ghost use Rattle.cts_def.specs.Items.{span_of};
+    ghost use Rattle.cts_def.specs.Starts.{id_field_data};
 
     /// Where it lies.
     pub fn span(&self) -> crate::Span
@@ -64,5 +66,19 @@ impl Item {
             offset: self.offset,
             size: self.size,
         }
+    }
+
+    /// Where the id lies in the packet, the id, and whether it is signed, if it is an id item.
+    pub fn id_field(&self) -> Option<(Place, i128, bool)>
+        ensures { option_map id_field_data result ≡ id_field_of self.now }
+    {
+        let id = self.id?;
+        let place = Place::new(
+            self.offset.unsigned_abs(),
+            self.size.unsigned_abs(),
+            self.order,
+        )
+        .ok()?;
+        Some((place, id, self.kind.is_signed()))
     }
 }

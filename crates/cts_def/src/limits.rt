@@ -18,3 +18,36 @@ pub struct Limits {
     /// The values between which the item is where it is meant to be, if they were given.
     pub green: Option<(Decimal, Decimal)>,
 }
+
+impl Limits {
+    ghost use Rattle.std.specs.Prelude.{◌≡◌};
+    ghost use Rattle.cts_def.specs.Items.{are_greens_in_order, are_pairs_in_order, are_in_order};
+
+    /// Whether `red_low <= yellow_low < yellow_high <= red_high`, with the green pair strictly between the yellow ones.
+    pub fn are_in_order(&self) -> bool
+        ensures { result ≡ are_in_order self.now }
+    {
+        self.are_pairs_in_order() && self.are_greens_in_order()
+    }
+
+    fn are_pairs_in_order(&self) -> bool
+        ensures { result ≡ are_pairs_in_order self.now }
+    {
+        self.red_low.parts <= self.yellow_low.parts
+            && self.yellow_low.parts < self.yellow_high.parts
+            && self.yellow_high.parts <= self.red_high.parts
+    }
+
+    fn are_greens_in_order(&self) -> bool
+        ensures { result ≡ are_greens_in_order self.now.yellow_low self.now.yellow_high self.now.green }
+    {
+        match self.green {
+            Some((low, high)) => {
+                self.yellow_low.parts < low.parts
+                    && low.parts < high.parts
+                    && high.parts < self.yellow_high.parts
+            }
+            None => true,
+        }
+    }
+}

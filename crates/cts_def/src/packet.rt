@@ -1,7 +1,9 @@
 // A packet, or a command.
 
-use crate::Item;
-use cts_base::{List, Name};
+use crate::id_fields::id_fields;
+use crate::{Item, Start};
+use cts_base::{List, Memory, Name};
+use std::alloc::Global;
 use std::marker::Model;
 
 /// A telemetry packet, or a command.
@@ -29,4 +31,20 @@ impl Model for Packet {
     ghost view = { λ p. record { target = p.target; name = p.name; items = p.items; length = p.length; variable = p.variable; hazardous = p.hazardous } };
 
     ghost invariant = { λ p. IsSoundPacket (record { target = p.target; name = p.name; items = p.items; length = p.length; variable = p.variable; hazardous = p.hazardous }) };
+}
+
+impl Packet {
+    ghost use Rattle.std.specs.Prelude.{◌≡◌, IfOk};
+    ghost use Rattle.cts_def.specs.Beginnings.{start_of};
+
+    /// How it begins: its id fields with their values in order of definition, and its length. `Memory` where none was
+    /// found for them.
+    pub fn start(&self, alloc: Global) -> Result<Start, Memory>
+        ensures { IfOk result (λ s. s ≡ start_of self.now) }
+    {
+        Ok(Start {
+            ids: List::of(id_fields(alloc, self.items.as_slice())?),
+            length: self.length,
+        })
+    }
 }

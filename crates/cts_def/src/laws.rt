@@ -1,0 +1,29 @@
+// What holds of the definitions that the contracts cite.
+ghost use Rattle.std.specs.Prelude.{◌≡◌, ◌≤◌, ◌<◌, ◌^◌, ◌↔◌, ℕ, ℤ, pos, false, IsTrue, unsigned_abs};
+ghost use Rattle.std.specs.Int.{is_negative};
+ghost use Rattle.cts_bits.specs.Bits.{HasSpelling};
+ghost use Rattle.cts_bits.specs.Places.{IsBadSize, IsBeforeStart, reach_of};
+ghost use Rattle.cts_def.specs.Spans.{bytes_needed, is_misplaced, is_number, is_spelled};
+
+use crate::{ItemKind, Span};
+
+/// A number that is counted from its packet's start and is not misplaced has a place: neither its size nor its beginning
+/// is refused, and its field lies within the bytes that it needs.
+pub fn number_has_a_place(span: &Span)
+    requires number { IsTrue (is_number span.now.kind) }
+    requires from_start { is_negative span.now.offset ≡ false }
+    requires placed { is_misplaced span.now ≡ false }
+    ensures size { IsBadSize (unsigned_abs span.now.offset) (unsigned_abs span.now.size) → ⊥ }
+    ensures start { IsBeforeStart span.now.order (unsigned_abs span.now.offset) (unsigned_abs span.now.size) → ⊥ }
+    ensures reach { reach_of span.now.order (unsigned_abs span.now.offset) (unsigned_abs span.now.size) ≤ bytes_needed span.now }
+{}
+
+/// Which numbers have a spelling: those from 0 on that are below 2 to the power of the bits for a UINT, and those that two's
+/// complement spells for an INT.
+pub fn spellings_of_numbers(bits: u32)
+    requires some { 1 ≤ bits }
+    requires at_most_64 { bits ≤ 64 }
+    ensures whole { (n : ℕ) → IsTrue (is_spelled ItemKind.Uint bits (pos n)) ↔ (n < 2 ^ bits) }
+    ensures below_0 { (z : ℤ) → IsTrue (is_negative z) → is_spelled ItemKind.Uint bits z ≡ false }
+    ensures signed { (z : ℤ) → IsTrue (is_spelled ItemKind.Int bits z) ↔ HasSpelling bits z }
+{}
