@@ -49,6 +49,39 @@ abbrev pub is_bad_place : ℕ → ℕ → Order → Bool
 is_bad_place offset bits order =
     bits == 0 || nat_lt 64 bits || nat_lt 8388608 (offset + bits) || begins_before_start offset bits order
 
+abbrev pub length_offset : List (List ℕ) → ℕ
+length_offset ws = unwrap_or (bits_of (word ws 0)) 0
+
+abbrev pub length_bits : List (List ℕ) → ℕ
+length_bits ws = unwrap_or (bits_of (word ws 1)) 16
+
+abbrev pub length_order : List (List ℕ) → Order
+length_order ws = unwrap_or (order_of (word ws 4)) Big
+
+abbrev pub is_bad_length : List (List ℕ) → Bool
+is_bad_length ws = is_bad_place (length_offset ws) (length_bits ws) (length_order ws)
+
+-- the place of a length field, if there is such a one
+abbrev pub place_at : ℕ → ℕ → Order → Option PlaceData
+place_at offset bits order =
+    if is_bad_place offset bits order then None else Some (record { offset = offset; bits = bits; order = order })
+
+abbrev pub burst_of : List (List ℕ) → SpecData
+burst_of ws = Burst (record { discard = size (word ws 0); sync = pattern_of (word ws 1); fill = flag_or false (word ws 2) })
+
+abbrev pub fixed_of : ℕ → Way → List (List ℕ) → FixedStepData
+fixed_of n way ws = record {
+  line = n;
+  min_id = size (word ws 0);
+  discard = size (word ws 1);
+  sync = pattern_of (word ws 2);
+  telemetry = flag_or true (word ws 3);
+  fill = flag_or false (word ws 4);
+  raise = flag_or false (word ws 5);
+  reads = way_reads way;
+  writes = way_writes way;
+}
+
 abbrev pub length_with : List (List ℕ) → PlaceData → SpecData
 length_with ws place = Length (record {
   place = place;
