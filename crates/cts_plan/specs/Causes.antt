@@ -51,6 +51,12 @@ is_interface c = not c.is_router
 abbrev pub is_router : ConnectionData → Bool
 is_router c = c.is_router
 
+abbrev pub interfaces_in : List ConnectionData → List ConnectionData
+interfaces_in cs = filter is_interface cs
+
+abbrev pub routers_in : List ConnectionData → List ConnectionData
+routers_in cs = filter is_router cs
+
 -- ---- causes by the words
 
 -- a line that needs an interface, a router or one of them before it
@@ -128,7 +134,7 @@ has_name_of c d = is_same_kind c d && is_same d.name c.name
 -- a name of an interface or router, or a route, that stands already
 abbrev pub is_double : List ConnectionData → Line → Bool
 is_double cs (line.Opening c) = list_any (has_name_of c) cs
-is_double cs (line.Detail (detail.Route number targets)) = list_any (nat_eq number) (open_routes cs)
+is_double cs (line.Detail (detail.Route number targets)) = list_any (λ route. nat_eq route number) (open_routes cs)
 is_double cs _ = false
 
 abbrev pub has_target : List PacketData → List ℕ → Bool

@@ -46,7 +46,7 @@ opening_fields (Some Client) =
 opening_fields (Some Server) = field.Name ∷ field.Text ∷ field.PeerPort ∷ field.PeerPort ∷ field.Timeout ∷ field.Timeout ∷ []
 
 -- the words behind the keyword, before a protocol
-abbrev pub head_fields : Keyword → List (List ℕ) → List Field
+unfoldable pub head_fields : Keyword → List (List ℕ) → List Field
 head_fields keyword.Title ws = field.Text ∷ []
 head_fields keyword.Port ws = field.ApiWord ∷ field.Port ∷ []
 head_fields keyword.Desks ws = field.Desks ∷ []
@@ -85,11 +85,11 @@ takes_protocol k ws = is_some (peer_of k ws)
 abbrev pub has_protocol : Keyword → List (List ℕ) → Bool
 has_protocol k ws = takes_protocol k ws && nat_lt (length (head_fields k ws)) (length ws)
 
-abbrev pub protocol_of : Keyword → List (List ℕ) → Option Kind
+unfoldable pub protocol_of : Keyword → List (List ℕ) → Option Kind
 protocol_of k ws = if has_protocol k ws then kind_of (word ws (length (head_fields k ws))) else None
 
 -- the words behind the protocol's name
-abbrev pub parameters : Keyword → List (List ℕ) → List (List ℕ)
+unfoldable pub parameters : Keyword → List (List ℕ) → List (List ℕ)
 parameters k ws = drop (length (head_fields k ws) + 1) ws
 
 -- what the parameters have to be, nothing where there is no protocol or none of the five

@@ -4,9 +4,9 @@ pub mod Steps
 pub mod Chains
 pub mod Connections
 pub mod Lines
-pub mod Sound
 pub mod Standing
 pub mod Causes
+pub mod Sound
 pub mod Completing
 pub mod SiteFiles
 pub mod Placing

@@ -16,7 +16,7 @@ use Rattle.cts_plan.specs.declared.draft.Draft.{Draft}
 use Rattle.cts_plan.specs.Chains.{step_reads, step_reads_packets}
 use Rattle.cts_plan.specs.Connections.{ConnectionData}
 use Rattle.cts_plan.specs.Standing.{StandingData, standing}
-use Rattle.cts_plan.specs.Causes.{is_interface, is_router}
+use Rattle.cts_plan.specs.Causes.{interfaces_in, routers_in}
 use Rattle.cts_plan.specs.Completing.{fault_of}
 use Rattle.cts_plan.specs.SiteFiles.{Refused, parts, line_in, refusal_in}
 
@@ -40,7 +40,7 @@ abbrev pub Fits : Detail → ConnectionData → Type 0
 Fits (detail.Target name) c = Unit {0}
 Fits (detail.Step step) c =
     (nat_le 4 (length c.steps) ≡ false) × ((step_reads step && list_any step_reads_packets c.steps) ≡ false)
-Fits (detail.Route number targets) c = list_any (nat_eq number) c.routes ≡ false
+Fits (detail.Route number targets) c = list_any (λ route. nat_eq route number) c.routes ≡ false
 Fits (detail.Delay delay) c = is_negative delay.parts ≡ false
 Fits detail.DontReconnect c = Unit {0}
 Fits (detail.Logged logged) c = Unit {0}
@@ -58,12 +58,6 @@ abbrev pub seen : Draft → StandingData
 seen d = record { connections = d.connections.items; api_port = d.api_port; desks = d.desks }
 
 -- ---- what is true of all that stands
-
-abbrev pub interfaces_in : List ConnectionData → List ConnectionData
-interfaces_in cs = filter is_interface cs
-
-abbrev pub routers_in : List ConnectionData → List ConnectionData
-routers_in cs = filter is_router cs
 
 abbrev pub names_in : List ConnectionData → List (List ℕ)
 names_in cs = map (λ (c : ConnectionData). c.name) cs

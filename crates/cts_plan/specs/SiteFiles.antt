@@ -1,6 +1,5 @@
 -- The site that statements say, or the first that is refused.
 use Rattle.std.specs.Prelude.{ℕ, Bool, true, false, List, [], ◌∷◌, ◌++◌, map, Option, Some, None, option_to_list, Result, Ok, Err, find, if◌then◌else◌}
-use Rattle.std.specs.List.{filter}
 use Rattle.cts_def.specs.Packets.{DefinitionsData}
 use Rattle.cts_def.specs.Protocols.{UseData, Fixed}
 use Rattle.cts_def.specs.Sites.{InterfaceData, RouterData, SiteData}
@@ -18,7 +17,7 @@ use Rattle.cts_plan.specs.Chains.{whole_chain}
 use Rattle.cts_plan.specs.Connections.{ConnectionData}
 use Rattle.cts_plan.specs.Lines.{line_of}
 use Rattle.cts_plan.specs.Standing.{StandingData, standing}
-use Rattle.cts_plan.specs.Causes.{holds, order, is_interface, is_router}
+use Rattle.cts_plan.specs.Causes.{holds, order, interfaces_in, routers_in}
 use Rattle.cts_plan.specs.Completing.{packets_of, starts_of, due}
 
 -- ---- lines
@@ -124,10 +123,10 @@ abbrev pub router_of : DefinitionsData → ConnectionData → RouterData
 router_of d c = record { name = c.name; port = c.port; routes = c.routes; chain = chain_of d c }
 
 abbrev pub interfaces_of : DefinitionsData → List ConnectionData → List InterfaceData
-interfaces_of d cs = map (interface_of d) (filter is_interface cs)
+interfaces_of d cs = map (interface_of d) (interfaces_in cs)
 
 abbrev pub routers_of : DefinitionsData → List ConnectionData → List RouterData
-routers_of d cs = map (router_of d) (filter is_router cs)
+routers_of d cs = map (router_of d) (routers_in cs)
 
 -- the site of what stands
 abbrev pub site_in : DefinitionsData → StandingData → SiteData

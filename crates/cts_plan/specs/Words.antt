@@ -59,7 +59,7 @@ way_writes Read = false
 way_writes _ = true
 
 -- one of a protocol's three names
-abbrev pub is_one_of : List ℕ → List ℕ → List ℕ → List ℕ → Bool
+unfoldable pub is_one_of : List ℕ → List ℕ → List ℕ → List ℕ → Bool
 is_one_of short class file word = spells word short || spells word class || spells word file
 
 abbrev pub kind_of : List ℕ → Option Kind

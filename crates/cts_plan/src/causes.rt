@@ -238,9 +238,9 @@ fn has_double(connections: &[Connection], new: &Connection) -> bool
 }
 
 fn has_route(routes: &[u32], number: u32) -> bool
-    ensures { result ≡ list_any (nat_eq number) routes.now }
+    ensures { result ≡ list_any (λ route. nat_eq route number) routes.now }
 {
-    routes.iter().any(|route| number == *route)
+    routes.iter().any(|route| *route == number)
 }
 
 fn is_double(connections: &[Connection], line: &Line) -> bool

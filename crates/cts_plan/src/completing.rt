@@ -3,7 +3,7 @@ ghost use Rattle.std.specs.Prelude.{◌≡◌, ◌≤◌, length, IfOk};
 ghost use Rattle.std.specs.List.{list_any, list_all};
 ghost use Rattle.std.specs.Option.{option_copied};
 ghost use Rattle.cts_def.specs.Protocols.{is_id_within, is_start_within};
-ghost use Rattle.cts_def.specs.Starts.{id_field_data};
+ghost use Rattle.cts_def.specs.Starts.{id_field_data, id_fields};
 ghost use Rattle.cts_plan.specs.Chains.{step_reads, whole_chain};
 ghost use Rattle.cts_plan.specs.Completing.{packets_of, starts_of, is_bad_min_id, is_of, have_variable, cause_of_fixed, at_number, step_fault, first_step_fault, fault_of, fault_in, due};
 
@@ -56,10 +56,16 @@ fn are_ids_within(min_id: u32, ids: &[(Place, i128, bool)]) -> bool
     ids.iter().all(|id| id.0.reach() <= min_id)
 }
 
+fn are_fields_within(min_id: u32, ids: &[(Place, i128, bool)]) -> bool
+    ensures { result ≡ list_all (is_id_within min_id) (id_fields ids.now) }
+{
+    are_ids_within(min_id, ids)
+}
+
 fn is_start_within(min_id: u32, start: &Start) -> bool
     ensures { result ≡ is_start_within min_id start.now }
 {
-    min_id <= start.length && are_ids_within(min_id, start.ids.as_slice())
+    min_id <= start.length && are_fields_within(min_id, start.ids.as_slice())
 }
 
 fn are_starts_within(min_id: u32, starts: &[Start]) -> bool

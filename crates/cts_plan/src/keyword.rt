@@ -180,6 +180,7 @@ fn opening_fields(peer: Option<Peer>) -> &'static [Field]
 }
 
 /// The words behind the keyword, before a protocol.
+#[tactic(auto, unfolding(crate::specs::Forms::head_fields))]
 pub fn head_fields(keyword: Keyword, words: &[Bytes]) -> &'static [Field]
     ensures { result.now ≡ head_fields keyword words.now }
 {
@@ -264,6 +265,7 @@ pub fn has_protocol(keyword: Keyword, words: &[Bytes]) -> bool
 }
 
 /// The protocol of a statement, if it has one of the five.
+#[tactic(auto, unfolding(crate::specs::Forms::protocol_of))]
 pub fn protocol_of(keyword: Keyword, words: &[Bytes]) -> Option<Kind>
     ensures { result ≡ protocol_of keyword words.now }
 {
@@ -275,6 +277,7 @@ pub fn protocol_of(keyword: Keyword, words: &[Bytes]) -> Option<Kind>
 }
 
 /// The words behind the protocol's name.
+#[tactic(auto, unfolding(crate::specs::Forms::parameters))]
 pub fn parameters(keyword: Keyword, words: &[Bytes]) -> &[Bytes]
     ensures { result.now ≡ parameters keyword words.now }
 {

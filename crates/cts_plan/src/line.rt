@@ -1,10 +1,11 @@
 // What a statement says.
-ghost use Rattle.std.specs.Prelude.{◌≡◌, ◌≤◌, ◌+◌, ◌<◌, false, length, option_to_list, option_map, unwrap_or, pos, IfOk};
+ghost use Rattle.std.specs.Prelude.{◌≡◌, ◌≤◌, ◌+◌, ◌<◌, false, length, option_to_list, option_map, unwrap_or, pos, IfOk, IsTrue};
+ghost use Rattle.cts_plan.specs.Chains.{are_packets_last};
 ghost use Rattle.cts_plan.specs.Words.{word, signed_of, per_count_of};
 ghost use Rattle.cts_plan.specs.Lines.{flag_or, size, name_of, begins_before_start, is_bad_place, length_offset, length_bits, length_order, is_bad_length, burst_of, fixed_of, length_of, terminated_of, preidentified_of, ready, step_of, step_in, step_at, is_router, is_server, port_at, host_of, port_or_one, opening_of, find_interface, place_at, opening_line, target_line, protocol_line, route_line, port_line, desks_line, delay_line, line_of};
 ghost use Rattle.cts_bits.specs.Places.{is_whole};
 ghost use Rattle.cts_def.specs.Starts.{place_data};
-ghost use Rattle.cts_plan.specs.Sound.{IsSoundLine};
+ghost use Rattle.cts_plan.specs.Sound.{IsSoundLine, IsAlwaysSound};
 
 use crate::connection::Connection;
 use crate::keyword::{Keyword, Peer, parameters, peer_of, protocol_of};
@@ -345,7 +346,9 @@ pub fn port_or_one(word: &[u8]) -> u16
 }
 
 fn steps_of(alloc: Global, step: Option<Step>) -> Result<List<Step>, Memory>
-    ensures { IfOk result (λ steps. steps ≡ option_to_list step) }
+    ensures value { IfOk result (λ steps. steps ≡ option_to_list step) }
+    ensures few { IfOk result (λ steps. length steps ≤ 1) }
+    ensures packets_last { IfOk result (λ steps. IsTrue (are_packets_last steps)) }
 {
     let mut steps = List::new(alloc);
     if let Some(step) = step {
@@ -425,7 +428,8 @@ fn opening_line(
     keyword: Keyword,
     words: &[Bytes],
 ) -> Result<Line, Memory>
-    ensures { IfOk result (λ l. l ≡ opening_line line keyword words.now) }
+    ensures value { IfOk result (λ l. l ≡ opening_line line keyword words.now) }
+    ensures sound { IfOk result (λ l. IsAlwaysSound l) }
 {
     match name_of(alloc, word(words, 0))? {
         Some(name) => Ok(Line::Opening(opening_of(alloc, line, keyword, words, name)?)),
@@ -434,7 +438,8 @@ fn opening_line(
 }
 
 fn target_line(alloc: Global, words: &[Bytes]) -> Result<Line, Memory>
-    ensures { IfOk result (λ l. l ≡ target_line words.now) }
+    ensures value { IfOk result (λ l. l ≡ target_line words.now) }
+    ensures sound { IfOk result (λ l. IsAlwaysSound l) }
 {
     match name_of(alloc, word(words, 0))? {
         Some(name) => Ok(Line::Detail(Detail::Target(name))),
@@ -443,7 +448,8 @@ fn target_line(alloc: Global, words: &[Bytes]) -> Result<Line, Memory>
 }
 
 fn protocol_line(alloc: Global, line: u32, words: &[Bytes]) -> Result<Line, Memory>
-    ensures { IfOk result (λ l. l ≡ protocol_line line words.now) }
+    ensures value { IfOk result (λ l. l ≡ protocol_line line words.now) }
+    ensures sound { IfOk result (λ l. IsAlwaysSound l) }
 {
     let way = way_of(word(words, 0)).unwrap_or(Way::ReadWrite);
     match step_at(alloc, line, way, Keyword::Protocol, words)? {
@@ -454,7 +460,8 @@ fn protocol_line(alloc: Global, line: u32, words: &[Bytes]) -> Result<Line, Memo
 
 fn route_line(alloc: Global, connections: &[Connection], words: &[Bytes]) -> Result<Line, Memory>
     requires { length connections.now ≤ 20 }
-    ensures { IfOk result (λ l. l ≡ route_line connections.now words.now) }
+    ensures value { IfOk result (λ l. l ≡ route_line connections.now words.now) }
+    ensures sound { IfOk result (λ l. IsSoundLine connections.now l) }
 {
     match find_interface(connections, word(words, 0)) {
         Some((number, interface)) => {
@@ -467,7 +474,7 @@ fn route_line(alloc: Global, connections: &[Connection], words: &[Bytes]) -> Res
 
 fn port_line(words: &[Bytes]) -> Line
     ensures value { result ≡ port_line words.now }
-    ensures sound { IsSoundLine result }
+    ensures sound { IsAlwaysSound result }
 {
     match port_of(word(words, 1)) {
         Some(port) => Line::ApiPort(port),
@@ -477,7 +484,7 @@ fn port_line(words: &[Bytes]) -> Line
 
 fn desks_line(words: &[Bytes]) -> Line
     ensures value { result ≡ desks_line words.now }
-    ensures sound { IsSoundLine result }
+    ensures sound { IsAlwaysSound result }
 {
     match desks_of(word(words, 0)) {
         Some(desks) => Line::Desks(desks),
@@ -487,7 +494,7 @@ fn desks_line(words: &[Bytes]) -> Line
 
 fn delay_line(words: &[Bytes]) -> Line
     ensures value { result ≡ delay_line words.now }
-    ensures sound { IsSoundLine result }
+    ensures sound { IsAlwaysSound result }
 {
     match delay_of(word(words, 0)) {
         Some(delay) => Line::Detail(Detail::Delay(delay)),
@@ -505,6 +512,7 @@ pub fn line_of(
 ) -> Result<Line, Memory>
     requires { length connections.now ≤ 20 }
     ensures value { IfOk result (λ l. l ≡ line_of connections.now line keyword words.now) }
+    ensures sound { IfOk result (λ l. IsSoundLine connections.now l) }
 {
     match keyword {
         Keyword::Title => Ok(Line::Nothing),

@@ -125,6 +125,7 @@ pub fn way_of(word: &[u8]) -> Option<Way>
     }
 }
 
+#[tactic(auto, unfolding(crate::specs::Words::is_one_of))]
 fn is_one_of(short: &[u8], class: &[u8], file: &[u8], word: &[u8]) -> bool
     ensures { result ≡ is_one_of short.now class.now file.now word.now }
 {
