@@ -77,3 +77,7 @@ moved done left rest new all x so_far split pushed =
 -- those that are left are none
 pub all_moved : {X : Type 0} (done left all : List X) → done ++ left ≡ all → length left ≡ 0 → done ≡ all
 all_moved done left all so_far none = sym (append-nil done) ∙ ap (λ ys. done ++ ys) (sym (nothing_left left none)) ∙ so_far
+
+pub not_false : (b : Bool) → not b ≡ false → b ≡ true
+not_false true e = refl
+not_false false e = absurd cc

@@ -18,7 +18,7 @@ use Rattle.cts_plan.specs.Words.{word, is_nil}
 use Rattle.cts_plan.specs.Forms.{peer_of, head_fields, required, parameter_fields, has_protocol, protocol_of, parameters, is_other_choice, is_bad_name, is_no_number, is_empty_sync, any_field}
 use Rattle.cts_plan.specs.Chains.{step_reads, step_reads_packets}
 use Rattle.cts_plan.specs.Connections.{ConnectionData}
-use Rattle.cts_plan.specs.Lines.{port_at, port_or_one, is_bad_length, routed}
+use Rattle.cts_plan.specs.Lines.{is_router_open, port_at, port_or_one, is_bad_length, routed}
 
 -- ---- what stands
 
@@ -26,10 +26,6 @@ use Rattle.cts_plan.specs.Lines.{port_at, port_or_one, is_bad_length, routed}
 abbrev pub is_interface_open : Option ConnectionData → Bool
 is_interface_open None = false
 is_interface_open (Some c) = not c.is_router
-
-abbrev pub is_router_open : Option ConnectionData → Bool
-is_router_open None = false
-is_router_open (Some c) = c.is_router
 
 abbrev pub steps_in : Option ConnectionData → List Step
 steps_in None = []

@@ -10,6 +10,7 @@ use Rattle.cts_def.specs.declared.proto_spec.Kind.{Kind}
 use Rattle.cts_def.specs.declared.proto_spec.Kind.TheVariants as kind
 use Rattle.cts_def.specs.Starts.{PlaceData}
 use Rattle.cts_def.specs.Protocols.{SpecData, Burst, Length, Terminated, Preidentified}
+use Rattle.cts_words.specs.Blocks.{last_of}
 use Rattle.cts_plan.specs.declared.keyword.Keyword.{Keyword}
 use Rattle.cts_plan.specs.declared.keyword.Keyword.TheVariants as keyword
 use Rattle.cts_plan.specs.declared.keyword.Peer.{Peer}
@@ -177,6 +178,10 @@ find_interface n (c ∷ cs) word =
     else if spells word c.name then Some (n, c.targets)
     else find_interface (n + 1) cs word
 
+abbrev pub is_router_open : Option ConnectionData → Bool
+is_router_open None = false
+is_router_open (Some c) = c.is_router
+
 -- the interface that a ROUTE statement names, among those that stand
 abbrev pub routed : List ConnectionData → List (List ℕ) → Option (ℕ × List (List ℕ))
 routed cs ws = find_interface 0 cs (word ws 0)
@@ -206,8 +211,10 @@ protocol_line n ws =
 abbrev pub delay_line : List (List ℕ) → Line
 delay_line ws = said_or_nothing (λ delay. line.Detail (detail.Delay delay)) (delay_of (word ws 0))
 
+-- nothing where no router is open
 abbrev pub route_line : List ConnectionData → List (List ℕ) → Line
-route_line cs ws = said_or_nothing (λ r. line.Detail (detail.Route r.0 r.1)) (routed cs ws)
+route_line cs ws =
+    if is_router_open (last_of cs) then said_or_nothing (λ r. line.Detail (detail.Route r.0 r.1)) (routed cs ws) else line.Nothing
 
 -- What a statement of this number says behind the interfaces and routers that stand.
 abbrev pub line_of : List ConnectionData → ℕ → Keyword → List (List ℕ) → Line

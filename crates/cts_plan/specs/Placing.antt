@@ -16,7 +16,7 @@ use Rattle.cts_plan.specs.declared.draft.Draft.{Draft}
 use Rattle.cts_plan.specs.Chains.{step_reads, step_reads_packets}
 use Rattle.cts_plan.specs.Connections.{ConnectionData}
 use Rattle.cts_plan.specs.Standing.{StandingData, standing}
-use Rattle.cts_plan.specs.Causes.{interfaces_in, routers_in}
+use Rattle.cts_plan.specs.Sound.{interface_name, router_name, interface_targets, router_routes, interface_names, router_names}
 use Rattle.cts_plan.specs.Completing.{fault_of}
 use Rattle.cts_plan.specs.SiteFiles.{Refused, parts, line_in, refusal_in}
 
@@ -59,22 +59,19 @@ seen d = record { connections = d.connections.items; api_port = d.api_port; desk
 
 -- ---- what is true of all that stands
 
-abbrev pub names_in : List ConnectionData → List (List ℕ)
-names_in cs = map (λ (c : ConnectionData). c.name) cs
-
 abbrev pub targets_of : List ConnectionData → List (List ℕ)
-targets_of cs = flat_map (λ (c : ConnectionData). c.targets) cs
+targets_of cs = flat_map interface_targets cs
 
-abbrev pub routes_within : ℕ → ConnectionData → Bool
-routes_within count c = list_all (λ n. nat_lt n count) c.routes
+abbrev pub routes_of : List ConnectionData → List ℕ
+routes_of cs = flat_map router_routes cs
 
 pub record IsSoundStanding (s : StandingData) : Type 0 where
-  pub few_interfaces : length (interfaces_in s.connections) ≤ 16
-  pub few_routers : length (routers_in s.connections) ≤ 4
-  pub interface_names : IsDistinct is_same (names_in (interfaces_in s.connections))
-  pub router_names : IsDistinct is_same (names_in (routers_in s.connections))
-  pub targets : IsDistinct is_same (targets_of (interfaces_in s.connections))
-  pub routes : IsTrue (list_all (routes_within (length (interfaces_in s.connections))) (routers_in s.connections))
+  pub few_interfaces : length (interface_names s.connections) ≤ 16
+  pub few_routers : length (router_names s.connections) ≤ 4
+  pub distinct_interfaces : IsDistinct is_same (interface_names s.connections)
+  pub distinct_routers : IsDistinct is_same (router_names s.connections)
+  pub targets : IsDistinct is_same (targets_of s.connections)
+  pub routes : IsTrue (list_all (λ n. nat_lt n (length (interface_names s.connections))) (routes_of s.connections))
   pub api_port : 1 ≤ s.api_port
   pub some_desks : 1 ≤ s.desks
   pub few_desks : s.desks ≤ 4

@@ -6,9 +6,10 @@ ghost use Rattle.cts_words.specs.Blocks.{last_of};
 ghost use Rattle.cts_def.specs.Items.{is_same};
 ghost use Rattle.cts_def.specs.Protocols.{reads_packets, is_packet_kind, spec_data};
 ghost use Rattle.cts_plan.specs.Chains.{step_reads, step_reads_packets};
-ghost use Rattle.cts_plan.specs.Causes.{is_interface_open, is_router_open, steps_in, routes_in, open_steps, open_routes, is_outside, is_wrong_protocol_count, is_file_unknown, is_protocol_missing, has_wrong_rest, is_wrong_count, is_unknown_interface, is_length, is_not_number, are_two, are_two_at, is_two_ports, is_other_kind, is_same_kind, has_name_of, is_double, has_target, is_unknown_target, maps, is_target_twice, is_chain_too_long, is_not_last, most, is_too_many, holds, order};
+ghost use Rattle.cts_plan.specs.Causes.{is_interface_open, steps_in, routes_in, open_steps, open_routes, is_outside, is_wrong_protocol_count, is_file_unknown, is_protocol_missing, has_wrong_rest, is_wrong_count, is_unknown_interface, is_length, is_not_number, are_two, are_two_at, is_two_ports, is_other_kind, is_same_kind, has_name_of, is_double, has_target, is_unknown_target, maps, is_target_twice, is_chain_too_long, is_not_last, most, is_too_many, holds, order};
 
 use crate::connection::Connection;
+use crate::last::{is_router_open, last};
 use crate::fault::SiteCause;
 use crate::keyword::{
     Keyword, has_bad_name, has_empty_sync, has_no_number, has_other_choice, has_protocol,
@@ -38,30 +39,11 @@ const ORDER: [SiteCause; 14] = [
     SiteCause::TooMany,
 ];
 
-/// The last one, if there is one.
-pub fn last<T>(items: &[T]) -> Option<&T>
-    ensures { option_copied result ≡ last_of items.now }
-{
-    match items.split_last() {
-        Some((last, _)) => Some(last),
-        None => None,
-    }
-}
-
 fn is_interface_open(connection: Option<&Connection>) -> bool
     ensures { result ≡ is_interface_open (option_copied connection.entry) }
 {
     match connection {
         Some(connection) => !connection.is_router,
-        None => false,
-    }
-}
-
-fn is_router_open(connection: Option<&Connection>) -> bool
-    ensures { result ≡ is_router_open (option_copied connection.entry) }
-{
-    match connection {
-        Some(connection) => connection.is_router,
         None => false,
     }
 }

@@ -7,9 +7,10 @@ ghost use Rattle.cts_def.specs.Starts.{id_field_data, id_fields};
 ghost use Rattle.cts_plan.specs.Chains.{step_reads, whole_chain};
 ghost use Rattle.cts_plan.specs.Completing.{packets_of, starts_of, is_bad_min_id, is_of, have_variable, cause_of_fixed, at_number, step_fault, first_step_fault, fault_of, fault_in, due};
 
-use crate::causes::{last, step_reads};
+use crate::causes::step_reads;
 use crate::connection::Connection;
 use crate::fault::SiteCause;
+use crate::last::last;
 use crate::step::{FixedStep, Step};
 use cts_base::{Memory, Name};
 use cts_bits::Place;

@@ -1,11 +1,13 @@
 // The site as it grows, statement by statement.
-ghost use Rattle.std.specs.Prelude.{◌≡◌, ◌++◌, OnOk};
+ghost use Rattle.std.specs.Prelude.{◌≡◌, ◌++◌, [], OnOk};
 ghost use Rattle.cts_plan.specs.Placing.{change_connection, place, Fits, FitsLast, FitsIn, seen};
 ghost use Rattle.cts_words.specs.Blocks.{last_of};
 ghost use Rattle.cts_plan.specs.declared.line.Line.TheVariants as line;
+ghost use Rattle.cts_plan.specs.declared.line.Detail.TheVariants as detail;
 
 use crate::connection::Connection;
 use crate::line::{Detail, Line};
+use crate::step::Step;
 use cts_base::{List, Memory, Name};
 use std::alloc::Global;
 
@@ -29,17 +31,35 @@ fn append(names: &mut List<Name>, more: List<Name>) -> Result<(), Memory>
     Ok(())
 }
 
+fn add_step(connection: &mut Connection, step: Step) -> Result<(), Memory>
+    requires fits { Fits (detail.Step step) connection.old }
+    ensures { OnOk result (connection.new ≡ change_connection (detail.Step step) connection.old) }
+{
+    connection.steps.push(step)?;
+    Ok(())
+}
+
+fn add_route(
+    connection: &mut Connection,
+    number: u32,
+    targets: List<Name>,
+) -> Result<(), Memory>
+    requires fits { Fits (detail.Route number targets) connection.old }
+    ensures { OnOk result (connection.new ≡ change_connection (detail.Route number targets) connection.old) }
+{
+    append(&mut connection.targets, targets)?;
+    connection.routes.push(number)?;
+    Ok(())
+}
+
 fn change_connection(connection: &mut Connection, detail: Detail) -> Result<(), Memory>
     requires fits { Fits detail connection.old }
     ensures { OnOk result (connection.new ≡ change_connection detail connection.old) }
 {
     match detail {
         Detail::Target(name) => connection.targets.push(name)?,
-        Detail::Step(step) => connection.steps.push(step)?,
-        Detail::Route(number, targets) => {
-            append(&mut connection.targets, targets)?;
-            connection.routes.push(number)?;
-        }
+        Detail::Step(step) => add_step(connection, step)?,
+        Detail::Route(number, targets) => add_route(connection, number, targets)?,
         Detail::Delay(delay) => connection.delay = delay,
         Detail::DontReconnect => connection.reconnect = false,
         Detail::Logged(logged) => connection.logged = logged,
@@ -49,7 +69,11 @@ fn change_connection(connection: &mut Connection, detail: Detail) -> Result<(), 
 
 impl Draft {
     /// The draft before the first statement.
-    pub fn new(alloc: Global) -> Draft {
+    pub fn new(alloc: Global) -> Draft
+        ensures connections { result.connections.items ≡ [] }
+        ensures api_port { result.api_port ≡ 7777 }
+        ensures desks { result.desks ≡ 4 }
+    {
         Draft {
             connections: Vec::new(alloc),
             api_port: 7777,

@@ -11,6 +11,7 @@ mod draft;
 mod fault;
 mod finishing;
 mod keyword;
+mod last;
 mod line;
 mod reading;
 mod step;

@@ -9,6 +9,7 @@ ghost use Rattle.cts_plan.specs.Sound.{IsSoundLine, IsAlwaysSound};
 
 use crate::connection::Connection;
 use crate::keyword::{Keyword, Peer, parameters, peer_of, protocol_of};
+use crate::last::{is_router_open, last};
 use crate::step::{FixedStep, Step};
 use crate::words::{
     Way, bits_of, delay_of, desks_of, flag_of, max_of, order_of, pattern_of, per_count_of, port_of,
@@ -463,6 +464,9 @@ fn route_line(alloc: Global, connections: &[Connection], words: &[Bytes]) -> Res
     ensures value { IfOk result (λ l. l ≡ route_line connections.now words.now) }
     ensures sound { IfOk result (λ l. IsSoundLine connections.now l) }
 {
+    if !is_router_open(last(connections)) {
+        return Ok(Line::Nothing);
+    }
     match find_interface(connections, word(words, 0)) {
         Some((number, interface)) => {
             let targets = copied(alloc, interface.targets.as_slice())?;

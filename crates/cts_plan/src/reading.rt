@@ -1,10 +1,10 @@
 //! Statements read to a site.
 
-ghost use Rattle.std.specs.Prelude.{◌≡◌, ◌≤◌, None, IfOk, length, option_map, if◌then◌else◌};
-ghost use Rattle.cts_plan.specs.SiteFiles.{parts, opening, site_of};
+ghost use Rattle.std.specs.Prelude.{◌≡◌, ◌≤◌, None, Ok, IfOk, IfErr, length, option_map, if◌then◌else◌};
+ghost use Rattle.cts_plan.specs.SiteFiles.{parts, opening, site_in, site_of};
 ghost use Rattle.cts_plan.specs.Completing.{due};
 ghost use Rattle.cts_plan.specs.Sound.{IsSoundLine};
-ghost use Rattle.cts_plan.specs.Placing.{Judged, FitsIn, Gives, IsSoundStanding, seen};
+ghost use Rattle.cts_plan.specs.Placing.{Judged, Gives, Fails, AreSettled, IsSoundStanding, seen};
 
 use crate::causes::first_cause;
 use crate::completing::due;
@@ -63,6 +63,7 @@ impl Draft {
     ) -> Result<Line, SiteFault>
         requires few { length self.now.connections.items ≤ 20 }
         ensures judged { Judged definitions.now self.now.connections.items statement.now result }
+        ensures sound { IfOk result (λ l. IsSoundLine self.now.connections.items l) }
     {
         let line = statement.line;
         let Some((keyword, words)) = parts(statement.words.as_slice()) else {
@@ -82,6 +83,28 @@ impl Draft {
     }
 }
 
+// What the statements say, where none is refused.
+fn read_draft(
+    alloc: Global,
+    statements: &[Statement],
+    definitions: &Definitions,
+) -> Result<Draft, SiteFault>
+    ensures said { IfOk result (λ draft. site_of definitions.now statements.now ≡ Ok (site_in definitions.now (seen draft))) }
+    ensures settled { IfOk result (λ draft. AreSettled definitions.now draft.connections.items) }
+    ensures sound { IfOk result (λ draft. IsSoundStanding (seen draft)) }
+    ensures refused { IfErr result (λ fault. Fails fault (site_of definitions.now statements.now)) }
+{
+    let mut draft = Draft::new(alloc);
+    for statement in statements {
+        let line = draft.judge(alloc, definitions, statement)?;
+        draft.add(line)?;
+    }
+    match due(alloc, definitions, &draft.connections)? {
+        Some((line, cause)) => Err(SiteFault::Refused { line, cause }),
+        None => Ok(draft),
+    }
+}
+
 /// The site that the statements say with these definitions.
 ///
 /// # Errors
@@ -97,13 +120,6 @@ pub fn read_site(
 ) -> Result<Site, SiteFault>
     ensures { Gives (λ site. site) result (site_of definitions statements.now) }
 {
-    let mut draft = Draft::new(alloc);
-    for statement in statements {
-        let line = draft.judge(alloc, &definitions, statement)?;
-        draft.add(line)?;
-    }
-    if let Some((line, cause)) = due(alloc, &definitions, &draft.connections)? {
-        return Err(SiteFault::Refused { line, cause });
-    }
+    let draft = read_draft(alloc, statements, &definitions)?;
     Ok(site_of(alloc, definitions, draft)?)
 }
