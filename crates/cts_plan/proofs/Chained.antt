@@ -49,10 +49,10 @@ packets_last_more [] s last fits = alone (step_reads_packets s) where
 packets_last_more (t ∷ ss) s last fits =
     let parts = both (not (step_reads_packets t && list_any step_reads ss)) (are_packets_last ss) last in
     let first : not (step_reads_packets t && list_any step_reads (ss ++ s ∷ [])) ≡ true =
-        ap (λ b. not (step_reads_packets t && b)) (any_snoc step_reads ss s)
-        ∙ one_more (step_reads_packets t) (list_any step_reads ss) (step_reads s) (list_any step_reads_packets ss) parts.0 fits in
+    ap (λ b. not (step_reads_packets t && b)) (any_snoc step_reads ss s)
+    ∙ one_more (step_reads_packets t) (list_any step_reads ss) (step_reads s) (list_any step_reads_packets ss) parts.0 fits in
     and_true (not (step_reads_packets t && list_any step_reads (ss ++ s ∷ []))) (are_packets_last (ss ++ s ∷ []))
-        first (packets_last_more ss s parts.1 (others_fit (step_reads_packets t) (step_reads s) (list_any step_reads_packets ss) fits))
+    first (packets_last_more ss s parts.1 (others_fit (step_reads_packets t) (step_reads s) (list_any step_reads_packets ss) fits))
 
 -- ---- the whole chain
 
@@ -118,10 +118,10 @@ sound_chain d targets ss few last =
     let chain = whole_chain ss in
     let f = use_of d targets in
     and_true (nat_le (length (map f chain)) 4 && list_any reads (map f chain)) (uses.are_packets_last (map f chain))
-        (and_true (nat_le (length (map f chain)) 4) (list_any reads (map f chain))
-            (ap (λ n. nat_le n 4) (length-map chain f) ∙ not_above (length chain) few)
-            (any_use_reads d targets chain ∙ with_added_reads (list_any step_reads ss) ss refl))
-        (uses_last d targets chain ∙ with_added_last (list_any step_reads ss) ss refl last)
+    (and_true (nat_le (length (map f chain)) 4) (list_any reads (map f chain))
+    (ap (λ n. nat_le n 4) (length-map chain f) ∙ not_above (length chain) few)
+    (any_use_reads d targets chain ∙ with_added_reads (list_any step_reads ss) ss refl))
+    (uses_last d targets chain ∙ with_added_last (list_any step_reads ss) ss refl last)
 
 long_or_not : (b : Bool) (o : Option (Refusal SiteCause)) (r : Refusal SiteCause) → cond b (Some r) o ≡ None → b ≡ false
 long_or_not true o r e = absurd cc

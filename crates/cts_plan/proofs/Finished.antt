@@ -62,7 +62,7 @@ targets_of_interfaces d (c ∷ cs) = targets_at d c.is_router c (interfaces_in c
 
 routes_at : (d : DefinitionsData) (count : ℕ) (b : Bool) (c : ConnectionData) (cs : List ConnectionData)
     → list_all (sites.routes_within count) (map (router_of d) (cond b (c ∷ cs) cs))
-        ≡ (list_all (λ k. nat_lt k count) (cond b c.routes []) && list_all (sites.routes_within count) (map (router_of d) cs))
+    ≡ (list_all (λ k. nat_lt k count) (cond b c.routes []) && list_all (sites.routes_within count) (map (router_of d) cs))
 routes_at d count true c cs = refl
 routes_at d count false c cs = refl
 

@@ -164,9 +164,9 @@ opens_router c s e no_targets no_routes double many sound =
     let names = router_names_with c cs e in
     let others = interface_names_without c cs e in
     let not_named : list_any (λ d. is_kind true d && is_same d.name c.name) cs ≡ false =
-        subst (λ b. list_any (λ (d : ConnectionData). is_kind b d && is_same d.name c.name) cs ≡ false) e double in
+    subst (λ b. list_any (λ (d : ConnectionData). is_kind b d && is_same d.name c.name) cs ≡ false) e double in
     let room : nat_le 4 (length (filter (is_kind true) cs)) ≡ false =
-        subst (λ b. nat_le (cond b 4 16) (length (filter (is_kind b) cs)) ≡ false) e many in
+    subst (λ b. nat_le (cond b 4 16) (length (filter (is_kind b) cs)) ≡ false) e many in
     record {
       few_interfaces = subst (λ (ns : List (List ℕ)). length ns ≤ 16) (sym others) sound.few_interfaces;
       few_routers = subst (λ (ns : List (List ℕ)). length ns ≤ 4) (sym names) (counted true 4 cs c.name room);
@@ -187,9 +187,9 @@ opens_interface c s e no_targets no_routes double many sound =
     let names = interface_names_with c cs e in
     let others = router_names_without c cs e in
     let not_named : list_any (λ d. is_kind false d && is_same d.name c.name) cs ≡ false =
-        subst (λ b. list_any (λ (d : ConnectionData). is_kind b d && is_same d.name c.name) cs ≡ false) e double in
+    subst (λ b. list_any (λ (d : ConnectionData). is_kind b d && is_same d.name c.name) cs ≡ false) e double in
     let room : nat_le 16 (length (filter (is_kind false) cs)) ≡ false =
-        subst (λ b. nat_le (cond b 4 16) (length (filter (is_kind b) cs)) ≡ false) e many in
+    subst (λ b. nat_le (cond b 4 16) (length (filter (is_kind b) cs)) ≡ false) e many in
     record {
       few_interfaces = subst (λ (ns : List (List ℕ)). length ns ≤ 16) (sym names) (counted false 16 cs c.name room);
       few_routers = subst (λ (ns : List (List ℕ)). length ns ≤ 4) (sym others) sound.few_routers;
@@ -219,9 +219,9 @@ same_lists d s kind name targets routes sound =
     let cs = s.connections in
     let f = change_connection d in
     let names : interface_names (on_last f cs) ≡ interface_names cs =
-        flat_kept interface_name f cs (λ c. ap (λ b. cond b [] ((f c).name ∷ [])) (kind c) ∙ ap (λ n. cond c.is_router [] (n ∷ [])) (name c)) in
+    flat_kept interface_name f cs (λ c. ap (λ b. cond b [] ((f c).name ∷ [])) (kind c) ∙ ap (λ n. cond c.is_router [] (n ∷ [])) (name c)) in
     let routers : router_names (on_last f cs) ≡ router_names cs =
-        flat_kept router_name f cs (λ c. ap (λ b. cond b ((f c).name ∷ []) []) (kind c) ∙ ap (λ n. cond c.is_router (n ∷ []) []) (name c)) in
+    flat_kept router_name f cs (λ c. ap (λ b. cond b ((f c).name ∷ []) []) (kind c) ∙ ap (λ n. cond c.is_router (n ∷ []) []) (name c)) in
     record {
       few_interfaces = subst (λ (ns : List (List ℕ)). length ns ≤ 16) (sym names) sound.few_interfaces;
       few_routers = subst (λ (ns : List (List ℕ)). length ns ≤ 4) (sym routers) sound.few_routers;
@@ -266,7 +266,7 @@ targets_more name s none sound =
     let names : interface_names (on_last f cs) ≡ interface_names cs = flat_kept interface_name f cs (λ c. refl) in
     let routers : router_names (on_last f cs) ≡ router_names cs = flat_kept router_name f cs (λ c. refl) in
     let targets : targets_of (on_last f cs) ≡ targets_of cs ++ at_last (target_more name) (last_of cs) =
-        flat_added interface_targets (target_more name) f cs (λ c. target_added c.is_router c.targets name) in
+    flat_added interface_targets (target_more name) f cs (λ c. target_added c.is_router c.targets name) in
     record {
       few_interfaces = subst (λ (ns : List (List ℕ)). length ns ≤ 16) (sym names) sound.few_interfaces;
       few_routers = subst (λ (ns : List (List ℕ)). length ns ≤ 4) (sym routers) sound.few_routers;
@@ -293,6 +293,7 @@ within_at None count n ns all lt = ap (list_all (λ k. nat_lt k count)) (append-
 within_at (Some c) count n ns all lt = by_kind c.is_router where
   below : nat_lt n count ≡ true
   below = grind (arith, lt)
+
   by_kind : (r : Bool) → list_all (λ k. nat_lt k count) (ns ++ cond r (n ∷ []) []) ≡ true
   by_kind true = all_append (λ k. nat_lt k count) ns n all below
   by_kind false = ap (list_all (λ k. nat_lt k count)) (append-nil ns) ∙ all
@@ -312,9 +313,9 @@ routes_more n ts s lt is_open sound =
     let names : interface_names (on_last f cs) ≡ interface_names cs = flat_kept interface_name f cs (λ c. refl) in
     let routers : router_names (on_last f cs) ≡ router_names cs = flat_kept router_name f cs (λ c. refl) in
     let targets : targets_of (on_last f cs) ≡ targets_of cs =
-        flat_kept_last interface_targets f cs is_open (λ c e. ap (λ b. cond b [] (c.targets ++ ts)) e ∙ sym (ap (λ b. cond b [] c.targets) e)) in
+    flat_kept_last interface_targets f cs is_open (λ c e. ap (λ b. cond b [] (c.targets ++ ts)) e ∙ sym (ap (λ b. cond b [] c.targets) e)) in
     let routes : routes_of (on_last f cs) ≡ routes_of cs ++ at_last (route_more n) (last_of cs) =
-        flat_added router_routes (route_more n) f cs (λ c. route_added c.is_router c.routes n) in
+    flat_added router_routes (route_more n) f cs (λ c. route_added c.is_router c.routes n) in
     record {
       few_interfaces = subst (λ (ns : List (List ℕ)). length ns ≤ 16) (sym names) sound.few_interfaces;
       few_routers = subst (λ (ns : List (List ℕ)). length ns ≤ 4) (sym routers) sound.few_routers;
@@ -352,7 +353,7 @@ pub found_within : (n : ℕ) (cs : List ConnectionData) (w : List ℕ) (p : ℕ 
 found_within n [] w p e = absurd cc
 found_within n (c ∷ cs) w p e =
     let here = found_at c.is_router (spells w c.name) n (length (interface_names cs)) c.targets (c.name ∷ []) (find_interface n cs w) (find_interface (n + 1) cs w) p refl
-        (found_within n cs w p) (found_within (n + 1) cs w p) e in
+    (found_within n cs w p) (found_within (n + 1) cs w p) e in
     let longer = length-append (interface_name c) (interface_names cs) in
     omega arith
 

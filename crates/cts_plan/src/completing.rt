@@ -35,11 +35,7 @@ fn is_of(targets: &[Name], packet: &Packet) -> bool
 }
 
 /// How the packets of these targets begin.
-pub fn starts_of(
-    alloc: Global,
-    targets: &[Name],
-    packets: &[Packet],
-) -> Result<Vec<Start>, Memory>
+pub fn starts_of(alloc: Global, targets: &[Name], packets: &[Packet]) -> Result<Vec<Start>, Memory>
     ensures { IfOk result (λ starts. starts.items ≡ starts_of targets.now packets.now) }
 {
     let mut starts = Vec::new(alloc);

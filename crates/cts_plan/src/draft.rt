@@ -39,11 +39,7 @@ fn add_step(connection: &mut Connection, step: Step) -> Result<(), Memory>
     Ok(())
 }
 
-fn add_route(
-    connection: &mut Connection,
-    number: u32,
-    targets: List<Name>,
-) -> Result<(), Memory>
+fn add_route(connection: &mut Connection, number: u32, targets: List<Name>) -> Result<(), Memory>
     requires fits { Fits (detail.Route number targets) connection.old }
     ensures { OnOk result (connection.new ≡ change_connection (detail.Route number targets) connection.old) }
 {

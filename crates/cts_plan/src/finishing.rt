@@ -201,7 +201,8 @@ impl Made {
         ensures routers { OnOk result (self.new.routers ≡ self.old.routers ++ routers_of definitions.now (connection ∷ [])) }
     {
         if connection.is_router {
-            self.routers.push(router_of(alloc, definitions, connection)?)
+            self.routers
+                .push(router_of(alloc, definitions, connection)?)
         } else {
             self.interfaces
                 .push(interface_of(alloc, definitions, connection)?)

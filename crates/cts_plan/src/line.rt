@@ -161,10 +161,7 @@ fn is_bad_place(offset: u32, bits: u32, order: Order) -> bool
     requires bits { bits ≤ 8388608 }
     ensures { result ≡ is_bad_place offset bits order }
 {
-    bits == 0
-        || 64 < bits
-        || 8_388_608 < offset + bits
-        || begins_before_start(offset, bits, order)
+    bits == 0 || 64 < bits || 8_388_608 < offset + bits || begins_before_start(offset, bits, order)
 }
 
 /// Whether these parameters of LENGTH have a place that no field has.
@@ -397,7 +394,10 @@ fn opening_of(
 }
 
 /// The number of the interface whose name a word is, and the interface.
-pub fn find_interface<'a>(connections: &'a [Connection], word: &[u8]) -> Option<(u32, &'a Connection)>
+pub fn find_interface<'a>(
+    connections: &'a [Connection],
+    word: &[u8],
+) -> Option<(u32, &'a Connection)>
     requires { length connections.now ≤ 20 }
     ensures { option_map (λ p. (p.0, p.1.now.targets)) result ≡ find_interface 0 connections.now word.now }
 {
@@ -423,12 +423,7 @@ fn copied(alloc: Global, names: &[Name]) -> Result<List<Name>, Memory>
     Ok(copy)
 }
 
-fn opening_line(
-    alloc: Global,
-    line: u32,
-    keyword: Keyword,
-    words: &[Bytes],
-) -> Result<Line, Memory>
+fn opening_line(alloc: Global, line: u32, keyword: Keyword, words: &[Bytes]) -> Result<Line, Memory>
     ensures value { IfOk result (λ l. l ≡ opening_line line keyword words.now) }
     ensures sound { IfOk result (λ l. IsAlwaysSound l) }
 {

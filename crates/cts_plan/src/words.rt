@@ -256,13 +256,7 @@ pub fn delay_of(word: &[u8]) -> Option<Decimal>
     ensures sign { IfSome result (λ d. is_negative d.parts ≡ false) }
 {
     match read_decimal(word) {
-        Ok(delay) => {
-            if delay.parts < 0 {
-                None
-            } else {
-                Some(delay)
-            }
-        }
+        Ok(delay) => { if delay.parts < 0 { None } else { Some(delay) } }
         Err(_) => None,
     }
 }

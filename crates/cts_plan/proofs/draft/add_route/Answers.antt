@@ -14,5 +14,5 @@ invariant_of-connection-2 c =
       packets_last = sound.packets_last;
       routes = subst (IsDistinct nat_eq) (sym c.in_ok-push.ensures.pushed)
           (distinct_snoc nat_eq c.connection.inside.routes c.args.number sound.routes
-              (ap (λ (x : ConnectionData). list_any (λ route. nat_eq route c.args.number) x.routes) c.connection.view_is ∙ c.requires.fits));
+          (ap (λ (x : ConnectionData). list_any (λ route. nat_eq route c.args.number) x.routes) c.connection.view_is ∙ c.requires.fits));
     }

@@ -22,6 +22,6 @@ invariant_of-connection-2 c =
           grind arith;
       packets_last = subst (λ (ss : List Step). IsTrue (are_packets_last ss)) (sym pushed)
           (packets_last_more steps c.args.step sound.packets_last
-              (ap (λ (x : ConnectionData). step_reads c.args.step && list_any step_reads_packets x.steps) c.connection.view_is ∙ c.requires.fits.1));
+          (ap (λ (x : ConnectionData). step_reads c.args.step && list_any step_reads_packets x.steps) c.connection.view_is ∙ c.requires.fits.1));
       routes = sound.routes;
     }

@@ -13,7 +13,7 @@ use_of-requires c =
     let at = c.loop-step in
     let steps : into_iter_items at.step-iterator ≡ c.in-Some.step ∷ into_iter_items c.next.new.self = c.in-Some.ensures.steps.0 in
     (first_is_right c.args.definitions.now c.args.targets.now c.in-Some.step (into_iter_items c.next.new.self)
-        (sym (ap (first_step_fault c.args.definitions.now c.args.targets.now) steps) ∙ at.invariant.1)).0
+    (sym (ap (first_step_fault c.args.definitions.now c.args.targets.now) steps) ∙ at.invariant.1)).0
 
 pub loop-step-preserved : goal.loop-step-preserved
 loop-step-preserved c =
