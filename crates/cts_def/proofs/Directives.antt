@@ -1,5 +1,5 @@
 -- A text that is written of a format's parts is a format.
-use Rattle.std.proofs.Common.{◌≡◌, ℕ, zero, suc, ◌+◌, ◌<◌, ◌≤◌, Bool, true, false, not, ◌&&◌, ◌||◌, ◌==◌, cond, nat_eq, nat_le, nat_lt, List, [], ◌∷◌, ◌++◌, Option, Some, None, IsTrue, length, take, drop, refl, sym, ap, ◌∙◌, arith}
+use Rattle.std.proofs.Common.{◌≡◌, ℕ, zero, suc, ◌+◌, ◌<◌, ◌≤◌, Bool, true, false, not, ◌&&◌, ◌||◌, ◌==◌, cond, nat_eq, nat_le, nat_lt, List, [], ◌∷◌, ◌++◌, Option, Some, None, IsTrue, length, take, drop, refl, sym, ap, subst, ◌∙◌, arith}
 use Rattle.std.proofs.Math.Seq.{drop-append_seam, take-append_seam}
 use Rattle.std.proofs.lemmas.Bool.{eqb-true, false≢true, or_parts}
 use Rattle.std.proofs.lemmas.Bool.Decides.{nat_tests}
@@ -180,3 +180,234 @@ written_is_format p a =
     let found = behind_plain p.before tail a.before ∙ behind_first p.flags p.width p.precision p.letter p.after a.flags a.width a.letter in
     let read = tail_read p.precision p.flags p.width p.letter p.after a.flags a.width a.letter in
     ap ends_plain found ∙ ap is_plain_rest read ∙ a.after
+
+-- ---- from a format to its parts
+
+record Before (text d : List ℕ) : Type 0 where
+  before : List ℕ
+  plain : is_plain before ≡ true
+  text_is : text ≡ before ++ 37 ∷ d
+
+plain_cons : (c : ℕ) (cs : List ℕ) → (c == 37) ≡ false → is_plain cs ≡ true → is_plain (c ∷ cs) ≡ true
+plain_cons c [] h k = rw h refl
+plain_cons c (d ∷ cs) h k = rw h k
+
+before_one : (b : Bool) (c : ℕ) (d : List ℕ) → (c == 37) ≡ b → cond b (Some []) None ≡ Some d → Before (c ∷ []) d
+before_one true c d e h = let is = eqb-true c 37 e in record { before = []; plain = refl; text_is = cc }
+before_one false c d e h = cc
+
+before_two : (b q : Bool) (c e : ℕ) (rest d : List ℕ) → (c == 37) ≡ b → (e == 37) ≡ q
+    → cond b (cond q (behind_percent rest) (Some (e ∷ rest))) (behind_percent (e ∷ rest)) ≡ Some d
+    → (behind_percent rest ≡ Some d → Before rest d) → (behind_percent (e ∷ rest) ≡ Some d → Before (e ∷ rest) d) → Before (c ∷ e ∷ rest) d
+before_two true true c e rest d p q h k l =
+    let r = k h in record { before = c ∷ e ∷ r.before; plain = rw (p, q, r.plain) refl; text_is = ap (λ (x : List ℕ). c ∷ e ∷ x) r.text_is }
+before_two true false c e rest d p q h k l = let is = eqb-true c 37 p in record { before = []; plain = refl; text_is = cc }
+before_two false b c e rest d p q h k l =
+    let r = l h in record { before = c ∷ r.before; plain = plain_cons c r.before p r.plain; text_is = ap (λ (x : List ℕ). c ∷ x) r.text_is }
+
+before_found : (text d : List ℕ) → behind_percent text ≡ Some d → Before text d
+before_found [] d h = cc
+before_found (c ∷ []) d h = before_one (c == 37) c d refl h
+before_found (c ∷ e ∷ rest) d h = before_two (c == 37) (e == 37) c e rest d refl refl h (before_found rest d) (before_found (e ∷ rest) d)
+
+-- ---- the flags that stand first
+
+stops : List ℕ → List ℕ → Bool
+stops seen [] = true
+stops seen (c ∷ cs) = not (is_new_flag seen c)
+
+record Flags (seen text : List ℕ) : Type 0 where
+  flags : List ℕ
+  rest : List ℕ
+  text_is : text ≡ flags ++ rest
+  len : flags_len seen text ≡ length flags
+  are : are_flags flags ≡ true
+  new : list_all (λ d. not (list_any (nat_eq d) seen)) flags ≡ true
+  last : stops (seen ++ flags) rest ≡ true
+
+not_again : (seen : List ℕ) (c : ℕ) (cs : List ℕ) → list_all (λ d. not (list_any (nat_eq d) (seen ++ c ∷ []))) cs ≡ true
+    → (list_any (nat_eq c) cs ≡ false) × (list_all (λ d. not (list_any (nat_eq d) seen)) cs ≡ true)
+not_again seen c [] h = (refl, refl)
+not_again seen c (d ∷ cs) h =
+    let p = both (not (list_any (nat_eq d) (seen ++ c ∷ []))) (list_all (λ e. not (list_any (nat_eq e) (seen ++ c ∷ []))) cs) h in
+    let joined = list_any-append (nat_eq d) seen (c ∷ []) in
+    let parts = or_parts (list_any (nat_eq d) seen) (nat_eq d c || false) (sym joined ∙ denied (list_any (nat_eq d) (seen ++ c ∷ [])) p.0) in
+    let apart = or_parts (nat_eq d c) false parts.1 in
+    let e = other_way d c apart.0 in
+    let more = not_again seen c cs p.1 in
+    (rw (e, more.0) refl, rw (parts.0, more.1) refl)
+
+flags_step : (b : Bool) (seen : List ℕ) (c : ℕ) (cs : List ℕ) → is_new_flag seen c ≡ b → Flags (seen ++ c ∷ []) cs → Flags seen (c ∷ cs)
+unfolding stops
+flags_step false seen c cs e f =
+    record { flags = []; rest = c ∷ cs; text_is = refl; len = rw e refl; are = refl; new = refl; last = rw (append-nil seen, e) refl }
+flags_step true seen c cs e f =
+    let o = both (is_flag c) (not (list_any (nat_eq c) seen)) e in
+    let once = not_again seen c f.flags f.new in
+    record {
+      flags = c ∷ f.flags;
+      rest = f.rest;
+      text_is = ap (λ (x : List ℕ). c ∷ x) f.text_is;
+      len = rw e (ap suc f.len);
+      are = rw (o.0, once.0, f.are) refl;
+      new = rw (o.1, once.1) refl;
+      last = rw (append_assoc seen (c ∷ []) f.flags) at f.last;
+    }
+
+flags_found : (seen text : List ℕ) → Flags seen text
+unfolding stops
+flags_found seen [] = record { flags = []; rest = []; text_is = refl; len = refl; are = refl; new = refl; last = refl }
+flags_found seen (c ∷ cs) = flags_step (is_new_flag seen c) seen c cs refl (flags_found (seen ++ c ∷ []) cs)
+
+-- ---- the digits that stand first
+
+record Digits (text : List ℕ) : Type 0 where
+  digits : List ℕ
+  rest : List ℕ
+  text_is : text ≡ digits ++ rest
+  len : prefix_len is_ascii_digit text ≡ length digits
+  all : list_all is_ascii_digit digits ≡ true
+
+digits_step : (b : Bool) (c : ℕ) (cs : List ℕ) → is_ascii_digit c ≡ b → Digits cs → Digits (c ∷ cs)
+digits_step false c cs e f = record { digits = []; rest = c ∷ cs; text_is = refl; len = rw e refl; all = refl }
+digits_step true c cs e f =
+    let n = f.len in
+    record { digits = c ∷ f.digits; rest = f.rest; text_is = ap (λ (x : List ℕ). c ∷ x) f.text_is; len = rw e (omega arith); all = rw (e, f.all) refl }
+
+digits_found : (text : List ℕ) → Digits text
+digits_found [] = record { digits = []; rest = []; text_is = refl; len = refl; all = refl }
+digits_found (c ∷ cs) = digits_step (is_ascii_digit c) c cs refl (digits_found cs)
+
+digits_taken : (text : List ℕ) (d : Digits text) → take (prefix_len is_ascii_digit text) text ≡ d.digits
+digits_taken text d = ap (λ (x : ℕ). take x text) d.len ∙ ap (take (length d.digits)) d.text_is ∙ take-append_seam d.digits d.rest
+
+digits_dropped : (text : List ℕ) (d : Digits text) → drop (prefix_len is_ascii_digit text) text ≡ d.rest
+digits_dropped text d = ap (λ (x : ℕ). drop x text) d.len ∙ ap (drop (length d.digits)) d.text_is ∙ drop-append_seam d.digits d.rest
+
+-- ---- what follows the width
+
+record Tail (text rest : List ℕ) : Type 0 where
+  precision : Option (List ℕ)
+  letter : ℕ
+  fits : fits_letter precision letter ≡ true
+  text_is : text ≡ written_tail precision (letter ∷ rest)
+
+f_step : (b : Bool) (c : ℕ) (cs rest : List ℕ) → (c == 102) ≡ b → cond b (Some cs) None ≡ Some rest → (c ∷ cs) ≡ 102 ∷ rest
+f_step true c cs rest e h = let is = eqb-true c 102 e in cc
+f_step false c cs rest e h = cc
+
+f_found : (text rest : List ℕ) → behind_f text ≡ Some rest → text ≡ 102 ∷ rest
+f_found [] rest h = cc
+f_found (c ∷ cs) rest h = f_step (c == 102) c cs rest refl h
+
+point_step : (b a : Bool) (c : ℕ) (digits later rest : List ℕ) → (length digits == 0) ≡ b → is_above_twelve digits ≡ a → list_all is_ascii_digit digits ≡ true
+    → cond (b || a) None (behind_f later) ≡ Some rest → Tail (46 ∷ (digits ++ later)) rest
+point_step true a c digits later rest e f all h = cc
+point_step false true c digits later rest e f all h = cc
+point_step false false c digits later rest e f all h =
+    let some : nat_le 1 (length digits) ≡ true = grind (arith, nat_tests) in
+    record {
+      precision = Some digits;
+      letter = 102;
+      fits = rw (all, some, f) refl;
+      text_is = ap (λ (x : List ℕ). 46 ∷ (digits ++ x)) (f_found later rest h);
+    }
+
+point_found : (text rest : List ℕ) → behind_point text ≡ Some rest → Tail (46 ∷ text) rest
+point_found text rest h =
+    let d = digits_found text in
+    let read = rw (digits_taken text d, digits_dropped text d, d.len) at h in
+    let P : List ℕ → Type 0 = λ x. Tail (46 ∷ x) rest in
+    subst P (sym d.text_is) (point_step (length d.digits == 0) (is_above_twelve d.digits) 46 d.digits d.rest rest refl refl d.all read)
+
+tail_step : (b l : Bool) (c : ℕ) (cs rest : List ℕ) → (c == 46) ≡ b → is_letter c ≡ l → cond b (behind_point cs) (cond l (Some cs) None) ≡ Some rest → Tail (c ∷ cs) rest
+tail_step true l c cs rest e k h =
+    let P : ℕ → Type 0 = λ x. Tail (x ∷ cs) rest in
+    subst P (sym (eqb-true c 46 e)) (point_found cs rest h)
+tail_step false true c cs rest e k h = record { precision = None; letter = c; fits = k; text_is = cc }
+tail_step false false c cs rest e k h = cc
+
+tail_found : (text rest : List ℕ) → behind_width text ≡ Some rest → Tail text rest
+tail_found [] rest h = cc
+tail_found (c ∷ cs) rest h = tail_step (c == 46) (is_letter c) c cs rest refl refl h
+
+-- ---- the whole directive
+
+twice_denied : (b : Bool) → not (not b) ≡ true → b ≡ true
+twice_denied true h = refl
+twice_denied false h = absurd (false≢true h)
+
+zero_step : (b : Bool) (flags : List ℕ) (c : ℕ) → (c == 48) ≡ b → not (is_new_flag flags c) ≡ true → (not b || list_any (nat_eq 48) flags) ≡ true
+zero_step true flags c e h = twice_denied (list_any (nat_eq 48) flags) (rw (eqb-true c 48 e) at h)
+zero_step false flags c e h = refl
+
+zero_width : (flags digits rest : List ℕ) → stops flags (digits ++ rest) ≡ true → (not (begins_with_zero digits) || list_any (nat_eq 48) flags) ≡ true
+unfolding stops
+zero_width flags [] rest h = refl
+zero_width flags (c ∷ digits) rest h = zero_step (c == 48) flags c refl h
+
+record Width (flags text rest : List ℕ) : Type 0 where
+  width : List ℕ
+  later : List ℕ
+  text_is : text ≡ width ++ later
+  is : is_width flags width ≡ true
+  tail : Tail later rest
+
+short_step : (b : Bool) (n : ℕ) (later rest : List ℕ) → nat_le n 3 ≡ b → cond b (behind_width later) None ≡ Some rest
+    → (nat_le n 3 ≡ true) × (behind_width later ≡ Some rest)
+short_step true n later rest e h = (e, h)
+short_step false n later rest e h = cc
+
+width_found : (flags text rest : List ℕ) → stops flags text ≡ true → behind_flags text ≡ Some rest → Width flags text rest
+width_found flags text rest s h =
+    let d = digits_found text in
+    let read = rw (digits_dropped text d, d.len) at h in
+    let short = short_step (nat_le (length d.digits) 3) (length d.digits) d.rest rest refl read in
+    let P : List ℕ → Type 0 = λ x. stops flags x ≡ true in
+    let zero_ = zero_width flags d.digits d.rest (subst P d.text_is s) in
+    record { width = d.digits; later = d.rest; text_is = d.text_is; is = rw (d.all, short.0, zero_) refl; tail = tail_found d.rest rest short.1 }
+
+record Directive (text rest : List ℕ) : Type 0 where
+  flags : List ℕ
+  width : List ℕ
+  precision : Option (List ℕ)
+  letter : ℕ
+  are : are_flags flags ≡ true
+  is : is_width flags width ≡ true
+  fits : fits_letter precision letter ≡ true
+  text_is : text ≡ flags ++ (width ++ written_tail precision (letter ∷ rest))
+
+directive_found : (text rest : List ℕ) → behind_directive text ≡ Some rest → Directive text rest
+directive_found text rest h =
+    let f = flags_found [] text in
+    let dropped : drop (flags_len [] text) text ≡ f.rest =
+    ap (λ (x : ℕ). drop x text) f.len ∙ ap (drop (length f.flags)) f.text_is ∙ drop-append_seam f.flags f.rest
+    in
+    let w = width_found f.flags f.rest rest f.last (rw dropped at h) in
+    record {
+      flags = f.flags;
+      width = w.width;
+      precision = w.tail.precision;
+      letter = w.tail.letter;
+      are = f.are;
+      is = w.is;
+      fits = w.tail.fits;
+      text_is = f.text_is ∙ ap (λ (x : List ℕ). f.flags ++ x) (w.text_is ∙ ap (λ (x : List ℕ). w.width ++ x) w.tail.text_is);
+    }
+
+from_parts : (text d after : List ℕ) → Before text d → Directive d after → is_plain after ≡ true → (p : FormatParts) × AreFormatParts p × (text ≡ written p)
+from_parts text d after b f plain =
+    let p : FormatParts = record { before = b.before; flags = f.flags; width = f.width; precision = f.precision; letter = f.letter; after = after } in
+    (p, record { before = b.plain; flags = f.are; width = f.is; letter = f.fits; after = plain }, b.text_is ∙ ap (λ (x : List ℕ). b.before ++ 37 ∷ x) f.text_is)
+
+after_directive : (text d : List ℕ) (o : Option (List ℕ)) → Before text d → behind_directive d ≡ o → is_plain_rest o ≡ true
+    → (p : FormatParts) × AreFormatParts p × (text ≡ written p)
+after_directive text d None b e h = absurd (false≢true h)
+after_directive text d (Some after) b e h = from_parts text d after b (directive_found d after e) h
+
+after_percent : (text : List ℕ) (o : Option (List ℕ)) → behind_percent text ≡ o → ends_plain o ≡ true → (p : FormatParts) × AreFormatParts p × (text ≡ written p)
+after_percent text None e h = absurd (false≢true h)
+after_percent text (Some d) e h = after_directive text d (behind_directive d) (before_found text d e) refl h
+
+pub parts_of_format : (text : List ℕ) → is_format text ≡ true → (p : FormatParts) × AreFormatParts p × (text ≡ written p)
+parts_of_format text h = after_percent text (behind_percent text) refl h

@@ -30,9 +30,10 @@ pub fn spellings_of_numbers(bits: u32)
     ensures signed { (z : ℤ) → IsTrue (is_spelled ItemKind.Int bits z) ↔ HasSpelling bits z }
 {}
 
-/// A text of a format's parts is a format: text, `%`, flags among `-`, `0` and `+`, each at most once, a width of at most 3
-/// digits, a point and a precision of at most 12 where `f` is the letter, one of the letters, and text, with `%` doubled in
-/// both texts.
-pub fn written_parts_are_a_format()
-    ensures { (p : FormatParts) → AreFormatParts p → is_format (written p) ≡ true }
+/// The formats are the texts that are written of a format's parts: text, `%`, flags among `-`, `0` and `+`, each at most once,
+/// a width of at most 3 digits, a point and a precision of at most 12 where `f` is the letter, one of the letters, and text,
+/// with `%` doubled in both texts.
+pub fn formats_have_parts(text: &[u8])
+    ensures written { (p : FormatParts) → AreFormatParts p → is_format (written p) ≡ true }
+    ensures parts { is_format text.now ≡ true → (p : FormatParts) × AreFormatParts p × (text.now ≡ written p) }
 {}
