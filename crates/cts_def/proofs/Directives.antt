@@ -377,6 +377,9 @@ record Directive (text rest : List ℕ) : Type 0 where
   fits : fits_letter precision letter ≡ true
   text_is : text ≡ flags ++ (width ++ written_tail precision (letter ∷ rest))
 
+joined_parts : (text flags rest width later tail : List ℕ) → text ≡ flags ++ rest → rest ≡ width ++ later → later ≡ tail → text ≡ flags ++ (width ++ tail)
+joined_parts text flags rest width later tail e f g = e ∙ ap (λ (x : List ℕ). flags ++ x) (f ∙ ap (λ (x : List ℕ). width ++ x) g)
+
 directive_found : (text rest : List ℕ) → behind_directive text ≡ Some rest → Directive text rest
 directive_found text rest h =
     let f = flags_found [] text in
@@ -392,7 +395,7 @@ directive_found text rest h =
       are = f.are;
       is = w.is;
       fits = w.tail.fits;
-      text_is = f.text_is ∙ ap (λ (x : List ℕ). f.flags ++ x) (w.text_is ∙ ap (λ (x : List ℕ). w.width ++ x) w.tail.text_is);
+      text_is = joined_parts text f.flags f.rest w.width w.later _ f.text_is w.text_is w.tail.text_is;
     }
 
 from_parts : (text d after : List ℕ) → Before text d → Directive d after → is_plain after ≡ true → (p : FormatParts) × AreFormatParts p × (text ≡ written p)
