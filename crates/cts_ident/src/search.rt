@@ -119,8 +119,8 @@ fn place_named(
 ) -> Option<usize>
     ensures { result ≡ position (λ (p : PacketData). is_of (routed_targets interfaces.now routes.now) p && is_named target.now name.now p) packets.now }
 {
-    packets.iter().position(|packet| is_routed(interfaces, routes, &packet.target)
-        && is_named(packet, target, name))
+    packets.iter().position(|other| is_routed(interfaces, routes, &other.target)
+        && is_named(other, target, name))
 }
 
 // The packet at this place.
