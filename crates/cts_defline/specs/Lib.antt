@@ -1,0 +1,7 @@
+pub mod Causes
+pub mod Fields
+pub mod Forms
+pub mod Lines
+pub mod Numbers
+pub mod Reading
+pub mod Refusals

@@ -1,0 +1,34 @@
+//! Statements of a definitions file, read word by word: what each says, or why its words are refused.
+//!
+//! The keywords and their words are those of the COSMOS 4 documentation for command and telemetry definitions, in this
+//! project's profile. What a statement says in itself stands here; what it means among the statements before it is for the
+//! reader above.
+#![tactic(auto)]
+
+mod cause;
+mod details;
+mod fault;
+mod field;
+mod fixed;
+mod form;
+mod items;
+mod keyword;
+mod line;
+mod lines;
+mod numbers;
+mod open;
+mod reading;
+mod refusal;
+mod texts;
+mod words;
+
+pub use cause::DefCause;
+pub use details::{Detail, LimitsLine};
+pub use fault::LineFault;
+pub use keyword::{Field, Keyword};
+pub use line::{ItemLine, Line, PacketLine};
+pub use open::{Open, PacketKind};
+pub use reading::read_line;
+
+#[cfg(test)]
+mod tests;
