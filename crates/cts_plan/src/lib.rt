@@ -19,3 +19,6 @@ mod words;
 
 pub use fault::{SiteCause, SiteFault};
 pub use reading::read_site;
+
+#[cfg(test)]
+mod tests;
