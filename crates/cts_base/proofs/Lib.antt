@@ -1,5 +1,6 @@
 pub mod DecimalLemmas
 pub mod Known
+pub mod NameLemmas
 pub mod Numerals
 pub mod PrintLemmas
 pub mod PrintUnique

@@ -51,3 +51,6 @@ pub use start::Start;
 pub use state_def::StateDef;
 pub use time::Time;
 pub use weight::is_too_large;
+
+#[cfg(test)]
+mod tests;

@@ -1,12 +1,12 @@
 -- What a word has to be at its field.
-use Rattle.std.specs.Prelude.{ℕ, Bool, true, false, not, ◌&&◌, ◌||◌, List, codes, Result, Ok, Err, is_none, is_ok}
+use Rattle.std.specs.Prelude.{ℕ, Bool, false, not, ◌||◌, List, codes, is_none, is_ok}
 use Rattle.cts_base.specs.Names.{is_name}
 use Rattle.cts_base.specs.Wholes.{whole_of}
 use Rattle.cts_base.specs.Decimals.{decimal_of}
 use Rattle.cts_def.specs.Items.{is_same}
 use Rattle.cts_defline.specs.declared.keyword.Field.{Field}
 use Rattle.cts_defline.specs.declared.keyword.Field.TheVariants as field
-use Rattle.cts_defline.specs.Numbers.{order_of, kind_of, is_bound, is_persistence}
+use Rattle.cts_defline.specs.Numbers.{order_of, kind_of, is_bound, persistence_of}
 
 -- the types that are known, those that no item may have among them
 abbrev pub is_type : List ℕ → Bool
@@ -45,5 +45,5 @@ abbrev pub is_no_number : Field → List ℕ → Bool
 is_no_number field.Whole word = is_none (whole_of word)
 is_no_number field.Bound word = not (is_bound word)
 is_no_number field.Decimal word = not (is_ok (decimal_of word))
-is_no_number field.Persistence word = not (is_persistence word)
+is_no_number field.Persistence word = is_none (persistence_of word)
 is_no_number _ word = false

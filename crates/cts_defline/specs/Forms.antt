@@ -1,6 +1,7 @@
 -- The table of statements: the keywords, and which words follow each.
-use Rattle.std.specs.Prelude.{ℕ, ◌+◌, Bool, true, false, not, ◌&&◌, ◌||◌, ◌==◌, nat_le, List, [], ◌∷◌, ◌++◌, length, take, replicate, codes, Option, Some, None, if◌then◌else◌}
-use Rattle.std.specs.List.{slice_index_or}
+use Rattle.std.specs.Prelude.{ℕ, ◌+◌, Bool, true, false, ◌&&◌, ◌||◌, ◌==◌, nat_le, List, [], ◌∷◌, ◌++◌, length, zip, codes, Option, Some, None, if◌then◌else◌}
+use Rattle.std.specs.List.{slice_index_or, list_all}
+use Rattle.cts_base.specs.Names.{upper}
 use Rattle.cts_def.specs.Items.{is_same}
 use Rattle.cts_defline.specs.declared.keyword.Keyword.{Keyword}
 use Rattle.cts_defline.specs.declared.keyword.Keyword.TheVariants.{Command, Telemetry, Item, Parameter, State, Limits, Poly, Segment, Units, Format, Overflow, Required, Hazardous, Meta, AllowShort}
@@ -8,50 +9,48 @@ use Rattle.cts_defline.specs.declared.keyword.Field.{Field}
 use Rattle.cts_defline.specs.declared.keyword.Field.TheVariants as field
 use Rattle.cts_defline.specs.declared.open.PacketKind.{PacketKind}
 use Rattle.cts_defline.specs.declared.open.PacketKind.TheVariants as «kind»
-use Rattle.cts_defline.specs.Numbers.{in_upper_case}
 
--- a text is this one in any case
-abbrev pub is_keyword : List ℕ → List ℕ → Bool
-is_keyword word text = is_same (in_upper_case word) text
+-- the bytes of a word, in upper case, are those of a text, as far as both go
+abbrev pub agrees : List ℕ → List ℕ → Bool
+agrees word text = list_all (λ (p : ℕ × ℕ). upper p.0 == p.1) (zip word text)
+
+-- the word is this text in any case
+unfoldable pub is_keyword : List ℕ → List ℕ → Bool
+is_keyword word text = length word == length text && agrees word text
+
+abbrev pub keywords : List (List ℕ × Keyword)
+keywords =
+    (codes "COMMAND", Command) ∷ (codes "TELEMETRY", Telemetry)
+    ∷ (codes "ITEM", Item false false) ∷ (codes "APPEND_ITEM", Item true false)
+    ∷ (codes "ID_ITEM", Item false true) ∷ (codes "APPEND_ID_ITEM", Item true true)
+    ∷ (codes "PARAMETER", Parameter false false) ∷ (codes "APPEND_PARAMETER", Parameter true false)
+    ∷ (codes "ID_PARAMETER", Parameter false true) ∷ (codes "APPEND_ID_PARAMETER", Parameter true true)
+    ∷ (codes "STATE", State) ∷ (codes "LIMITS", Limits)
+    ∷ (codes "POLY_READ_CONVERSION", Poly) ∷ (codes "SEG_POLY_READ_CONVERSION", Segment)
+    ∷ (codes "UNITS", Units) ∷ (codes "FORMAT_STRING", Format) ∷ (codes "OVERFLOW", Overflow)
+    ∷ (codes "REQUIRED", Required) ∷ (codes "HAZARDOUS", Hazardous)
+    ∷ (codes "META", Meta) ∷ (codes "ALLOW_SHORT", AllowShort) ∷ []
+
+-- the keyword of a list that the word is
+abbrev pub keyword_in : List (List ℕ × Keyword) → List ℕ → Option Keyword
+keyword_in [] word = None
+keyword_in (k ∷ list) word = if is_keyword word k.0 then Some k.1 else keyword_in list word
 
 abbrev pub keyword_of : List ℕ → Option Keyword
-keyword_of word =
-    if is_keyword word (codes "COMMAND") then Some Command
-    else if is_keyword word (codes "TELEMETRY") then Some Telemetry
-    else if is_keyword word (codes "ITEM") then Some (Item false false)
-    else if is_keyword word (codes "APPEND_ITEM") then Some (Item true false)
-    else if is_keyword word (codes "ID_ITEM") then Some (Item false true)
-    else if is_keyword word (codes "APPEND_ID_ITEM") then Some (Item true true)
-    else if is_keyword word (codes "PARAMETER") then Some (Parameter false false)
-    else if is_keyword word (codes "APPEND_PARAMETER") then Some (Parameter true false)
-    else if is_keyword word (codes "ID_PARAMETER") then Some (Parameter false true)
-    else if is_keyword word (codes "APPEND_ID_PARAMETER") then Some (Parameter true true)
-    else if is_keyword word (codes "STATE") then Some State
-    else if is_keyword word (codes "LIMITS") then Some Limits
-    else if is_keyword word (codes "POLY_READ_CONVERSION") then Some Poly
-    else if is_keyword word (codes "SEG_POLY_READ_CONVERSION") then Some Segment
-    else if is_keyword word (codes "UNITS") then Some Units
-    else if is_keyword word (codes "FORMAT_STRING") then Some Format
-    else if is_keyword word (codes "OVERFLOW") then Some Overflow
-    else if is_keyword word (codes "REQUIRED") then Some Required
-    else if is_keyword word (codes "HAZARDOUS") then Some Hazardous
-    else if is_keyword word (codes "META") then Some Meta
-    else if is_keyword word (codes "ALLOW_SHORT") then Some AllowShort
-    else None
+keyword_of word = keyword_in keywords word
 
--- the text begins with this one
+-- the word begins with this text, in any case
 abbrev pub begins_with : List ℕ → List ℕ → Bool
-begins_with text word = is_same (take (length text) word) text
+begins_with text word = nat_le (length text) (length word) && agrees word text
 
--- this text stands somewhere in the word
+-- this text, of one byte at least, stands somewhere in the word, in any case
 abbrev pub is_within : List ℕ → List ℕ → Bool
-is_within text [] = begins_with text []
+is_within text [] = false
 is_within text (c ∷ rest) = begins_with text (c ∷ rest) || is_within text rest
 
 -- a keyword for arrays, of which no other cause is tried
 abbrev pub is_array_keyword : List ℕ → Bool
-is_array_keyword word =
-    is_within (codes "ARRAY_ITEM") (in_upper_case word) || is_within (codes "ARRAY_PARAMETER") (in_upper_case word)
+is_array_keyword word = is_within (codes "ARRAY_ITEM") word || is_within (codes "ARRAY_PARAMETER") word
 
 -- the kind of definition for which a keyword is, where it is for one alone
 abbrev pub kind_of_keyword : Keyword → Option PacketKind
@@ -76,17 +75,10 @@ size_at append = if append then 1 else 2
 abbrev pub is_text_type : List ℕ → Bool
 is_text_type word = is_same word (codes "STRING") || is_same word (codes "BLOCK")
 
--- ---- forms: what each of so many words has to be, or none where so many do not fit
+abbrev pub has_text_type : Bool → List (List ℕ) → Bool
+has_text_type append words = is_text_type (word_at words (size_at append + 1))
 
--- the first words have to be there, and the others may be left out from the end on
-abbrev pub counted : List Field → List Field → ℕ → Option (List Field)
-counted wanted more count =
-    if nat_le (length wanted) count && nat_le count (length wanted + length more) then Some (take count (wanted ++ more)) else None
-
--- any number of words from one on, at most so many
-abbrev pub repeated : List Field → Field → ℕ → ℕ → Option (List Field)
-repeated wanted more most count =
-    if nat_le (length wanted + 1) count && nat_le count (length wanted + most) then Some (take count (wanted ++ replicate most more)) else None
+-- ---- forms: what each word has to be
 
 -- an item or parameter up to its type
 abbrev pub place_fields : Bool → List Field
@@ -94,48 +86,80 @@ place_fields append =
     if append then field.Name ∷ field.Whole ∷ field.Type ∷ []
     else field.Name ∷ field.Whole ∷ field.Whole ∷ field.Type ∷ []
 
--- a description and the order of the bytes
+-- an item, with its id if it has one
+abbrev pub item_fields : Bool → Bool → List Field
+item_fields append id = place_fields append ++ (if id then field.Bound ∷ [] else [])
+
+-- a parameter that is a number: the least value, the greatest, and the default or id
+abbrev pub number_fields : Bool → List Field
+number_fields append = place_fields append ++ field.Bound ∷ field.Bound ∷ field.Bound ∷ []
+
+-- A text or block has a default alone. Of an id parameter of such a type least and greatest are not read.
+abbrev pub text_fields : Bool → Bool → List Field
+text_fields append id =
+    place_fields append ++ (if id then field.Text ∷ field.Text ∷ field.Bound ∷ [] else field.Text ∷ [])
+
+abbrev pub parameter_fields : Bool → Bool → Bool → List Field
+parameter_fields append id text = if text then text_fields append id else number_fields append
+
+abbrev pub state_wanted : List Field
+state_wanted = field.Text ∷ field.Whole ∷ []
+
+abbrev pub limits_wanted : List Field
+limits_wanted =
+    field.Name ∷ field.Persistence ∷ field.Enabling ∷ field.Decimal ∷ field.Decimal ∷ field.Decimal ∷ field.Decimal ∷ []
+
+-- the words that have to be there
+abbrev pub wanted : Keyword → List (List ℕ) → List Field
+wanted Command words = field.Name ∷ field.Name ∷ field.Order ∷ []
+wanted Telemetry words = field.Name ∷ field.Name ∷ field.Order ∷ []
+wanted (Item append id) words = item_fields append id
+wanted (Parameter append id) words = parameter_fields append id (has_text_type append words)
+wanted State words = state_wanted
+wanted Limits words = limits_wanted
+wanted Poly words = field.Decimal ∷ []
+wanted Segment words = field.Decimal ∷ field.Decimal ∷ []
+wanted Units words = field.Text ∷ field.Text ∷ []
+wanted Format words = field.Text ∷ []
+wanted Overflow words = field.Overflow ∷ []
+wanted Required words = []
+wanted Hazardous words = []
+wanted Meta words = field.Text ∷ []
+wanted AllowShort words = []
+
+-- a description, and the order of the bytes of an item
 abbrev pub last_fields : List Field
 last_fields = field.Text ∷ field.Order ∷ []
-
--- The values of a parameter: the least, the greatest, and the default or id. A text or block has a default alone; of an
--- id parameter of such a type least and greatest are not read.
-abbrev pub value_fields : Bool → List ℕ → List Field
-value_fields id type =
-    if is_text_type type then (if id then field.Text ∷ field.Text ∷ field.Bound ∷ [] else field.Text ∷ [])
-    else field.Bound ∷ field.Bound ∷ field.Bound ∷ []
 
 -- what may stand behind the name and the value of a state
 abbrev pub state_fields : PacketKind → List Field
 state_fields «kind».Telemetry = field.Color ∷ []
 state_fields «kind».Command = field.Hazard ∷ field.Text ∷ []
 
-abbrev pub limits_fields : List Field
-limits_fields =
-    field.Name ∷ field.Persistence ∷ field.Enabling ∷ field.Decimal ∷ field.Decimal ∷ field.Decimal ∷ field.Decimal ∷ []
+-- seven coefficients more than the first
+abbrev pub coefficient_fields : List Field
+coefficient_fields =
+    field.Decimal ∷ field.Decimal ∷ field.Decimal ∷ field.Decimal ∷ field.Decimal ∷ field.Decimal ∷ field.Decimal ∷ []
 
--- limits, with the green pair or without it
-abbrev pub limits_form : ℕ → Option (List Field)
-limits_form count =
-    if count == 7 then Some limits_fields
-    else if count == 9 then Some (limits_fields ++ field.Decimal ∷ field.Decimal ∷ [])
-    else None
+-- the words that may follow them: a description and an order, the green pair of limits, and so on
+abbrev pub more : PacketKind → Keyword → List Field
+more kind Command = field.Text ∷ []
+more kind Telemetry = field.Text ∷ []
+more kind (Item append id) = last_fields
+more kind (Parameter append id) = last_fields
+more kind State = state_fields kind
+more kind Limits = field.Decimal ∷ field.Decimal ∷ []
+more kind Poly = coefficient_fields
+more kind Segment = coefficient_fields
+more kind Hazardous = field.Text ∷ []
+more kind _ = []
 
-abbrev pub form : PacketKind → Keyword → List (List ℕ) → Option (List Field)
-form kind Command words = counted (field.Name ∷ field.Name ∷ field.Order ∷ []) (field.Text ∷ []) (length words)
-form kind Telemetry words = counted (field.Name ∷ field.Name ∷ field.Order ∷ []) (field.Text ∷ []) (length words)
-form kind (Item append id) words =
-    counted (place_fields append ++ (if id then field.Bound ∷ [] else [])) last_fields (length words)
-form kind (Parameter append id) words =
-    counted (place_fields append ++ value_fields id (word_at words (size_at append + 1))) last_fields (length words)
-form kind State words = counted (field.Text ∷ field.Whole ∷ []) (state_fields kind) (length words)
-form kind Limits words = limits_form (length words)
-form kind Poly words = repeated [] field.Decimal 8 (length words)
-form kind Segment words = repeated (field.Decimal ∷ []) field.Decimal 8 (length words)
-form kind Units words = counted (field.Text ∷ field.Text ∷ []) [] (length words)
-form kind Format words = counted (field.Text ∷ []) [] (length words)
-form kind Overflow words = counted (field.Overflow ∷ []) [] (length words)
-form kind Required words = counted [] [] (length words)
-form kind Hazardous words = counted [] (field.Text ∷ []) (length words)
-form kind Meta words = if nat_le 1 (length words) then Some (replicate (length words) field.Text) else None
-form kind AllowShort words = counted [] [] (length words)
+-- There are enough words and not too many: those that have to be there, and any of the others from the first on. The
+-- green pair of limits is there or not, and META takes any number of words.
+abbrev pub fits_in : Keyword → ℕ → ℕ → ℕ → Bool
+fits_in Limits least most count = count == least || count == most
+fits_in Meta least most count = nat_le least count
+fits_in _ least most count = nat_le least count && nat_le count most
+
+abbrev pub fits : PacketKind → Keyword → List (List ℕ) → Bool
+fits kind k words = fits_in k (length (wanted k words)) (length (wanted k words ++ more kind k)) (length words)

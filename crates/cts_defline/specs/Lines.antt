@@ -1,18 +1,21 @@
 -- What a statement says, read from its words. Of words that are not what their fields ask for the reading says nothing
 -- that is used.
-use Rattle.std.specs.Prelude.{ℕ, ℤ, pos, ◌+◌, Bool, true, false, List, [], ◌∷◌, map, drop, length, codes, Option, Some, None, option_map, unwrap_or, nat_le, if◌then◌else◌}
+use Rattle.std.specs.Prelude.{ℕ, ℤ, pos, ◌+◌, Bool, true, false, List, [], ◌∷◌, map, drop, length, codes, Option, Some, None, option_map, unwrap_or, nat_le, IsTrue, if◌then◌else◌}
 use Rattle.std.specs.List.{slice_get}
+use Rattle.cts_base.specs.Names.{is_name}
 use Rattle.cts_base.specs.declared.decimal.Decimal.{Decimal}
 use Rattle.cts_bits.specs.declared.order.Order.{Order}
 use Rattle.cts_bits.specs.declared.order.Order.TheVariants.{Big}
 use Rattle.cts_def.specs.declared.color.Color.{Color}
 use Rattle.cts_def.specs.declared.color.Color.TheVariants.{StateRed, StateYellow, StateGreen}
+use Rattle.cts_def.specs.declared.conversion.Segment.{Segment}
 use Rattle.cts_def.specs.declared.item_kind.ItemKind.{ItemKind}
-use Rattle.cts_def.specs.declared.item_kind.ItemKind.TheVariants.{Uint, Int, Str, Block}
+use Rattle.cts_def.specs.declared.item_kind.ItemKind.TheVariants.{Uint}
 use Rattle.cts_def.specs.declared.item_kind.Preset.{Preset}
 use Rattle.cts_def.specs.declared.item_kind.Preset.TheVariants.{Whole, Raw}
 use Rattle.cts_def.specs.declared.item_kind.Overflow.{Overflow}
 use Rattle.cts_def.specs.declared.item_kind.Overflow.TheVariants as overflow
+use Rattle.cts_def.specs.declared.state_def.StateDef.{StateDef}
 use Rattle.cts_def.specs.Items.{is_same}
 use Rattle.cts_def.specs.Spans.{is_number}
 use Rattle.cts_defline.specs.declared.keyword.Keyword.{Keyword}
@@ -48,13 +51,14 @@ kind_in append words = unwrap_or (kind_of (word_at words (size_at append + 1))) 
 abbrev pub offset_in : Bool → List (List ℕ) → Option ℤ
 offset_in append words = if append then None else Some (whole (word_at words 1))
 
--- the order of the bytes, if its word is there, behind a description that stands at this place
+-- the order of the bytes, where its word is there
 abbrev pub or_big : Option (List ℕ) → Option Order
 or_big None = None
 or_big (Some word) = Some (unwrap_or (order_of word) Big)
 
-abbrev pub order_in : ℕ → List (List ℕ) → Option Order
-order_in description words = or_big (slice_get words (description + 1))
+-- the order of the bytes, of which the word stands at this place, behind a description
+abbrev pub order_at : ℕ → List (List ℕ) → Option Order
+order_at at words = or_big (slice_get words at)
 
 -- what an item, or a parameter without a default, holds
 abbrev pub no_value : ItemKind → Preset
@@ -72,7 +76,7 @@ telemetry_item append id words =
       offset = offset_in append words;
       size = size_in append words;
       kind = kind_in append words;
-      order = order_in (if id then values + 1 else values) words;
+      order = order_at (if id then values + 2 else values + 1) words;
       id = if id then Some (bound_in append words values) else None;
       range = None;
       preset = Some (no_value (kind_in append words));
@@ -87,7 +91,7 @@ number_parameter append id words =
       offset = offset_in append words;
       size = size_in append words;
       kind = kind_in append words;
-      order = order_in (values + 3) words;
+      order = order_at (values + 4) words;
       id = if id then Some (bound_in append words (values + 2)) else None;
       range = Some (bound_in append words values, bound_in append words (values + 1));
       preset = Some (Whole (bound_in append words (values + 2)));
@@ -102,7 +106,7 @@ text_parameter append words =
       offset = offset_in append words;
       size = size_in append words;
       kind = kind_in append words;
-      order = order_in (values + 1) words;
+      order = order_at (values + 2) words;
       id = None;
       range = None;
       preset = option_map Raw (text_bytes (kind_in append words) (word_at words values));
@@ -128,6 +132,17 @@ overflow_of word =
     else if is_same word (codes "SATURATE") then overflow.Saturate
     else overflow.Error
 
+abbrev pub state_def : List (List ℕ) → StateDef
+state_def words = record {
+  name = in_upper_case (word_at words 0);
+  value = whole (word_at words 1);
+  color = color_of (word_at words 2);
+  hazardous = is_same (word_at words 2) (codes "HAZARDOUS");
+}
+
+abbrev pub segment : List (List ℕ) → Segment
+segment words = record { bound = decimal (word_at words 0); coefficients = map decimal (drop 1 words) }
+
 -- the pair of green limits, if there is one
 abbrev pub green_in : List (List ℕ) → Option (Decimal × Decimal)
 green_in words = if nat_le 9 (length words) then Some (decimal (word_at words 7), decimal (word_at words 8)) else None
@@ -146,6 +161,17 @@ limits_line words = record {
   };
 }
 
+-- ---- names
+
+-- the words that have to be names are names
+abbrev pub AreNames : Keyword → List (List ℕ) → Type 0
+AreNames keyword.Command words = IsTrue (is_name (word_at words 0)) × IsTrue (is_name (word_at words 1))
+AreNames keyword.Telemetry words = IsTrue (is_name (word_at words 0)) × IsTrue (is_name (word_at words 1))
+AreNames (keyword.Item append id) words = IsTrue (is_name (word_at words 0))
+AreNames (keyword.Parameter append id) words = IsTrue (is_name (word_at words 0))
+AreNames keyword.Limits words = IsTrue (is_name (word_at words 0))
+AreNames _ words = Unit {0}
+
 -- ---- the line
 
 abbrev pub line_of : Keyword → List (List ℕ) → Line
@@ -153,16 +179,10 @@ line_of keyword.Command words = line.Packet (packet_line «kind».Command words)
 line_of keyword.Telemetry words = line.Packet (packet_line «kind».Telemetry words)
 line_of (keyword.Item append id) words = line.Item (telemetry_item append id words)
 line_of (keyword.Parameter append id) words = line.Item (parameter append id words)
-line_of keyword.State words = line.Detail (detail.State (record {
-  name = in_upper_case (word_at words 0);
-  value = whole (word_at words 1);
-  color = color_of (word_at words 2);
-  hazardous = is_same (word_at words 2) (codes "HAZARDOUS");
-}))
+line_of keyword.State words = line.Detail (detail.State (state_def words))
 line_of keyword.Limits words = line.Detail (detail.Limits (limits_line words))
 line_of keyword.Poly words = line.Detail (detail.Poly (map decimal words))
-line_of keyword.Segment words =
-    line.Detail (detail.Segment (record { bound = decimal (word_at words 0); coefficients = map decimal (drop 1 words) }))
+line_of keyword.Segment words = line.Detail (detail.Segment (segment words))
 line_of keyword.Units words = line.Detail (detail.Units (word_at words 0) (word_at words 1))
 line_of keyword.Format words = line.Detail (detail.Format (word_at words 0))
 line_of keyword.Overflow words = line.Detail (detail.Overflow (overflow_of (word_at words 0)))

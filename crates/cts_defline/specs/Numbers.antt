@@ -1,7 +1,6 @@
 -- The numbers and texts that words spell, where a definition asks for one. A word that spells none reads as 0 or as the
 -- first choice, and nothing uses that: its statement is refused.
-use Rattle.std.specs.Prelude.{ℕ, ℤ, pos, neg_ℤ, ◌+◌, ◌-◌, ◌*◌, ◌/◌, ◌^◌, Bool, true, false, not, ◌&&◌, ◌||◌, ◌==◌, nat_eq, nat_lt, nat_le, int_le, unsigned_abs, List, [], ◌∷◌, ◌++◌, map, length, take, drop, codes, Option, Some, None, option_map, is_some, unwrap_or, Result, Ok, Err, if◌then◌else◌}
-use Rattle.std.specs.List.{find}
+use Rattle.std.specs.Prelude.{ℕ, ℤ, pos, neg_ℤ, ◌+◌, ◌-◌, ◌*◌, ◌^◌, Bool, ◌&&◌, ◌||◌, ◌==◌, nat_lt, nat_le, int_le, unsigned_abs, List, [], ◌∷◌, map, take, drop, codes, Option, Some, None, option_map, is_some, unwrap_or, find, Result, Ok, Err, if◌then◌else◌}
 use Rattle.cts_base.specs.Names.{upper}
 use Rattle.cts_base.specs.Wholes.{whole_of}
 use Rattle.cts_base.specs.Decimals.{decimal_of}
@@ -11,8 +10,6 @@ use Rattle.cts_bits.specs.declared.order.Order.{Order}
 use Rattle.cts_bits.specs.declared.order.Order.TheVariants.{Big, Little}
 use Rattle.cts_def.specs.declared.item_kind.ItemKind.{ItemKind}
 use Rattle.cts_def.specs.declared.item_kind.ItemKind.TheVariants.{Uint, Int, Str, Block}
-use Rattle.cts_def.specs.declared.item_kind.Preset.{Preset}
-use Rattle.cts_def.specs.declared.item_kind.Preset.TheVariants.{Whole, Raw}
 use Rattle.cts_def.specs.Items.{is_same}
 use Rattle.hex.specs.Hex.{decode_of}
 use Rattle.hex.specs.declared.FromHexError.{FromHexError}
@@ -74,15 +71,18 @@ bound kind size word =
     else unwrap_or (named_bound word) (whole word)
 
 -- from 1 to 4,294,967,295
-abbrev pub is_count : Option ℤ → Bool
-is_count None = false
-is_count (Some z) = int_le (pos 1) z && int_le z (pos 4294967295)
+abbrev pub is_count : ℤ → Bool
+is_count z = int_le (pos 1) z && int_le z (pos 4294967295)
 
-abbrev pub is_persistence : List ℕ → Bool
-is_persistence word = is_count (whole_of word)
+abbrev pub count_in : Option ℤ → Option ℕ
+count_in None = None
+count_in (Some z) = if is_count z then Some (unsigned_abs z) else None
+
+abbrev pub persistence_of : List ℕ → Option ℕ
+persistence_of word = count_in (whole_of word)
 
 abbrev pub persistence : List ℕ → ℕ
-persistence word = if is_persistence word then unsigned_abs (whole word) else 1
+persistence word = unwrap_or (persistence_of word) 1
 
 -- ---- fixed words
 

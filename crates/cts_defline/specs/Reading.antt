@@ -1,5 +1,5 @@
 -- What the reading of a statement's words answers.
-use Rattle.std.specs.Prelude.{◌≡◌, ℕ, List, Option, Some, None, Result, Ok, Err}
+use Rattle.std.specs.Prelude.{◌≡◌, ℕ, List, Some, None, Result, Ok, Err}
 use Rattle.cts_defline.specs.declared.fault.LineFault.{LineFault}
 use Rattle.cts_defline.specs.declared.fault.LineFault.TheVariants as fault
 use Rattle.cts_defline.specs.declared.line.Line.{Line}

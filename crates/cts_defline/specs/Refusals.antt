@@ -1,17 +1,17 @@
 -- Why the words of a statement are refused, by what is open before it and the words alone.
-use Rattle.std.specs.Prelude.{ℕ, Bool, true, false, not, ◌||◌, List, [], ◌∷◌, codes, Option, Some, None, is_none, zip, if◌then◌else◌}
-use Rattle.std.specs.List.{find, list_any}
+use Rattle.std.specs.Prelude.{ℕ, Bool, true, false, not, ◌||◌, List, [], ◌∷◌, ◌++◌, codes, Option, Some, None, is_none, find, zip, if◌then◌else◌}
+use Rattle.std.specs.List.{list_any}
 use Rattle.cts_defline.specs.declared.cause.DefCause.{DefCause}
 use Rattle.cts_defline.specs.declared.cause.DefCause.TheVariants.{UnknownKeyword, OutsidePacket, WrongCount, BadName, FloatItem, DerivedItem, ArrayItem, NotNumber}
 use Rattle.cts_defline.specs.declared.keyword.Keyword.{Keyword}
-use Rattle.cts_defline.specs.declared.keyword.Keyword.TheVariants.{Command, Telemetry, Item, Parameter, State, Limits, Poly, Segment, Units, Format, Overflow, Required, Hazardous, Meta, AllowShort}
+use Rattle.cts_defline.specs.declared.keyword.Keyword.TheVariants.{Command, Telemetry, Item, Parameter, Hazardous, Meta, AllowShort}
 use Rattle.cts_defline.specs.declared.keyword.Field.{Field}
 use Rattle.cts_defline.specs.declared.open.Open.{Open}
 use Rattle.cts_defline.specs.declared.open.Open.TheVariants as open_
 use Rattle.cts_defline.specs.declared.open.PacketKind.{PacketKind}
 use Rattle.cts_defline.specs.declared.open.PacketKind.TheVariants as «kind»
 use Rattle.cts_defline.specs.Fields.{is_other_choice, is_bad_name, is_type_of, is_no_number}
-use Rattle.cts_defline.specs.Forms.{form, keyword_of, kind_of_keyword, is_array_keyword}
+use Rattle.cts_defline.specs.Forms.{wanted, more, fits, keyword_of, kind_of_keyword, is_array_keyword}
 
 -- the kind of the open definition
 abbrev pub open_kind : Open → Option PacketKind
@@ -49,23 +49,24 @@ is_outside opened Meta = is_none (open_kind opened)
 is_outside opened AllowShort = is_none (open_kind opened)
 is_outside opened _ = not (has_item opened)
 
--- a word passes the test at its field
-abbrev pub any_word : (Field → List ℕ → Bool) → Option (List Field) → List (List ℕ) → Bool
-any_word test None words = false
-any_word test (Some fields) words = list_any (λ (p : Field × List ℕ). test p.0 p.1) (zip fields words)
+-- what the words have to be, also those that may be left out
+abbrev pub fields : Open → Keyword → List (List ℕ) → List Field
+fields opened k words = wanted k words ++ more (form_kind (open_kind opened)) k
 
-abbrev pub fields_of : Open → Keyword → List (List ℕ) → Option (List Field)
-fields_of opened k words = form (form_kind (open_kind opened)) k words
+-- a word passes the test at its field
+abbrev pub any_word : (Field → List ℕ → Bool) → List Field → List (List ℕ) → Bool
+any_word test fields words = list_any (λ (p : Field × List ℕ). test p.0 p.1) (zip fields words)
 
 abbrev pub holds : DefCause → Open → Keyword → List (List ℕ) → Bool
 holds UnknownKeyword opened k words = is_of_other_kind (open_kind opened) (kind_of_keyword k)
 holds OutsidePacket opened k words = is_outside opened k
-holds WrongCount opened k words = is_none (fields_of opened k words) || any_word is_other_choice (fields_of opened k words) words
-holds BadName opened k words = any_word is_bad_name (fields_of opened k words) words
-holds FloatItem opened k words = any_word (is_type_of (codes "FLOAT")) (fields_of opened k words) words
-holds DerivedItem opened k words = any_word (is_type_of (codes "DERIVED")) (fields_of opened k words) words
-holds ArrayItem opened k words = any_word (is_type_of (codes "ARRAY")) (fields_of opened k words) words
-holds NotNumber opened k words = any_word is_no_number (fields_of opened k words) words
+holds WrongCount opened k words =
+    not (fits (form_kind (open_kind opened)) k words) || any_word is_other_choice (fields opened k words) words
+holds BadName opened k words = any_word is_bad_name (fields opened k words) words
+holds FloatItem opened k words = any_word (is_type_of (codes "FLOAT")) (fields opened k words) words
+holds DerivedItem opened k words = any_word (is_type_of (codes "DERIVED")) (fields opened k words) words
+holds ArrayItem opened k words = any_word (is_type_of (codes "ARRAY")) (fields opened k words) words
+holds NotNumber opened k words = any_word is_no_number (fields opened k words) words
 holds _ opened k words = false
 
 -- the causes of words, in the order in which they are tried

@@ -1,4 +1,8 @@
 // Why a statement of a definitions file is refused.
+ghost use Rattle.std.specs.Prelude.{◌≡◌};
+ghost use Rattle.cts_defline.specs.Causes.{cause_name};
+
+use std::fmt;
 
 /// Why a statement is refused. Of several causes that hold, the first in the order of the definitions is named.
 #[derive(Clone, Copy, Debug, PartialEq, Eq)]
@@ -41,4 +45,39 @@ pub enum DefCause {
     BadFormat,
     /// More than the server can hold.
     TooMany,
+}
+
+impl DefCause {
+    /// Its name, as it is printed.
+    pub fn name(self) -> &'static str
+        ensures { result.now ≡ cause_name self }
+    {
+        match self {
+            DefCause::UnknownKeyword => "UnknownKeyword",
+            DefCause::OutsidePacket => "OutsidePacket",
+            DefCause::WrongCount => "WrongCount",
+            DefCause::BadName => "BadName",
+            DefCause::FloatItem => "FloatItem",
+            DefCause::DerivedItem => "DerivedItem",
+            DefCause::ArrayItem => "ArrayItem",
+            DefCause::NotNumber => "NotNumber",
+            DefCause::WrongKind => "WrongKind",
+            DefCause::IdNotWhole => "IdNotWhole",
+            DefCause::DoubleName => "DoubleName",
+            DefCause::AppendLittleBits => "AppendLittleBits",
+            DefCause::BadPlace => "BadPlace",
+            DefCause::IdOutOfRange => "IdOutOfRange",
+            DefCause::DefaultOutOfRange => "DefaultOutOfRange",
+            DefCause::ConversionTooLarge => "ConversionTooLarge",
+            DefCause::LimitsOrder => "LimitsOrder",
+            DefCause::BadFormat => "BadFormat",
+            DefCause::TooMany => "TooMany",
+        }
+    }
+}
+
+impl fmt::Display for DefCause {
+    fn fmt<W: fmt::Write>(&self, f: &mut fmt::Formatter<W>) -> fmt::Result {
+        write!(f, "{}", self.name())
+    }
 }

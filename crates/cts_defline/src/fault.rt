@@ -1,4 +1,6 @@
 // What the reading of a statement's words answers where it says nothing.
+ghost use Rattle.std.specs.Prelude.{◌≡◌};
+ghost use Rattle.cts_defline.specs.declared.fault.LineFault.TheVariants.{Memory as NoMemory};
 
 use crate::DefCause;
 use cts_base::Memory;
@@ -14,18 +16,24 @@ pub enum LineFault {
 }
 
 impl From<Memory> for LineFault {
+    ghost from_gives = { λ _ e. e ≡ NoMemory };
+
     fn from(_: Memory) -> LineFault {
         LineFault::Memory
     }
 }
 
 impl From<AllocError> for LineFault {
+    ghost from_gives = { λ _ e. e ≡ NoMemory };
+
     fn from(_: AllocError) -> LineFault {
         LineFault::Memory
     }
 }
 
 impl<T: Drop> From<AllocFailed<T>> for LineFault {
+    ghost from_gives = { λ _ e. e ≡ NoMemory };
+
     fn from(_: AllocFailed<T>) -> LineFault {
         LineFault::Memory
     }

@@ -1,4 +1,9 @@
 // The keywords, and what the words behind each have to be.
+ghost use Rattle.std.specs.Prelude.{◌≡◌, map};
+ghost use Rattle.cts_base.specs.Names.{upper};
+ghost use Rattle.cts_defline.specs.Forms.{agrees, is_keyword, begins_with, is_within, keyword_in, keyword_of, is_array_keyword, kind_of_keyword};
+
+use crate::PacketKind;
 
 /// The first word of a statement.
 #[derive(Clone, Copy, Debug, PartialEq, Eq)]
@@ -62,4 +67,203 @@ pub enum Field {
     Hazard,
     /// `ERROR`, `TRUNCATE` or `SATURATE`.
     Overflow,
+}
+
+/// A keyword as it is written.
+struct Spelled {
+    text: &'static [u8],
+    keyword: Keyword,
+}
+
+/// All keywords.
+const KEYWORDS: [Spelled; 21] = [
+    Spelled {
+        text: b"COMMAND",
+        keyword: Keyword::Command,
+    },
+    Spelled {
+        text: b"TELEMETRY",
+        keyword: Keyword::Telemetry,
+    },
+    Spelled {
+        text: b"ITEM",
+        keyword: Keyword::Item {
+            append: false,
+            id: false,
+        },
+    },
+    Spelled {
+        text: b"APPEND_ITEM",
+        keyword: Keyword::Item {
+            append: true,
+            id: false,
+        },
+    },
+    Spelled {
+        text: b"ID_ITEM",
+        keyword: Keyword::Item {
+            append: false,
+            id: true,
+        },
+    },
+    Spelled {
+        text: b"APPEND_ID_ITEM",
+        keyword: Keyword::Item {
+            append: true,
+            id: true,
+        },
+    },
+    Spelled {
+        text: b"PARAMETER",
+        keyword: Keyword::Parameter {
+            append: false,
+            id: false,
+        },
+    },
+    Spelled {
+        text: b"APPEND_PARAMETER",
+        keyword: Keyword::Parameter {
+            append: true,
+            id: false,
+        },
+    },
+    Spelled {
+        text: b"ID_PARAMETER",
+        keyword: Keyword::Parameter {
+            append: false,
+            id: true,
+        },
+    },
+    Spelled {
+        text: b"APPEND_ID_PARAMETER",
+        keyword: Keyword::Parameter {
+            append: true,
+            id: true,
+        },
+    },
+    Spelled {
+        text: b"STATE",
+        keyword: Keyword::State,
+    },
+    Spelled {
+        text: b"LIMITS",
+        keyword: Keyword::Limits,
+    },
+    Spelled {
+        text: b"POLY_READ_CONVERSION",
+        keyword: Keyword::Poly,
+    },
+    Spelled {
+        text: b"SEG_POLY_READ_CONVERSION",
+        keyword: Keyword::Segment,
+    },
+    Spelled {
+        text: b"UNITS",
+        keyword: Keyword::Units,
+    },
+    Spelled {
+        text: b"FORMAT_STRING",
+        keyword: Keyword::Format,
+    },
+    Spelled {
+        text: b"OVERFLOW",
+        keyword: Keyword::Overflow,
+    },
+    Spelled {
+        text: b"REQUIRED",
+        keyword: Keyword::Required,
+    },
+    Spelled {
+        text: b"HAZARDOUS",
+        keyword: Keyword::Hazardous,
+    },
+    Spelled {
+        text: b"META",
+        keyword: Keyword::Meta,
+    },
+    Spelled {
+        text: b"ALLOW_SHORT",
+        keyword: Keyword::AllowShort,
+    },
+];
+
+fn upper(c: u8) -> u8
+    ensures { result ≡ upper c }
+{
+    c.to_ascii_uppercase()
+}
+
+// Whether the bytes of a word, in upper case, are those of a text, as far as both go.
+fn agrees(word: &[u8], text: &[u8]) -> bool
+    ensures { result ≡ agrees word.now text.now }
+{
+    word.iter().zip(text).all(|(a, b)| upper(*a) == *b)
+}
+
+#[tactic(auto, unfolding(crate::specs::Forms::is_keyword))]
+fn is_keyword(word: &[u8], text: &[u8]) -> bool
+    ensures { result ≡ is_keyword word.now text.now }
+{
+    word.len() == text.len() && agrees(word, text)
+}
+
+fn begins_with(text: &[u8], word: &[u8]) -> bool
+    ensures { result ≡ begins_with text.now word.now }
+{
+    text.len() <= word.len() && agrees(word, text)
+}
+
+// Whether the text stands somewhere in the word.
+fn is_within(text: &[u8], word: &[u8]) -> bool
+    ensures { result ≡ is_within text.now word.now }
+{
+    for at in 0..word.len() {
+        if begins_with(text, &word[at..]) {
+            return true;
+        }
+    }
+    false
+}
+
+// The keyword of this list that the word is.
+fn keyword_in(list: &[Spelled], word: &[u8]) -> Option<Keyword>
+    ensures { result ≡ keyword_in (map (λ s. (s.text.now, s.keyword)) list.now) word.now }
+{
+    for spelled in list {
+        if is_keyword(word, spelled.text) {
+            return Some(spelled.keyword);
+        }
+    }
+    None
+}
+
+/// The keyword that the word is, in any case.
+pub(crate) fn keyword_of(word: &[u8]) -> Option<Keyword>
+    ensures { result ≡ keyword_of word.now }
+{
+    keyword_in(&KEYWORDS, word)
+}
+
+/// Whether the word is a keyword for arrays.
+pub(crate) fn is_array_keyword(word: &[u8]) -> bool
+    ensures { result ≡ is_array_keyword word.now }
+{
+    is_within(b"ARRAY_ITEM", word) || is_within(b"ARRAY_PARAMETER", word)
+}
+
+impl Keyword {
+    /// The kind of definition for which the keyword is, where it is for one alone.
+    pub(crate) fn kind(self) -> Option<PacketKind>
+        ensures { result ≡ kind_of_keyword self }
+    {
+        match self {
+            Keyword::Item { .. } | Keyword::Limits | Keyword::Poly | Keyword::Segment => {
+                Some(PacketKind::Telemetry)
+            }
+            Keyword::Parameter { .. } | Keyword::Required | Keyword::Hazardous => {
+                Some(PacketKind::Command)
+            }
+            _ => None,
+        }
+    }
 }

@@ -8,9 +8,19 @@
 mod cause;
 mod details;
 mod fault;
+mod field;
+mod fixed;
+mod form;
+mod items;
 mod keyword;
 mod line;
+mod lines;
+mod numbers;
 mod open;
+mod reading;
+mod refusal;
+mod texts;
+mod words;
 
 pub use cause::DefCause;
 pub use details::{Detail, LimitsLine};
@@ -18,3 +28,7 @@ pub use fault::LineFault;
 pub use keyword::{Field, Keyword};
 pub use line::{ItemLine, Line, PacketLine};
 pub use open::{Open, PacketKind};
+pub use reading::read_line;
+
+#[cfg(test)]
+mod tests;

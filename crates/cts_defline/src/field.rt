@@ -1,0 +1,106 @@
+// Whether a word is what its field asks for.
+ghost use Rattle.std.specs.Prelude.{◌≡◌, not};
+ghost use Rattle.cts_base.specs.Names.{is_name, is_name_byte};
+ghost use Rattle.std.specs.List.{list_all};
+ghost use Rattle.cts_defline.specs.Fields.{is_type, is_enabling, is_color, is_overflow, is_other_choice, is_bad_name, is_type_of, is_no_number};
+
+use crate::Field;
+use crate::fixed::{kind_of, order_of};
+use crate::numbers::{is_bound, is_decimal, persistence_of};
+use crate::words::is_same;
+use cts_base::read_whole;
+
+fn is_type(word: &[u8]) -> bool
+    ensures { result ≡ is_type word.now }
+{
+    kind_of(word).is_some()
+        || is_same(word, b"FLOAT")
+        || is_same(word, b"DERIVED")
+        || is_same(word, b"ARRAY")
+}
+
+fn is_enabling(word: &[u8]) -> bool
+    ensures { result ≡ is_enabling word.now }
+{
+    is_same(word, b"ENABLED") || is_same(word, b"DISABLED")
+}
+
+fn is_color(word: &[u8]) -> bool
+    ensures { result ≡ is_color word.now }
+{
+    is_same(word, b"GREEN") || is_same(word, b"YELLOW") || is_same(word, b"RED")
+}
+
+fn is_overflow(word: &[u8]) -> bool
+    ensures { result ≡ is_overflow word.now }
+{
+    is_same(word, b"ERROR") || is_same(word, b"TRUNCATE") || is_same(word, b"SATURATE")
+}
+
+fn is_name_byte(c: u8) -> bool
+    ensures { result ≡ is_name_byte c }
+{
+    c.is_ascii_alphanumeric() || c == b'_'
+}
+
+fn has_name_bytes(word: &[u8]) -> bool
+    ensures { result ≡ list_all is_name_byte word.now }
+{
+    word.iter().all(|c| is_name_byte(*c))
+}
+
+fn is_name(word: &[u8]) -> bool
+    ensures { result ≡ is_name word.now }
+{
+    1 <= word.len() && word.len() <= 255 && has_name_bytes(word)
+}
+
+impl Field {
+    /// Whether the word is none of the choices of a fixed word.
+    pub(crate) fn is_other_choice(self, word: &[u8]) -> bool
+        ensures { result ≡ is_other_choice self word.now }
+    {
+        match self {
+            Field::Order => order_of(word).is_none(),
+            Field::Type => !is_type(word),
+            Field::Enabling => !is_enabling(word),
+            Field::Color => !is_color(word),
+            Field::Hazard => !is_same(word, b"HAZARDOUS"),
+            Field::Overflow => !is_overflow(word),
+            _ => false,
+        }
+    }
+
+    /// Whether the word has to be a name and is none.
+    pub(crate) fn is_bad_name(self, word: &[u8]) -> bool
+        ensures { result ≡ is_bad_name self word.now }
+    {
+        match self {
+            Field::Name => !is_name(word),
+            _ => false,
+        }
+    }
+
+    /// Whether the word is this type.
+    pub(crate) fn is_type_of(self, text: &[u8], word: &[u8]) -> bool
+        ensures { result ≡ is_type_of text.now self word.now }
+    {
+        match self {
+            Field::Type => is_same(word, text),
+            _ => false,
+        }
+    }
+
+    /// Whether the word has to be a number and is none.
+    pub(crate) fn is_no_number(self, word: &[u8]) -> bool
+        ensures { result ≡ is_no_number self word.now }
+    {
+        match self {
+            Field::Whole => read_whole(word).is_none(),
+            Field::Bound => !is_bound(word),
+            Field::Decimal => !is_decimal(word),
+            Field::Persistence => persistence_of(word).is_none(),
+            _ => false,
+        }
+    }
+}

@@ -1,0 +1,79 @@
+// The causes for which the words of a statement are refused.
+ghost use Rattle.std.specs.Prelude.{◌≡◌, find, length};
+ghost use Rattle.cts_defline.specs.Forms.{wanted};
+ghost use Rattle.cts_defline.specs.Refusals.{is_outside, fields, holds, word_order};
+
+use crate::form::Form;
+use crate::open::is_of_other_kind;
+use crate::{DefCause, Keyword, Open};
+use cts_base::Bytes;
+
+/// The causes of words, in the order in which they are tried.
+const ORDER: [DefCause; 8] = [
+    DefCause::UnknownKeyword,
+    DefCause::OutsidePacket,
+    DefCause::WrongCount,
+    DefCause::BadName,
+    DefCause::FloatItem,
+    DefCause::DerivedItem,
+    DefCause::ArrayItem,
+    DefCause::NotNumber,
+];
+
+// Whether what has to be open before a statement is not.
+fn is_outside(opened: Open, keyword: Keyword) -> bool
+    ensures { result ≡ is_outside opened keyword }
+{
+    match keyword {
+        Keyword::Command | Keyword::Telemetry => false,
+        Keyword::Item { .. }
+        | Keyword::Parameter { .. }
+        | Keyword::Hazardous
+        | Keyword::Meta
+        | Keyword::AllowShort => opened.kind().is_none(),
+        _ => !opened.has_item(),
+    }
+}
+
+fn holds(cause: DefCause, opened: Open, keyword: Keyword, form: &Form, words: &[Bytes]) -> bool
+    requires fields { form.now.fields.now ≡ fields opened keyword words.now }
+    requires least { form.now.least ≡ length (wanted keyword words.now) }
+    ensures { result ≡ holds cause opened keyword words.now }
+{
+    match cause {
+        DefCause::UnknownKeyword => is_of_other_kind(opened.kind(), keyword.kind()),
+        DefCause::OutsidePacket => is_outside(opened, keyword),
+        DefCause::WrongCount => !form.fits(keyword, words.len()) || form.has_other_choice(words),
+        DefCause::BadName => form.has_bad_name(words),
+        DefCause::FloatItem => form.has_type(b"FLOAT", words),
+        DefCause::DerivedItem => form.has_type(b"DERIVED", words),
+        DefCause::ArrayItem => form.has_type(b"ARRAY", words),
+        DefCause::NotNumber => form.has_no_number(words),
+        _ => false,
+    }
+}
+
+fn first_of(
+    causes: &[DefCause],
+    opened: Open,
+    keyword: Keyword,
+    form: &Form,
+    words: &[Bytes],
+) -> Option<DefCause>
+    requires fields { form.now.fields.now ≡ fields opened keyword words.now }
+    requires least { form.now.least ≡ length (wanted keyword words.now) }
+    ensures { result ≡ find (λ c. holds c opened keyword words.now) causes.now }
+{
+    causes
+        .iter()
+        .copied()
+        .find(|cause| holds(*cause, opened, keyword, form, words))
+}
+
+/// The first cause for which the words behind a keyword are refused.
+pub(crate) fn first_cause(opened: Open, keyword: Keyword, words: &[Bytes]) -> Option<DefCause>
+    ensures { result ≡ find (λ c. holds c opened keyword words.now) word_order }
+{
+    let form = Form::of(opened.form_kind(), keyword, words);
+    first_of(&ORDER, opened, keyword, &form, words)
+}
