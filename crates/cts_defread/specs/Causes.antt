@@ -207,8 +207,12 @@ abbrev pub is_bad_preset : Line → Bool
 is_bad_preset (line.Item head) = is_unfit_preset head head.preset
 is_bad_preset _ = false
 
+-- the numbers of the item could be converted to 2 ^ 126 parts or more
+abbrev pub is_large : List Decimal → ItemData → Bool
+is_large coefficients i = is_number i.kind && is_too_large (unsigned_abs i.size) coefficients
+
 abbrev pub is_large_conversion : List Decimal → Option ItemData → Bool
-is_large_conversion coefficients item = passes (λ i. is_too_large (unsigned_abs i.size) coefficients) item
+is_large_conversion coefficients item = passes (is_large coefficients) item
 
 abbrev pub is_too_large_in : Option ItemData → Line → Bool
 is_too_large_in item (line.Detail (detail.Poly coefficients)) = is_large_conversion coefficients item

@@ -1,5 +1,5 @@
 -- What the draft keeps beside the definitions, so that nothing is searched for.
-use Rattle.std.specs.Prelude.{◌≡◌, ℕ, ◌≤◌, List, [], ◌∷◌, map, length, Option, Some, None}
+use Rattle.std.specs.Prelude.{◌≡◌, ℕ, ◌≤◌, Bool, true, List, [], ◌∷◌, map, length, Option, Some, None}
 use Rattle.std.specs.Cmp.Lexicographic.{slice_cmp}
 use Rattle.std.specs.List.{list_any}
 use Rattle.std.specs.Ordering.{nat_cmp}
@@ -7,12 +7,16 @@ use Rattle.cts_base.specs.Known.{Knows, pair_cmp}
 use Rattle.cts_def.specs.declared.state_def.StateDef.{StateDef}
 use Rattle.cts_def.specs.Items.{ItemData}
 use Rattle.cts_def.specs.Packets.{PacketData}
+use Rattle.cts_defline.specs.declared.details.Detail.{Detail}
+use Rattle.cts_defline.specs.declared.details.Detail.TheVariants as detail
 use Rattle.cts_defline.specs.declared.open.PacketKind.{PacketKind}
 use Rattle.cts_defline.specs.declared.open.PacketKind.TheVariants.{Telemetry, Command}
 use Rattle.cts_defread.specs.declared.draft.Draft.{Draft}
 use Rattle.cts_defread.specs.declared.drafted.Drafted.{Drafted}
 use Rattle.cts_defread.specs.Causes.{open_items, open_item, open_end, is_open_ended, is_to_the_end, count_items}
+use Rattle.cts_defread.specs.Sound.{AreSound}
 use Rattle.cts_defread.specs.Standing.{packets_of}
+use Rattle.cts_defread.specs.Steps.{add_set}
 
 -- the target and the name of each packet, or of each command
 abbrev pub names_of : PacketKind → List Drafted → List (List ℕ × List ℕ)
@@ -24,6 +28,27 @@ item_names items = map (λ (i : ItemData). i.name) items
 abbrev pub state_names : Option ItemData → List (List ℕ)
 state_names None = []
 state_names (Some i) = map (λ (s : StateDef). s.name) i.states
+
+-- ---- what a detail names
+
+abbrev pub state_name : Detail → Option (List ℕ)
+state_name (detail.State s) = Some s.name
+state_name _ = None
+
+abbrev pub set_name : Detail → Option (List ℕ)
+set_name (detail.Limits l) = Some l.set
+set_name _ = None
+
+-- the name, if it was taken
+abbrev pub taken_name : Bool → Option (List ℕ) → List (List ℕ)
+taken_name true (Some name) = name ∷ []
+taken_name _ _ = []
+
+abbrev pub add_name : Option (List ℕ) → List (List ℕ) → List (List ℕ)
+add_name None sets = sets
+add_name (Some set) sets = add_set set sets
+
+-- ---- all that is kept
 
 -- What is kept is what would be found.
 pub record IsKept (d : Draft) : Type 0 where
@@ -42,3 +67,4 @@ pub record IsKept (d : Draft) : Type 0 where
   pub few_commands : d.command_count ≤ 4096
   pub few_items : d.item_count ≤ 65536
   pub room : d.end ≤ 8388608
+  pub sound : AreSound d.packets.items d.set_names.items

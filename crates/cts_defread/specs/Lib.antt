@@ -1,5 +1,7 @@
 pub mod Causes
 pub mod Definitions
 pub mod Drafts
+pub mod Laws
 pub mod Standing
 pub mod Steps
+pub mod Sound

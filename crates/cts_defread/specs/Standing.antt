@@ -192,9 +192,13 @@ are_same_kind Command k = not (is_telemetry k)
 abbrev pub packets_of : PacketKind → List Drafted → List PacketData
 packets_of kind packets = map (λ (d : Drafted). d.packet) (filter (λ (d : Drafted). are_same_kind kind d.kind) packets)
 
-abbrev pub definitions_at : List Line → DefinitionsData
-definitions_at lines = record {
-  telemetry = packets_of Telemetry (standing lines);
-  commands = packets_of Command (standing lines);
-  set_names = set_names_of lines;
+-- the definitions of these packets, commands and limits sets
+abbrev pub definitions_in : List Drafted → List (List ℕ) → DefinitionsData
+definitions_in packets sets = record {
+  telemetry = packets_of Telemetry packets;
+  commands = packets_of Command packets;
+  set_names = sets;
 }
+
+abbrev pub definitions_at : List Line → DefinitionsData
+definitions_at lines = definitions_in (standing lines) (set_names_of lines)

@@ -107,3 +107,7 @@ Judged packets sets s (Err (fault.Refused n c)) = (cause_of packets sets s.words
 abbrev pub Fails : {Y : Type 0} → DefFault → Result Y (Refusal DefCause) → Type 0
 Fails fault.Memory read = Unit {0}
 Fails (fault.Refused n c) read = read ≡ Err (n, c)
+
+abbrev pub Gives : {Y : Type 0} → Result Y DefFault → Result Y (Refusal DefCause) → Type 0
+Gives (Ok y) read = read ≡ Ok y
+Gives (Err e) read = Fails e read

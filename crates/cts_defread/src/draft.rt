@@ -1,7 +1,13 @@
 // The definitions as they grow, statement by statement.
 
+ghost use Rattle.std.specs.Prelude.{◌≡◌, IfOk};
+ghost use Rattle.cts_defread.specs.Standing.{packets_of};
+
 use crate::drafted::Drafted;
-use cts_base::{Bytes, Name};
+use cts_base::{Bytes, List, Memory, Name};
+use cts_def::{Definitions, Packet};
+use cts_defline::PacketKind;
+use std::alloc::Global;
 use std::collections::BTreeSet;
 
 /// The definitions so far, with what is asked of them at each statement, so that nothing is searched for.
@@ -33,4 +39,62 @@ pub(crate) struct Draft {
     pub is_ended: bool,
     /// Whether the open definition has an item of size 0.
     pub is_filled: bool,
+}
+
+impl Draft {
+    ghost use Rattle.std.specs.Prelude.{◌≡◌, [], IfOk};
+    ghost use Rattle.cts_defread.specs.Drafts.{IsKept};
+    ghost use Rattle.cts_defread.specs.Standing.{definitions_in};
+
+    /// No definitions. It takes no memory.
+    pub(crate) fn new(alloc: Global) -> Draft
+        ensures packets { result.packets.items ≡ [] }
+        ensures set_names { result.set_names.items ≡ [] }
+        ensures kept { IsKept result }
+    {
+        Draft {
+            packets: Vec::new(alloc),
+            set_names: Vec::new(alloc),
+            telemetry: BTreeSet::new(alloc),
+            commands: BTreeSet::new(alloc),
+            items: BTreeSet::new(alloc),
+            states: BTreeSet::new(alloc),
+            sets: BTreeSet::new(alloc),
+            telemetry_count: 0,
+            command_count: 0,
+            item_count: 0,
+            end: 0,
+            is_ended: false,
+            is_filled: false,
+        }
+    }
+
+    /// The packets and the commands, each in their order, and the names of the limits sets.
+    pub(crate) fn finish(self, alloc: Global) -> Result<Definitions, Memory>
+        requires kept { IsKept self }
+        ensures { IfOk result (λ d. d ≡ definitions_in self.packets.items self.set_names.items) }
+    {
+        let (telemetry, commands) = split(alloc, self.packets)?;
+        Ok(Definitions {
+            telemetry,
+            commands,
+            set_names: List::of(self.set_names),
+        })
+    }
+}
+
+// The packets and the commands, each in their order.
+fn split(alloc: Global, packets: Vec<Drafted>) -> Result<(List<Packet>, List<Packet>), Memory>
+    ensures telemetry { IfOk result (λ parts. parts.0 ≡ packets_of PacketKind.Telemetry packets.items) }
+    ensures commands { IfOk result (λ parts. parts.1 ≡ packets_of PacketKind.Command packets.items) }
+{
+    let mut telemetry = List::new(alloc);
+    let mut commands = List::new(alloc);
+    for drafted in packets {
+        match drafted.kind {
+            PacketKind::Telemetry => telemetry.push(drafted.packet)?,
+            PacketKind::Command => commands.push(drafted.packet)?,
+        }
+    }
+    Ok((telemetry, commands))
 }

@@ -1,4 +1,6 @@
 // Why statements are no definitions.
+ghost use Rattle.std.specs.Prelude.{◌≡◌};
+ghost use Rattle.cts_defread.specs.declared.fault.DefFault.TheVariants.{Memory as NoMemory};
 
 use cts_base::Memory;
 use cts_defline::DefCause;
@@ -14,18 +16,24 @@ pub enum DefFault {
 }
 
 impl From<Memory> for DefFault {
+    ghost from_gives = { λ _ e. e ≡ NoMemory };
+
     fn from(_: Memory) -> DefFault {
         DefFault::Memory
     }
 }
 
 impl From<AllocError> for DefFault {
+    ghost from_gives = { λ _ e. e ≡ NoMemory };
+
     fn from(_: AllocError) -> DefFault {
         DefFault::Memory
     }
 }
 
 impl<T: Drop> From<AllocFailed<T>> for DefFault {
+    ghost from_gives = { λ _ e. e ≡ NoMemory };
+
     fn from(_: AllocFailed<T>) -> DefFault {
         DefFault::Memory
     }

@@ -5,9 +5,28 @@
 //! what is refused, and in which order causes are tried, is this project's own rule.
 #![tactic(auto)]
 
+mod adding;
+mod causes;
+mod counts;
+mod doubles;
 mod draft;
 mod drafted;
 mod fault;
+mod items;
+mod kinds;
+mod laws;
+mod open;
+mod packets;
+mod places;
+mod reading;
+mod values;
 
 pub use cts_defline::DefCause;
 pub use fault::DefFault;
+pub use laws::{definitions_are_in_order, first_statement_is_refused};
+pub use reading::read_definitions;
+
+#[cfg(test)]
+mod showing;
+#[cfg(test)]
+mod tests;

@@ -1,0 +1,86 @@
+-- One definition and one item for each statement that says so, and the first refusal.
+use Rattle.std.proofs.Common.{◌≡◌, ◌↔◌, ◌⊎◌, ℕ, max, List, [], ◌∷◌, map, Option, Some, None, Result, Ok, Err, refl, sym, ap, ◌∙◌, inl, inr, true, false, Bool}
+use Rattle.std.specs.Prelude.{option_map, if◌then◌else◌}
+use Rattle.std.specs.List.{filter_map, find}
+use Rattle.cts_bits.specs.declared.order.Order.{Order}
+use Rattle.cts_def.specs.Items.{ItemData, span_of}
+use Rattle.cts_def.specs.Spans.{end_of}
+use Rattle.cts_defline.specs.declared.cause.DefCause.{DefCause}
+use Rattle.cts_defline.specs.declared.keyword.Keyword.{Keyword}
+use Rattle.cts_defline.specs.declared.line.ItemLine.{ItemLine}
+use Rattle.cts_defline.specs.declared.line.Line.{Line}
+use Rattle.cts_defline.specs.declared.line.PacketLine.{PacketLine}
+use Rattle.cts_defline.specs.declared.open.Open.{Open}
+use Rattle.cts_defline.specs.Forms.{keyword_of, is_array_keyword}
+use Rattle.cts_defline.specs.Lines.{line_in, line_of}
+use Rattle.cts_defline.specs.declared.cause.DefCause.TheVariants.{ArrayItem}
+use Rattle.cts_defline.specs.Refusals.{word_cause, cause_of as words_cause}
+use Rattle.cts_defread.specs.declared.drafted.Drafted.{Drafted}
+use Rattle.cts_defread.specs.Causes.{opened}
+use Rattle.cts_defread.specs.Definitions.{cause, refusal, at_end, lines_of, definitions_of, unless_refused, cause_of_line}
+use Rattle.cts_defread.specs.Laws.{RefusesTheFirst, TakesTheOthers, StatementsSayLines, head_of, OneForEachHead, OneForEachItem}
+use Rattle.cts_defread.specs.Standing.{packet_in, item_in, item_at, items_from, items_of, packet_of, standing, set_names_of}
+use Rattle.cts_words.specs.declared.statement.Statement.{Statement}
+use Rattle.cts_words.specs.Blocks.{blocks}
+use Rattle.cts_words.specs.Refusals.{Refusal, or_else, first_refusal, IsRefusedFirst, NoneRefused}
+use Rattle.cts_words.proofs.Blocks.{heads}
+use Rattle.cts_words.proofs.Refused.{first_one_is_refused}
+
+-- ---- in order
+
+heads_of : (bs : List (PacketLine × List Line)) → map head_of (map packet_of bs) ≡ map (λ (b : PacketLine × List Line). b.0) bs
+heads_of [] = refl
+heads_of (b ∷ bs) = ap (λ hs. b.0 ∷ hs) (heads_of bs)
+
+pub one_for_each_head : OneForEachHead
+one_for_each_head lines = heads_of (blocks packet_in lines) ∙ heads packet_in lines
+
+names_of : (order : Order) (end : ℕ) (bs : List (ItemLine × List Line))
+    → map (λ (i : ItemData). i.name) (items_from order end bs) ≡ map (λ (i : ItemLine). i.name) (map (λ (b : ItemLine × List Line). b.0) bs)
+names_of order end [] = refl
+names_of order end (b ∷ bs) = ap (λ ns. b.0.name ∷ ns) (names_of order (max end (end_of (span_of (item_at order end b.0 b.1)))) bs)
+
+pub one_for_each_item : OneForEachItem
+one_for_each_item head body = names_of head.order 0 (blocks item_in body) ∙ ap (map (λ (i : ItemLine). i.name)) (heads item_in body)
+
+-- ---- the first refusal
+
+refused_to : (all : List Statement) (o : Option (Refusal DefCause)) (r : Refusal DefCause) → unless_refused all o ≡ Err r → o ≡ Some r
+refused_to all None r e = absurd cc
+refused_to all (Some s) r e = let same : s ≡ r = cc in ap Some same
+
+pick_first : (all : List Statement) (r : Refusal DefCause) → IsRefusedFirst refusal all r ⊎ (NoneRefused refusal all × (at_end all ≡ Some r)) → IsRefusedFirst refusal all r
+pick_first all r (inl w) = w
+pick_first all r (inr h) = absurd (let none : None ≡ Some r = h.1 in cc)
+
+pub refuses_the_first : RefusesTheFirst
+refuses_the_first all r =
+    let law = first_one_is_refused refusal at_end all (Some r) in (
+      λ e. pick_first all r (law.0 (refused_to all (first_refusal refusal at_end [] all) r e)),
+      λ w. ap (unless_refused all) (law.1 (inl w)),
+    )
+
+pub takes_the_others : TakesTheOthers
+takes_the_others all none = ap (unless_refused all) ((first_one_is_refused refusal at_end all None).1 (none, refl))
+
+-- ---- lines
+
+first_none : {R : Type 0} (o p : Option R) → or_else o p ≡ None → o ≡ None
+first_none None p e = refl
+first_none (Some r) p e = absurd cc
+
+known_says : (o : Open) (k : Option Keyword) (b : Bool) (words : List (List ℕ))
+    → (if b then Some ArrayItem else words_cause o k words) ≡ None → (l : Line) × (option_map (λ (j : Keyword). line_of j words) k ≡ Some l)
+known_says o (Some k) b words e = (line_of k words, refl)
+known_says o None true words e = absurd cc
+known_says o None false words e = absurd cc
+
+words_say : (o : Open) (words : List (List ℕ)) → word_cause o words ≡ None → (l : Line) × (line_in words ≡ Some l)
+words_say o [] e = absurd cc
+words_say o (word ∷ words) e = known_says o (keyword_of word) (is_array_keyword word) words e
+
+pub statements_say_lines : StatementsSayLines
+statements_say_lines before s e =
+    let o : Open = opened (standing (lines_of before)) in
+    words_say o s.words
+    (first_none (word_cause o s.words) (cause_of_line (standing (lines_of before)) (set_names_of (lines_of before)) (line_in s.words)) e)

@@ -1,0 +1,16 @@
+pub mod Clean
+pub mod Finished
+pub mod InOrder
+pub mod Keeping
+pub mod Kept
+pub mod KeptItem
+pub mod KeptPacket
+pub mod Lists
+pub mod Misplaced
+pub mod More
+pub mod Names
+pub mod PacketRules
+pub mod Rules
+pub mod Runs
+pub mod Sets
+pub mod Taken

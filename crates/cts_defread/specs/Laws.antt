@@ -1,0 +1,38 @@
+-- The definitions of statements, said of the whole.
+use Rattle.std.specs.Prelude.{◌≡◌, ◌↔◌, ℕ, List, map, Option, Some, None, Result, Ok, Err}
+use Rattle.std.specs.List.{filter_map}
+use Rattle.cts_def.specs.Items.{ItemData}
+use Rattle.cts_defline.specs.declared.cause.DefCause.{DefCause}
+use Rattle.cts_defline.specs.declared.line.ItemLine.{ItemLine}
+use Rattle.cts_defline.specs.declared.line.Line.{Line}
+use Rattle.cts_defline.specs.declared.line.PacketLine.{PacketLine}
+use Rattle.cts_defline.specs.Lines.{line_in}
+use Rattle.cts_defread.specs.declared.drafted.Drafted.{Drafted}
+use Rattle.cts_defread.specs.Definitions.{cause, refusal, lines_of, definitions_of}
+use Rattle.cts_defread.specs.Standing.{packet_in, item_in, items_of, standing, definitions_at}
+use Rattle.cts_words.specs.declared.statement.Statement.{Statement}
+use Rattle.cts_words.specs.Refusals.{Refusal, NoneRefused, IsRefusedFirst}
+
+-- Statements are refused exactly where one of them has a cause, and by the first of them.
+abbrev pub RefusesTheFirst : Type 0
+RefusesTheFirst = (all : List Statement) (r : Refusal DefCause) → (definitions_of all ≡ Err r) ↔ IsRefusedFirst refusal all r
+
+-- Where none has a cause, they define what their lines say.
+abbrev pub TakesTheOthers : Type 0
+TakesTheOthers = (all : List Statement) → NoneRefused refusal all → definitions_of all ≡ Ok (definitions_at (lines_of all))
+
+-- A statement without a cause says a line.
+abbrev pub StatementsSayLines : Type 0
+StatementsSayLines = (before : List Statement) (s : Statement) → cause before s ≡ None → (l : Line) × (line_in s.words ≡ Some l)
+
+-- the statement that opened a definition
+abbrev pub head_of : Drafted → PacketLine
+head_of d = record { kind = d.kind; target = d.packet.target; name = d.packet.name; order = d.order }
+
+abbrev pub OneForEachHead : Type 0
+OneForEachHead = (lines : List Line) → map head_of (standing lines) ≡ filter_map packet_in lines
+
+-- The items of a definition by the lines that belong to it.
+abbrev pub OneForEachItem : Type 0
+OneForEachItem = (head : PacketLine) (body : List Line)
+    → map (λ (i : ItemData). i.name) (items_of (head, body)) ≡ map (λ (i : ItemLine). i.name) (filter_map item_in body)

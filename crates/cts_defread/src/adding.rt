@@ -1,0 +1,185 @@
+// What one more statement adds to the draft.
+ghost use Rattle.std.specs.Prelude.{◌≡◌, ◌+◌, ◌≤◌, ◌++◌, ℕ, true, List as Items, None as NoCause, IfOk, OnOk};
+ghost use Rattle.std.specs.BTreeSet.{Updates};
+ghost use Rattle.std.specs.Cmp.Lexicographic.{slice_cmp};
+ghost use Rattle.std.specs.Ordering.{nat_cmp};
+ghost use Rattle.cts_base.specs.Known.{Knows, pair_cmp};
+ghost use Rattle.cts_defline.specs.declared.line.Line.TheVariants as line_;
+ghost use Rattle.cts_defread.specs.Causes.{place_cause};
+ghost use Rattle.cts_defread.specs.Drafts.{IsKept, state_name, set_name, taken_name, add_name};
+ghost use Rattle.cts_defread.specs.Sound.{IsSoundLine};
+ghost use Rattle.cts_defread.specs.Steps.{place, place_set};
+
+use crate::draft::Draft;
+use crate::items::{is_open_ended, is_to_the_end, new_item};
+use crate::packets::{change_last_item, made_hazardous, new_packet, with_item};
+use cts_base::{Bytes, Memory, Name};
+use cts_defline::{Detail, ItemLine, Line, PacketKind, PacketLine};
+use std::alloc::Global;
+use std::collections::BTreeSet;
+
+// ---- what is known beside the definitions
+
+fn know_packet(
+    known: &mut BTreeSet<(Name, Name)>,
+    count: &mut u32,
+    names: (Name, Name),
+) -> Result<(), Memory>
+    requires { count.old ≤ 4096 }
+    ensures known { OnOk result (Updates pair_cmp known.old known.new names true) }
+    ensures counted { OnOk result (count.new ≡ count.old + 1) }
+{
+    *count += 1;
+    known.insert(names)?;
+    Ok(())
+}
+
+fn state_name(detail: &Detail) -> Result<Option<Bytes>, Memory>
+    ensures { IfOk result (λ name. name ≡ state_name detail.now) }
+{
+    match detail {
+        Detail::State(state) => Ok(Some(state.name.clone()?)),
+        _ => Ok(None),
+    }
+}
+
+fn set_name(detail: &Detail) -> Result<Option<Name>, Memory>
+    ensures { IfOk result (λ name. name ≡ set_name detail.now) }
+{
+    match detail {
+        Detail::Limits(line) => Ok(Some(line.set.clone()?)),
+        _ => Ok(None),
+    }
+}
+
+// Knows the name of a state that an item has taken.
+fn know_state(states: &mut BTreeSet<Bytes>, taken: bool, name: Option<Bytes>) -> Result<(), Memory>
+    ensures { OnOk result ((names : Items (Items ℕ)) → Knows (slice_cmp nat_cmp) states.old names → Knows (slice_cmp nat_cmp) states.new (names ++ taken_name taken name)) }
+{
+    let Some(name) = name else {
+        return Ok(());
+    };
+    if taken {
+        states.insert(name)?;
+    }
+    Ok(())
+}
+
+// Puts a limits set behind the others, unless it is one of them.
+fn know_set(
+    sets: &mut BTreeSet<Name>,
+    names: &mut Vec<Name>,
+    name: Option<Name>,
+) -> Result<(), Memory>
+    requires { Knows (slice_cmp nat_cmp) sets.old names.old.items }
+    ensures known { OnOk result (Knows (slice_cmp nat_cmp) sets.new names.new.items) }
+    ensures added { OnOk result (names.new.items ≡ add_name name names.old.items) }
+{
+    let Some(name) = name else {
+        return Ok(());
+    };
+    let again = name.clone()?;
+    if sets.insert(name)? {
+        names.push(again)?;
+    }
+    Ok(())
+}
+
+// ---- the draft
+
+impl Draft {
+    fn add_packet(&mut self, alloc: Global, head: PacketLine) -> Result<(), Memory>
+        requires kept { IsKept self.old }
+        requires clean { place_cause self.old.packets.items self.old.set_names.items (line_.Packet head) ≡ NoCause }
+        ensures placed { OnOk result (self.new.packets.items ≡ place (line_.Packet head) self.old.packets.items) }
+        ensures set_names { OnOk result (self.new.set_names.items ≡ self.old.set_names.items) }
+        ensures kept { OnOk result (IsKept self.new) }
+    {
+        let kind = head.kind;
+        let names = (head.target.clone()?, head.name.clone()?);
+        self.packets.push(new_packet(alloc, head))?;
+        self.items.clear();
+        self.states.clear();
+        self.end = 0;
+        self.is_ended = false;
+        self.is_filled = false;
+        match kind {
+            PacketKind::Telemetry => know_packet(
+                &mut self.telemetry,
+                &mut self.telemetry_count,
+                names,
+            ),
+            PacketKind::Command => know_packet(&mut self.commands, &mut self.command_count, names),
+        }
+    }
+
+    fn add_item(&mut self, alloc: Global, head: ItemLine) -> Result<(), Memory>
+        requires kept { IsKept self.old }
+        requires clean { place_cause self.old.packets.items self.old.set_names.items (line_.Item head) ≡ NoCause }
+        ensures placed { OnOk result (self.new.packets.items ≡ place (line_.Item head) self.old.packets.items) }
+        ensures set_names { OnOk result (self.new.set_names.items ≡ self.old.set_names.items) }
+        ensures kept { OnOk result (IsKept self.new) }
+    {
+        let Some(drafted) = self.packets.pop() else {
+            return Ok(());
+        };
+        let name = head.name.clone()?;
+        let item = new_item(alloc, drafted.order, self.end, head);
+        let end = item.span().end();
+        let is_open_ended = is_open_ended(&item);
+        let is_to_the_end = is_to_the_end(&item);
+        self.packets.push(with_item(drafted, item)?)?;
+        self.items.insert(name)?;
+        self.states.clear();
+        self.item_count += 1;
+        self.end = self.end.max(end);
+        self.is_ended = self.is_ended || is_open_ended;
+        self.is_filled = self.is_filled || is_to_the_end;
+        Ok(())
+    }
+
+    fn add_detail(&mut self, alloc: Global, detail: Detail) -> Result<(), Memory>
+        requires kept { IsKept self.old }
+        requires clean { place_cause self.old.packets.items self.old.set_names.items (line_.Detail detail) ≡ NoCause }
+        requires sound { IsSoundLine (line_.Detail detail) }
+        ensures placed { OnOk result (self.new.packets.items ≡ place (line_.Detail detail) self.old.packets.items) }
+        ensures set_names { OnOk result (self.new.set_names.items ≡ place_set (line_.Detail detail) self.old.set_names.items) }
+        ensures kept { OnOk result (IsKept self.new) }
+    {
+        let state = state_name(&detail)?;
+        let set = set_name(&detail)?;
+        let taken = change_last_item(alloc, &mut self.packets, detail)?;
+        know_state(&mut self.states, taken, state)?;
+        know_set(&mut self.sets, &mut self.set_names, set)
+    }
+
+    fn make_hazardous(&mut self) -> Result<(), Memory>
+        requires kept { IsKept self.old }
+        ensures placed { OnOk result (self.new.packets.items ≡ place line_.Hazardous self.old.packets.items) }
+        ensures set_names { OnOk result (self.new.set_names.items ≡ self.old.set_names.items) }
+        ensures kept { OnOk result (IsKept self.new) }
+    {
+        if let Some(drafted) = self.packets.pop() {
+            self.packets.push(made_hazardous(drafted))?;
+        }
+        Ok(())
+    }
+
+    /// Adds what a statement without a cause says. Where no memory was found, the draft is of no more use.
+    pub(crate) fn add(&mut self, alloc: Global, line: Line) -> Result<(), Memory>
+        requires kept { IsKept self.old }
+        requires clean { place_cause self.old.packets.items self.old.set_names.items line ≡ NoCause }
+        requires sound { IsSoundLine line }
+        ensures placed { OnOk result (self.new.packets.items ≡ place line self.old.packets.items) }
+        ensures set_names { OnOk result (self.new.set_names.items ≡ place_set line self.old.set_names.items) }
+        ensures kept { OnOk result (IsKept self.new) }
+    {
+        match line {
+            Line::Packet(head) => self.add_packet(alloc, head),
+            Line::Item(head) => self.add_item(alloc, head),
+            Line::Detail(detail) => self.add_detail(alloc, detail),
+            Line::Hazardous => self.make_hazardous(),
+            Line::NoEffect => Ok(()),
+        }
+    }
+}

@@ -1,0 +1,17 @@
+// What holds of the definitions that the contract cites.
+ghost use Rattle.cts_defread.specs.Laws.{RefusesTheFirst, TakesTheOthers, StatementsSayLines, OneForEachHead, OneForEachItem};
+
+/// Statements are refused at the first one with a cause behind those before it, by its first cause. Where there is none,
+/// each statement says one line.
+pub fn first_statement_is_refused()
+    ensures refused { RefusesTheFirst }
+    ensures taken { TakesTheOthers }
+    ensures lines { StatementsSayLines }
+{}
+
+/// There is one definition for each statement that opens one, and one item in it for each statement that adds one to it, in
+/// their order.
+pub fn definitions_are_in_order()
+    ensures packets { OneForEachHead }
+    ensures items { OneForEachItem }
+{}

@@ -1,0 +1,124 @@
+// Definitions as their statements give them: a new one, and what further statements change of one.
+ghost use Rattle.std.specs.Prelude.{◌≡◌, ◌||◌, ◌++◌, ◌∷◌, [], max, length, nat_le, false, is_some, IfOk, OnOk};
+ghost use Rattle.cts_def.specs.Items.{is_same, span_of};
+ghost use Rattle.cts_def.specs.Packets.{received_count, unknown};
+ghost use Rattle.cts_def.specs.Spans.{bytes_needed, is_variable};
+ghost use Rattle.cts_defread.specs.Causes.{has_item, open_item};
+ghost use Rattle.cts_defread.specs.Sound.{FitsLast};
+ghost use Rattle.cts_defread.specs.Steps.{add_detail, change_item, make_hazardous, new_packet, with_items};
+ghost use Rattle.cts_words.specs.Blocks.{last_of, on_last};
+
+use crate::drafted::Drafted;
+use crate::items::change_item;
+use cts_base::{List, Memory};
+use cts_def::{Item, Packet};
+use cts_defline::{Detail, PacketLine};
+use std::alloc::Global;
+
+/// The definition that a statement opens.
+pub(crate) fn new_packet(alloc: Global, head: PacketLine) -> Drafted
+    requires { is_same head.target unknown ≡ false }
+    ensures { result ≡ new_packet head }
+{
+    Drafted {
+        kind: head.kind,
+        order: head.order,
+        packet: Packet {
+            target: head.target,
+            name: head.name,
+            items: List::new(alloc),
+            length: 0,
+            variable: false,
+            hazardous: false,
+        },
+    }
+}
+
+fn push_item(mut packet: Packet, item: Item) -> Result<Packet, Memory>
+    requires few { nat_le 4096 (length packet.items) ≡ false }
+    requires other { is_same item.name received_count ≡ false }
+    requires single { has_item packet.items item.name ≡ false }
+    ensures { IfOk result (λ p. p ≡ record packet { items = packet.items ++ item ∷ []; length = max packet.length (bytes_needed (span_of item)); variable = packet.variable || is_variable (span_of item) }) }
+{
+    let span = item.span();
+    packet.length = packet.length.max(span.bytes_needed());
+    packet.variable = packet.variable || span.is_variable();
+    packet.items.push(item)?;
+    Ok(packet)
+}
+
+/// The definition with one more item.
+pub(crate) fn with_item(drafted: Drafted, item: Item) -> Result<Drafted, Memory>
+    requires few { nat_le 4096 (length drafted.packet.items) ≡ false }
+    requires other { is_same item.name received_count ≡ false }
+    requires single { has_item drafted.packet.items item.name ≡ false }
+    ensures { IfOk result (λ d. d ≡ with_items drafted (drafted.packet.items ++ item ∷ []) (max drafted.packet.length (bytes_needed (span_of item))) (drafted.packet.variable || is_variable (span_of item))) }
+{
+    Ok(Drafted {
+        kind: drafted.kind,
+        order: drafted.order,
+        packet: push_item(drafted.packet, item)?,
+    })
+}
+
+// Changes the last item, and answers whether there is one.
+fn change_last(alloc: Global, items: &mut List<Item>, detail: Detail) -> Result<bool, Memory>
+    requires { FitsLast (last_of items.old) detail }
+    ensures changed { OnOk result (items.new ≡ on_last (change_item detail) items.old) }
+    ensures taken { IfOk result (λ taken. taken ≡ is_some (last_of items.old)) }
+{
+    let Some(item) = items.pop() else {
+        return Ok(false);
+    };
+    items.push(change_item(alloc, item, detail)?)?;
+    Ok(true)
+}
+
+// Changes the last item of a packet, and answers whether there is one.
+fn change_packet(
+    alloc: Global,
+    mut packet: Packet,
+    detail: Detail,
+) -> Result<(Packet, bool), Memory>
+    requires { FitsLast (last_of packet.items) detail }
+    ensures changed { IfOk result (λ r. r.0 ≡ record packet { items = on_last (change_item detail) packet.items }) }
+    ensures taken { IfOk result (λ r. r.1 ≡ is_some (last_of packet.items)) }
+{
+    let taken = change_last(alloc, &mut packet.items, detail)?;
+    Ok((packet, taken))
+}
+
+/// Changes the last item of the last definition, and answers whether there is one.
+pub(crate) fn change_last_item(
+    alloc: Global,
+    packets: &mut Vec<Drafted>,
+    detail: Detail,
+) -> Result<bool, Memory>
+    requires { FitsLast (open_item packets.old.items) detail }
+    ensures changed { OnOk result (packets.new.items ≡ on_last (add_detail detail) packets.old.items) }
+    ensures taken { IfOk result (λ taken. taken ≡ is_some (open_item packets.old.items)) }
+{
+    let Some(drafted) = packets.pop() else {
+        return Ok(false);
+    };
+    let (packet, taken) = change_packet(alloc, drafted.packet, detail)?;
+    packets.push(Drafted {
+        kind: drafted.kind,
+        order: drafted.order,
+        packet,
+    })?;
+    Ok(taken)
+}
+
+/// The definition, hazardous as a whole.
+pub(crate) fn made_hazardous(drafted: Drafted) -> Drafted
+    ensures { result ≡ make_hazardous drafted }
+{
+    let mut packet = drafted.packet;
+    packet.hazardous = true;
+    Drafted {
+        kind: drafted.kind,
+        order: drafted.order,
+        packet,
+    }
+}
