@@ -1,5 +1,5 @@
 // The connection of one interface.
-ghost use Rattle.std.specs.Prelude.{◌≡◌, ◌++◌, true, [], vec_len, length, ◌<◌, ◌^◌, IfOk};
+ghost use Rattle.std.specs.Prelude.{◌≡◌, true, [], replicate, IfOk};
 
 use cts_base::Memory;
 use std::alloc::Global;
@@ -14,7 +14,6 @@ pub struct Connection {
 }
 
 impl Connection {
-    ghost use Rattle.std.specs.Prelude.{replicate, length};
     ghost use Rattle.cts_serve.specs.Worlds.{line_in, lines_in, shut};
 
     /// The connections of so many interfaces, of which none stands.
