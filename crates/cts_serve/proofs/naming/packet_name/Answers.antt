@@ -6,13 +6,13 @@ use Rattle.cts_serve.proofs.naming.packet_name.Goals as goal
 pub returns-in-Some-clause-target : goal.returns-in-Some-clause-target
 returns-in-Some-clause-target c =
     let found = c.in-Some.ensures.lookup in
-    c.as_slice.ensures ∙ (ap (λ (p : PacketData). p.target) c.packet.view_is
+    c.as_slice.ensures.value ∙ (ap (λ (p : PacketData). p.target) c.packet.view_is
     ∙ ap (λ (names : List ℕ × List ℕ). names.0) (packet_named c.args.packets.now c.args.number c.in-Some.packet.now found.3.0 found.1))
 
 pub returns-in-Some-clause-name : goal.returns-in-Some-clause-name
 returns-in-Some-clause-name c =
     let found = c.in-Some.ensures.lookup in
-    c.as_slice-in-Some.ensures ∙ (ap (λ (p : PacketData). p.name) c.packet.view_is
+    c.as_slice-in-Some.ensures.value ∙ (ap (λ (p : PacketData). p.name) c.packet.view_is
     ∙ ap (λ (names : List ℕ × List ℕ). names.1) (packet_named c.args.packets.now c.args.number c.in-Some.packet.now found.3.0 found.1))
 
 pub returns-in-None-clause-target : goal.returns-in-None-clause-target
