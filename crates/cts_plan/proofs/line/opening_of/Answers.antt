@@ -2,9 +2,9 @@ use Rattle.std.proofs.Common.{refl, sym, subst, arith, nat_eq}
 use Rattle.std.specs.List.{IsDistinct}
 use Rattle.cts_plan.proofs.line.opening_of.Goals as goal
 
-pub invariant_of-result : goal.invariant_of-result
+pub invariant_of-result-2 : goal.invariant_of-result-2
 unfolding IsDistinct
-invariant_of-result c = record {
+invariant_of-result-2 c = record {
   port = c.port_or_one.ensures.some;
   delay = refl;
   few = let few = c.in_ok-steps_of.ensures.few in omega arith;
