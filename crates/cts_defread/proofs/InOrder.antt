@@ -1,7 +1,6 @@
 -- One definition and one item for each statement that says so, and the first refusal.
-use Rattle.std.proofs.Common.{◌≡◌, ◌↔◌, ◌⊎◌, ℕ, max, List, [], ◌∷◌, map, Option, Some, None, Result, Ok, Err, refl, sym, ap, ◌∙◌, inl, inr, true, false, Bool}
+use Rattle.std.proofs.Common.{◌≡◌, ◌⊎◌, ℕ, max, List, [], ◌∷◌, map, Option, Some, None, Err, refl, ap, ◌∙◌, inl, inr, true, false, Bool}
 use Rattle.std.specs.Prelude.{option_map, if◌then◌else◌}
-use Rattle.std.specs.List.{filter_map, find}
 use Rattle.cts_bits.specs.declared.order.Order.{Order}
 use Rattle.cts_def.specs.Items.{ItemData, span_of}
 use Rattle.cts_def.specs.Spans.{end_of}
@@ -15,11 +14,10 @@ use Rattle.cts_defline.specs.Forms.{keyword_of, is_array_keyword}
 use Rattle.cts_defline.specs.Lines.{line_in, line_of}
 use Rattle.cts_defline.specs.declared.cause.DefCause.TheVariants.{ArrayItem}
 use Rattle.cts_defline.specs.Refusals.{word_cause, cause_of as words_cause}
-use Rattle.cts_defread.specs.declared.drafted.Drafted.{Drafted}
 use Rattle.cts_defread.specs.Causes.{opened}
-use Rattle.cts_defread.specs.Definitions.{cause, refusal, at_end, lines_of, definitions_of, unless_refused, cause_of_line}
+use Rattle.cts_defread.specs.Definitions.{refusal, at_end, lines_of, unless_refused, cause_of_line}
 use Rattle.cts_defread.specs.Laws.{RefusesTheFirst, TakesTheOthers, StatementsSayLines, head_of, OneForEachHead, OneForEachItem}
-use Rattle.cts_defread.specs.Standing.{packet_in, item_in, item_at, items_from, items_of, packet_of, standing, set_names_of}
+use Rattle.cts_defread.specs.Standing.{packet_in, item_in, item_at, items_from, packet_of, standing, set_names_of}
 use Rattle.cts_words.specs.declared.statement.Statement.{Statement}
 use Rattle.cts_words.specs.Blocks.{blocks}
 use Rattle.cts_words.specs.Refusals.{Refusal, or_else, first_refusal, IsRefusedFirst, NoneRefused}

@@ -1,10 +1,10 @@
 -- What the draft keeps is what a search would find.
-use Rattle.std.proofs.Common.{◌≡◌, ℕ, Bool, true, false, ◌&&◌, ◌||◌, List, [], ◌∷◌, map, Option, Some, None, refl, sym, ap, ◌∙◌, nat_eq}
+use Rattle.std.proofs.Common.{◌≡◌, ℕ, Bool, true, false, ◌&&◌, ◌||◌, List, [], ◌∷◌, map, Option, Some, None, refl, ap, ◌∙◌}
 use Rattle.std.specs.BTreeSet.{contains}
-use Rattle.std.specs.Cmp.Lexicographic.{slice_cmp, pointwise}
+use Rattle.std.specs.Cmp.Lexicographic.{slice_cmp}
 use Rattle.std.specs.List.{list_any, filter}
 use Rattle.std.specs.Ordering.{nat_cmp}
-use Rattle.cts_base.specs.Known.{Knows, pair_cmp, is_known}
+use Rattle.cts_base.specs.Known.{pair_cmp}
 use Rattle.cts_base.proofs.Known.{known_bytes, known_pairs}
 use Rattle.cts_def.specs.declared.state_def.StateDef.{StateDef}
 use Rattle.cts_def.specs.Items.{ItemData, is_same}

@@ -1,5 +1,5 @@
 -- What the draft keeps beside the definitions stays what would be found.
-use Rattle.std.proofs.Common.{◌≡◌, ℕ, ◌+◌, ◌≤◌, max, Bool, true, false, cond, ◌||◌, List, [], ◌∷◌, ◌++◌, map, length, Option, Some, None, refl, sym, ap, ◌∙◌, subst, arith}
+use Rattle.std.proofs.Common.{◌≡◌, ℕ, ◌≤◌, max, Bool, true, false, cond, List, [], ◌∷◌, ◌++◌, map, length, Option, Some, None, refl, sym, ap, ◌∙◌, subst, arith}
 use Rattle.std.specs.Prelude.{pos, not, ◌&&◌, nat_le, int_le, is_some, option_map}
 use Rattle.std.specs.Int.{is_negative}
 use Rattle.std.specs.BTreeSet.{BTreeSet, IsEmpty}
@@ -20,17 +20,16 @@ use Rattle.cts_def.specs.Spans.{end_of}
 use Rattle.cts_defline.specs.declared.details.Detail.{Detail}
 use Rattle.cts_defline.specs.declared.details.Detail.TheVariants as detail
 use Rattle.cts_defline.specs.declared.line.Line.TheVariants as line
-use Rattle.cts_defline.specs.declared.open.PacketKind.{PacketKind}
 use Rattle.cts_defline.specs.declared.open.PacketKind.TheVariants.{Telemetry, Command}
 use Rattle.cts_defread.specs.declared.draft.Draft.{Draft}
 use Rattle.cts_defread.specs.declared.drafted.Drafted.{Drafted}
 use Rattle.cts_defread.specs.Causes.{items_in, open_items, open_item, open_end, is_open_ended, is_to_the_end, count_items, is_too_many, place_cause}
 use Rattle.cts_defread.specs.Drafts.{IsKept, names_of, item_names, state_names, state_name, taken_name}
 use Rattle.cts_defread.specs.Sound.{AreSound}
-use Rattle.cts_defread.specs.Standing.{end_from, are_same_kind, packets_of}
+use Rattle.cts_defread.specs.Standing.{end_from, packets_of}
 use Rattle.cts_defread.specs.Steps.{change_item, add_detail, make_hazardous, place_set}
 use Rattle.cts_defread.proofs.Clean.{clean}
-use Rattle.cts_defread.proofs.Lists.{on_last_same, map_on_last, any_on_last, all_same_on_last, last_on_last, length_on_last}
+use Rattle.cts_defread.proofs.Lists.{map_on_last, any_on_last, all_same_on_last, last_on_last, length_on_last}
 use Rattle.cts_defread.proofs.More.{same_name, same_span}
 use Rattle.cts_defread.proofs.Names.{names_on_last, same_count, distinct_kept, commands_on_last, count_on_last}
 use Rattle.cts_words.specs.Blocks.{last_of, on_last}

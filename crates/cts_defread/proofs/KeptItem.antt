@@ -1,18 +1,16 @@
 -- One more item keeps its own rules, and what the draft keeps.
-use Rattle.std.proofs.Common.{◌≡◌, ℕ, ℤ, ◌+◌, ◌≤◌, ◌<◌, max, Bool, true, false, not, ◌||◌, ◌&&◌, ◌==◌, List, [], ◌∷◌, ◌++◌, map, length, Option, Some, None, refl, sym, ap, ◌∙◌, subst, arith}
-use Rattle.std.specs.Prelude.{pos, nat_le, nat_lt, int_le, is_some, is_none, unwrap_or, unsigned_abs}
+use Rattle.std.proofs.Common.{◌≡◌, ℕ, ℤ, ◌+◌, ◌≤◌, ◌<◌, max, Bool, true, false, not, ◌||◌, ◌&&◌, List, [], ◌∷◌, ◌++◌, length, Option, Some, None, refl, sym, ap, ◌∙◌, subst, arith}
+use Rattle.std.specs.Prelude.{nat_le, nat_lt, is_some, is_none, unsigned_abs}
 use Rattle.std.specs.BTreeSet.{BTreeSet, IsEmpty}
-use Rattle.std.specs.Bool.{IsTrue}
 use Rattle.std.specs.Cmp.Lexicographic.{slice_cmp}
 use Rattle.std.specs.Int.{is_negative}
 use Rattle.std.specs.List.{list_any, list_all, IsDistinct}
-use Rattle.std.specs.Ordering.{nat_cmp, int_eq}
+use Rattle.std.specs.Ordering.{nat_cmp}
 use Rattle.std.proofs.lemmas.Bool.{leb-false, ltb-false}
 use Rattle.std.proofs.lemmas.List.{map-append, length-append}
 use Rattle.cts_base.specs.Known.{Knows, pair_cmp}
 use Rattle.cts_base.proofs.Known.{knows_none}
 use Rattle.cts_bits.specs.declared.order.Order.{Order}
-use Rattle.cts_bits.specs.declared.order.Order.TheVariants.{Big}
 use Rattle.cts_def.specs.declared.item_kind.ItemKind.{ItemKind}
 use Rattle.cts_def.specs.declared.item_kind.Preset.{Preset}
 use Rattle.cts_def.specs.declared.item_kind.Preset.TheVariants.{Whole, Raw}
@@ -26,7 +24,7 @@ use Rattle.cts_defline.specs.declared.open.PacketKind.TheVariants.{Telemetry, Co
 use Rattle.cts_defline.specs.Numbers.{is_size}
 use Rattle.cts_defread.specs.declared.draft.Draft.{Draft}
 use Rattle.cts_defread.specs.declared.drafted.Drafted.{Drafted}
-use Rattle.cts_defread.specs.Causes.{items_in, open_items, open_item, open_end, order_in, span_in, is_open_ended, is_to_the_end, is_command_in, is_bad_in_command, is_unfit_id, is_unfit_preset, fits, has_item, count_items}
+use Rattle.cts_defread.specs.Causes.{items_in, open_items, open_end, order_in, span_in, is_open_ended, is_to_the_end, is_command_in, is_bad_in_command, is_unfit_id, is_unfit_preset, fits, has_item, count_items}
 use Rattle.cts_defread.specs.Drafts.{IsKept, names_of, item_names, state_names}
 use Rattle.cts_defread.specs.Sound.{AreSound}
 use Rattle.cts_defread.specs.Standing.{item_at, end_from, offset_or, preset_or, are_same_kind, packets_of}

@@ -1,13 +1,12 @@
 -- One more line changes what stands by one step.
-use Rattle.std.proofs.Common.{◌≡◌, ℕ, ◌+◌, max, Bool, true, false, not, cond, ◌||◌, List, [], ◌∷◌, ◌++◌, map, length, Option, Some, None, refl, sym, ap, ◌∙◌}
+use Rattle.std.proofs.Common.{◌≡◌, ℕ, max, Bool, true, cond, ◌||◌, List, [], ◌∷◌, ◌++◌, map, length, Option, Some, None, refl, ap, ◌∙◌}
 use Rattle.std.proofs.lemmas.List.{append-nil, map-append}
 use Rattle.std.proofs.lemmas.List.Elements.{filter_map-append}
-use Rattle.std.specs.List.{filter_map, list_any}
+use Rattle.std.specs.List.{list_any}
 use Rattle.cts_base.proofs.Known.{any_snoc}
 use Rattle.cts_base.specs.declared.decimal.Decimal.{Decimal}
 use Rattle.cts_bits.specs.declared.order.Order.{Order}
 use Rattle.cts_def.specs.declared.conversion.Segment.{Segment}
-use Rattle.cts_def.specs.declared.span.Span.{Span}
 use Rattle.cts_def.specs.Items.{ItemData, span_of}
 use Rattle.cts_def.specs.Packets.{greatest, length_of, are_variable}
 use Rattle.cts_def.specs.Spans.{end_of, bytes_needed, is_variable}
@@ -20,9 +19,9 @@ use Rattle.cts_defline.specs.declared.line.Line.TheVariants as line
 use Rattle.cts_defline.specs.declared.line.PacketLine.{PacketLine}
 use Rattle.cts_defread.specs.declared.drafted.Drafted.{Drafted}
 use Rattle.cts_defread.specs.Standing.{packet_in, item_in, set_limits, conversion_from, limits_from, item_at, end_from, items_from, items_of, packet_of, is_hazardous, standing}
-use Rattle.cts_defread.specs.Steps.{add_segment, add_limits, change_item, add_item, add_detail, make_hazardous, new_item, place}
+use Rattle.cts_defread.specs.Steps.{add_segment, add_limits, change_item, add_item, add_detail, make_hazardous, place}
 use Rattle.cts_defread.proofs.Lists.{on_last_same, map_on_last, any_on_last, any_more, greatest_more}
-use Rattle.cts_words.specs.Blocks.{blocks, last_of, on_last, with_line}
+use Rattle.cts_words.specs.Blocks.{blocks, on_last, with_line}
 use Rattle.cts_words.proofs.Blocks.{blocks-more, blocks-joined, last_snoc}
 
 -- ---- one more detail of an item

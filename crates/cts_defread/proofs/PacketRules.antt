@@ -1,5 +1,5 @@
 -- One more item, and details of the last one, keep the rules of a packet.
-use Rattle.std.proofs.Common.{◌≡◌, ℕ, ◌≤◌, max, Bool, true, false, ◌||◌, List, [], ◌∷◌, ◌++◌, map, length, Option, Some, None, refl, sym, ap, ◌∙◌, subst, arith}
+use Rattle.std.proofs.Common.{◌≡◌, ℕ, ◌≤◌, max, Bool, true, false, ◌||◌, List, [], ◌∷◌, ◌++◌, map, length, Option, refl, sym, ap, ◌∙◌, subst, arith}
 use Rattle.std.specs.Prelude.{is_some, nat_le}
 use Rattle.std.specs.List.{list_any, IsDistinct}
 use Rattle.std.proofs.lemmas.Bool.{or_from, leb-false}
@@ -7,7 +7,7 @@ use Rattle.std.proofs.lemmas.Cmp.{nat_list_eq_equiv}
 use Rattle.std.proofs.lemmas.List.{map-append, length-append}
 use Rattle.std.proofs.lemmas.Map.Keys.{IsDistinct-push}
 use Rattle.cts_def.specs.Items.{ItemData, is_same, span_of}
-use Rattle.cts_def.specs.Packets.{PacketData, IsSoundPacket, received_count, unknown, length_of, are_variable}
+use Rattle.cts_def.specs.Packets.{PacketData, IsSoundPacket, received_count, unknown}
 use Rattle.cts_def.specs.Spans.{bytes_needed, is_variable}
 use Rattle.cts_defline.specs.declared.details.Detail.{Detail}
 use Rattle.cts_defread.specs.declared.drafted.Drafted.{Drafted}

@@ -1,7 +1,6 @@
 -- Details that fit an item keep its rules.
 use Rattle.std.proofs.Common.{◌≡◌, ℕ, ◌≤◌, Bool, true, false, not, ◌||◌, ◌&&◌, ◌==◌, List, [], ◌∷◌, ◌++◌, map, length, Option, Some, None, refl, sym, ap, ◌∙◌, subst, arith}
-use Rattle.std.specs.Prelude.{codes, is_some, nat_le, unsigned_abs}
-use Rattle.std.specs.Bool.{IsTrue}
+use Rattle.std.specs.Prelude.{codes, is_some, unsigned_abs}
 use Rattle.std.specs.List.{list_any, list_all, IsDistinct}
 use Rattle.std.proofs.lemmas.Bool.{or_parts, or_from, leb-false}
 use Rattle.std.proofs.lemmas.Cmp.{nat_list_eq_equiv}
@@ -15,12 +14,12 @@ use Rattle.cts_def.specs.declared.limits.Limits.{Limits}
 use Rattle.cts_def.specs.declared.limits_setup.LimitsSetup.{LimitsSetup}
 use Rattle.cts_def.specs.declared.state_def.StateDef.{StateDef}
 use Rattle.cts_def.specs.Formats.{is_format}
-use Rattle.cts_def.specs.Items.{ItemData, IsSoundItem, AreSoundLimits, HasSoundLimits, may_have_limits, begins_with_default, are_in_order, is_sound_conversion, is_too_large, has_color, is_same}
+use Rattle.cts_def.specs.Items.{ItemData, IsSoundItem, HasSoundLimits, may_have_limits, begins_with_default, are_in_order, is_sound_conversion, is_too_large, has_color, is_same}
 use Rattle.cts_def.specs.Spans.{is_number}
 use Rattle.cts_defline.specs.declared.details.Detail.{Detail}
 use Rattle.cts_defline.specs.declared.details.Detail.TheVariants as detail
 use Rattle.cts_defline.specs.declared.details.LimitsLine.{LimitsLine}
-use Rattle.cts_defread.specs.Causes.{is_text, has_limits, has_state_colors, has_no_limits, has_state, sets_in, is_segmented, is_poly}
+use Rattle.cts_defread.specs.Causes.{is_text, has_limits, has_state_colors, has_no_limits, sets_in, is_segmented, is_poly}
 use Rattle.cts_defread.specs.Sound.{Fits}
 use Rattle.cts_defread.specs.Standing.{set_limits}
 use Rattle.cts_defread.specs.Steps.{add_limits, add_segment, change_item}

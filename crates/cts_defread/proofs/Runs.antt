@@ -1,19 +1,16 @@
 -- Statements read one by one are refused, or define, as the definition says.
-use Rattle.std.proofs.Common.{◌≡◌, ℕ, ℤ, pos, negsuc, ◌+◌, ◌<◌, ◌≤◌, Bool, true, false, List, [], ◌∷◌, ◌++◌, length, get_or, take, drop, Option, Some, None, Result, Ok, Err, refl, sym, ap, ◌∙◌, subst, add-one, arith}
-use Rattle.std.specs.Prelude.{option_map, unwrap_or, unsigned_abs, if◌then◌else◌}
-use Rattle.std.specs.List.{filter_map}
+use Rattle.std.proofs.Common.{◌≡◌, ℕ, ℤ, pos, negsuc, ◌+◌, ◌<◌, ◌≤◌, List, [], ◌∷◌, ◌++◌, length, get_or, take, drop, Option, Some, None, Ok, Err, refl, sym, ap, ◌∙◌, subst, add-one, arith}
+use Rattle.std.specs.Prelude.{option_map, unwrap_or}
 use Rattle.std.proofs.lemmas.Bool.Decides.{nat_tests}
 use Rattle.std.proofs.lemmas.List.Elements.{filter_map-append}
 use Rattle.std.proofs.lemmas.List.{take_more}
 use Rattle.std.proofs.Math.Seq.{drop-cons}
-use Rattle.cts_def.specs.Packets.{DefinitionsData}
-use Rattle.cts_defline.specs.declared.cause.DefCause.{DefCause}
 use Rattle.cts_defline.specs.declared.keyword.Keyword.{Keyword}
 use Rattle.cts_defline.specs.declared.keyword.Keyword.TheVariants as keyword
 use Rattle.cts_defline.specs.declared.line.Line.{Line}
 use Rattle.cts_defline.specs.Forms.{word_at, keyword_of}
 use Rattle.cts_defline.specs.Lines.{line_in, line_of}
-use Rattle.cts_defline.specs.Numbers.{count_in, persistence}
+use Rattle.cts_defline.specs.Numbers.{count_in}
 use Rattle.cts_base.specs.Wholes.{whole_of}
 use Rattle.cts_words.specs.declared.statement.Statement.{Statement}
 use Rattle.cts_words.proofs.Refused as refused
@@ -22,11 +19,10 @@ use Rattle.cts_defread.specs.declared.draft.Draft.{Draft}
 use Rattle.cts_defread.specs.declared.drafted.Drafted.{Drafted}
 use Rattle.cts_defread.specs.declared.fault.DefFault.{DefFault}
 use Rattle.cts_defread.specs.declared.fault.DefFault.TheVariants as fault
-use Rattle.cts_defread.specs.Causes.{place_cause}
 use Rattle.cts_defread.specs.Definitions.{cause_of, lines_of, cause, at_line, at_end, refusal, unless_refused, definitions_of}
 use Rattle.cts_defread.specs.Drafts.{IsKept}
 use Rattle.cts_defread.specs.Sound.{IsSoundLine}
-use Rattle.cts_defread.specs.Standing.{standing, set_names_of, definitions_in, definitions_at}
+use Rattle.cts_defread.specs.Standing.{standing, set_names_of, definitions_in}
 use Rattle.cts_defread.specs.Steps.{place, place_set, Fails, Judged}
 use Rattle.cts_defread.proofs.More.{standing-more}
 use Rattle.cts_defread.proofs.Sets.{set_names-more}

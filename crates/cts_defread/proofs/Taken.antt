@@ -1,5 +1,5 @@
 -- What sets of names know after one more name.
-use Rattle.std.proofs.Common.{◌≡◌, ℕ, Bool, true, false, not, cond, List, [], ◌∷◌, ◌++◌, Option, Some, None, Result, Ok, Err, OnOk, refl, sym, ap, ◌∙◌, subst}
+use Rattle.std.proofs.Common.{◌≡◌, ℕ, Bool, true, false, not, cond, List, [], ◌∷◌, ◌++◌, Option, Some, Result, Ok, Err, OnOk, refl, sym, ap, ◌∙◌, subst}
 use Rattle.std.specs.BTreeSet.{BTreeSet, Updates, contains}
 use Rattle.std.specs.Cmp.Lexicographic.{slice_cmp}
 use Rattle.std.specs.List.{list_any}
@@ -12,7 +12,7 @@ use Rattle.cts_defline.specs.declared.details.Detail.{Detail}
 use Rattle.cts_defline.specs.declared.details.Detail.TheVariants as detail
 use Rattle.cts_defline.specs.declared.line.Line.TheVariants as line
 use Rattle.cts_defread.specs.Drafts.{taken_name, add_name, set_name}
-use Rattle.cts_defread.specs.Steps.{add_set, place_set}
+use Rattle.cts_defread.specs.Steps.{place_set}
 
 pub state_known : (old new : BTreeSet (List ℕ)) (taken : Bool) (o : Option (List ℕ)) (name : List ℕ) → taken ≡ true → o ≡ Some name → Updates (slice_cmp nat_cmp) old new name true
     → (names : List (List ℕ)) → Knows (slice_cmp nat_cmp) old names → Knows (slice_cmp nat_cmp) new (names ++ taken_name taken o)

@@ -1,5 +1,5 @@
 -- Each cause that lies in what stands: judged by the definitions and limits sets before a statement, and by its line.
-use Rattle.std.specs.Prelude.{ℕ, ℤ, pos, ◌+◌, Bool, true, false, not, ◌||◌, ◌&&◌, ◌==◌, nat_le, int_lt, int_le, unsigned_abs, List, [], ◌∷◌, map, length, codes, Option, Some, None, is_some, is_none, unwrap_or, if◌then◌else◌}
+use Rattle.std.specs.Prelude.{ℕ, ℤ, pos, ◌+◌, Bool, true, false, not, ◌||◌, ◌&&◌, nat_le, int_lt, int_le, unsigned_abs, List, [], ◌∷◌, length, codes, Option, Some, None, is_some, is_none, unwrap_or}
 use Rattle.std.specs.Int.{is_negative}
 use Rattle.std.specs.Ordering.{int_eq}
 use Rattle.std.specs.List.{find, list_any}
@@ -8,7 +8,7 @@ use Rattle.cts_bits.specs.declared.order.Order.{Order}
 use Rattle.cts_bits.specs.declared.order.Order.TheVariants.{Big}
 use Rattle.cts_bits.specs.Places.{is_whole}
 use Rattle.cts_def.specs.declared.conversion.Conversion.{Conversion}
-use Rattle.cts_def.specs.declared.conversion.Conversion.TheVariants.{Plain, Poly, Segments}
+use Rattle.cts_def.specs.declared.conversion.Conversion.TheVariants.{Poly, Segments}
 use Rattle.cts_def.specs.declared.conversion.Segment.{Segment}
 use Rattle.cts_def.specs.declared.item_kind.ItemKind.{ItemKind}
 use Rattle.cts_def.specs.declared.item_kind.Preset.{Preset}
@@ -18,21 +18,19 @@ use Rattle.cts_def.specs.declared.limits_setup.LimitsSetup.{LimitsSetup}
 use Rattle.cts_def.specs.declared.span.Span.{Span}
 use Rattle.cts_def.specs.declared.state_def.StateDef.{StateDef}
 use Rattle.cts_def.specs.Formats.{is_format}
-use Rattle.cts_def.specs.Items.{ItemData, span_of, is_same, has_room, has_color, is_too_large, are_in_order}
+use Rattle.cts_def.specs.Items.{ItemData, is_same, has_room, has_color, is_too_large, are_in_order}
 use Rattle.cts_def.specs.Packets.{received_count, unknown}
 use Rattle.cts_def.specs.Spans.{is_number, is_little, is_misplaced, is_spelled}
 use Rattle.cts_defline.specs.declared.cause.DefCause.{DefCause}
 use Rattle.cts_defline.specs.declared.cause.DefCause.TheVariants.{WrongKind, IdNotWhole, DoubleName, AppendLittleBits, BadPlace, IdOutOfRange, DefaultOutOfRange, ConversionTooLarge, LimitsOrder, BadFormat, TooMany}
 use Rattle.cts_defline.specs.declared.details.Detail.TheVariants as detail
-use Rattle.cts_defline.specs.declared.details.LimitsLine.{LimitsLine}
 use Rattle.cts_defline.specs.declared.line.Line.{Line}
 use Rattle.cts_defline.specs.declared.line.Line.TheVariants as line
 use Rattle.cts_defline.specs.declared.line.ItemLine.{ItemLine}
-use Rattle.cts_defline.specs.declared.line.PacketLine.{PacketLine}
 use Rattle.cts_defline.specs.declared.open.Open.{Open}
 use Rattle.cts_defline.specs.declared.open.Open.TheVariants as open_
 use Rattle.cts_defline.specs.declared.open.PacketKind.{PacketKind}
-use Rattle.cts_defline.specs.declared.open.PacketKind.TheVariants.{Telemetry, Command}
+use Rattle.cts_defline.specs.declared.open.PacketKind.TheVariants.{Command}
 use Rattle.cts_defline.specs.Numbers.{is_size}
 use Rattle.cts_defread.specs.declared.drafted.Drafted.{Drafted}
 use Rattle.cts_defread.specs.Standing.{end_from, offset_or, are_same_kind, packets_of}

@@ -1,5 +1,5 @@
 -- The definitions of statements, said of the whole.
-use Rattle.std.specs.Prelude.{◌≡◌, ◌↔◌, ℕ, List, map, Option, Some, None, Result, Ok, Err}
+use Rattle.std.specs.Prelude.{◌≡◌, ◌↔◌, List, map, Some, None, Ok, Err}
 use Rattle.std.specs.List.{filter_map}
 use Rattle.cts_def.specs.Items.{ItemData}
 use Rattle.cts_defline.specs.declared.cause.DefCause.{DefCause}

@@ -1,5 +1,5 @@
 -- The definitions that stand after some lines.
-use Rattle.std.specs.Prelude.{ℕ, ℤ, pos, max, Bool, true, false, not, List, [], ◌∷◌, map, Option, Some, None, unwrap_or, if◌then◌else◌}
+use Rattle.std.specs.Prelude.{ℕ, ℤ, pos, max, Bool, true, false, not, List, [], ◌∷◌, map, Option, Some, None, unwrap_or}
 use Rattle.std.specs.List.{filter, filter_map, list_any}
 use Rattle.cts_base.specs.declared.decimal.Decimal.{Decimal}
 use Rattle.cts_bits.specs.declared.order.Order.{Order}

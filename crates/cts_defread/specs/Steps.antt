@@ -6,7 +6,6 @@ use Rattle.cts_def.specs.declared.conversion.Conversion.TheVariants.{Plain, Poly
 use Rattle.cts_def.specs.declared.conversion.Segment.{Segment}
 use Rattle.cts_def.specs.declared.limits_setup.LimitsSetup.{LimitsSetup}
 use Rattle.cts_def.specs.Items.{ItemData, span_of, is_same}
-use Rattle.cts_def.specs.Packets.{PacketData}
 use Rattle.cts_def.specs.Spans.{bytes_needed, is_variable}
 use Rattle.cts_defline.specs.declared.cause.DefCause.{DefCause}
 use Rattle.cts_defline.specs.declared.details.Detail.{Detail}

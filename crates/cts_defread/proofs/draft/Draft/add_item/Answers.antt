@@ -1,11 +1,10 @@
-use Rattle.std.proofs.Common.{◌≡◌, ◌+◌, ◌||◌, ◌++◌, ◌∷◌, [], Bool, ℕ, List, max, refl, sym, ap, ◌∙◌, subst}
+use Rattle.std.proofs.Common.{◌≡◌, ◌||◌, ◌++◌, ◌∷◌, [], Bool, ℕ, List, max, refl, sym, ap, ◌∙◌, subst}
 use Rattle.std.specs.Cmp.Lexicographic.{slice_cmp}
 use Rattle.std.specs.Ordering.{nat_cmp}
 use Rattle.std.proofs.lemmas.Cmp.{nat_list_cmp_total}
 use Rattle.std.proofs.lemmas.List.{append-nil}
 use Rattle.cts_base.specs.Known.{Knows}
 use Rattle.cts_base.proofs.Known.{knows_more}
-use Rattle.cts_def.specs.declared.span.Span.{Span}
 use Rattle.cts_def.specs.Items.{ItemData, is_same}
 use Rattle.cts_def.specs.Packets.{received_count}
 use Rattle.cts_def.specs.Spans.{end_of}

@@ -1,4 +1,4 @@
-use Rattle.std.proofs.Common.{◌∙◌, ap, List, ◌++◌, ◌∷◌, [], refl}
+use Rattle.std.proofs.Common.{◌∙◌, ap, ◌++◌, ◌∷◌, [], refl}
 use Rattle.cts_defline.specs.declared.line.Line.TheVariants as line
 use Rattle.cts_defread.specs.declared.drafted.Drafted.{Drafted}
 use Rattle.cts_defread.proofs.Clean.{clean}
