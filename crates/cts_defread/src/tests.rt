@@ -219,7 +219,7 @@ fn names_of_others_are_free(rt: HostRuntime) -> Result<(), Fail> {
 
 #[test]
 fn places_are_refused(rt: HostRuntime) -> Result<(), Fail> {
-    let rows: [(&[u8], u32, DefCause); 20] = [
+    let rows: [(&[u8], u32, DefCause); 21] = [
         (
             b"APPEND_ITEM A 12 UINT '' LITTLE_ENDIAN",
             2,
@@ -239,6 +239,11 @@ fn places_are_refused(rt: HostRuntime) -> Result<(), Fail> {
             b"APPEND_ITEM A -8 UINT '' LITTLE_ENDIAN",
             2,
             DefCause::AppendLittleBits,
+        ),
+        (
+            b"ITEM A 0 12 FLOAT \"\" LITTLE_ENDIAN",
+            2,
+            DefCause::FloatItem,
         ),
         (
             b"ITEM A 0 12 UINT \"\" LITTLE_ENDIAN",
@@ -421,7 +426,9 @@ fn numbered(alloc: Global, before: &[u8], count: u32, after: &[u8]) -> Result<Ve
 
 #[test]
 fn the_server_holds_so_many(rt: HostRuntime) -> Result<(), Fail> {
-    let rows: [(&[u8], u32, u32, &[u8], u32); 2] = [
+    let rows: [(&[u8], u32, u32, &[u8], u32); 4] = [
+        (b"APPEND_ITEM B", 4095, 4096, b" 8 UINT\n", 4098),
+        (b"TELEMETRY T Q", 4095, 4096, b" BIG_ENDIAN\n", 4098),
         (b"SEG_POLY_READ_CONVERSION ", 16, 17, b" 0\n", 19),
         (b"STATE S", 256, 257, b" 0\n", 259),
     ];
