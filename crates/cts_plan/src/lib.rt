@@ -21,4 +21,6 @@ pub use fault::{SiteCause, SiteFault};
 pub use reading::read_site;
 
 #[cfg(test)]
+mod target_tests;
+#[cfg(test)]
 mod tests;
