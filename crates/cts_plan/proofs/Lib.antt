@@ -4,3 +4,4 @@ pub mod Finished
 pub mod More
 pub mod Keeps
 pub mod Runs
+pub mod Heads

@@ -10,3 +10,4 @@ pub mod Sound
 pub mod Completing
 pub mod SiteFiles
 pub mod Placing
+pub mod Laws

@@ -12,12 +12,14 @@ mod fault;
 mod finishing;
 mod keyword;
 mod last;
+mod laws;
 mod line;
 mod reading;
 mod step;
 mod words;
 
 pub use fault::{SiteCause, SiteFault};
+pub use laws::connections_are_of_their_lines;
 pub use reading::read_site;
 
 #[cfg(test)]

@@ -1,15 +1,11 @@
 // Site files whose targets have packets.
 ghost use Rattle.std.specs.Prelude.{◌≡◌, ◌≤◌, length};
 
-use super::*;
+use crate::tests::read;
 use cts_base::{Bytes, List, Name};
 use cts_bits::Order;
-use cts_def::{
-    Conversion, Definitions, Item, ItemKind, Overflow, Packet, Preset, ProtoSpec, Site, Span,
-};
-use cts_words::statements;
+use cts_def::{Conversion, Definitions, Item, ItemKind, Overflow, Packet, Preset, ProtoSpec, Span};
 use std::alloc::Global;
-use std::process::Abort;
 use std::test::Fail;
 
 fn span(kind: ItemKind, offset: i32, size: i32) -> Span
@@ -108,7 +104,7 @@ fn two_packets(alloc: Global, first: Packet, second: Packet) -> Result<Definitio
 }
 
 /// INST HS with an id of 8 bits behind its first byte, and AUX LINE, which is a text.
-fn definitions(alloc: Global) -> Result<Definitions, Fail> {
+pub fn definitions(alloc: Global) -> Result<Definitions, Fail> {
     let id = id_item(alloc, Name::read(alloc, b"PKTID")?, 8, 8, 1)?;
     let first = packet(
         alloc,
@@ -126,115 +122,6 @@ fn definitions(alloc: Global) -> Result<Definitions, Fail> {
     two_packets(alloc, first, second)
 }
 
-fn read(
-    rt: &impl Abort,
-    alloc: Global,
-    text: &[u8],
-) -> Result<Result<Site, (u32, SiteCause)>, Fail> {
-    assert!(rt; text.len() < 4000);
-    let found = statements(alloc, text)?;
-    match read_site(alloc, &found, definitions(alloc)?) {
-        Ok(site) => Ok(Ok(site)),
-        Err(SiteFault::Refused { line, cause }) => Ok(Err((line, cause))),
-        Err(SiteFault::Memory) => Err(Fail::new("out of memory")),
-    }
-}
-
-#[test]
-fn targets_and_their_packets_are_judged(rt: HostRuntime) -> Result<(), Fail> {
-    // Behind an interface's line: further lines, and the refusal, at line 0 for none.
-    let rows: [(&[u8], u32, SiteCause); 20] = [
-        (b"TARGET INST", 0, SiteCause::TooMany),
-        (b"TARGET inst\nTARGET AUX", 0, SiteCause::TooMany),
-        (b"TARGET NONE", 2, SiteCause::UnknownTarget),
-        (b"TARGET INST\nTARGET Inst", 3, SiteCause::TargetTwice),
-        (
-            b"TARGET INST\nINTERFACE J tcpip_server_interface.rb 2 2 nil nil\nTARGET INST",
-            4,
-            SiteCause::TargetTwice,
-        ),
-        (
-            b"TARGET INST\nROUTER J tcpip_server_interface.rb 2 2 nil nil\nROUTE I",
-            0,
-            SiteCause::TooMany,
-        ),
-        (b"PROTOCOL READ FIXED 2\nTARGET INST", 0, SiteCause::TooMany),
-        (
-            b"PROTOCOL READ FIXED 1\nTARGET INST",
-            2,
-            SiteCause::MinIdSize,
-        ),
-        (
-            b"PROTOCOL READ FIXED 3\nTARGET INST",
-            2,
-            SiteCause::MinIdSize,
-        ),
-        (
-            b"TARGET INST\nPROTOCOL READ FIXED 1 0 nil false",
-            0,
-            SiteCause::TooMany,
-        ),
-        (
-            b"PROTOCOL READ FIXED 1\nTARGET AUX",
-            2,
-            SiteCause::VariableLength,
-        ),
-        (
-            b"PROTOCOL READ FIXED 3\nTARGET AUX",
-            2,
-            SiteCause::MinIdSize,
-        ),
-        (
-            b"PROTOCOL READ FIXED 1 0 nil false\nTARGET AUX",
-            0,
-            SiteCause::TooMany,
-        ),
-        (
-            b"TARGET AUX\nPROTOCOL READ FIXED 1\nINTERFACE",
-            3,
-            SiteCause::VariableLength,
-        ),
-        (
-            b"TARGET AUX\nROUTER J tcpip_server_interface.rb 2 2 nil nil FIXED 2\nROUTE I\nDESKS x",
-            5,
-            SiteCause::NotNumber,
-        ),
-        (
-            b"TARGET AUX\nROUTER J tcpip_server_interface.rb 2 2 nil nil FIXED 2\nROUTE I\nROUTER",
-            3,
-            SiteCause::VariableLength,
-        ),
-        (
-            b"DESKS 2\nTARGET INST\nPROTOCOL WRITE FIXED 1\nPROTOCOL READ BURST",
-            4,
-            SiteCause::MinIdSize,
-        ),
-        (
-            b"TARGET INST\nROUTER J tcpip_server_interface.rb 2 2 nil nil FIXED 1\nROUTE I",
-            3,
-            SiteCause::MinIdSize,
-        ),
-        (
-            b"TARGET INST\nROUTER J tcpip_server_interface.rb 2 2 nil nil FIXED 2\nROUTE I",
-            0,
-            SiteCause::TooMany,
-        ),
-        (
-            b"TARGET INST\nROUTER J tcpip_server_interface.rb 2 2 nil nil FIXED 1\nROUTER K x.rb",
-            4,
-            SiteCause::UnknownInterface,
-        ),
-    ];
-    for (lines, line, cause) in rows {
-        let mut text = b"INTERFACE I tcpip_client_interface.rb h 1 1 nil nil\n".to_vec(rt.alloc())?;
-        text.extend_from_slice(lines)?;
-        let wanted = if line == 0 { None } else { Some((line, cause)) };
-        let found = read(&rt, rt.alloc(), &text)?.err();
-        assert_eq!(rt; found, wanted, "of {lines:?}");
-    }
-    Ok(())
-}
-
 #[test]
 fn a_whole_site_is_read(rt: HostRuntime) -> Result<(), Fail> {
     let text = b"TITLE 'Demo'
@@ -245,7 +132,7 @@ INTERFACE AUX_INT tcpip_client_interface.rb localhost 8081 8081 10.0 nil TERMINA
 ROUTER OUT tcpip_server_interface.rb 2950 2950 10.0 nil PREIDENTIFIED
   ROUTE INST_INT
   ROUTE AUX_INT";
-    let Ok(site) = read(&rt, rt.alloc(), text)? else {
+    let Ok(site) = read(&rt, rt.alloc(), text, definitions(rt.alloc())?)? else {
         return Err(Fail::new("refused"));
     };
     let [first, second] = site.interfaces.as_slice() else {
@@ -266,7 +153,7 @@ ROUTER OUT tcpip_server_interface.rb 2950 2950 10.0 nil PREIDENTIFIED
 fn fixed_knows_how_its_packets_begin(rt: HostRuntime) -> Result<(), Fail> {
     let text = b"INTERFACE I tcpip_client_interface.rb h 1 1 nil nil FIXED 2\nTARGET INST
 ROUTER R tcpip_server_interface.rb 2 2 nil nil FIXED 2\nROUTE I";
-    let Ok(site) = read(&rt, rt.alloc(), text)? else {
+    let Ok(site) = read(&rt, rt.alloc(), text, definitions(rt.alloc())?)? else {
         return Err(Fail::new("refused"));
     };
     let [interface] = site.interfaces.as_slice() else {

@@ -1,13 +1,178 @@
 // What no clause says: which site files are refused and why, what is read where a word is left out, and that reading
 // succeeds where there is memory.
 use super::*;
-use cts_base::{Bytes, List, Memory};
-use cts_bits::Order;
+use crate::target_tests::definitions;
+use cts_base::List;
 use cts_def::{Definitions, ProtoSpec, ProtoUse, Site};
 use cts_words::statements;
 use std::alloc::Global;
 use std::process::Abort;
 use std::test::Fail;
+
+/// Each row has what is wanted, a bar, and a site file whose lines end with `;`.
+const CAUSES: &str = "\
+read|
+2 UnknownKeyword|;ITEM X
+1 UnknownKeyword|LOG_LAYOUT 2
+1 UnknownKeyword|'' X
+1 OutsideInterface|TARGET INST
+1 OutsideInterface|PROTOCOL READ BURST
+1 OutsideInterface|LOG DEFAULT
+2 OutsideInterface|INTERFACE I tcpip_client_interface.rb h 1 1 nil nil;ROUTE I
+2 OutsideInterface|ROUTER R tcpip_server_interface.rb 1 1 nil nil;TARGET T
+2 OutsideInterface|ROUTER R tcpip_server_interface.rb 1 1 nil nil;DONT_RECONNECT
+1 WrongCount|TITLE
+1 WrongCount|TITLE a b
+1 WrongCount|PORT X 1
+1 WrongCount|PORT cts_api 1
+1 WrongCount|INTERFACE
+1 WrongCount|INTERFACE I
+1 WrongCount|INTERFACE I tcpip_client_interface.rb h 1 1 nil
+1 WrongCount|INTERFACE I tcpip_client_interface.rb h 1 1 nil nil FIXED
+1 WrongCount|INTERFACE I tcpip_client_interface.rb h 1 1 nil nil BURST 0 nil maybe
+1 WrongCount|INTERFACE I tcpip_client_interface.rb h 1 1 nil nil BURST 0 nil true 1
+1 WrongCount|INTERFACE I tcpip_client_interface.rb h 1 1 nil nil LENGTH 0 16 0 1 BIG
+1 UnknownInterface|INTERFACE I x.rb
+1 UnknownInterface|INTERFACE I x.rb 1 2 3 4 5 6 7 8 9
+1 UnknownInterface|ROUTER R tcpip_client_interface.rb
+2 UnknownInterface|ROUTER R tcpip_server_interface.rb 1 1 nil nil;ROUTE I
+2 UnknownInterface|ROUTER R tcpip_server_interface.rb 1 1 nil nil;ROUTE a-b
+1 BadName|INTERFACE I-1 tcpip_server_interface.rb 1 1 nil nil
+1 NotNumber|PORT CTS_API 0
+1 NotNumber|PORT CTS_API 65536
+1 NotNumber|DESKS 5
+1 NotNumber|DESKS 0
+1 NotNumber|INTERFACE I tcpip_client_interface.rb h 1 x nil nil
+1 NotNumber|INTERFACE I tcpip_client_interface.rb h 1 nil nil x
+1 TwoPorts|INTERFACE I tcpip_client_interface.rb h 1 2 nil nil
+1 TwoPorts|INTERFACE I tcpip_client_interface.rb h nil nil nil nil
+2 UnknownTarget|INTERFACE I tcpip_server_interface.rb 1 1 nil nil;TARGET T
+1 ProtocolKind|INTERFACE I tcpip_server_interface.rb 1 1 nil nil CRC
+1 EmptySync|INTERFACE I tcpip_server_interface.rb 1 1 nil nil BURST 0 0x
+1 EmptySync|INTERFACE I tcpip_server_interface.rb 1 1 nil nil TERMINATED nil nil
+read|INTERFACE I tcpip_server_interface.rb 1 1 nil nil TERMINATED 0x 0x00
+1 MinIdSize|INTERFACE I tcpip_server_interface.rb 1 1 nil nil FIXED 0";
+
+/// Two causes at one statement, and two statements with causes.
+const ORDER: &str = "\
+1 OutsideInterface|TARGET
+2 WrongCount|ROUTER R tcpip_server_interface.rb 1 1 nil nil;ROUTE I J
+1 UnknownInterface|INTERFACE I-1 x.rb
+1 BadName|INTERFACE I-1 tcpip_server_interface.rb x 1 nil nil
+2 NotNumber|INTERFACE I tcpip_server_interface.rb 1 1 nil nil;INTERFACE i tcpip_server_interface.rb x 1 nil nil
+2 DoubleName|INTERFACE I tcpip_server_interface.rb 1 1 nil nil;INTERFACE i tcpip_server_interface.rb 1 2 nil nil
+1 TwoPorts|INTERFACE I tcpip_server_interface.rb 1 2 nil nil CRC
+1 TwoPorts|INTERFACE I tcpip_server_interface.rb 1 2 nil nil BURST 0 0x
+1 NotNumber|INTERFACE I tcpip_server_interface.rb 1 1 nil nil TERMINATED 0x 0x0
+1 NotNumber|INTERFACE I tcpip_server_interface.rb 1 1 nil nil LENGTH 0 99 0 1 BIG_ENDIAN 0 0x
+5 ProtocolKind|INTERFACE I tcpip_server_interface.rb 1 1 nil nil BURST;PROTOCOL READ BURST;PROTOCOL READ BURST;PROTOCOL READ BURST;PROTOCOL READ CRC
+5 EmptySync|INTERFACE I tcpip_server_interface.rb 1 1 nil nil BURST;PROTOCOL READ BURST;PROTOCOL READ BURST;PROTOCOL READ BURST;PROTOCOL READ BURST 0 0x
+5 ChainTooLong|INTERFACE I tcpip_server_interface.rb 1 1 nil nil BURST;PROTOCOL READ BURST;PROTOCOL READ BURST;PROTOCOL READ PREIDENTIFIED;PROTOCOL READ BURST
+2 NotLast|INTERFACE I tcpip_server_interface.rb 1 1 nil nil PREIDENTIFIED;PROTOCOL READ BURST
+3 NotLast|INTERFACE I tcpip_server_interface.rb 1 1 nil nil;PROTOCOL READ FixedProtocol 1;PROTOCOL READ LengthProtocol
+read|INTERFACE I tcpip_server_interface.rb 1 1 nil nil;PROTOCOL READ FixedProtocol 1;PROTOCOL WRITE LengthProtocol
+4 DoubleName|INTERFACE I tcpip_server_interface.rb 1 1 nil nil;ROUTER I tcpip_server_interface.rb 1 1 nil nil;ROUTE i;ROUTE I
+1 NotNumber|DESKS 9;INTERFACE";
+
+/// Causes of an interface or router that is complete.
+const LATE: &str = "\
+1 MinIdSize|INTERFACE I tcpip_server_interface.rb 1 1 nil nil FIXED 0;INTERFACE
+1 MinIdSize|INTERFACE I tcpip_server_interface.rb 1 1 nil nil FIXED 0;ROUTER R x.rb
+2 NotNumber|INTERFACE I tcpip_server_interface.rb 1 1 nil nil FIXED 0;DESKS 9;ROUTER R x.rb
+2 UnknownTarget|INTERFACE I tcpip_server_interface.rb 1 1 nil nil FIXED 0;TARGET T;INTERFACE
+2 UnknownKeyword|INTERFACE I tcpip_server_interface.rb 1 1 nil nil FIXED 0;ITEM
+2 MinIdSize|INTERFACE I tcpip_server_interface.rb 1 1 nil nil;PROTOCOL READ FIXED 0;;ROUTER
+3 MinIdSize|INTERFACE I tcpip_server_interface.rb 1 1 nil nil FIXED 1;PROTOCOL WRITE FIXED 1;PROTOCOL WRITE FIXED 0
+1 MinIdSize|INTERFACE I tcpip_server_interface.rb 1 1 nil nil FIXED 1 0 0x0102
+read|INTERFACE I tcpip_server_interface.rb 1 1 nil nil FIXED 1 1 0x0102
+2 ChainTooLong|;ROUTER R tcpip_server_interface.rb 1 1 nil nil;PROTOCOL WRITE BURST;PROTOCOL WRITE BURST;PROTOCOL WRITE BURST;PROTOCOL WRITE FIXED 0;DESKS 2
+read|ROUTER R tcpip_server_interface.rb 1 1 nil nil;PROTOCOL WRITE BURST;PROTOCOL WRITE BURST;PROTOCOL WRITE BURST;PROTOCOL READ BURST
+read|ROUTER R tcpip_server_interface.rb 1 1 nil nil;PROTOCOL WRITE BURST;PROTOCOL WRITE BURST;PROTOCOL WRITE BURST
+2 UnknownInterface|ROUTER R tcpip_server_interface.rb 1 1 nil nil;ROUTE I;INTERFACE I tcpip_server_interface.rb 1 1 nil nil";
+
+/// Protocols behind `PROTOCOL` on line 2.
+const NUMBERS: &str = "\
+read|READ BURST 1048576
+2 NotNumber|READ BURST 1048577
+2 NotNumber|READ BURST -1
+read|READ BURST 0x10
+2 NotNumber|READ BURST 0 0X01
+2 NotNumber|READ BURST 0 0x1
+read|READ BURST 0 0xaF
+2 NotNumber|READ BURST 0 1f
+2 NotNumber|READ BURST 0 NIL
+read|READ BURST 0 nil TRUE
+read|READ LENGTH 0
+2 NotNumber|READ LENGTH 0 0
+read|READ LENGTH 0 64
+2 NotNumber|READ LENGTH 0 65
+read|READ LENGTH 8388592
+2 NotNumber|READ LENGTH 8388593
+2 NotNumber|READ LENGTH 8388592 17
+2 NotNumber|READ LENGTH -8 16
+read|READ LENGTH 0 12 0 1 BIG_ENDIAN
+2 NotNumber|READ LENGTH 0 12 0 1 LITTLE_ENDIAN
+read|READ LENGTH 8 12 0 1 LITTLE_ENDIAN
+read|READ LENGTH 0 16 2147483647
+2 NotNumber|READ LENGTH 0 16 2147483648
+read|READ LENGTH 0 16 -2147483648
+2 NotNumber|READ LENGTH 0 16 -2147483649
+2 NotNumber|READ LENGTH 0 16 0 0
+read|READ LENGTH 0 16 0 65535
+2 NotNumber|READ LENGTH 0 16 0 65536
+read|READ LENGTH 0 16 0 1 BIG_ENDIAN 0 nil 0
+2 NotNumber|READ LENGTH 0 16 0 1 BIG_ENDIAN 0 nil -1
+read|READ LENGTH 0 16 0 1 BIG_ENDIAN 0 nil 18446744073709551615
+2 NotNumber|READ LENGTH 0 16 0 1 BIG_ENDIAN 0 nil 18446744073709551616
+read|READ TERMINATED 0x0A 0x0a0b
+2 NotNumber|READ TERMINATED 0x0A 0x0
+read|READ PREIDENTIFIED nil 5
+2 NotNumber|READ PREIDENTIFIED nil five
+2 NotNumber|READ FIXED 1048577
+2 NotNumber|READ FIXED one
+2 WrongCount|read_write BURST
+read|WRITE burst_PROTOCOL.RB";
+
+/// Lines behind an interface, with the definitions of two targets.
+const TARGETS: &str = "\
+read|TARGET INST
+read|TARGET inst;TARGET AUX
+2 UnknownTarget|TARGET NONE
+3 TargetTwice|TARGET INST;TARGET Inst
+4 TargetTwice|TARGET INST;INTERFACE J tcpip_server_interface.rb 2 2 nil nil;TARGET INST
+read|TARGET INST;ROUTER J tcpip_server_interface.rb 2 2 nil nil;ROUTE I
+read|PROTOCOL READ FIXED 2;TARGET INST
+2 MinIdSize|PROTOCOL READ FIXED 1;TARGET INST
+2 MinIdSize|PROTOCOL READ FIXED 3;TARGET INST
+read|TARGET INST;PROTOCOL READ FIXED 1 0 nil false
+2 VariableLength|PROTOCOL READ FIXED 1;TARGET AUX
+2 MinIdSize|PROTOCOL READ FIXED 3;TARGET AUX
+read|PROTOCOL READ FIXED 1 0 nil false;TARGET AUX
+3 VariableLength|TARGET AUX;PROTOCOL READ FIXED 1;INTERFACE
+5 NotNumber|TARGET AUX;ROUTER J tcpip_server_interface.rb 2 2 nil nil FIXED 2;ROUTE I;DESKS x
+3 VariableLength|TARGET AUX;ROUTER J tcpip_server_interface.rb 2 2 nil nil FIXED 2;ROUTE I;ROUTER
+4 MinIdSize|DESKS 2;TARGET INST;PROTOCOL WRITE FIXED 1;PROTOCOL READ BURST
+3 MinIdSize|TARGET INST;ROUTER J tcpip_server_interface.rb 2 2 nil nil FIXED 1;ROUTE I
+read|TARGET INST;ROUTER J tcpip_server_interface.rb 2 2 nil nil FIXED 2;ROUTE I
+4 UnknownInterface|TARGET INST;ROUTER J tcpip_server_interface.rb 2 2 nil nil FIXED 1;ROUTER K x.rb";
+
+/// Protocols behind the words of an interface, with all their parameters as they are read.
+const DEFAULTS: &str = "\
+BURST 0 [] false true false|
+BURST 0 [] false true true| BURST
+BURST 3 [10, 240] true true true| burstprotocol 3 0x0aF0 True
+FIXED 2 0 [] true false false 0 true true| FIXED 2
+FIXED 2 1 [255] false true true 0 true true| FixedProtocol 2 1 0xFF false true TRUE
+LENGTH 0 16 0 1 Big 0 [] None false true true| LENGTH
+LENGTH 8 12 -3 2 Little 4 [1] Some(99) true true true| length_protocol.rb 8 12 -3 2 LITTLE_ENDIAN 4 0x01 99 true
+TERMINATED [13] [10] true 0 [] false true true| TERMINATED 0x0D 0x0A
+TERMINATED [] [10] false 7 [2] true true true| TERMINATED nil 0x0A false 7 0x02 true
+PREIDENTIFIED [] None true true| PREIDENTIFIED
+PREIDENTIFIED [222, 173] Some(0) true true| PREIDENTIFIED 0xDEAD 0
+BURST 1 [] false true false|;PROTOCOL READ BURST 1
+BURST 12 [] false true true|;PROTOCOL READ_WRITE BURST 0x0C";
+
+const INTERFACE: &str = "INTERFACE I tcpip_server_interface.rb 1 1 nil nil";
 
 /// Definitions of no packets.
 fn no_definitions(alloc: Global) -> Definitions {
@@ -18,8 +183,17 @@ fn no_definitions(alloc: Global) -> Definitions {
     }
 }
 
-/// The site of a text, or `LINE CAUSE`.
-fn read(
+/// A text whose lines end with line feeds, of one whose lines end with `;`.
+fn lines(alloc: Global, front: &str, text: &str) -> Result<Vec<u8>, Fail> {
+    let mut out = front.as_bytes().to_vec(alloc)?;
+    for c in text.as_bytes() {
+        out.push(if *c == b';' { b'\n' } else { *c })?;
+    }
+    Ok(out)
+}
+
+/// The site of a text, or the line and the cause of its refusal.
+pub fn read(
     rt: &impl Abort,
     alloc: Global,
     text: &[u8],
@@ -34,229 +208,56 @@ fn read(
     }
 }
 
-/// Reads a text with no definitions, and compares its refusal; none is wanted at line 0.
-fn refuses(
+/// `read`, or the line and the cause of the refusal.
+fn outcome(
     rt: &impl Abort,
     alloc: Global,
     text: &[u8],
-    line: u32,
-    cause: SiteCause,
-) -> Result<(), Fail> {
-    let wanted = if line == 0 { None } else { Some((line, cause)) };
-    let found = read(rt, alloc, text, no_definitions(alloc))?.err();
-    assert_eq!(rt; found, wanted, "of {text:?}");
+    definitions: Definitions,
+) -> Result<String, Fail> {
+    match read(rt, alloc, text, definitions)? {
+        Ok(_) => Ok(format!(in alloc; "read")?),
+        Err((line, cause)) => Ok(format!(in alloc; "{line} {cause}")?),
+    }
+}
+
+fn compare(rt: &impl Abort, alloc: Global, front: &str, rows: &str) -> Result<(), Fail> {
+    for row in rows.lines() {
+        let Some((want, text)) = row.split_once('|') else {
+            return Err(Fail::new("no row"));
+        };
+        let text = lines(alloc, front, text)?;
+        let found = outcome(rt, alloc, &text, definitions(alloc)?)?;
+        assert_eq!(rt; found.as_str(), want, "at {row}");
+    }
     Ok(())
 }
 
 #[test]
 fn each_cause_has_its_line(rt: HostRuntime) -> Result<(), Fail> {
-    let rows: [(&[u8], u32, SiteCause); 41] = [
-        (b"", 0, SiteCause::TooMany),
-        (b"\nITEM X", 2, SiteCause::UnknownKeyword),
-        (b"LOG_LAYOUT 2", 1, SiteCause::UnknownKeyword),
-        (b"'' X", 1, SiteCause::UnknownKeyword),
-        (b"TARGET INST", 1, SiteCause::OutsideInterface),
-        (b"PROTOCOL READ BURST", 1, SiteCause::OutsideInterface),
-        (b"LOG DEFAULT", 1, SiteCause::OutsideInterface),
-        (
-            b"INTERFACE I tcpip_client_interface.rb h 1 1 nil nil\nROUTE I",
-            2,
-            SiteCause::OutsideInterface,
-        ),
-        (
-            b"ROUTER R tcpip_server_interface.rb 1 1 nil nil\nTARGET T",
-            2,
-            SiteCause::OutsideInterface,
-        ),
-        (
-            b"ROUTER R tcpip_server_interface.rb 1 1 nil nil\nDONT_RECONNECT",
-            2,
-            SiteCause::OutsideInterface,
-        ),
-        (b"TITLE", 1, SiteCause::WrongCount),
-        (b"TITLE a b", 1, SiteCause::WrongCount),
-        (b"PORT X 1", 1, SiteCause::WrongCount),
-        (b"PORT cts_api 1", 1, SiteCause::WrongCount),
-        (b"INTERFACE", 1, SiteCause::WrongCount),
-        (b"INTERFACE I", 1, SiteCause::WrongCount),
-        (
-            b"INTERFACE I tcpip_client_interface.rb h 1 1 nil",
-            1,
-            SiteCause::WrongCount,
-        ),
-        (
-            b"INTERFACE I tcpip_client_interface.rb h 1 1 nil nil FIXED",
-            1,
-            SiteCause::WrongCount,
-        ),
-        (
-            b"INTERFACE I tcpip_client_interface.rb h 1 1 nil nil BURST 0 nil maybe",
-            1,
-            SiteCause::WrongCount,
-        ),
-        (
-            b"INTERFACE I tcpip_client_interface.rb h 1 1 nil nil BURST 0 nil true 1",
-            1,
-            SiteCause::WrongCount,
-        ),
-        (
-            b"INTERFACE I tcpip_client_interface.rb h 1 1 nil nil LENGTH 0 16 0 1 BIG",
-            1,
-            SiteCause::WrongCount,
-        ),
-        (b"INTERFACE I x.rb", 1, SiteCause::UnknownInterface),
-        (
-            b"INTERFACE I x.rb 1 2 3 4 5 6 7 8 9",
-            1,
-            SiteCause::UnknownInterface,
-        ),
-        (
-            b"ROUTER R tcpip_client_interface.rb",
-            1,
-            SiteCause::UnknownInterface,
-        ),
-        (
-            b"ROUTER R tcpip_server_interface.rb 1 1 nil nil\nROUTE I",
-            2,
-            SiteCause::UnknownInterface,
-        ),
-        (
-            b"ROUTER R tcpip_server_interface.rb 1 1 nil nil\nROUTE a-b",
-            2,
-            SiteCause::UnknownInterface,
-        ),
-        (
-            b"INTERFACE I-1 tcpip_server_interface.rb 1 1 nil nil",
-            1,
-            SiteCause::BadName,
-        ),
-        (b"PORT CTS_API 0", 1, SiteCause::NotNumber),
-        (b"PORT CTS_API 65536", 1, SiteCause::NotNumber),
-        (b"DESKS 5", 1, SiteCause::NotNumber),
-        (b"DESKS 0", 1, SiteCause::NotNumber),
-        (
-            b"INTERFACE I tcpip_client_interface.rb h 1 x nil nil",
-            1,
-            SiteCause::NotNumber,
-        ),
-        (
-            b"INTERFACE I tcpip_client_interface.rb h 1 nil nil x",
-            1,
-            SiteCause::NotNumber,
-        ),
-        (
-            b"INTERFACE I tcpip_client_interface.rb h 1 2 nil nil",
-            1,
-            SiteCause::TwoPorts,
-        ),
-        (
-            b"INTERFACE I tcpip_client_interface.rb h nil nil nil nil",
-            1,
-            SiteCause::TwoPorts,
-        ),
-        (
-            b"INTERFACE I tcpip_server_interface.rb 1 1 nil nil\nTARGET T",
-            2,
-            SiteCause::UnknownTarget,
-        ),
-        (
-            b"INTERFACE I tcpip_server_interface.rb 1 1 nil nil CRC",
-            1,
-            SiteCause::ProtocolKind,
-        ),
-        (
-            b"INTERFACE I tcpip_server_interface.rb 1 1 nil nil BURST 0 0x",
-            1,
-            SiteCause::EmptySync,
-        ),
-        (
-            b"INTERFACE I tcpip_server_interface.rb 1 1 nil nil TERMINATED nil nil",
-            1,
-            SiteCause::EmptySync,
-        ),
-        (
-            b"INTERFACE I tcpip_server_interface.rb 1 1 nil nil TERMINATED 0x 0x00",
-            0,
-            SiteCause::TooMany,
-        ),
-        (
-            b"INTERFACE I tcpip_server_interface.rb 1 1 nil nil FIXED 0",
-            1,
-            SiteCause::MinIdSize,
-        ),
-    ];
-    for (text, line, cause) in rows {
-        refuses(&rt, rt.alloc(), text, line, cause)?;
-    }
-    Ok(())
+    compare(&rt, rt.alloc(), "", CAUSES)
+}
+
+#[test]
+fn the_first_cause_and_the_first_statement_count(rt: HostRuntime) -> Result<(), Fail> {
+    compare(&rt, rt.alloc(), "", ORDER)
+}
+
+#[test]
+fn a_connection_is_judged_when_it_is_complete(rt: HostRuntime) -> Result<(), Fail> {
+    compare(&rt, rt.alloc(), "", LATE)
 }
 
 #[test]
 fn numbers_and_patterns_have_bounds(rt: HostRuntime) -> Result<(), Fail> {
-    // Each behind an interface's line: the protocol, and whether its words are taken.
-    let rows: [(&[u8], bool); 40] = [
-        (b"READ BURST 1048576", true),
-        (b"READ BURST 1048577", false),
-        (b"READ BURST -1", false),
-        (b"READ BURST 0x10", true),
-        (b"READ BURST 0 0X01", false),
-        (b"READ BURST 0 0x1", false),
-        (b"READ BURST 0 0xaF", true),
-        (b"READ BURST 0 1f", false),
-        (b"READ BURST 0 NIL", false),
-        (b"READ BURST 0 nil TRUE", true),
-        (b"READ LENGTH 0", true),
-        (b"READ LENGTH 0 0", false),
-        (b"READ LENGTH 0 64", true),
-        (b"READ LENGTH 0 65", false),
-        (b"READ LENGTH 8388592", true),
-        (b"READ LENGTH 8388593", false),
-        (b"READ LENGTH 8388592 17", false),
-        (b"READ LENGTH -8 16", false),
-        (b"READ LENGTH 0 12 0 1 BIG_ENDIAN", true),
-        (b"READ LENGTH 0 12 0 1 LITTLE_ENDIAN", false),
-        (b"READ LENGTH 8 12 0 1 LITTLE_ENDIAN", true),
-        (b"READ LENGTH 0 16 2147483647", true),
-        (b"READ LENGTH 0 16 2147483648", false),
-        (b"READ LENGTH 0 16 -2147483648", true),
-        (b"READ LENGTH 0 16 -2147483649", false),
-        (b"READ LENGTH 0 16 0 0", false),
-        (b"READ LENGTH 0 16 0 65535", true),
-        (b"READ LENGTH 0 16 0 65536", false),
-        (b"READ LENGTH 0 16 0 1 BIG_ENDIAN 0 nil 0", true),
-        (b"READ LENGTH 0 16 0 1 BIG_ENDIAN 0 nil -1", false),
-        (
-            b"READ LENGTH 0 16 0 1 BIG_ENDIAN 0 nil 18446744073709551615",
-            true,
-        ),
-        (
-            b"READ LENGTH 0 16 0 1 BIG_ENDIAN 0 nil 18446744073709551616",
-            false,
-        ),
-        (b"READ TERMINATED 0x0A 0x0a0b", true),
-        (b"READ TERMINATED 0x0A 0x0", false),
-        (b"READ PREIDENTIFIED nil 5", true),
-        (b"READ PREIDENTIFIED nil five", false),
-        (b"READ FIXED 1048577", false),
-        (b"READ FIXED one", false),
-        (b"read_write BURST", false),
-        (b"WRITE burst_PROTOCOL.RB", true),
-    ];
-    for (words, taken) in rows {
-        let mut text = b"INTERFACE I tcpip_server_interface.rb 1 1 nil nil\nPROTOCOL ".to_vec(
-            rt.alloc(),
-        )?;
-        text.extend_from_slice(words)?;
-        let (line, cause) = if taken {
-            (0, SiteCause::TooMany)
-        } else if words == b"read_write BURST".as_slice() {
-            (2, SiteCause::WrongCount)
-        } else {
-            (2, SiteCause::NotNumber)
-        };
-        refuses(&rt, rt.alloc(), &text, line, cause)?;
-    }
-    Ok(())
+    let front = format!(in rt.alloc(); "{INTERFACE}\nPROTOCOL ")?;
+    compare(&rt, rt.alloc(), front.as_str(), NUMBERS)
+}
+
+#[test]
+fn targets_and_their_packets_are_judged(rt: HostRuntime) -> Result<(), Fail> {
+    let front = format!(in rt.alloc(); "{INTERFACE}\n")?;
+    compare(&rt, rt.alloc(), front.as_str(), TARGETS)
 }
 
 #[test]
@@ -268,171 +269,9 @@ fn a_pattern_has_at_most_64_bytes(rt: HostRuntime) -> Result<(), Fail> {
         for _ in 0..count {
             text.extend_from_slice(b"5A")?;
         }
-        let line = if taken { 0 } else { 1 };
-        refuses(&rt, rt.alloc(), &text, line, SiteCause::NotNumber)?;
-    }
-    Ok(())
-}
-
-#[test]
-fn the_first_cause_and_the_first_statement_count(rt: HostRuntime) -> Result<(), Fail> {
-    let rows: [(&[u8], u32, SiteCause); 18] = [
-        (b"TARGET", 1, SiteCause::OutsideInterface),
-        (
-            b"ROUTER R tcpip_server_interface.rb 1 1 nil nil\nROUTE I J",
-            2,
-            SiteCause::WrongCount,
-        ),
-        (b"INTERFACE I-1 x.rb", 1, SiteCause::UnknownInterface),
-        (
-            b"INTERFACE I-1 tcpip_server_interface.rb x 1 nil nil",
-            1,
-            SiteCause::BadName,
-        ),
-        (
-            b"INTERFACE I tcpip_server_interface.rb 1 1 nil nil\nINTERFACE i tcpip_server_interface.rb x 1 nil nil",
-            2,
-            SiteCause::NotNumber,
-        ),
-        (
-            b"INTERFACE I tcpip_server_interface.rb 1 1 nil nil\nINTERFACE i tcpip_server_interface.rb 1 2 nil nil",
-            2,
-            SiteCause::DoubleName,
-        ),
-        (
-            b"INTERFACE I tcpip_server_interface.rb 1 2 nil nil CRC",
-            1,
-            SiteCause::TwoPorts,
-        ),
-        (
-            b"INTERFACE I tcpip_server_interface.rb 1 2 nil nil BURST 0 0x",
-            1,
-            SiteCause::TwoPorts,
-        ),
-        (
-            b"INTERFACE I tcpip_server_interface.rb 1 1 nil nil TERMINATED 0x 0x0",
-            1,
-            SiteCause::NotNumber,
-        ),
-        (
-            b"INTERFACE I tcpip_server_interface.rb 1 1 nil nil LENGTH 0 99 0 1 BIG_ENDIAN 0 0x",
-            1,
-            SiteCause::NotNumber,
-        ),
-        (
-            b"INTERFACE I tcpip_server_interface.rb 1 1 nil nil BURST\nPROTOCOL READ BURST\nPROTOCOL READ BURST\nPROTOCOL READ BURST\nPROTOCOL READ CRC",
-            5,
-            SiteCause::ProtocolKind,
-        ),
-        (
-            b"INTERFACE I tcpip_server_interface.rb 1 1 nil nil BURST\nPROTOCOL READ BURST\nPROTOCOL READ BURST\nPROTOCOL READ BURST\nPROTOCOL READ BURST 0 0x",
-            5,
-            SiteCause::EmptySync,
-        ),
-        (
-            b"INTERFACE I tcpip_server_interface.rb 1 1 nil nil BURST\nPROTOCOL READ BURST\nPROTOCOL READ BURST\nPROTOCOL READ PREIDENTIFIED\nPROTOCOL READ BURST",
-            5,
-            SiteCause::ChainTooLong,
-        ),
-        (
-            b"INTERFACE I tcpip_server_interface.rb 1 1 nil nil PREIDENTIFIED\nPROTOCOL READ BURST",
-            2,
-            SiteCause::NotLast,
-        ),
-        (
-            b"INTERFACE I tcpip_server_interface.rb 1 1 nil nil\nPROTOCOL READ FixedProtocol 1\nPROTOCOL READ LengthProtocol",
-            3,
-            SiteCause::NotLast,
-        ),
-        (
-            b"INTERFACE I tcpip_server_interface.rb 1 1 nil nil\nPROTOCOL READ FixedProtocol 1\nPROTOCOL WRITE LengthProtocol",
-            0,
-            SiteCause::NotLast,
-        ),
-        (
-            b"INTERFACE I tcpip_server_interface.rb 1 1 nil nil\nROUTER I tcpip_server_interface.rb 1 1 nil nil\nROUTE i\nROUTE I",
-            4,
-            SiteCause::DoubleName,
-        ),
-        (b"DESKS 9\nINTERFACE", 1, SiteCause::NotNumber),
-    ];
-    for (text, line, cause) in rows {
-        refuses(&rt, rt.alloc(), text, line, cause)?;
-    }
-    Ok(())
-}
-
-#[test]
-fn a_connection_is_judged_when_it_is_complete(rt: HostRuntime) -> Result<(), Fail> {
-    let rows: [(&[u8], u32, SiteCause); 13] = [
-        (
-            b"INTERFACE I tcpip_server_interface.rb 1 1 nil nil FIXED 0\nINTERFACE",
-            1,
-            SiteCause::MinIdSize,
-        ),
-        (
-            b"INTERFACE I tcpip_server_interface.rb 1 1 nil nil FIXED 0\nROUTER R x.rb",
-            1,
-            SiteCause::MinIdSize,
-        ),
-        (
-            b"INTERFACE I tcpip_server_interface.rb 1 1 nil nil FIXED 0\nDESKS 9\nROUTER R x.rb",
-            2,
-            SiteCause::NotNumber,
-        ),
-        (
-            b"INTERFACE I tcpip_server_interface.rb 1 1 nil nil FIXED 0\nTARGET T\nINTERFACE",
-            2,
-            SiteCause::UnknownTarget,
-        ),
-        (
-            b"INTERFACE I tcpip_server_interface.rb 1 1 nil nil FIXED 0\nITEM",
-            2,
-            SiteCause::UnknownKeyword,
-        ),
-        (
-            b"INTERFACE I tcpip_server_interface.rb 1 1 nil nil\nPROTOCOL READ FIXED 0\n\nROUTER",
-            2,
-            SiteCause::MinIdSize,
-        ),
-        (
-            b"INTERFACE I tcpip_server_interface.rb 1 1 nil nil FIXED 1\nPROTOCOL WRITE FIXED 1\nPROTOCOL WRITE FIXED 0",
-            3,
-            SiteCause::MinIdSize,
-        ),
-        (
-            b"INTERFACE I tcpip_server_interface.rb 1 1 nil nil FIXED 1 0 0x0102",
-            1,
-            SiteCause::MinIdSize,
-        ),
-        (
-            b"INTERFACE I tcpip_server_interface.rb 1 1 nil nil FIXED 1 1 0x0102",
-            0,
-            SiteCause::MinIdSize,
-        ),
-        (
-            b"\nROUTER R tcpip_server_interface.rb 1 1 nil nil\nPROTOCOL WRITE BURST\nPROTOCOL WRITE BURST\nPROTOCOL WRITE BURST\nPROTOCOL WRITE FIXED 0\nDESKS 2",
-            2,
-            SiteCause::ChainTooLong,
-        ),
-        (
-            b"ROUTER R tcpip_server_interface.rb 1 1 nil nil\nPROTOCOL WRITE BURST\nPROTOCOL WRITE BURST\nPROTOCOL WRITE BURST\nPROTOCOL READ BURST",
-            0,
-            SiteCause::ChainTooLong,
-        ),
-        (
-            b"ROUTER R tcpip_server_interface.rb 1 1 nil nil\nPROTOCOL WRITE BURST\nPROTOCOL WRITE BURST\nPROTOCOL WRITE BURST",
-            0,
-            SiteCause::ChainTooLong,
-        ),
-        (
-            b"ROUTER R tcpip_server_interface.rb 1 1 nil nil\nROUTE I\nINTERFACE I tcpip_server_interface.rb 1 1 nil nil",
-            2,
-            SiteCause::UnknownInterface,
-        ),
-    ];
-    for (text, line, cause) in rows {
-        refuses(&rt, rt.alloc(), text, line, cause)?;
+        let want = if taken { "read" } else { "1 NotNumber" };
+        let found = outcome(&rt, rt.alloc(), &text, no_definitions(rt.alloc()))?;
+        assert_eq!(rt; found.as_str(), want);
     }
     Ok(())
 }
@@ -448,12 +287,15 @@ fn interfaces_and_routers_are_few(rt: HostRuntime) -> Result<(), Fail> {
             )?;
             text.extend_from_slice(line.as_bytes())?;
         }
-        refuses(&rt, rt.alloc(), &text, 0, SiteCause::TooMany)?;
+        let found = outcome(&rt, rt.alloc(), &text, no_definitions(rt.alloc()))?;
+        assert_eq!(rt; found.as_str(), "read");
         let line = format!(in rt.alloc();
             "{word} M tcpip_{file}_interface.rb{host} 1 1 nil nil BURST 0 nil\n"
         )?;
         text.extend_from_slice(line.as_bytes())?;
-        refuses(&rt, rt.alloc(), &text, most + 1, SiteCause::TooMany)?;
+        let found = outcome(&rt, rt.alloc(), &text, no_definitions(rt.alloc()))?;
+        let want = format!(in rt.alloc(); "{} TooMany", most + 1)?;
+        assert_eq!(rt; found.as_str(), want.as_str());
     }
     Ok(())
 }
@@ -527,45 +369,11 @@ fn shown(alloc: Global, used: &ProtoUse) -> Result<Vec<u8>, Fail> {
 
 #[test]
 fn parameters_that_are_left_out_have_defaults(rt: HostRuntime) -> Result<(), Fail> {
-    let rows: [(&[u8], &[u8]); 13] = [
-        (b"", b"BURST 0 [] false true false"),
-        (b" BURST", b"BURST 0 [] false true true"),
-        (
-            b" burstprotocol 3 0x0aF0 True",
-            b"BURST 3 [10, 240] true true true",
-        ),
-        (b" FIXED 2", b"FIXED 2 0 [] true false false 0 true true"),
-        (
-            b" FixedProtocol 2 1 0xFF false true TRUE",
-            b"FIXED 2 1 [255] false true true 0 true true",
-        ),
-        (b" LENGTH", b"LENGTH 0 16 0 1 Big 0 [] None false true true"),
-        (
-            b" length_protocol.rb 8 12 -3 2 LITTLE_ENDIAN 4 0x01 99 true",
-            b"LENGTH 8 12 -3 2 Little 4 [1] Some(99) true true true",
-        ),
-        (
-            b" TERMINATED 0x0D 0x0A",
-            b"TERMINATED [13] [10] true 0 [] false true true",
-        ),
-        (
-            b" TERMINATED nil 0x0A false 7 0x02 true",
-            b"TERMINATED [] [10] false 7 [2] true true true",
-        ),
-        (b" PREIDENTIFIED", b"PREIDENTIFIED [] None true true"),
-        (
-            b" PREIDENTIFIED 0xDEAD 0",
-            b"PREIDENTIFIED [222, 173] Some(0) true true",
-        ),
-        (b"\nPROTOCOL READ BURST 1", b"BURST 1 [] false true false"),
-        (
-            b"\nPROTOCOL READ_WRITE BURST 0x0C",
-            b"BURST 12 [] false true true",
-        ),
-    ];
-    for (words, want) in rows {
-        let mut text = b"INTERFACE I tcpip_server_interface.rb 1 1 nil nil".to_vec(rt.alloc())?;
-        text.extend_from_slice(words)?;
+    for row in DEFAULTS.lines() {
+        let Some((want, words)) = row.split_once('|') else {
+            return Err(Fail::new("no row"));
+        };
+        let text = lines(rt.alloc(), INTERFACE, words)?;
         let Ok(site) = read(&rt, rt.alloc(), &text, no_definitions(rt.alloc()))? else {
             return Err(Fail::new("refused"));
         };
@@ -575,7 +383,11 @@ fn parameters_that_are_left_out_have_defaults(rt: HostRuntime) -> Result<(), Fai
         let [used] = interface.chain.as_slice() else {
             return Err(Fail::new("not one protocol"));
         };
-        assert_eq!(rt; shown(rt.alloc(), used)?.as_slice(), want, "of {words:?}");
+        assert_eq!(rt;
+            shown(rt.alloc(), used)?.as_slice(),
+            want.as_bytes(),
+            "at {row}"
+        );
     }
     Ok(())
 }
