@@ -1,11 +1,11 @@
 -- Items and packets that tests build.
-use Rattle.std.proofs.Common.{◌≡◌, ℕ, ℤ, ◌≤◌, Bool, true, false, not, ◌&&◌, ◌||◌, List, [], ◌∷◌, Some, None, IsTrue, length, max, unsigned_abs, refl, sym, ap, subst, ◌∙◌, arith, rules}
+use Rattle.std.proofs.Common.{◌≡◌, ℤ, true, false, [], ◌∷◌, Some, None, unsigned_abs, refl, sym, ◌∙◌, arith}
 use Rattle.std.proofs.Math.Bool.{or-false}
 use Rattle.std.proofs.lemmas.Map.Keys.{IsDistinct-from_apart}
 use Rattle.std.proofs.Math.Nat.{max-zero}
 use Rattle.std.specs.Int.{is_negative}
 use Rattle.cts_def.specs.Items.{ItemData, IsSoundItem, is_same, span_of}
-use Rattle.cts_def.specs.Packets.{IsSoundPacket, PacketData, are_variable, length_of, received_count, unknown}
+use Rattle.cts_def.specs.Packets.{IsSoundPacket, PacketData, received_count, unknown}
 use Rattle.cts_def.specs.Spans.{bytes_needed, is_misplaced, is_number, is_spelled, is_variable}
 use Rattle.cts_def.specs.declared.conversion.Conversion.TheVariants.{Plain}
 use Rattle.cts_def.specs.declared.item_kind.Preset.TheVariants.{Whole}

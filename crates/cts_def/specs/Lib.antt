@@ -1,4 +1,5 @@
 pub mod Beginnings
+pub mod FormatParts
 pub mod Formats
 pub mod Items
 pub mod Packets

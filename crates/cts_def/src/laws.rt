@@ -1,9 +1,11 @@
 // What holds of the definitions that the contracts cite.
-ghost use Rattle.std.specs.Prelude.{◌≡◌, ◌≤◌, ◌<◌, ◌^◌, ◌↔◌, ℕ, ℤ, pos, false, IsTrue, unsigned_abs};
+ghost use Rattle.std.specs.Prelude.{◌≡◌, ◌≤◌, ◌<◌, ◌^◌, ◌↔◌, true, ℕ, ℤ, pos, false, IsTrue, unsigned_abs};
 ghost use Rattle.std.specs.Int.{is_negative};
 ghost use Rattle.cts_bits.specs.Bits.{HasSpelling};
 ghost use Rattle.cts_bits.specs.Places.{IsBadSize, IsBeforeStart, reach_of};
 ghost use Rattle.cts_def.specs.Spans.{bytes_needed, is_misplaced, is_number, is_spelled};
+ghost use Rattle.cts_def.specs.FormatParts.{AreFormatParts, FormatParts, written};
+ghost use Rattle.cts_def.specs.Formats.{is_format};
 
 use crate::{ItemKind, Span};
 
@@ -26,4 +28,12 @@ pub fn spellings_of_numbers(bits: u32)
     ensures whole { (n : ℕ) → IsTrue (is_spelled ItemKind.Uint bits (pos n)) ↔ (n < 2 ^ bits) }
     ensures below_0 { (z : ℤ) → IsTrue (is_negative z) → is_spelled ItemKind.Uint bits z ≡ false }
     ensures signed { (z : ℤ) → IsTrue (is_spelled ItemKind.Int bits z) ↔ HasSpelling bits z }
+{}
+
+/// The formats are the texts that are written of a format's parts: text, `%`, flags among `-`, `0` and `+`, each at most once,
+/// a width of at most 3 digits, a point and a precision of at most 12 where `f` is the letter, one of the letters, and text,
+/// with `%` doubled in both texts.
+pub fn formats_have_parts(text: &[u8])
+    ensures written { (p : FormatParts) → AreFormatParts p → is_format (written p) ≡ true }
+    ensures parts { is_format text.now ≡ true → (p : FormatParts) × AreFormatParts p × (text.now ≡ written p) }
 {}

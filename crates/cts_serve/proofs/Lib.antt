@@ -1,8 +1,10 @@
+pub mod Lines
+pub mod Names
 pub mod Postings
 pub mod WorldSteps
 pub mod LastLines
 pub mod Progress
-pub mod Commands
 pub mod Loadings
-pub mod Forms
+pub mod Commands
+pub mod Scripts
 pub mod OneOutcome

@@ -4,29 +4,34 @@ use Rattle.cts_entry.specs.declared.event.Event.{Event}
 use Rattle.cts_core.specs.States.{opening}
 use Rattle.cts_core.specs.Runs.{Did, Ending}
 use Rattle.cts_core.proofs.OneRun.{has_one_run}
-use Rattle.cts_serve.specs.Path.{path_ground}
+use Rattle.cts_def.specs.Sites.{SiteData}
+use Rattle.cts_serve.specs.Grounds.{site_ground}
 use Rattle.cts_serve.specs.Texts.{usage_line}
 use Rattle.cts_serve.specs.Judging.{Outcome, refusal}
-use Rattle.cts_serve.specs.Outcomes.{first_refusal, events_asked, events_of, replay_outcome, IsReplay}
+use Rattle.cts_serve.specs.Outcomes.{RequestData, first_refusal, site_asked, events_asked, events_of, replay_outcome, IsReplay, IsDone}
 use Rattle.cts_serve.specs.Laws.{HasOutcome, HasOneOutcome}
 use Rattle.cts_serve.specs.declared.status.Status.TheVariants.{Usage}
-use Rattle.cts_serve.proofs.Progress.{path_sound}
+use Rattle.cts_serve.proofs.Progress.{site_sound}
 use Rattle.cts_serve.proofs.Commands.{some_outcome}
 
 -- a script's events have one run, and so one outcome
-one_replay : (script : List ℕ) (events : List (ℕ × Event)) (o p : Outcome) → IsReplay script events o → IsReplay script events p → o ≡ p
-one_replay script events o p h k =
-    let same = has_one_run path_ground opening (events_of events) h.dids k.dids h.ending k.ending path_sound h.runs k.runs in
-    h.outcome ∙ (ap (λ (ds : List Did). replay_outcome script events ds h.ending) same.0 ∙ (ap (λ (e : Ending). replay_outcome script events k.dids e) same.1 ∙ sym k.outcome))
+one_replay : (site : SiteData) (script : List ℕ) (events : List (ℕ × Event)) (o p : Outcome) → IsReplay site script events o → IsReplay site script events p → o ≡ p
+one_replay site script events o p h k =
+    let same = has_one_run (site_ground site) opening (events_of events) h.dids k.dids h.ending k.ending (site_sound site) h.runs k.runs in
+    h.outcome ∙ (ap (λ (ds : List Did). replay_outcome site script events ds h.ending) same.0 ∙ (ap (λ (e : Ending). replay_outcome site script events k.dids e) same.1 ∙ sym k.outcome))
 
-one_by : (refused : Option Outcome) (script : List ℕ) (events : List (ℕ × Event)) (o p : Outcome)
-    → MatchOption refused (IsReplay script events o) (λ x. o ≡ x) → MatchOption refused (IsReplay script events p) (λ x. p ≡ x) → o ≡ p
-one_by (Some x) script events o p h k = h ∙ sym k
-one_by None script events o p h k = one_replay script events o p h k
+one_done : (files : List ℕ → Option (List ℕ)) (r : RequestData) (script : Option (List ℕ)) (o p : Outcome) → IsDone files r script o → IsDone files r script p → o ≡ p
+one_done files r None o p h k = h ∙ sym k
+one_done files r (Some script) o p h k = one_replay (site_asked files r) script (events_asked files r script) o p h k
+
+one_by : (refused : Option Outcome) (files : List ℕ → Option (List ℕ)) (r : RequestData) (o p : Outcome)
+    → MatchOption refused (IsDone files r r.script o) (λ x. o ≡ x) → MatchOption refused (IsDone files r r.script p) (λ x. p ≡ x) → o ≡ p
+one_by (Some x) files r o p h k = h ∙ sym k
+one_by None files r o p h k = one_done files r r.script o p h k
 
 pub has_one_outcome : HasOneOutcome
 has_one_outcome files None o p h k = h ∙ sym k
-has_one_outcome files (Some r) o p h k = one_by (first_refusal files r) r.script (events_asked files r) o p h k
+has_one_outcome files (Some r) o p h k = one_by (first_refusal files r) files r o p h k
 
 pub has_outcome : HasOutcome
 has_outcome files None = (refusal Usage usage_line, refl)

@@ -1,8 +1,10 @@
 -- What the world stands for after each event.
-use Rattle.std.proofs.Common.{◌≡◌, ℕ, zero, suc, ◌+◌, ◌≤◌, ◌<◌, ◌^◌, Bool, true, false, ◌&&◌, ◌||◌, not, List, [], ◌∷◌, ◌++◌, length, drop, Option, Some, None, refl, sym, ◌∙◌, ap, subst, arith, unwrap_or, option_map, append_assoc, length-drop}
-use Rattle.std.specs.Prelude.{◌==◌, nat_le, nat_lt, ℤ}
-use Rattle.std.proofs.lemmas.List.{append-nil}
+use Rattle.std.proofs.Common.{◌≡◌, ℕ, ◌+◌, ◌≤◌, ◌<◌, ◌^◌, Bool, true, false, ◌&&◌, ◌||◌, not, List, [], ◌∷◌, ◌++◌, length, drop, Option, Some, None, refl, sym, ◌∙◌, ap, subst, arith, unwrap_or, option_map, replicate, append_assoc, length-drop, ◌⊎◌, inl, inr}
+use Rattle.std.specs.Prelude.{◌==◌, ◌≢◌, nat_le, nat_lt, ℤ, set, if◌then◌else◌}
+use Rattle.std.proofs.lemmas.List.{append-nil, length-set, get_or-set_same, get_or-set_other, set-set, get_or-replicate, length-replicate}
+use Rattle.std.proofs.lemmas.Bool.{cases_eq, eq-eqb, ne_eqb, ltb-true, lt-leb, and_left}
 use Rattle.std.proofs.lemmas.Bool.Decides.{nat_tests}
+use Rattle.cts_def.specs.Sites.{SiteData}
 use Rattle.cts_def.specs.declared.time.Time.{Time}
 use Rattle.cts_entry.specs.declared.entry.Entry.{Entry}
 use Rattle.cts_entry.specs.declared.what.What.TheVariants.{Opened, Closed, Stop as StopEntry}
@@ -10,7 +12,7 @@ use Rattle.cts_entry.specs.declared.why.Why.{Why}
 use Rattle.cts_entry.specs.declared.why.Why.TheVariants.{BadFrame}
 use Rattle.cts_entry.specs.declared.event.Event.TheVariants.{SetTime, Opens, Piece, Finish, Stop}
 use Rattle.cts_entry.specs.declared.event.Effect.TheVariants.{Posted}
-use Rattle.cts_entry.specs.Histories.{or_earlier, latest, connects_maker, is_connected, is_stopped, entries_in, bytes_in}
+use Rattle.cts_entry.specs.Histories.{or_earlier, latest, connects, connects_maker, is_connected, is_stopped, entries_in, bytes_in}
 use Rattle.cts_entry.proofs.Appending.{latest-append, connected-append, stopped-append}
 use Rattle.cts_proto.specs.Framing.{Output}
 use Rattle.cts_proto.specs.Cuts.{Pieces, IsCut}
@@ -25,11 +27,11 @@ use Rattle.cts_proto.specs.LengthRow.{length_framing}
 use Rattle.cts_proto.proofs.Framings.{taken_none, ends_nil}
 use Rattle.cts_proto.proofs.LengthSound.{length_is_sound}
 use Rattle.cts_proto.proofs.Stagings.{plain_bytes, joined_append}
-use Rattle.cts_core.specs.States.{State, is_enabled, has_room, may_close}
+use Rattle.cts_core.specs.States.{State, is_enabled, has_room, may_close, with_pieces, opening}
 use Rattle.cts_core.specs.Runs.{Did, Does, Refuses, HistoryFull, Receives, after, closed_entry, packet_entries, closing}
-use Rattle.cts_serve.specs.Path.{path_ground}
-use Rattle.cts_serve.specs.Worlds.{Held, Stands, IsRest, lost, closed, posted, settled}
-use Rattle.cts_serve.proofs.Postings.{stopped_kept, connected_kept, entries_grow, bytes_grow, room_holds, packets_connect_none, packets_stop_none, packets_count, packets_bytes, frames_count}
+use Rattle.cts_serve.specs.Grounds.{site_ground}
+use Rattle.cts_serve.specs.Worlds.{Held, HeldConnection, Stands, IsLine, IsRest, line_at, shut, lost, opened, closed, extended, posted, settled}
+use Rattle.cts_serve.proofs.Postings.{stopped_kept, connected_kept, tells_maker, tells_no_other, entries_grow, bytes_grow, room_holds, packets_connect_none, packets_stop_none, packets_count, packets_bytes, frames_count}
 
 below : (n m : ℕ) → n < m → nat_lt n m ≡ true
 below n m h = grind (arith, nat_tests)
@@ -38,88 +40,179 @@ and_tells : (a b : Bool) → (a && b) ≡ true → (a ≡ true) × (b ≡ true)
 and_tells true b h = (refl, h)
 and_tells false b h = cc
 
-is_first : (by : ℕ) → (by == 0) ≡ true → by ≡ 0
-is_first by h = grind (arith, nat_tests)
+and_same : (a b c : Bool) → (a ≡ true → b ≡ c) → (a && b) ≡ (a && c)
+and_same true b c h = h refl
+and_same false b c h = refl
 
--- only the first interface is there
-not_first : (n : ℕ) (b : Bool) → ((suc n == 0) && b) ≡ true → ⊥
-not_first n b t = omega (arith, is_first (suc n) (and_tells (suc n == 0) b t).0)
+-- ---- which events are enabled
 
-pub time_set : (w : Held) (s : State) (time : Time) → time.micros < 1000000 → w.entries ≤ 4000000 → w.bytes ≤ 1073741824 → Stands w s
-    → (did : Did) × Does path_ground s (SetTime time) did × Stands (record w { time = time }) (after s (SetTime time) did)
-time_set w s time m e b h =
-    let did : Did = record { entries = []; effect = Posted } in (
-      did,
-      record { enabled = below time.micros 1000000 m; appends = refl; room = room_holds s [] 0 0 refl refl (omega (arith, h.entries, e)) (omega (arith, h.bytes, b)); effect = refl },
-      record {
-        history = h.history ∙ sym (append-nil s.history);
-        time = refl;
-        connected = h.connected ∙ ap (is_connected 0) (sym (append-nil s.history));
-        stopped = h.stopped ∙ ap is_stopped (sym (append-nil s.history));
-        entries = h.entries ∙ ap entries_in (sym (append-nil s.history));
-        bytes = h.bytes ∙ ap bytes_in (sym (append-nil s.history));
-        rest = h.rest;
-      },
-    )
+pub may_open_is : (site : SiteData) (w : Held) (s : State) (by : ℕ) → Stands site w s
+    → (nat_lt by (length site.interfaces) && (not (line_at w.lines by).connected && not w.stopped)) ≡ is_enabled (site_ground site) s (Opens by)
+may_open_is site w s by h =
+    and_same (nat_lt by (length site.interfaces)) (not (line_at w.lines by).connected && not w.stopped) (not (is_connected by s.history) && not (is_stopped s.history)) (λ t.
+    ap (λ (c : Bool). not c && not w.stopped) (h.lines by (ltb-true by (length site.interfaces) t)).connected
+    ∙ ap (λ (c : Bool). not (is_connected by s.history) && not c) h.stopped)
+
+pub may_finish_is : (site : SiteData) (w : Held) (s : State) (by : ℕ) (why : Why) → Stands site w s
+    → (nat_lt by (length site.interfaces) && ((line_at w.lines by).connected && may_close s.history why)) ≡ is_enabled (site_ground site) s (Finish by why)
+may_finish_is site w s by why h =
+    and_same (nat_lt by (length site.interfaces)) ((line_at w.lines by).connected && may_close s.history why) (is_connected by s.history && may_close s.history why) (λ t.
+    ap (λ (c : Bool). c && may_close s.history why) (h.lines by (ltb-true by (length site.interfaces) t)).connected)
+
+pub may_receive_is : (site : SiteData) (w : Held) (s : State) (by : ℕ) (piece : List ℕ) → Stands site w s
+    → (nat_lt by (length site.interfaces) && ((line_at w.lines by).connected && (nat_le 1 (length piece) && nat_le (length piece) 65536))) ≡ is_enabled (site_ground site) s (Piece by piece)
+may_receive_is site w s by piece h =
+    and_same (nat_lt by (length site.interfaces)) ((line_at w.lines by).connected && (nat_le 1 (length piece) && nat_le (length piece) 65536)) (is_connected by s.history && (nat_le 1 (length piece) && nat_le (length piece) 65536)) (λ t.
+    ap (λ (c : Bool). c && (nat_le 1 (length piece) && nat_le (length piece) 65536)) (h.lines by (ltb-true by (length site.interfaces) t)).connected)
+
+-- ---- the connections after an event
+
+pieces_of_maker : (by : ℕ) (mine : List (List ℕ)) (pieces : ℕ → List (List ℕ)) → with_pieces by mine pieces by ≡ mine
+pieces_of_maker by mine pieces = ap (λ (b : Bool). if b then mine else pieces by) (eq-eqb by by refl)
+
+pieces_of_other : (k by : ℕ) (mine : List (List ℕ)) (pieces : ℕ → List (List ℕ)) → k ≢ by → with_pieces by mine pieces k ≡ pieces k
+pieces_of_other k by mine pieces other = ap (λ (b : Bool). if b then mine else pieces k) (ne_eqb k by other)
+
+-- a connection stands as before where neither the history nor the pieces say more of it
+line_kept : (s t : State) (k : ℕ) (line : HeldConnection) → is_connected k t.history ≡ is_connected k s.history → t.pieces k ≡ s.pieces k → IsLine s k line → IsLine t k line
+line_kept s t k line c p h = record { connected = h.connected ∙ sym c; rest = λ on. subst (λ (pieces : List (List ℕ)). IsRest pieces line.rest) (sym p) (h.rest on) }
+
+line_set : (s t : State) (lines : List HeldConnection) (by : ℕ) (line : HeldConnection) (k : ℕ) → by < length lines → IsLine t by line
+    → (k ≢ by → is_connected k t.history ≡ is_connected k s.history) → (k ≢ by → t.pieces k ≡ s.pieces k) → IsLine s k (line_at lines k)
+    → ((k ≡ by) ⊎ (k ≢ by)) → IsLine t k (line_at (set lines by line) k)
+line_set s t lines by line k m mine c p before (inl same) =
+    subst (λ (j : ℕ). IsLine t j (line_at (set lines by line) j)) (sym same) (subst (λ (x : HeldConnection). IsLine t by x) (sym (get_or-set_same lines by line shut m)) mine)
+line_set s t lines by line k m mine c p before (inr other) =
+    line_kept s t k (line_at (set lines by line) k) (c other) (p other) (subst (λ (x : HeldConnection). IsLine s k x) (sym (get_or-set_other lines by k line shut other)) before)
+
+-- one connection is changed to this one, and each other stands as before
+lines_set : (s t : State) (lines : List HeldConnection) (n by : ℕ) (line : HeldConnection) → length lines ≡ n → by < n → ((k : ℕ) → k < n → IsLine s k (line_at lines k)) → IsLine t by line
+    → ((k : ℕ) → k ≢ by → is_connected k t.history ≡ is_connected k s.history) → ((k : ℕ) → k ≢ by → t.pieces k ≡ s.pieces k)
+    → (k : ℕ) → k < n → IsLine t k (line_at (set lines by line) k)
+lines_set s t lines n by line e m before mine c p k h = line_set s t lines by line k (omega (arith, e, m)) mine (c k) (p k) (before k h) (cases_eq k by)
+
+set_count : (lines : List HeldConnection) (n by : ℕ) (line : HeldConnection) → length lines ≡ n → length (set lines by line) ≡ n
+set_count lines n by line e = length-set lines by line ∙ e
+
+-- ---- no connection stands
 
 -- no bytes came, and none are left
 rest_of_none : IsRest [] []
 rest_of_none = ([], record { taken = taken_none length_framing []; ends = ends_nil length_framing length_is_sound })
 
-pub opened : (w : Held) (s : State) (by : ℕ) (history : List Entry) (rest : List ℕ) → ((by == 0) && (not w.connected && not w.stopped)) ≡ true → w.entries < 4000000 → w.bytes ≤ 1073741824
-    → history ≡ w.history ++ record { by = 0; time = w.time; what = Opened } ∷ [] → rest ≡ [] → Stands w s
-    → (did : Did) × Does path_ground s (Opens by) did × Stands (record w { history = history; connected = true; rest = rest; entries = w.entries + 1 }) (after s (Opens by) did)
-opened w s zero history rest t e b hist none h =
-    let entry : Entry = record { by = 0; time = s.time; what = Opened } in
-    let did : Did = record { entries = entry ∷ []; effect = Posted } in (
+pub stands_first : (site : SiteData) (w : Held) → w.time ≡ opening.time → w.history ≡ [] → w.stopped ≡ false → w.entries ≡ 0 → w.bytes ≡ 0 → w.lines ≡ replicate (length site.interfaces) shut → Stands site w opening
+stands_first site w time history stopped entries bytes lines = record {
+  history = history;
+  time = time;
+  stopped = stopped;
+  entries = entries;
+  bytes = bytes;
+  count = ap length lines ∙ length-replicate (length site.interfaces) shut;
+  lines = λ by m. subst (λ (x : HeldConnection). IsLine opening by x) (sym (ap (λ (ls : List HeldConnection). line_at ls by) lines ∙ get_or-replicate (length site.interfaces) by shut shut m)) (record { connected = refl; rest = λ on. absurd (cc) });
+}
+
+-- ---- the clock and the Stop
+
+pub time_set : (site : SiteData) (w : Held) (s : State) (time : Time) → time.micros < 1000000 → w.entries ≤ 4000000 → w.bytes ≤ 1073741824 → Stands site w s
+    → (did : Did) × Does (site_ground site) s (SetTime time) did × Stands site (record w { time = time }) (after s (SetTime time) did)
+time_set site w s time m e b h =
+    let did : Did = record { entries = []; effect = Posted } in
+    let all : s.history ≡ s.history ++ [] = sym (append-nil s.history) in (
       did,
+      record { enabled = below time.micros 1000000 m; appends = refl; room = room_holds site s [] 0 0 refl refl (omega (arith, h.entries, e)) (omega (arith, h.bytes, b)); effect = refl },
       record {
-        enabled = subst (λ (c : Bool). (not c && not (is_stopped s.history)) ≡ true) h.connected (subst (λ (c : Bool). (not w.connected && not c) ≡ true) h.stopped t);
-        appends = refl;
-        room = room_holds s (entry ∷ []) 1 0 refl refl (omega (arith, h.entries, e)) (omega (arith, h.bytes, b));
-        effect = refl;
-      },
-      record {
-        history = hist ∙ (ap (λ (l : List Entry). l ++ record { by = 0; time = w.time; what = Opened } ∷ []) h.history ∙ ap (λ (now : Time). s.history ++ record { by = 0; time = now; what = Opened } ∷ []) h.time);
-        time = h.time;
-        connected = sym (connected-append 0 s.history (entry ∷ []));
-        stopped = h.stopped ∙ sym (stopped_kept s.history (entry ∷ []) refl);
-        entries = omega (arith, h.entries, entries_grow s.history (entry ∷ []) 1 refl);
-        bytes = omega (arith, h.bytes, bytes_grow s.history (entry ∷ []) 0 refl);
-        rest = λ on. subst (IsRest []) (sym none) rest_of_none;
+        history = h.history ∙ all;
+        time = refl;
+        stopped = h.stopped ∙ ap is_stopped all;
+        entries = h.entries ∙ ap entries_in all;
+        bytes = h.bytes ∙ ap bytes_in all;
+        count = h.count;
+        lines = λ k m. line_kept s (after s (SetTime time) did) k (line_at w.lines k) (ap (is_connected k) (sym all)) refl (h.lines k m);
       },
     )
-opened w s (suc n) history rest t e b hist none h = absurd (not_first n _ t)
 
 or_true : (b : Bool) → (b || true) ≡ true
 or_true true = refl
 or_true false = refl
 
-pub stopped : (w : Held) (s : State) (history : List Entry) → w.stopped ≡ false → w.entries ≤ 4000000 → w.bytes ≤ 1073741824
-    → history ≡ w.history ++ record { by = 31; time = w.time; what = StopEntry } ∷ [] → Stands w s
-    → (did : Did) × Does path_ground s Stop did × Stands (record w { history = history; stopped = true }) (after s Stop did)
-stopped w s history t e b hist h =
+stop_tells_none : (k : ℕ) (b : Bool) → (if b then connects StopEntry else None) ≡ None
+stop_tells_none k true = refl
+stop_tells_none k false = refl
+
+pub stopped : (site : SiteData) (w : Held) (s : State) (history : List Entry) → w.stopped ≡ false → w.entries ≤ 4000000 → w.bytes ≤ 1073741824
+    → history ≡ w.history ++ record { by = 31; time = w.time; what = StopEntry } ∷ [] → Stands site w s
+    → (did : Did) × Does (site_ground site) s Stop did × Stands site (record w { history = history; stopped = true }) (after s Stop did)
+stopped site w s history t e b hist h =
     let entry : Entry = record { by = 31; time = s.time; what = StopEntry } in
     let did : Did = record { entries = entry ∷ []; effect = Posted } in (
       did,
       record {
         enabled = ap not (sym h.stopped ∙ t);
         appends = refl;
-        room = room_holds s (entry ∷ []) 0 0 refl refl (omega (arith, h.entries, e)) (omega (arith, h.bytes, b));
+        room = room_holds site s (entry ∷ []) 0 0 refl refl (omega (arith, h.entries, e)) (omega (arith, h.bytes, b));
         effect = refl;
       },
       record {
         history = hist ∙ (ap (λ (l : List Entry). l ++ record { by = 31; time = w.time; what = StopEntry } ∷ []) h.history ∙ ap (λ (now : Time). s.history ++ record { by = 31; time = now; what = StopEntry } ∷ []) h.time);
         time = h.time;
-        connected = h.connected ∙ sym (connected_kept 0 s.history (entry ∷ []) refl);
         stopped = sym (stopped-append s.history (entry ∷ []) ∙ or_true (is_stopped s.history));
         entries = omega (arith, h.entries, entries_grow s.history (entry ∷ []) 0 refl);
         bytes = omega (arith, h.bytes, bytes_grow s.history (entry ∷ []) 0 refl);
-        rest = h.rest;
+        count = h.count;
+        lines = λ k m. line_kept s (after s Stop did) k (line_at w.lines k) (connected_kept k s.history (entry ∷ []) (stop_tells_none k (31 == k))) refl (h.lines k m);
       },
     )
 
--- packets of a chain of one framing
+-- ---- one entry of a maker
+
+-- it leaves each other maker connected or not
+others_kept : (by : ℕ) (s : State) (entry : Entry) → entry.by ≡ by → (k : ℕ) → k ≢ by → is_connected k (s.history ++ entry ∷ []) ≡ is_connected k s.history
+others_kept by s entry e k other = connected_kept k s.history (entry ∷ []) (tells_no_other k entry (λ same. other (same ∙ e)))
+
+-- and says whether its own maker is connected
+maker_told : (by : ℕ) (s : State) (entry : Entry) (on : Bool) → entry.by ≡ by → connects entry.what ≡ Some on → on ≡ is_connected by (s.history ++ entry ∷ [])
+maker_told by s entry on e t = sym (connected-append by s.history (entry ∷ []) ∙ ap (λ (o : Option Bool). unwrap_or (or_earlier o (latest (connects_maker by) s.history)) false) (tells_maker by entry e ∙ t))
+
+pub opens : (site : SiteData) (w new : Held) (s : State) (by : ℕ) → new ≡ opened by w → is_enabled (site_ground site) s (Opens by) ≡ true → w.entries < 4000000 → w.bytes ≤ 1073741824 → Stands site w s
+    → (did : Did) × Does (site_ground site) s (Opens by) did × Stands site new (after s (Opens by) did)
+opens site w new s by n t e b h =
+    let m : by < length site.interfaces = ltb-true by (length site.interfaces) (and_tells (nat_lt by (length site.interfaces)) _ t).0 in
+    let entry : Entry = record { by = by; time = s.time; what = Opened } in
+    let did : Did = record { entries = entry ∷ []; effect = Posted } in
+    let moved : State = after s (Opens by) did in
+    let line : HeldConnection = record { connected = true; rest = [] } in
+    let mine : IsLine moved by line = record {
+      connected = maker_told by s entry true refl refl;
+      rest = λ on. subst (λ (pieces : List (List ℕ)). IsRest pieces []) (sym (pieces_of_maker by [] s.pieces)) rest_of_none;
+    } in
+    let whole : Stands site (opened by w) moved = record {
+      history = ap (λ (l : List Entry). l ++ record { by = by; time = w.time; what = Opened } ∷ []) h.history ∙ ap (λ (now : Time). s.history ++ record { by = by; time = now; what = Opened } ∷ []) h.time;
+      time = h.time;
+      stopped = h.stopped ∙ sym (stopped_kept s.history (entry ∷ []) refl);
+      entries = omega (arith, h.entries, entries_grow s.history (entry ∷ []) 1 refl);
+      bytes = omega (arith, h.bytes, bytes_grow s.history (entry ∷ []) 0 refl);
+      count = set_count w.lines (length site.interfaces) by line h.count;
+      lines = lines_set s moved w.lines (length site.interfaces) by line h.count m h.lines mine (others_kept by s entry refl) (λ k. pieces_of_other k by [] s.pieces);
+    } in (
+      did,
+      record {
+        enabled = t;
+        appends = refl;
+        room = room_holds site s (entry ∷ []) 1 0 refl refl (omega (arith, h.entries, e)) (omega (arith, h.bytes, b));
+        effect = refl;
+      },
+      subst (λ (x : Held). Stands site x moved) (sym n) whole,
+    )
+
+-- the limit of entries leaves no room for an Opened
+pub open_full : (site : SiteData) (w : Held) (s : State) (by : ℕ) → is_enabled (site_ground site) s (Opens by) ≡ true → 4000000 ≤ w.entries → Stands site w s
+    → Refuses (site_ground site) s (Opens by) HistoryFull × (w.entries ≡ entries_in s.history) × (w.bytes ≡ bytes_in s.history)
+open_full site w s by t full h =
+    let entry : Entry = record { by = by; time = s.time; what = Opened } in
+    let many : 4000000 < entries_in (s.history ++ entry ∷ []) = omega (arith, h.entries, full, entries_grow s.history (entry ∷ []) 1 refl) in
+    ((t, (entry ∷ [], refl, and_left (nat_le (entries_in (s.history ++ entry ∷ [])) 4000000) (nat_le (bytes_in (s.history ++ entry ∷ [])) 1073741824) (lt-leb (entries_in (s.history ++ entry ∷ [])) 4000000 many))), h.entries, h.bytes)
+
+-- ---- packets of a chain of one framing
 
 one_stage : (pieces : List (List ℕ)) (c : Pieces) → IsCut length_framing (joined pieces) c → IsPackets (length_framing ∷ []) pieces (c ∷ []) c.outs
 one_stage pieces c h = (subst (λ (b : List (List ℕ)). IsCut length_framing (joined b) c) (sym (plain_bytes pieces)) h, refl)
@@ -138,214 +231,304 @@ loss_is c h s e =
     let empty : 0 ≡ capped (c.empty + 0) = omega (arith, e) in
     λ i. record { held = held i; skipped = skipped i; empty = empty i }
 
-closed_entry_is : (w : Held) (s : State) (why : Why) (c : Pieces) → w.time ≡ s.time → w.rest ≡ c.rest → length c.rest < 2 ^ 64 → c.skipped ≡ 0 → c.empty ≡ 0 → lost w why ≡ closed_entry s.time 0 why (c ∷ [])
-closed_entry_is w s why c t r h k e =
-    ap (λ (now : Time). lost (record w { time = now }) why) t
-    ∙ (ap (λ (rest : List ℕ). lost (record w { time = s.time; rest = rest }) why) r
-    ∙ ap (λ (loss : Loss). record { by = 0; time = s.time; what = Closed why loss 0 0 }) (loss_is c h k e))
+closed_entry_is : (by : ℕ) (before now : Time) (why : Why) (c : Pieces) → before ≡ now → length c.rest < 2 ^ 64 → c.skipped ≡ 0 → c.empty ≡ 0 → lost by before c.rest why ≡ closed_entry now by why (c ∷ [])
+closed_entry_is by before now why c t h k e =
+    ap (λ (time : Time). lost by time c.rest why) t
+    ∙ ap (λ (loss : Loss). record { by = by; time = now; what = Closed why loss 0 0 }) (loss_is c h k e)
 
-pub finished : (w new : Held) (s : State) (by : ℕ) (why : Why) → new ≡ closed w why → ((by == 0) && (w.connected && may_close s.history why)) ≡ true → w.entries ≤ 4000000 → w.bytes ≤ 1073741824 → length w.rest < 2 ^ 64 → Stands w s
-    → (did : Did) × Does path_ground s (Finish by why) did × Stands new (after s (Finish by why) did)
-finished w new s zero why n t e b m h =
-    let on : w.connected ≡ true = (and_tells w.connected _ t).0 in
-    let rest = h.rest on in
-    let c = cut_with_rest rest.0 w.rest None in
-    let entry = closed_entry s.time 0 why (c ∷ []) in
+-- a connection that does not stand
+shut_line : (by : ℕ) (t : State) → false ≡ is_connected by t.history → IsLine t by shut
+shut_line by t off = record { connected = off; rest = λ on. absurd (cc) }
+
+pub finished : (site : SiteData) (w new : Held) (s : State) (by : ℕ) (why : Why) → new ≡ closed by w why → is_enabled (site_ground site) s (Finish by why) ≡ true
+    → w.entries ≤ 4000000 → w.bytes ≤ 1073741824 → length (line_at w.lines by).rest < 2 ^ 64 → Stands site w s
+    → (did : Did) × Does (site_ground site) s (Finish by why) did × Stands site new (after s (Finish by why) did)
+finished site w new s by why n t e b small h =
+    let parts = and_tells (nat_lt by (length site.interfaces)) _ t in
+    let m : by < length site.interfaces = ltb-true by (length site.interfaces) parts.0 in
+    let line = h.lines by m in
+    let rest = line.rest (line.connected ∙ (and_tells (is_connected by s.history) _ parts.1).0) in
+    let c = cut_with_rest rest.0 (line_at w.lines by).rest None in
+    let entry = closed_entry s.time by why (c ∷ []) in
     let did : Did = record { entries = entry ∷ []; effect = Posted } in
-    let whole : Stands (closed w why) (after s (Finish 0 why) did) = record {
-      history = ap (λ (l : List Entry). l ++ lost w why ∷ []) h.history ∙ ap (λ (x : Entry). s.history ++ x ∷ []) (closed_entry_is w s why c h.time refl m refl refl);
+    let moved : State = after s (Finish by why) did in
+    let whole : Stands site (closed by w why) moved = record {
+      history = ap (λ (l : List Entry). l ++ lost by w.time (line_at w.lines by).rest why ∷ []) h.history ∙ ap (λ (x : Entry). s.history ++ x ∷ []) (closed_entry_is by w.time s.time why c h.time small refl refl);
       time = h.time;
-      connected = sym (connected-append 0 s.history (entry ∷ []));
       stopped = h.stopped ∙ sym (stopped_kept s.history (entry ∷ []) refl);
       entries = omega (arith, h.entries, entries_grow s.history (entry ∷ []) 0 refl);
       bytes = omega (arith, h.bytes, bytes_grow s.history (entry ∷ []) 0 refl);
-      rest = λ off. absurd (cc);
+      count = set_count w.lines (length site.interfaces) by shut h.count;
+      lines = lines_set s moved w.lines (length site.interfaces) by shut h.count m h.lines (shut_line by moved (maker_told by s entry false refl refl)) (others_kept by s entry refl) (λ k. pieces_of_other k by [] s.pieces);
     } in (
       did,
       record {
-        enabled = subst (λ (o : Bool). (o && may_close s.history why) ≡ true) h.connected t;
-        appends = record { cuts = c ∷ []; given = rest.0; before = one_stage (s.pieces 0) c rest.1; entries_are = refl };
-        room = room_holds s (entry ∷ []) 0 0 refl refl (omega (arith, h.entries, e)) (omega (arith, h.bytes, b));
+        enabled = t;
+        appends = record { cuts = c ∷ []; given = rest.0; before = one_stage (s.pieces by) c rest.1; entries_are = refl };
+        room = room_holds site s (entry ∷ []) 0 0 refl refl (omega (arith, h.entries, e)) (omega (arith, h.bytes, b));
         effect = refl;
       },
-      subst (λ (x : Held). Stands x (after s (Finish 0 why) did)) (sym n) whole,
+      subst (λ (x : Held). Stands site x moved) (sym n) whole,
     )
-finished w new s (suc n) why m t e b k h = absurd (not_first n _ t)
 
--- What a piece brings. The connection's bytes so far left a rest, and its cutting with the piece has these frames.
+-- ---- What a piece brings. The connection's bytes so far left a rest, and its cutting with the piece has these frames.
 
-received_rest : (s : State) (piece rest : List ℕ) (c : Cutting) (k : (given : List Output) × IsCut length_framing (joined (s.pieces 0)) (cut_with_rest given rest None)) → IsCutting (rest ++ piece) c
-    → IsCut length_framing (joined (s.pieces 0 ++ piece ∷ [])) (cut_with_rest (k.0 ++ frames_at (rest ++ piece) c.frames) (drop c.rest (rest ++ piece)) (option_map Short c.short))
-received_rest s piece rest c k i =
+received_rest : (pieces : List (List ℕ)) (piece rest : List ℕ) (c : Cutting) (k : IsRest pieces rest) → IsCutting (rest ++ piece) c
+    → IsCut length_framing (joined (pieces ++ piece ∷ [])) (cut_with_rest (k.0 ++ frames_at (rest ++ piece) c.frames) (drop c.rest (rest ++ piece)) (option_map Short c.short))
+received_rest pieces piece rest c k i =
     subst (λ (b : List ℕ). IsCut length_framing b (cut_with_rest (k.0 ++ frames_at (rest ++ piece) c.frames) (drop c.rest (rest ++ piece)) (option_map Short c.short)))
-    (sym (joined_append (s.pieces 0) (piece ∷ []) ∙ ap (λ (b : List ℕ). joined (s.pieces 0) ++ b) (append-nil piece)))
-    (cut_more length_framing length_is_sound refl (joined (s.pieces 0)) piece (cut_with_rest k.0 rest None) (pieces_in (rest ++ piece) c) k.1 i.cut)
+    (sym (joined_append pieces (piece ∷ []) ∙ ap (λ (b : List ℕ). joined pieces ++ b) (append-nil piece)))
+    (cut_more length_framing length_is_sound refl (joined pieces) piece (cut_with_rest k.0 rest None) (pieces_in (rest ++ piece) c) k.1 i.cut)
 
 -- what stands behind the packets of a piece
-tail_of : State → List ℕ → Option ℤ → List Entry
-tail_of s rest short = closing s.time 0 (cut_with_rest [] rest (option_map Short short) ∷ []) (fault_of (cut_with_rest [] rest (option_map Short short) ∷ []))
+tail_of : ℕ → Time → List ℕ → Option ℤ → List Entry
+tail_of by now rest short = closing now by (cut_with_rest [] rest (option_map Short short) ∷ []) (fault_of (cut_with_rest [] rest (option_map Short short) ∷ []))
 
-tail_counts : (s : State) (rest : List ℕ) (short : Option ℤ) → entries_in (tail_of s rest short) ≡ 0
+tail_counts : (by : ℕ) (now : Time) (rest : List ℕ) (short : Option ℤ) → entries_in (tail_of by now rest short) ≡ 0
 unfolding tail_of
-tail_counts s rest None = refl
-tail_counts s rest (Some n) = refl
+tail_counts by now rest None = refl
+tail_counts by now rest (Some n) = refl
 
-tail_weighs : (s : State) (rest : List ℕ) (short : Option ℤ) → bytes_in (tail_of s rest short) ≡ 0
+tail_weighs : (by : ℕ) (now : Time) (rest : List ℕ) (short : Option ℤ) → bytes_in (tail_of by now rest short) ≡ 0
 unfolding tail_of
-tail_weighs s rest None = refl
-tail_weighs s rest (Some n) = refl
+tail_weighs by now rest None = refl
+tail_weighs by now rest (Some n) = refl
 
 -- the closing does not depend on what was given
-tail_is : (s : State) (outs : List Output) (rest : List ℕ) (short : Option ℤ)
-    → closing s.time 0 (cut_with_rest outs rest (option_map Short short) ∷ []) (fault_of (cut_with_rest outs rest (option_map Short short) ∷ [])) ≡ tail_of s rest short
+tail_is : (by : ℕ) (now : Time) (outs : List Output) (rest : List ℕ) (short : Option ℤ)
+    → closing now by (cut_with_rest outs rest (option_map Short short) ∷ []) (fault_of (cut_with_rest outs rest (option_map Short short) ∷ [])) ≡ tail_of by now rest short
 unfolding tail_of
-tail_is s outs rest None = refl
-tail_is s outs rest (Some n) = refl
+tail_is by now outs rest None = refl
+tail_is by now outs rest (Some n) = refl
+
+-- the packets of a piece
+packets_of : SiteData → ℕ → Time → List ℕ → Cutting → List Entry
+packets_of site by now bytes c = packet_entries (site_ground site) now by (frames_at bytes c.frames)
+
+packets_are : (site : SiteData) (by : ℕ) (now : Time) (bytes : List ℕ) (c : Cutting) → packet_entries (site_ground site) now by (frames_at bytes c.frames) ≡ packets_of site by now bytes c
+unfolding packets_of
+packets_are site by now bytes c = refl
 
 -- the entries of a piece
-posts : State → List ℕ → Cutting → List Entry
-posts s bytes c = packet_entries path_ground s.time 0 (frames_at bytes c.frames) ++ tail_of s (drop c.rest bytes) c.short
+posts : SiteData → ℕ → Time → List ℕ → Cutting → List Entry
+posts site by now bytes c = packets_of site by now bytes c ++ tail_of by now (drop c.rest bytes) c.short
 
-posts_received : (s : State) (piece rest : List ℕ) (c : Cutting) → IsRest (s.pieces 0) rest → IsCutting (rest ++ piece) c → Receives path_ground s 0 piece (posts s (rest ++ piece) c)
-unfolding posts
-posts_received s piece rest c k i =
+posts_received : (site : SiteData) (by : ℕ) (s : State) (piece rest : List ℕ) (c : Cutting) → IsRest (s.pieces by) rest → IsCutting (rest ++ piece) c → Receives (site_ground site) s by piece (posts site by s.time (rest ++ piece) c)
+unfolding posts packets_of
+posts_received site by s piece rest c k i =
     let cut = cut_with_rest (k.0 ++ frames_at (rest ++ piece) c.frames) (drop c.rest (rest ++ piece)) (option_map Short c.short) in
     record {
       earlier = cut_with_rest k.0 rest None ∷ [];
       given = k.0;
-      before = one_stage (s.pieces 0) (cut_with_rest k.0 rest None) k.1;
+      before = one_stage (s.pieces by) (cut_with_rest k.0 rest None) k.1;
       cuts = cut ∷ [];
       packets = frames_at (rest ++ piece) c.frames;
-      after = one_stage (s.pieces 0 ++ piece ∷ []) cut (received_rest s piece rest c k i);
-      entries_are = ap (λ (t : List Entry). packet_entries path_ground s.time 0 (frames_at (rest ++ piece) c.frames) ++ t) (sym (tail_is s (k.0 ++ frames_at (rest ++ piece) c.frames) (drop c.rest (rest ++ piece)) c.short));
+      after = one_stage (s.pieces by ++ piece ∷ []) cut (received_rest (s.pieces by) piece rest c k i);
+      entries_are = ap (λ (t : List Entry). packet_entries (site_ground site) s.time by (frames_at (rest ++ piece) c.frames) ++ t) (sym (tail_is by s.time (k.0 ++ frames_at (rest ++ piece) c.frames) (drop c.rest (rest ++ piece)) c.short));
     }
 
-posts_count : (s : State) (bytes : List ℕ) (c : Cutting) → entries_in (posts s bytes c) ≡ length c.frames
-unfolding posts
-posts_count s bytes c =
-    omega (arith, entries_grow (packet_entries path_ground s.time 0 (frames_at bytes c.frames)) (tail_of s (drop c.rest bytes) c.short) 0 (tail_counts s (drop c.rest bytes) c.short), packets_count s.time (frames_at bytes c.frames), frames_count bytes c.frames)
+posts_count : (site : SiteData) (by : ℕ) (now : Time) (bytes : List ℕ) (c : Cutting) → entries_in (posts site by now bytes c) ≡ length c.frames
+unfolding posts packets_of
+posts_count site by now bytes c =
+    omega (arith, entries_grow (packet_entries (site_ground site) now by (frames_at bytes c.frames)) (tail_of by now (drop c.rest bytes) c.short) 0 (tail_counts by now (drop c.rest bytes) c.short), packets_count site by now (frames_at bytes c.frames), frames_count bytes c.frames)
 
-posts_size : (s : State) (bytes : List ℕ) (c : Cutting) → IsCutting bytes c → bytes_in (posts s bytes c) ≡ c.rest
-unfolding posts
-posts_size s bytes c i =
-    omega (arith, bytes_grow (packet_entries path_ground s.time 0 (frames_at bytes c.frames)) (tail_of s (drop c.rest bytes) c.short) 0 (tail_weighs s (drop c.rest bytes) c.short), packets_bytes s.time bytes c.frames c.rest i.tiles i.within)
+posts_size : (site : SiteData) (by : ℕ) (now : Time) (bytes : List ℕ) (c : Cutting) → IsCutting bytes c → bytes_in (posts site by now bytes c) ≡ c.rest
+unfolding posts packets_of
+posts_size site by now bytes c i =
+    omega (arith, bytes_grow (packet_entries (site_ground site) now by (frames_at bytes c.frames)) (tail_of by now (drop c.rest bytes) c.short) 0 (tail_weighs by now (drop c.rest bytes) c.short), packets_bytes site by now bytes c.frames c.rest i.tiles i.within)
 
 -- the room for the entries of a piece is what the world counts
-room_is : (w : Held) (s : State) (bytes : List ℕ) (c : Cutting) → IsCutting bytes c → Stands w s
-    → (nat_le (w.entries + length c.frames) 4000000 && nat_le (w.bytes + c.rest) 1073741824) ≡ has_room path_ground s (posts s bytes c)
-room_is w s bytes c i h =
-    let count : w.entries + length c.frames ≡ entries_in (s.history ++ posts s bytes c) = omega (arith, h.entries, entries_grow s.history (posts s bytes c) (length c.frames) (posts_count s bytes c)) in
-    let size : w.bytes + c.rest ≡ bytes_in (s.history ++ posts s bytes c) = omega (arith, h.bytes, bytes_grow s.history (posts s bytes c) c.rest (posts_size s bytes c i)) in
-    ap (λ (n : ℕ). nat_le n 4000000 && nat_le (w.bytes + c.rest) 1073741824) count ∙ ap (λ (n : ℕ). nat_le (entries_in (s.history ++ posts s bytes c)) 4000000 && nat_le n 1073741824) size
+room_is : (site : SiteData) (by : ℕ) (w : Held) (s : State) (bytes : List ℕ) (c : Cutting) → IsCutting bytes c → Stands site w s
+    → (nat_le (w.entries + length c.frames) 4000000 && nat_le (w.bytes + c.rest) 1073741824) ≡ has_room (site_ground site) s (posts site by s.time bytes c)
+room_is site by w s bytes c i h =
+    let entries = posts site by s.time bytes c in
+    let count : w.entries + length c.frames ≡ entries_in (s.history ++ entries) = omega (arith, h.entries, entries_grow s.history entries (length c.frames) (posts_count site by s.time bytes c)) in
+    let size : w.bytes + c.rest ≡ bytes_in (s.history ++ entries) = omega (arith, h.bytes, bytes_grow s.history entries c.rest (posts_size site by s.time bytes c i)) in
+    ap (λ (n : ℕ). nat_le n 4000000 && nat_le (w.bytes + c.rest) 1073741824) count ∙ ap (λ (n : ℕ). nat_le (entries_in (s.history ++ entries)) 4000000 && nat_le n 1073741824) size
 
-piece_enabled : (w : Held) (s : State) (by : ℕ) (piece : List ℕ) → Stands w s → ((by == 0) && (w.connected && (nat_le 1 (length piece) && nat_le (length piece) 65536))) ≡ true → is_enabled path_ground s (Piece by piece) ≡ true
-piece_enabled w s zero piece h t = subst (λ (o : Bool). (o && (nat_le 1 (length piece) && nat_le (length piece) 65536)) ≡ true) h.connected t
-piece_enabled w s (suc n) piece h t = absurd (not_first n _ t)
+-- what is known of the connection that receives a piece
+record IsReceiver (site : SiteData) (w : Held) (s : State) (by : ℕ) : Type 0 where
+  there : by < length site.interfaces
+  on : (line_at w.lines by).connected ≡ true
+  rest : IsRest (s.pieces by) (line_at w.lines by).rest
 
-pub piece_full : (w : Held) (s : State) (by : ℕ) (piece : List ℕ) (c : Cutting) → ((by == 0) && (w.connected && (nat_le 1 (length piece) && nat_le (length piece) 65536))) ≡ true
-    → IsCutting (w.rest ++ piece) c → (nat_le (w.entries + length c.frames) 4000000 && nat_le (w.bytes + c.rest) 1073741824) ≡ false → Stands w s
-    → Refuses path_ground s (Piece by piece) HistoryFull × (w.entries ≡ entries_in s.history) × (w.bytes ≡ bytes_in s.history)
-piece_full w s zero piece c t i full h =
-    let k = h.rest (and_tells w.connected _ t).0 in
-    ((piece_enabled w s zero piece h t, (posts s (w.rest ++ piece) c, posts_received s piece w.rest c k i, sym (room_is w s (w.rest ++ piece) c i h) ∙ full)), h.entries, h.bytes)
-piece_full w s (suc n) piece c t i full h = absurd (not_first n _ t)
+receiver : (site : SiteData) (w : Held) (s : State) (by : ℕ) (piece : List ℕ) → is_enabled (site_ground site) s (Piece by piece) ≡ true → Stands site w s → IsReceiver site w s by
+receiver site w s by piece t h =
+    let parts = and_tells (nat_lt by (length site.interfaces)) _ t in
+    let m : by < length site.interfaces = ltb-true by (length site.interfaces) parts.0 in
+    let line = h.lines by m in
+    let on : (line_at w.lines by).connected ≡ true = line.connected ∙ (and_tells (is_connected by s.history) _ parts.1).0 in
+    record { there = m; on = on; rest = line.rest on }
 
-packets_of : State → List ℕ → Cutting → List Entry
-packets_of s bytes c = packet_entries path_ground s.time 0 (frames_at bytes c.frames)
+pub piece_full : (site : SiteData) (w : Held) (s : State) (by : ℕ) (piece : List ℕ) (c : Cutting) → is_enabled (site_ground site) s (Piece by piece) ≡ true
+    → IsCutting ((line_at w.lines by).rest ++ piece) c → (nat_le (w.entries + length c.frames) 4000000 && nat_le (w.bytes + c.rest) 1073741824) ≡ false → Stands site w s
+    → Refuses (site_ground site) s (Piece by piece) HistoryFull × (w.entries ≡ entries_in s.history) × (w.bytes ≡ bytes_in s.history)
+piece_full site w s by piece c t i full h =
+    let rest = (line_at w.lines by).rest in
+    let r = receiver site w s by piece t h in
+    ((t, (posts site by s.time (rest ++ piece) c, posts_received site by s piece rest c r.rest i, sym (room_is site by w s (rest ++ piece) c i h) ∙ full)), h.entries, h.bytes)
 
-bad_tail : State → List ℕ → ℤ → Entry
-bad_tail s rest stated = closed_entry s.time 0 (BadFrame 1 (Short stated)) (cut_with_rest [] rest (Some (Short stated)) ∷ [])
+bad_tail : ℕ → Time → List ℕ → ℤ → Entry
+bad_tail by now rest stated = closed_entry now by (BadFrame 1 (Short stated)) (cut_with_rest [] rest (Some (Short stated)) ∷ [])
 
-posts_whole : (s : State) (bytes : List ℕ) (c : Cutting) → c.short ≡ None → posts s bytes c ≡ packets_of s bytes c
-unfolding posts tail_of packets_of
-posts_whole s bytes c e = ap (λ (short : Option ℤ). packet_entries path_ground s.time 0 (frames_at bytes c.frames) ++ tail_of s (drop c.rest bytes) short) e ∙ append-nil (packet_entries path_ground s.time 0 (frames_at bytes c.frames))
-
-posts_bad : (s : State) (bytes : List ℕ) (c : Cutting) (stated : ℤ) → c.short ≡ Some stated → posts s bytes c ≡ packets_of s bytes c ++ bad_tail s (drop c.rest bytes) stated ∷ []
-unfolding posts tail_of packets_of bad_tail
-posts_bad s bytes c stated e = ap (λ (short : Option ℤ). packet_entries path_ground s.time 0 (frames_at bytes c.frames) ++ tail_of s (drop c.rest bytes) short) e
-
-packets_at : (w : Held) (s : State) (bytes : List ℕ) (c : Cutting) → w.time ≡ s.time → packet_entries path_ground w.time 0 (frames_at bytes c.frames) ≡ packets_of s bytes c
-unfolding packets_of
-packets_at w s bytes c t = ap (λ (now : Time). packet_entries path_ground now 0 (frames_at bytes c.frames)) t
-
-packets_connect : (s : State) (bytes : List ℕ) (c : Cutting) → latest (connects_maker 0) (packets_of s bytes c) ≡ None
-unfolding packets_of
-packets_connect s bytes c = packets_connect_none s.time (frames_at bytes c.frames)
-
-packets_stop : (s : State) (bytes : List ℕ) (c : Cutting) → is_stopped (packets_of s bytes c) ≡ false
-unfolding packets_of
-packets_stop s bytes c = packets_stop_none s.time (frames_at bytes c.frames)
-
-bad_connects : (s : State) (bytes rest : List ℕ) (c : Cutting) (stated : ℤ) → latest (connects_maker 0) (packets_of s bytes c ++ bad_tail s rest stated ∷ []) ≡ Some false
+bad_by : (by : ℕ) (now : Time) (rest : List ℕ) (stated : ℤ) → ((bad_tail by now rest stated).by ≡ by) × (connects (bad_tail by now rest stated).what ≡ Some false)
 unfolding bad_tail
-bad_connects s bytes rest c stated = latest-append (connects_maker 0) (packets_of s bytes c) (bad_tail s rest stated ∷ [])
+bad_by by now rest stated = (refl, refl)
 
-bad_stops : (s : State) (bytes rest : List ℕ) (c : Cutting) (stated : ℤ) → is_stopped (packets_of s bytes c ++ bad_tail s rest stated ∷ []) ≡ false
+posts_whole : (site : SiteData) (by : ℕ) (now : Time) (bytes : List ℕ) (c : Cutting) → c.short ≡ None → posts site by now bytes c ≡ packets_of site by now bytes c
+unfolding posts tail_of
+posts_whole site by now bytes c e = ap (λ (short : Option ℤ). packets_of site by now bytes c ++ tail_of by now (drop c.rest bytes) short) e ∙ append-nil (packets_of site by now bytes c)
+
+posts_bad : (site : SiteData) (by : ℕ) (now : Time) (bytes : List ℕ) (c : Cutting) (stated : ℤ) → c.short ≡ Some stated → posts site by now bytes c ≡ packets_of site by now bytes c ++ bad_tail by now (drop c.rest bytes) stated ∷ []
+unfolding posts tail_of bad_tail
+posts_bad site by now bytes c stated e = ap (λ (short : Option ℤ). packets_of site by now bytes c ++ tail_of by now (drop c.rest bytes) short) e
+
+packets_at : (site : SiteData) (by : ℕ) (before now : Time) (bytes : List ℕ) (c : Cutting) → before ≡ now → packet_entries (site_ground site) before by (frames_at bytes c.frames) ≡ packets_of site by now bytes c
+packets_at site by before now bytes c t = ap (λ (time : Time). packet_entries (site_ground site) time by (frames_at bytes c.frames)) t ∙ packets_are site by now bytes c
+
+packets_connect : (site : SiteData) (k by : ℕ) (now : Time) (bytes : List ℕ) (c : Cutting) → latest (connects_maker k) (packets_of site by now bytes c) ≡ None
+unfolding packets_of
+packets_connect site k by now bytes c = packets_connect_none site k by now (frames_at bytes c.frames)
+
+packets_stop : (site : SiteData) (by : ℕ) (now : Time) (bytes : List ℕ) (c : Cutting) → is_stopped (packets_of site by now bytes c) ≡ false
+unfolding packets_of
+packets_stop site by now bytes c = packets_stop_none site by now (frames_at bytes c.frames)
+
+or_none : (o : Option Bool) → or_earlier o None ≡ o
+or_none (Some b) = refl
+or_none None = refl
+
+-- packets, and an entry behind them
+packets_then : (site : SiteData) (k by : ℕ) (now : Time) (bytes : List ℕ) (c : Cutting) (e : Entry) → latest (connects_maker k) (packets_of site by now bytes c ++ e ∷ []) ≡ connects_maker k e
+packets_then site k by now bytes c e =
+    latest-append (connects_maker k) (packets_of site by now bytes c) (e ∷ [])
+    ∙ (ap (λ (o : Option Bool). or_earlier (connects_maker k e) o) (packets_connect site k by now bytes c) ∙ or_none (connects_maker k e))
+
+bad_stops : (site : SiteData) (by : ℕ) (now : Time) (bytes rest : List ℕ) (c : Cutting) (stated : ℤ) → is_stopped (packets_of site by now bytes c ++ bad_tail by now rest stated ∷ []) ≡ false
 unfolding bad_tail
-bad_stops s bytes rest c stated = stopped-append (packets_of s bytes c) (bad_tail s rest stated ∷ []) ∙ ap (λ (b : Bool). b || false) (packets_stop s bytes c)
+bad_stops site by now bytes rest c stated = stopped-append (packets_of site by now bytes c) (bad_tail by now rest stated ∷ []) ∙ ap (λ (b : Bool). b || false) (packets_stop site by now bytes c)
+
+-- the held connections after a piece: the rest is what no packet has
+abbrev received_line : HeldConnection → List ℕ → Cutting → HeldConnection
+received_line line piece c = record line { rest = drop c.rest (line.rest ++ piece) }
+
+-- the whole world after a piece
+abbrev after_piece : SiteData → ℕ → Held → List ℕ → Cutting → Held
+after_piece site by w piece c = record w {
+  history = w.history ++ packet_entries (site_ground site) w.time by (frames_at ((line_at w.lines by).rest ++ piece) c.frames);
+  lines = set w.lines by (received_line (line_at w.lines by) piece c);
+  entries = w.entries + length c.frames;
+  bytes = w.bytes + c.rest;
+}
+
+posted_is : (site : SiteData) (by : ℕ) (w : Held) (piece : List ℕ) (c : Cutting) → by < length w.lines → posted site by (extended by w piece) c ≡ after_piece site by w piece c
+posted_is site by w piece c m =
+    let line = line_at w.lines by in
+    let longer : HeldConnection = record line { rest = line.rest ++ piece } in
+    let same : line_at (set w.lines by longer) by ≡ longer = get_or-set_same w.lines by longer shut m in
+    ap (λ (l : HeldConnection). record w {
+      history = w.history ++ packet_entries (site_ground site) w.time by (frames_at l.rest c.frames);
+      lines = set (set w.lines by longer) by (record l { rest = drop c.rest l.rest });
+      entries = w.entries + length c.frames;
+      bytes = w.bytes + c.rest;
+    }) same
+    ∙ ap (λ (ls : List HeldConnection). record (after_piece site by w piece c) { lines = ls }) (set-set w.lines by longer (received_line line piece c))
 
 -- the packets are in the history, and the rest is what no packet has
-stands_whole : (w : Held) (s : State) (piece : List ℕ) (c : Cutting) → IsCutting (w.rest ++ piece) c → w.connected ≡ true → Stands w s
-    → (did : Did) → did.entries ≡ posts s (w.rest ++ piece) c → c.short ≡ None → Stands (posted (record w { rest = w.rest ++ piece }) c) (after s (Piece 0 piece) did)
-stands_whole w s piece c i on h did d e =
-    let bytes = w.rest ++ piece in
-    let k = h.rest on in
-    let whole : did.entries ≡ packets_of s bytes c = d ∙ posts_whole s bytes c e in
+stands_whole : (site : SiteData) (by : ℕ) (w : Held) (s : State) (piece : List ℕ) (c : Cutting) → IsCutting ((line_at w.lines by).rest ++ piece) c → IsReceiver site w s by → Stands site w s
+    → (did : Did) → did.entries ≡ posts site by s.time ((line_at w.lines by).rest ++ piece) c → c.short ≡ None → Stands site (after_piece site by w piece c) (after s (Piece by piece) did)
+stands_whole site by w s piece c i r h did d e =
+    let rest = (line_at w.lines by).rest in
+    let bytes = rest ++ piece in
+    let k = r.rest in
+    let moved : State = after s (Piece by piece) did in
+    let line = received_line (line_at w.lines by) piece c in
+    let whole : did.entries ≡ packets_of site by s.time bytes c = d ∙ posts_whole site by s.time bytes c e in
+    let kept : (j : ℕ) → is_connected j (s.history ++ did.entries) ≡ is_connected j s.history = λ j. connected_kept j s.history did.entries (ap (latest (connects_maker j)) whole ∙ packets_connect site j by s.time bytes c) in
+    let left : IsRest (s.pieces by ++ piece ∷ []) (drop c.rest bytes) = (
+      k.0 ++ frames_at bytes c.frames,
+      subst (λ (short : Option ℤ). IsCut length_framing (joined (s.pieces by ++ piece ∷ [])) (cut_with_rest (k.0 ++ frames_at bytes c.frames) (drop c.rest bytes) (option_map Short short))) e (received_rest (s.pieces by) piece rest c k i),
+    ) in
+    let mine : IsLine moved by line = record {
+      connected = (h.lines by r.there).connected ∙ sym (kept by);
+      rest = λ on. subst (λ (pieces : List (List ℕ)). IsRest pieces (drop c.rest bytes)) (sym (pieces_of_maker by (s.pieces by ++ piece ∷ []) s.pieces)) left;
+    } in
     record {
-      history = ap (λ (l : List Entry). l ++ packet_entries path_ground w.time 0 (frames_at bytes c.frames)) h.history ∙ ap (λ (l : List Entry). s.history ++ l) (packets_at w s bytes c h.time ∙ sym whole);
+      history = ap (λ (l : List Entry). l ++ packet_entries (site_ground site) w.time by (frames_at bytes c.frames)) h.history ∙ ap (λ (l : List Entry). s.history ++ l) (packets_at site by w.time s.time bytes c h.time ∙ sym whole);
       time = h.time;
-      connected = h.connected ∙ sym (connected_kept 0 s.history did.entries (ap (latest (connects_maker 0)) whole ∙ packets_connect s bytes c));
-      stopped = h.stopped ∙ sym (stopped_kept s.history did.entries (ap is_stopped whole ∙ packets_stop s bytes c));
-      entries = omega (arith, h.entries, entries_grow s.history did.entries (length c.frames) (ap entries_in d ∙ posts_count s bytes c));
-      bytes = omega (arith, h.bytes, bytes_grow s.history did.entries c.rest (ap bytes_in d ∙ posts_size s bytes c i));
-      rest = λ still. (k.0 ++ frames_at bytes c.frames, subst (λ (short : Option ℤ). IsCut length_framing (joined (s.pieces 0 ++ piece ∷ [])) (cut_with_rest (k.0 ++ frames_at bytes c.frames) (drop c.rest bytes) (option_map Short short))) e (received_rest s piece w.rest c k i));
+      stopped = h.stopped ∙ sym (stopped_kept s.history did.entries (ap is_stopped whole ∙ packets_stop site by s.time bytes c));
+      entries = omega (arith, h.entries, entries_grow s.history did.entries (length c.frames) (ap entries_in d ∙ posts_count site by s.time bytes c));
+      bytes = omega (arith, h.bytes, bytes_grow s.history did.entries c.rest (ap bytes_in d ∙ posts_size site by s.time bytes c i));
+      count = set_count w.lines (length site.interfaces) by line h.count;
+      lines = lines_set s moved w.lines (length site.interfaces) by line h.count r.there h.lines mine (λ j other. kept j) (λ j. pieces_of_other j by (s.pieces by ++ piece ∷ []) s.pieces);
     }
 
 -- an error stands at the rest, and the connection is closed
-stands_bad : (w : Held) (s : State) (piece : List ℕ) (c : Cutting) → IsCutting (w.rest ++ piece) c → Stands w s
-    → (did : Did) → did.entries ≡ posts s (w.rest ++ piece) c → (stated : ℤ) → c.short ≡ Some stated → length (w.rest ++ piece) < 2 ^ 64
-    → Stands (closed (posted (record w { rest = w.rest ++ piece }) c) (BadFrame 1 (Short stated))) (after s (Piece 0 piece) did)
-unfolding bad_tail
-stands_bad w s piece c i h did d stated e small =
-    let bytes = w.rest ++ piece in
+
+closed_piece : SiteData → ℕ → Held → List ℕ → Cutting → ℤ → Held
+closed_piece site by w piece c stated = record (after_piece site by w piece c) {
+  history = (w.history ++ packet_entries (site_ground site) w.time by (frames_at ((line_at w.lines by).rest ++ piece) c.frames)) ++ lost by w.time (drop c.rest ((line_at w.lines by).rest ++ piece)) (BadFrame 1 (Short stated)) ∷ [];
+  lines = set w.lines by shut;
+}
+
+closed_piece_is : (site : SiteData) (by : ℕ) (w : Held) (piece : List ℕ) (c : Cutting) (stated : ℤ) → by < length w.lines → closed by (after_piece site by w piece c) (BadFrame 1 (Short stated)) ≡ closed_piece site by w piece c stated
+unfolding closed_piece
+closed_piece_is site by w piece c stated m =
+    let line = received_line (line_at w.lines by) piece c in
+    let next = after_piece site by w piece c in
+    ap (λ (l : HeldConnection). record next { history = next.history ++ lost by w.time l.rest (BadFrame 1 (Short stated)) ∷ []; lines = set (set w.lines by line) by shut }) (get_or-set_same w.lines by line shut m)
+    ∙ ap (λ (ls : List HeldConnection). record next { history = next.history ++ lost by w.time line.rest (BadFrame 1 (Short stated)) ∷ []; lines = ls }) (set-set w.lines by line shut)
+
+stands_bad : (site : SiteData) (by : ℕ) (w : Held) (s : State) (piece : List ℕ) (c : Cutting) → IsCutting ((line_at w.lines by).rest ++ piece) c → IsReceiver site w s by → Stands site w s
+    → (did : Did) → did.entries ≡ posts site by s.time ((line_at w.lines by).rest ++ piece) c → (stated : ℤ) → c.short ≡ Some stated → length ((line_at w.lines by).rest ++ piece) < 2 ^ 64
+    → Stands site (closed_piece site by w piece c stated) (after s (Piece by piece) did)
+unfolding bad_tail closed_piece
+stands_bad site by w s piece c i r h did d stated e small =
+    let bytes = (line_at w.lines by).rest ++ piece in
     let rest = drop c.rest bytes in
     let why : Why = BadFrame 1 (Short stated) in
-    let w2 = posted (record w { rest = w.rest ++ piece }) c in
-    let bad : did.entries ≡ packets_of s bytes c ++ bad_tail s rest stated ∷ [] = d ∙ posts_bad s bytes c stated e in
-    let last : lost w2 why ≡ bad_tail s rest stated = closed_entry_is w2 s why (cut_with_rest [] rest (Some (Short stated))) h.time refl (omega (arith, small, length-drop c.rest bytes)) refl refl in
+    let moved : State = after s (Piece by piece) did in
+    let bad : did.entries ≡ packets_of site by s.time bytes c ++ bad_tail by s.time rest stated ∷ [] = d ∙ posts_bad site by s.time bytes c stated e in
+    let last : lost by w.time rest why ≡ bad_tail by s.time rest stated = closed_entry_is by w.time s.time why (cut_with_rest [] rest (Some (Short stated))) h.time (omega (arith, small, length-drop c.rest bytes)) refl refl in
+    let tells : (j : ℕ) → latest (connects_maker j) did.entries ≡ connects_maker j (bad_tail by s.time rest stated) = λ j. ap (latest (connects_maker j)) bad ∙ packets_then site j by s.time bytes c (bad_tail by s.time rest stated) in
+    let off : false ≡ is_connected by (s.history ++ did.entries) =
+    sym (connected-append by s.history did.entries ∙ ap (λ (t : Option Bool). unwrap_or (or_earlier t (latest (connects_maker by) s.history)) false) (tells by ∙ tells_maker by (bad_tail by s.time rest stated) refl)) in
     record {
-      history = ap (λ (l : List Entry). (l ++ packet_entries path_ground w.time 0 (frames_at bytes c.frames)) ++ lost w2 why ∷ []) h.history
-          ∙ (append_assoc s.history (packet_entries path_ground w.time 0 (frames_at bytes c.frames)) (lost w2 why ∷ [])
-          ∙ (ap (λ (l : List Entry). s.history ++ (l ++ lost w2 why ∷ [])) (packets_at w s bytes c h.time)
-          ∙ (ap (λ (x : Entry). s.history ++ (packets_of s bytes c ++ x ∷ [])) last ∙ ap (λ (l : List Entry). s.history ++ l) (sym bad))));
+      history = ap (λ (l : List Entry). (l ++ packet_entries (site_ground site) w.time by (frames_at bytes c.frames)) ++ lost by w.time rest why ∷ []) h.history
+          ∙ (append_assoc s.history (packet_entries (site_ground site) w.time by (frames_at bytes c.frames)) (lost by w.time rest why ∷ [])
+          ∙ (ap (λ (l : List Entry). s.history ++ (l ++ lost by w.time rest why ∷ [])) (packets_at site by w.time s.time bytes c h.time)
+          ∙ (ap (λ (x : Entry). s.history ++ (packets_of site by s.time bytes c ++ x ∷ [])) last ∙ ap (λ (l : List Entry). s.history ++ l) (sym bad))));
       time = h.time;
-      connected = sym (connected-append 0 s.history did.entries ∙ ap (λ (t : Option Bool). unwrap_or (or_earlier t (latest (connects_maker 0) s.history)) false) (ap (latest (connects_maker 0)) bad ∙ bad_connects s bytes rest c stated));
-      stopped = h.stopped ∙ sym (stopped_kept s.history did.entries (ap is_stopped bad ∙ bad_stops s bytes rest c stated));
-      entries = omega (arith, h.entries, entries_grow s.history did.entries (length c.frames) (ap entries_in d ∙ posts_count s bytes c));
-      bytes = omega (arith, h.bytes, bytes_grow s.history did.entries c.rest (ap bytes_in d ∙ posts_size s bytes c i));
-      rest = λ off. absurd (cc);
+      stopped = h.stopped ∙ sym (stopped_kept s.history did.entries (ap is_stopped bad ∙ bad_stops site by s.time bytes rest c stated));
+      entries = omega (arith, h.entries, entries_grow s.history did.entries (length c.frames) (ap entries_in d ∙ posts_count site by s.time bytes c));
+      bytes = omega (arith, h.bytes, bytes_grow s.history did.entries c.rest (ap bytes_in d ∙ posts_size site by s.time bytes c i));
+      count = set_count w.lines (length site.interfaces) by shut h.count;
+      lines = lines_set s moved w.lines (length site.interfaces) by shut h.count r.there h.lines (shut_line by moved off)
+          (λ j other. connected_kept j s.history did.entries (tells j ∙ tells_no_other j (bad_tail by s.time rest stated) other)) (λ j. pieces_of_other j by (s.pieces by ++ piece ∷ []) s.pieces);
     }
 
-stands_posted : (w : Held) (s : State) (piece : List ℕ) (c : Cutting) → IsCutting (w.rest ++ piece) c → w.connected ≡ true → Stands w s
-    → (new : Held) → (did : Did) → did.entries ≡ posts s (w.rest ++ piece) c → (short : Option ℤ) → c.short ≡ short → new ≡ settled (posted (record w { rest = w.rest ++ piece }) c) short
-    → length (w.rest ++ piece) < 2 ^ 64 → Stands new (after s (Piece 0 piece) did)
-stands_posted w s piece c i on h new did d None e n small = subst (λ (x : Held). Stands x (after s (Piece 0 piece) did)) (sym n) (stands_whole w s piece c i on h did d e)
-stands_posted w s piece c i on h new did d (Some stated) e n small = subst (λ (x : Held). Stands x (after s (Piece 0 piece) did)) (sym n) (stands_bad w s piece c i h did d stated e small)
+stands_posted : (site : SiteData) (by : ℕ) (w : Held) (s : State) (piece : List ℕ) (c : Cutting) → IsCutting ((line_at w.lines by).rest ++ piece) c → IsReceiver site w s by → Stands site w s
+    → (did : Did) → did.entries ≡ posts site by s.time ((line_at w.lines by).rest ++ piece) c → (short : Option ℤ) → c.short ≡ short → length ((line_at w.lines by).rest ++ piece) < 2 ^ 64
+    → Stands site (settled by (after_piece site by w piece c) short) (after s (Piece by piece) did)
+stands_posted site by w s piece c i r h did d None e small = stands_whole site by w s piece c i r h did d e
+stands_posted site by w s piece c i r h did d (Some stated) e small =
+    subst (λ (x : Held). Stands site x (after s (Piece by piece) did)) (sym (closed_piece_is site by w piece c stated (omega (arith, h.count, r.there)))) (stands_bad site by w s piece c i r h did d stated e small)
 
-pub received : (w new : Held) (s : State) (by : ℕ) (piece : List ℕ) (c : Cutting) → ((by == 0) && (w.connected && (nat_le 1 (length piece) && nat_le (length piece) 65536))) ≡ true
-    → IsCutting (w.rest ++ piece) c → (nat_le (w.entries + length c.frames) 4000000 && nat_le (w.bytes + c.rest) 1073741824) ≡ true → length (w.rest ++ piece) < 2 ^ 64
-    → new ≡ settled (posted (record w { rest = w.rest ++ piece }) c) c.short → Stands w s
-    → (did : Did) × Does path_ground s (Piece by piece) did × Stands new (after s (Piece by piece) did)
-received w new s zero piece c t i room small n h =
-    let on = (and_tells w.connected _ t).0 in
-    let did : Did = record { entries = posts s (w.rest ++ piece) c; effect = Posted } in (
+pub received : (site : SiteData) (w new : Held) (s : State) (by : ℕ) (piece : List ℕ) (c : Cutting) → is_enabled (site_ground site) s (Piece by piece) ≡ true
+    → IsCutting ((line_at w.lines by).rest ++ piece) c → (nat_le (w.entries + length c.frames) 4000000 && nat_le (w.bytes + c.rest) 1073741824) ≡ true → length ((line_at w.lines by).rest ++ piece) < 2 ^ 64
+    → new ≡ settled by (posted site by (extended by w piece) c) c.short → Stands site w s
+    → (did : Did) × Does (site_ground site) s (Piece by piece) did × Stands site new (after s (Piece by piece) did)
+received site w new s by piece c t i room small n h =
+    let rest = (line_at w.lines by).rest in
+    let r = receiver site w s by piece t h in
+    let did : Did = record { entries = posts site by s.time (rest ++ piece) c; effect = Posted } in
+    let same : new ≡ settled by (after_piece site by w piece c) c.short = n ∙ ap (λ (x : Held). settled by x c.short) (posted_is site by w piece c (omega (arith, h.count, r.there))) in (
       did,
       record {
-        enabled = piece_enabled w s zero piece h t;
-        appends = posts_received s piece w.rest c (h.rest on) i;
-        room = sym (room_is w s (w.rest ++ piece) c i h) ∙ room;
+        enabled = t;
+        appends = posts_received site by s piece rest c r.rest i;
+        room = sym (room_is site by w s (rest ++ piece) c i h) ∙ room;
         effect = refl;
       },
-      stands_posted w s piece c i on h new did refl c.short refl n small,
+      subst (λ (x : Held). Stands site x (after s (Piece by piece) did)) (sym same) (stands_posted site by w s piece c i r h did refl c.short refl small),
     )
-received w new s (suc m) piece c t i room small n h = absurd (not_first m _ t)

@@ -1,11 +1,12 @@
 -- Reading a whole file, up to a limit, and what a command says of a file that it does not take.
 use Rattle.std.specs.Prelude.{◌≡◌, ℕ, ◌<◌, ◌≤◌, Bool, List, length, Option, Some, None, Result, Ok, Err, IsSomeAnd, codes}
+use Rattle.std.specs.Result.{IsErrAnd}
 use Rattle.cts_outside.specs.Causes.{Rose}
 use Rattle.cts_words.specs.declared.statement.Statement.{Statement}
 use Rattle.cts_words.specs.Statements.{said}
 use Rattle.cts_serve.specs.Texts.{read_fault_line, absent_line, not_built_line, refused_line}
 use Rattle.cts_serve.specs.Judging.{Outcome, refusal, file_limit, refused_as, judge}
-use Rattle.cts_serve.specs.Outcomes.{file_refusal}
+use Rattle.cts_serve.specs.Outcomes.{file_refusal, bytes_of}
 use Rattle.cts_serve.specs.declared.file_kind.FileKind.{FileKind}
 use Rattle.cts_serve.specs.declared.reading.FetchFault.{FetchFault}
 use Rattle.cts_serve.specs.declared.reading.FetchFault.TheVariants.{TooLarge, Absent, Failed, Memory}
@@ -75,7 +76,7 @@ SaysUntaken judges name file is.HistoryFull line = ⊥
 
 -- why a file of this kind gives no statements, whatever is asked of them
 abbrev pub GivesNone : FileKind → List ℕ → Option (List ℕ) → Refused → Type 0
-GivesNone kind name file (Said status line) = (takes : List Statement → Bool) → SaysUntaken (judge kind takes) name file status line.items
+GivesNone kind name file (Said status line) = (verdict : List Statement → Option Outcome) → SaysUntaken (judge kind verdict) name file status line.items
 GivesNone kind name file NoMemory = Unit {0}
 
 -- the statements of a file of this kind, or why it gives none
@@ -83,11 +84,11 @@ abbrev pub GivesStatements : FileKind → List ℕ → Option (List ℕ) → Res
 GivesStatements kind name file (Ok statements) = IsSomeAnd file (λ bytes. (length bytes ≤ file_limit) × (said bytes ≡ Ok statements))
 GivesStatements kind name file (Err refused) = GivesNone kind name file refused
 
--- a file of this name is taken, or what is said of it, as it is judged so
-abbrev pub IsTakenAs : {T : Type 0} → (List ℕ → List ℕ → Option Outcome) → List ℕ → Option (List ℕ) → Result T Refused → Type 0
-IsTakenAs judges name file (Ok x) = file_refusal judges name file ≡ None
-IsTakenAs judges name file (Err (Said status line)) = SaysUntaken judges name file status line.items
-IsTakenAs judges name file (Err NoMemory) = Unit {0}
+-- what a file of this name says, or what is said where it is not taken, as it is judged and read so
+abbrev pub Takes : {T : Type 0} → (List ℕ → List ℕ → Option Outcome) → (List ℕ → T) → List ℕ → Option (List ℕ) → Result T Refused → Type 0
+Takes judges reads name file (Ok x) = (file_refusal judges name file ≡ None) × (x ≡ reads (bytes_of file))
+Takes judges reads name file (Err (Said status line)) = SaysUntaken judges name file status line.items
+Takes judges reads name file (Err NoMemory) = Unit {0}
 
 -- the same answer, with the value of an Ok seen so
 abbrev pub answer_seen : {V T E : Type 0} → (V → T) → Result V E → Result T E
@@ -103,3 +104,9 @@ IsNotBuilt name NoMemory = Unit {0}
 abbrev pub IsRefusedAt : FileKind → List ℕ → ℕ → List ℕ → Refused → Type 0
 IsRefusedAt kind name line cause (Said status text) = (status ≡ refused_as kind) × (text.items ≡ refused_line name line cause)
 IsRefusedAt kind name line cause NoMemory = Unit {0}
+
+-- what is read from a file's statements, or the line of the one that is refused; want of memory says nothing
+abbrev pub GivesRead : {X : Type 0} → List ℕ → Result X (ℕ × List ℕ) → Result X Refused → Type 0
+GivesRead name read (Ok x) = read ≡ Ok x
+GivesRead name read (Err (Said status line)) = IsErrAnd read (λ r. (status ≡ is.ConfigRefused) × (line.items ≡ refused_line name r.0 r.1))
+GivesRead name read (Err NoMemory) = Unit {0}

@@ -1,7 +1,7 @@
-pub mod Path
+pub mod Grounds
 pub mod Worlds
 pub mod Texts
-pub mod FirstForm
+pub mod Forms
 pub mod Judging
 pub mod Outcomes
 pub mod Printing

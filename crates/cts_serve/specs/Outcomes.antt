@@ -1,31 +1,35 @@
--- What `replay` answers and prints, from the content of the files alone.
-use Rattle.std.specs.Prelude.{◌≡◌, ℕ, ◌+◌, nat_eq, List, [], ◌∷◌, ◌++◌, length, map, codes, Option, Some, None, MatchOption, unwrap_or, if◌then◌else◌}
+-- What a command answers and prints, from the content of the files alone.
+use Rattle.std.specs.Prelude.{◌≡◌, ℕ, ◌+◌, nat_eq, List, [], ◌∷◌, ◌++◌, Bool, ◌||◌, length, map, codes, Option, Some, None, is_none, MatchOption, unwrap_or, if◌then◌else◌}
 use Rattle.std.specs.Cmp.Lexicographic.{pointwise}
 use Rattle.cts_entry.specs.declared.entry.Entry.{Entry}
 use Rattle.cts_entry.specs.declared.event.Event.{Event}
 use Rattle.cts_entry.specs.Histories.{or_earlier, entries_in, bytes_in}
 use Rattle.cts_core.specs.States.{opening}
 use Rattle.cts_core.specs.Runs.{Did, Ending, Finished, NotEnabled, HistoryFull, Runs}
-use Rattle.cts_script.specs.Lines.{Names, entry_lines}
-use Rattle.cts_serve.specs.Path.{path_ground}
-use Rattle.cts_serve.specs.Texts.{usage_line, absent_line, refused_line, full_line, end_line}
-use Rattle.std.specs.Result.{result_unwrap_or}
-use Rattle.cts_words.specs.declared.statement.Statement.{Statement}
-use Rattle.cts_words.specs.Statements.{said}
-use Rattle.cts_serve.specs.FirstForm.{script_events}
-use Rattle.cts_serve.specs.Judging.{Outcome, refusal, judge_definitions, judge_site, judge_script}
+use Rattle.cts_script.specs.Lines.{entry_lines}
+use Rattle.cts_def.specs.Packets.{DefinitionsData}
+use Rattle.cts_def.specs.Sites.{SiteData}
+use Rattle.cts_serve.specs.Grounds.{site_ground, site_names}
+use Rattle.cts_serve.specs.Texts.{usage_line, absent_line, refused_line, full_line, end_line, counts_line}
+use Rattle.cts_serve.specs.Forms.{are_built_definitions, is_built_site}
+use Rattle.cts_serve.specs.Judging.{Outcome, refusal, judge_definitions, judge_site, judge_script, definitions_in, site_in, events_in}
 use Rattle.cts_serve.specs.declared.status.Status.TheVariants.{Ok as Fine, Usage, Absent, ScriptRefused, HistoryFull as FullHistory}
 
--- the files that a command asks for, by their names
-pub record Request : Type 0 where
+-- the files that a command asks for, by their names; one that only checks has no script
+pub record RequestData : Type 0 where
   pub definitions : List ℕ
   pub site : List ℕ
-  pub script : List ℕ
+  pub script : Option (List ℕ)
+
+abbrev pub is_word : List ℕ → List ℕ → Bool
+is_word = pointwise nat_eq
 
 -- what the words of the command line ask for
-abbrev pub asked : List (List ℕ) → Option Request
+abbrev pub asked : List (List ℕ) → Option RequestData
+asked (command ∷ definitions ∷ site ∷ []) =
+    if is_word command (codes "check") then Some (record { definitions = definitions; site = site; script = None }) else None
 asked (command ∷ definitions ∷ site ∷ script ∷ []) =
-    if pointwise nat_eq command (codes "replay") then Some (record { definitions = definitions; site = site; script = script }) else None
+    if is_word command (codes "replay") then Some (record { definitions = definitions; site = site; script = Some script }) else None
 asked words = None
 
 -- why a file is not taken, if it is not: it is absent, or its bytes are refused
@@ -33,26 +37,42 @@ abbrev pub file_refusal : (List ℕ → List ℕ → Option Outcome) → List �
 file_refusal judges name None = Some (refusal Absent (absent_line name))
 file_refusal judges name (Some bytes) = judges name bytes
 
--- the refusal of the first of the three files that is not taken
-abbrev pub first_refusal : (List ℕ → Option (List ℕ)) → Request → Option Outcome
+-- what a command may ask for: a check takes all that is read, and a replay what is built
+abbrev pub is_taken : {X : Type 0} → RequestData → (X → Bool) → X → Bool
+is_taken r is_built x = is_none r.script || is_built x
+
+-- the bytes of a file, none where it is not there
+abbrev pub bytes_of : Option (List ℕ) → List ℕ
+bytes_of file = unwrap_or file []
+
+-- the definitions and the site that are asked for, and the events of a script
+abbrev pub definitions_asked : (List ℕ → Option (List ℕ)) → RequestData → DefinitionsData
+definitions_asked files r = definitions_in (bytes_of (files r.definitions))
+
+abbrev pub site_asked : (List ℕ → Option (List ℕ)) → RequestData → SiteData
+site_asked files r = site_in (definitions_asked files r) (bytes_of (files r.site))
+
+abbrev pub events_asked : (List ℕ → Option (List ℕ)) → RequestData → List ℕ → List (ℕ × Event)
+events_asked files r script = events_in (site_asked files r) (bytes_of (files script))
+
+-- the refusal of each file, if it is not taken
+abbrev pub definitions_refusal : (List ℕ → Option (List ℕ)) → RequestData → Option Outcome
+definitions_refusal files r = file_refusal (judge_definitions (is_taken r are_built_definitions)) r.definitions (files r.definitions)
+
+abbrev pub site_refusal : (List ℕ → Option (List ℕ)) → RequestData → Option Outcome
+site_refusal files r = file_refusal (judge_site (is_taken r is_built_site) (definitions_asked files r)) r.site (files r.site)
+
+abbrev pub script_refusal : (List ℕ → Option (List ℕ)) → RequestData → Option (List ℕ) → Option Outcome
+script_refusal files r None = None
+script_refusal files r (Some script) = file_refusal (judge_script (site_asked files r)) script (files script)
+
+-- the refusal of the first of the files that is not taken
+abbrev pub first_refusal : (List ℕ → Option (List ℕ)) → RequestData → Option Outcome
 first_refusal files r =
-    or_earlier (file_refusal judge_definitions r.definitions (files r.definitions))
-    (or_earlier (file_refusal judge_site r.site (files r.site)) (file_refusal judge_script r.script (files r.script)))
-
--- the statements of a text, none where it is refused
-abbrev pub statements_in : List ℕ → List Statement
-statements_in text = result_unwrap_or (said text) []
-
--- the events of the script
-abbrev pub events_asked : (List ℕ → Option (List ℕ)) → Request → List (ℕ × Event)
-events_asked files r = unwrap_or (script_events (statements_in (unwrap_or (files r.script) []))) []
+    or_earlier (definitions_refusal files r) (or_earlier (site_refusal files r) (script_refusal files r r.script))
 
 abbrev pub events_of : List (ℕ × Event) → List Event
 events_of events = map (λ e. e.1) events
-
--- the names of the one interface
-abbrev pub path_names : Names
-path_names = record { interface = λ number. codes "I"; router = λ number. []; packet = λ number. ([], []); command = λ number. ([], []); item = λ packet number. [] }
 
 -- all entries that events appended
 abbrev pub all_entries : List Did → List Entry
@@ -61,9 +81,9 @@ all_entries (did ∷ dids) = did.entries ++ all_entries dids
 
 -- The transcript: the lines of the entries of each event, where so many entries stand before. The events so far give
 -- nothing else.
-abbrev pub transcript : ℕ → List Did → List ℕ
-transcript n [] = []
-transcript n (did ∷ dids) = entry_lines path_names n did.entries ++ transcript (n + length did.entries) dids
+abbrev pub transcript : SiteData → ℕ → List Did → List ℕ
+transcript site n [] = []
+transcript site n (did ∷ dids) = entry_lines (site_names site) n did.entries ++ transcript site (n + length did.entries) dids
 
 -- the line of the event after those that were done
 abbrev pub next_line : List Did → List (ℕ × Event) → ℕ
@@ -73,21 +93,30 @@ next_line (did ∷ dids) [] = 0
 next_line (did ∷ dids) (event ∷ events) = next_line dids events
 
 -- what is answered and printed where the events did this and ended so
-abbrev pub replay_outcome : List ℕ → List (ℕ × Event) → List Did → Ending → Outcome
-replay_outcome script events dids Finished = record { status = Fine; body = transcript 0 dids ++ end_line (length (all_entries dids)); last = [] }
-replay_outcome script events dids NotEnabled =
-    record { status = ScriptRefused; body = transcript 0 dids; last = refused_line script (next_line dids events) (codes "NotEnabled") }
-replay_outcome script events dids HistoryFull =
-    record { status = FullHistory; body = transcript 0 dids; last = full_line (entries_in (all_entries dids)) (bytes_in (all_entries dids)) }
+abbrev pub replay_outcome : SiteData → List ℕ → List (ℕ × Event) → List Did → Ending → Outcome
+replay_outcome site script events dids Finished = record { status = Fine; body = transcript site 0 dids ++ end_line (length (all_entries dids)); last = [] }
+replay_outcome site script events dids NotEnabled =
+    record { status = ScriptRefused; body = transcript site 0 dids; last = refused_line script (next_line dids events) (codes "NotEnabled") }
+replay_outcome site script events dids HistoryFull =
+    record { status = FullHistory; body = transcript site 0 dids; last = full_line (entries_in (all_entries dids)) (bytes_in (all_entries dids)) }
 
 -- The outcome of a run of the script's events.
-pub record IsReplay (script : List ℕ) (events : List (ℕ × Event)) (o : Outcome) : Type 0 where
+pub record IsReplay (site : SiteData) (script : List ℕ) (events : List (ℕ × Event)) (o : Outcome) : Type 0 where
   pub dids : List Did
   pub ending : Ending
-  pub runs : Runs path_ground opening (events_of events) dids ending
-  pub outcome : o ≡ replay_outcome script events dids ending
+  pub runs : Runs (site_ground site) opening (events_of events) dids ending
+  pub outcome : o ≡ replay_outcome site script events dids ending
+
+-- how many packets, commands, items of both, interfaces and routers there are
+abbrev pub check_outcome : SiteData → Outcome
+check_outcome site = record { status = Fine; body = counts_line site; last = [] }
+
+-- what is asked of files that are taken
+abbrev pub IsDone : (List ℕ → Option (List ℕ)) → RequestData → Option (List ℕ) → Outcome → Type 0
+IsDone files r None o = o ≡ check_outcome (site_asked files r)
+IsDone files r (Some script) o = IsReplay (site_asked files r) script (events_asked files r script) o
 
 -- The outcome of a command, for files with this content.
-abbrev pub IsOutcome : (List ℕ → Option (List ℕ)) → Option Request → Outcome → Type 0
+abbrev pub IsOutcome : (List ℕ → Option (List ℕ)) → Option RequestData → Outcome → Type 0
 IsOutcome files None o = o ≡ refusal Usage usage_line
-IsOutcome files (Some r) o = MatchOption (first_refusal files r) (IsReplay r.script (events_asked files r) o) (λ refused. o ≡ refused)
+IsOutcome files (Some r) o = MatchOption (first_refusal files r) (IsDone files r r.script o) (λ refused. o ≡ refused)

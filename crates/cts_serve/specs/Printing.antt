@@ -3,8 +3,8 @@ use Rattle.std.specs.Prelude.{◌≡◌, ℕ, ◌≤◌, List, [], ◌++◌, tak
 use Rattle.cts_outside.specs.Causes.{Steady}
 use Rattle.cts_outside.specs.Contents.{appended, IsPartPut}
 use Rattle.cts_serve.specs.Texts.{memory_line, read_fault_line}
-use Rattle.cts_serve.specs.Judging.{Outcome, judge_definitions, judge_site}
-use Rattle.cts_serve.specs.Outcomes.{Request, file_refusal, IsOutcome}
+use Rattle.cts_serve.specs.Judging.{Outcome}
+use Rattle.cts_serve.specs.Outcomes.{RequestData, definitions_refusal, site_refusal, IsOutcome}
 use Rattle.cts_serve.specs.declared.status.Status.{Status}
 use Rattle.cts_serve.specs.declared.status.Status.TheVariants.{Ok as Fine, Memory, Usage, ReadFault, Absent, WriteFault, ConfigRefused, ScriptRefused, HistoryFull, NotBuilt}
 
@@ -16,12 +16,12 @@ pub record Printed (old new : Option (List ℕ)) (before now : ℕ) (body last :
   pub whole : Steady before now → new ≡ appended old (body ++ last)
 
 -- the file of this name is the next one to be read: those before it are taken
-abbrev pub IsRead : (List ℕ → Option (List ℕ)) → Option Request → List ℕ → Type 0
+abbrev pub IsRead : (List ℕ → Option (List ℕ)) → Option RequestData → List ℕ → Type 0
 IsRead files None name = ⊥
 IsRead files (Some r) name =
     (name ≡ r.definitions)
-    ⊎ ((file_refusal judge_definitions r.definitions (files r.definitions) ≡ None) × (name ≡ r.site))
-    ⊎ ((file_refusal judge_definitions r.definitions (files r.definitions) ≡ None) × (file_refusal judge_site r.site (files r.site) ≡ None) × (name ≡ r.script))
+    ⊎ ((definitions_refusal files r ≡ None) × (name ≡ r.site))
+    ⊎ ((definitions_refusal files r ≡ None) × (site_refusal files r ≡ None) × (Some name ≡ r.script))
 
 -- the sink before a call and after it, and its count of faults
 pub record Puts : Type 0 where
@@ -32,7 +32,7 @@ pub record Puts : Type 0 where
 
 -- What was put where the outcome is this and the status that. Want of memory and faults may come in place of the
 -- outcome's own status: then what was put is a prefix of its body, and at a fault of the sink of all its text.
-abbrev pub PutsFor : (List ℕ → Option (List ℕ)) → Option Request → Outcome → Status → Puts → Type 0
+abbrev pub PutsFor : (List ℕ → Option (List ℕ)) → Option RequestData → Outcome → Status → Puts → Type 0
 PutsFor files r o Fine p = (o.status ≡ Fine) × (p.new ≡ appended p.old o.body)
 PutsFor files r o Memory p = (n : ℕ) × Printed p.old p.new p.before p.now (take n o.body) memory_line
 PutsFor files r o ReadFault p = (name : List ℕ) × IsRead files r name × Printed p.old p.new p.before p.now [] (read_fault_line name)
@@ -45,13 +45,13 @@ PutsFor files r o HistoryFull p = (o.status ≡ HistoryFull) × Printed p.old p.
 PutsFor files r o NotBuilt p = (o.status ≡ NotBuilt) × Printed p.old p.new p.before p.now o.body o.last
 
 -- The command's outcome, and what was put for it.
-pub record Answers (files : List ℕ → Option (List ℕ)) (r : Option Request) (status : Status) (p : Puts) : Type 0 where
+pub record Answers (files : List ℕ → Option (List ℕ)) (r : Option RequestData) (status : Status) (p : Puts) : Type 0 where
   pub outcome : Outcome
   pub is : IsOutcome files r outcome
   pub puts : PutsFor files r outcome status p
 
 -- The outcome's status was answered, or want of memory.
-pub record Completes (files : List ℕ → Option (List ℕ)) (r : Option Request) (status : Status) : Type 0 where
+pub record Completes (files : List ℕ → Option (List ℕ)) (r : Option RequestData) (status : Status) : Type 0 where
   pub outcome : Outcome
   pub is : IsOutcome files r outcome
   pub status_is : (status ≡ outcome.status) ⊎ (status ≡ Memory)

@@ -8,11 +8,12 @@ use Rattle.cts_entry.specs.Histories.{entries_in, bytes_in}
 use Rattle.cts_outside.specs.Causes.{Rose}
 use Rattle.cts_outside.specs.Contents.{appended, IsPartPut}
 use Rattle.cts_script.specs.Lines.{entry_lines}
-use Rattle.cts_serve.specs.Path.{path_ground}
+use Rattle.cts_def.specs.Sites.{SiteData}
+use Rattle.cts_serve.specs.Grounds.{site_ground, site_names}
 use Rattle.cts_serve.specs.Worlds.{Held, Stands}
 use Rattle.cts_serve.specs.Texts.{memory_line, refused_line, full_line, end_line}
 use Rattle.cts_serve.specs.Judging.{Outcome}
-use Rattle.cts_serve.specs.Outcomes.{path_names, IsReplay}
+use Rattle.cts_serve.specs.Outcomes.{IsReplay}
 use Rattle.cts_serve.specs.Printing.{Puts, Printed}
 use Rattle.cts_serve.specs.declared.refusal.Refusal.TheVariants.{NotEnabled as RefusedEvent, HistoryFull as FullHistory, Memory as NoMemory}
 use Rattle.cts_serve.specs.declared.stop.Stop.{Stop}
@@ -25,23 +26,23 @@ abbrev pub IsUntouched : Puts → Type 0
 IsUntouched p = (p.now ≡ p.before) × (p.new ≡ p.old)
 
 -- the lines of entries were put, of which the first has number n
-abbrev pub PutsEntries : ℕ → List Entry → Result (Unit {0}) Stop → Puts → Type 0
-PutsEntries n entries (Ok done) p = (p.now ≡ p.before) × (p.new ≡ appended p.old (entry_lines path_names n entries))
-PutsEntries n entries (Err PutFault) p = Rose p.before p.now × IsPartPut p.old p.new (entry_lines path_names n entries)
-PutsEntries n entries (Err (Refused NoMemory)) p = IsUntouched p
-PutsEntries n entries (Err (Refused RefusedEvent)) p = ⊥
-PutsEntries n entries (Err (Refused FullHistory)) p = ⊥
+abbrev pub PutsEntries : SiteData → ℕ → List Entry → Result (Unit {0}) Stop → Puts → Type 0
+PutsEntries site n entries (Ok done) p = (p.now ≡ p.before) × (p.new ≡ appended p.old (entry_lines (site_names site) n entries))
+PutsEntries site n entries (Err PutFault) p = Rose p.before p.now × IsPartPut p.old p.new (entry_lines (site_names site) n entries)
+PutsEntries site n entries (Err (Refused NoMemory)) p = IsUntouched p
+PutsEntries site n entries (Err (Refused RefusedEvent)) p = ⊥
+PutsEntries site n entries (Err (Refused FullHistory)) p = ⊥
 
 -- An event was done and its lines were put, or why not.
-abbrev pub DoesEvent : State → Event → Result (Unit {0}) Stop → Held → Puts → Type 0
-DoesEvent s event (Ok done) w p =
-    (did : Did) × Does path_ground s event did × Stands w (after s event did) × (p.now ≡ p.before) × (p.new ≡ appended p.old (entry_lines path_names (length s.history) did.entries))
-DoesEvent s event (Err PutFault) w p =
-    (did : Did) × Does path_ground s event did × Rose p.before p.now × IsPartPut p.old p.new (entry_lines path_names (length s.history) did.entries)
-DoesEvent s event (Err (Refused RefusedEvent)) w p = Refuses path_ground s event NotEnabled × IsUntouched p
-DoesEvent s event (Err (Refused FullHistory)) w p =
-    Refuses path_ground s event HistoryFull × (w.entries ≡ entries_in s.history) × (w.bytes ≡ bytes_in s.history) × IsUntouched p
-DoesEvent s event (Err (Refused NoMemory)) w p = IsUntouched p
+abbrev pub DoesEvent : SiteData → State → Event → Result (Unit {0}) Stop → Held → Puts → Type 0
+DoesEvent site s event (Ok done) w p =
+    (did : Did) × Does (site_ground site) s event did × Stands site w (after s event did) × (p.now ≡ p.before) × (p.new ≡ appended p.old (entry_lines (site_names site) (length s.history) did.entries))
+DoesEvent site s event (Err PutFault) w p =
+    (did : Did) × Does (site_ground site) s event did × Rose p.before p.now × IsPartPut p.old p.new (entry_lines (site_names site) (length s.history) did.entries)
+DoesEvent site s event (Err (Refused RefusedEvent)) w p = Refuses (site_ground site) s event NotEnabled × IsUntouched p
+DoesEvent site s event (Err (Refused FullHistory)) w p =
+    Refuses (site_ground site) s event HistoryFull × (w.entries ≡ entries_in s.history) × (w.bytes ≡ bytes_in s.history) × IsUntouched p
+DoesEvent site s event (Err (Refused NoMemory)) w p = IsUntouched p
 
 -- what a replay with this outcome puts at each status
 abbrev pub ReplayPuts : Outcome → Status → Puts → Type 0
@@ -57,9 +58,9 @@ ReplayPuts o ConfigRefused p = ⊥
 ReplayPuts o NotBuilt p = ⊥
 
 -- The events of a script were replayed.
-pub record Replays (script : List ℕ) (events : List (ℕ × Event)) (status : Status) (p : Puts) : Type 0 where
+pub record Replays (site : SiteData) (script : List ℕ) (events : List (ℕ × Event)) (status : Status) (p : Puts) : Type 0 where
   pub outcome : Outcome
-  pub is : IsReplay script events outcome
+  pub is : IsReplay site script events outcome
   pub puts : ReplayPuts outcome status p
 
 -- a last line was put, and the status is its own; or want of memory was told in its place

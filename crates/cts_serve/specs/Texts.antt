@@ -1,6 +1,8 @@
 -- The lines that a command prints for itself. Each ends with byte 0A.
-use Rattle.std.specs.Prelude.{ℕ, List, [], ◌∷◌, ◌++◌, codes}
+use Rattle.std.specs.Prelude.{ℕ, ◌+◌, List, [], ◌∷◌, ◌++◌, length, codes}
 use Rattle.std.specs.Fmt.{decimal}
+use Rattle.cts_def.specs.Packets.{items_in}
+use Rattle.cts_def.specs.Sites.{SiteData}
 
 abbrev pub usage_line : List ℕ
 usage_line = codes "usage: check DEFS SITE | replay DEFS SITE SCRIPT | rehearse N | dump LOG | serve DEFS SITE\n"
@@ -27,3 +29,15 @@ full_line entries bytes = codes "history full: " ++ decimal entries ++ codes " e
 -- how many entries the history has at the end
 abbrev pub end_line : ℕ → List ℕ
 end_line entries = codes "END " ++ decimal entries ++ 10 ∷ []
+
+-- how many packets, commands, items of both, interfaces and routers there are
+abbrev pub numbers_line : ℕ → ℕ → ℕ → ℕ → ℕ → List ℕ
+numbers_line telemetry commands items interfaces routers =
+    codes "telemetry " ++ decimal telemetry ++ codes " commands " ++ decimal commands ++ codes " items " ++ decimal items
+    ++ codes " interfaces " ++ decimal interfaces ++ codes " routers " ++ decimal routers ++ 10 ∷ []
+
+-- what a site and its definitions have
+abbrev pub counts_line : SiteData → List ℕ
+counts_line site =
+    numbers_line (length site.definitions.telemetry) (length site.definitions.commands)
+    (items_in site.definitions.telemetry + items_in site.definitions.commands) (length site.interfaces) (length site.routers)

@@ -1,25 +1,28 @@
 // The top call.
-ghost use Rattle.std.specs.Prelude.{◌≡◌, ◌≢◌, ◌↔◌, map, IfSome, None, Some, MatchOption};
+ghost use Rattle.std.specs.Prelude.{◌≡◌, ◌≢◌, ◌↔◌, map, IfSome, None, Some};
 ghost use Rattle.cts_outside.specs.Causes.{Rose, Steady};
 ghost use Rattle.cts_serve.specs.Causing.{IsCaused};
-ghost use Rattle.cts_serve.specs.Loading.{RefusedPuts};
+ghost use Rattle.cts_serve.specs.Loading.{RefusedPuts, PutsCounts, LoadsSite};
 ghost use Rattle.cts_serve.specs.Outcomes.{asked};
 ghost use Rattle.cts_serve.specs.Printing.{Answers, Completes};
 
-use crate::Status;
 use crate::last::{put_last, put_memory};
-use crate::loading::load;
+use crate::loading::{load_script, load_site};
 use crate::refused::Refused;
 use crate::replay::replay;
+use crate::request::Request;
 use crate::texts::usage_text;
+use crate::{Status, texts};
+use cts_def::Site;
 use cts_outside::{Files, Sink};
 use std::alloc::Global;
 
 /// Runs one command: reads the files that its words name, does what it asks, puts what it prints,
 /// and answers how it ended.
 ///
-/// The words are those after the program's name. So far there is `replay DEFS SITE SCRIPT`; other
-/// words are `Usage`.
+/// The words are those after the program's name: `check DEFS SITE` reads definitions and a site, and
+/// puts how much they have; `replay DEFS SITE SCRIPT` does the events of a script. Other words are
+/// `Usage`.
 pub fn run<F: Files, O: Sink>(alloc: Global, words: &[&str], files: &mut F, out: &mut O) -> Status
     // Exactly where the words fit no command.
     ensures usage { result ≡ Status.Usage ↔ (asked (map (λ w. w.now) words.now) ≡ None) }
@@ -40,53 +43,82 @@ pub fn run<F: Files, O: Sink>(alloc: Global, words: &[&str], files: &mut F, out:
 {
     match read_words(words) {
         None => put_last(out, usage_text(), Status::Usage),
-        Some(request) => replay_files(alloc, request, files, out),
+        Some(request) => do_request(alloc, &request, files, out),
     }
-}
-
-/// The three files of a replay.
-#[derive(Clone, Copy, Debug)]
-struct Request<'a> {
-    definitions: &'a str,
-    site: &'a str,
-    script: &'a str,
 }
 
 // What the words ask for.
 fn read_words<'a>(words: &[&'a str]) -> Option<Request<'a>>
-    ensures { MatchOption result (asked (map (λ w. w.now) words.now) ≡ None)
-        (λ r. asked (map (λ w. w.now) words.now) ≡ Some (record { definitions = r.definitions.now; site = r.site.now; script = r.script.now })) }
+    ensures { result ≡ asked (map (λ w. w.now) words.now) }
 {
     match words {
+        [command, definitions, site] if *command == "check" => Some(Request {
+            definitions: *definitions,
+            site: *site,
+            script: None,
+        }),
         [command, definitions, site, script] if *command == "replay" => Some(Request {
             definitions: *definitions,
             site: *site,
-            script: *script,
+            script: Some(*script),
         }),
         _ => None,
     }
 }
 
-fn replay_files<F: Files, O: Sink>(
+// Reads the files and does what is asked of them.
+fn do_request<F: Files, O: Sink>(
     alloc: Global,
-    request: Request<'_>,
+    request: &Request<'_>,
     files: &mut F,
     out: &mut O,
 ) -> Status
     ensures usage { result ≢ Status.Usage }
     ensures caused { IsCaused result (record { faults = F.faults files.old; faults_now = F.faults files.new; absences = F.absences files.old; absences_now = F.absences files.new; put_faults = O.faults out.old; put_faults_now = O.faults out.new }) }
-    ensures transcript { IfSome (F.told files.old) (λ all. Answers all (Some (record { definitions = request.entry.definitions.now; site = request.entry.site.now; script = request.entry.script.now })) result
+    ensures transcript { IfSome (F.told files.old) (λ all. Answers all (Some request.now) result
         (record { old = O.told out.old; new = O.told out.new; before = O.faults out.old; now = O.faults out.new })) }
 {
-    match load(
-        alloc,
-        files,
-        request.definitions,
-        request.site,
-        request.script,
-    ) {
-        Ok(events) => replay(alloc, request.script, events.as_slice(), out),
+    match load_site(alloc, files, request) {
+        Ok(site) => match request.script {
+            None => put_counts(alloc, &site, out),
+            Some(script) => replay_script(alloc, request, script, &site, files, out),
+        },
         Err(refused) => put_refused(out, &refused),
+    }
+}
+
+// Reads the script and replays it over the site.
+fn replay_script<F: Files, O: Sink>(
+    alloc: Global,
+    request: &Request<'_>,
+    script: &str,
+    site: &Site,
+    files: &mut F,
+    out: &mut O,
+) -> Status
+    requires asked { request.now.script ≡ Some script.now }
+    requires taken { IfSome (F.told files.old) (λ all. LoadsSite all request.now (Ok site.now)) }
+    ensures usage { result ≢ Status.Usage }
+    ensures caused { IsCaused result (record { faults = F.faults files.old; faults_now = F.faults files.new; absences = F.absences files.old; absences_now = F.absences files.new; put_faults = O.faults out.old; put_faults_now = O.faults out.new }) }
+    ensures transcript { IfSome (F.told files.old) (λ all. Answers all (Some request.now) result
+        (record { old = O.told out.old; new = O.told out.new; before = O.faults out.old; now = O.faults out.new })) }
+{
+    match load_script(alloc, files, script, site) {
+        Ok(events) => replay(alloc, site, script, events.as_slice(), out),
+        Err(refused) => put_refused(out, &refused),
+    }
+}
+
+// Puts how much a site has. A check is done only where this is put.
+fn put_counts<O: Sink>(alloc: Global, site: &Site, out: &mut O) -> Status
+    ensures { PutsCounts site.now result (record { old = O.told out.old; new = O.told out.new; before = O.faults out.old; now = O.faults out.new }) }
+{
+    match texts::counts(alloc, site) {
+        Ok(line) => match out.put(&line) {
+            Ok(()) => Status::Ok,
+            Err(_) => Status::WriteFault,
+        },
+        Err(_) => put_memory(out),
     }
 }
 

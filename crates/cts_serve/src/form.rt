@@ -1,133 +1,136 @@
-// The form of the files that can be replayed so far.
-ghost use Rattle.std.specs.Prelude.{◌≡◌, [], ◌∷◌, map, option_map, IfOk};
-ghost use Rattle.hex.specs.Hex.{decode_of};
-ghost use Rattle.cts_serve.specs.FirstForm.{is_text, are_words, is_site, site_words, piece_of, third_event, words_event, script_events};
+// What of definitions and sites can be replayed so far.
+ghost use Rattle.std.specs.Prelude.{◌≡◌, not};
+ghost use Rattle.std.specs.List.{list_any, list_all};
+ghost use Rattle.cts_def.specs.Items.{has_color};
+ghost use Rattle.cts_def.specs.Protocols.{spec_data};
+ghost use Rattle.cts_def.specs.Spans.{is_little};
+ghost use Rattle.cts_def.specs.Starts.{place_data};
+ghost use Rattle.cts_serve.specs.Forms.{has_limits_or_colors, is_built_packet, are_built_definitions, is_first_two, is_built_spec, is_built_use, is_built_chain, is_built_interface, is_built_site};
 
-use cts_base::{Bytes, Memory};
-use cts_core::is_piece;
-use cts_entry::{Event, Why};
-use cts_words::Statement;
-use hex::FromHexError;
-use std::alloc::Global;
+use cts_bits::{Order, Place};
+use cts_def::{Definitions, Interface, Item, Packet, ProtoSpec, ProtoUse, Site, StateDef};
 
-const SITE_WORDS: [&[u8]; 13] = [
-    b"INTERFACE",
-    b"I",
-    b"tcpip_client_interface.rb",
-    b"localhost",
-    b"8080",
-    b"8080",
-    b"10.0",
-    b"nil",
-    b"LENGTH",
-    b"0",
-    b"16",
-    b"0",
-    b"1",
-];
-
-/// Whether a site is the one statement that is taken.
-pub fn is_site(statements: &[Statement]) -> bool
-    ensures { result ≡ is_site statements.now }
+fn has_color(state: &StateDef) -> bool
+    ensures { result ≡ has_color state.now }
 {
-    match statements {
-        [statement] => are_site_words(statement.words.as_slice()),
+    state.color.is_some()
+}
+
+fn have_color(states: &[StateDef]) -> bool
+    ensures { result ≡ list_any has_color states.now }
+{
+    states.iter().any(|state| has_color(state))
+}
+
+fn has_limits_or_colors(item: &Item) -> bool
+    ensures { result ≡ has_limits_or_colors item.now }
+{
+    item.limits.is_some() || have_color(item.states.as_slice())
+}
+
+fn have_limits_or_colors(items: &[Item]) -> bool
+    ensures { result ≡ list_any has_limits_or_colors items.now }
+{
+    items.iter().any(|item| has_limits_or_colors(item))
+}
+
+fn is_built_packet(packet: &Packet) -> bool
+    ensures { result ≡ is_built_packet packet.now }
+{
+    !have_limits_or_colors(packet.items.as_slice())
+}
+
+fn are_built_packets(packets: &[Packet]) -> bool
+    ensures { result ≡ list_all is_built_packet packets.now }
+{
+    packets.iter().all(|packet| is_built_packet(packet))
+}
+
+/// Whether no item has limits or state colours.
+pub fn are_built_definitions(definitions: &Definitions) -> bool
+    ensures { result ≡ are_built_definitions definitions.now }
+{
+    are_built_packets(definitions.telemetry.as_slice())
+        && are_built_packets(definitions.commands.as_slice())
+}
+
+// The first two bytes, the high one first.
+fn is_first_two(place: &Place) -> bool
+    ensures { result ≡ is_first_two (place_data place.now) }
+{
+    place.offset() == 0 && place.bits() == 16 && is_big(place.order())
+}
+
+fn is_big(order: Order) -> bool
+    ensures { result ≡ not (is_little order) }
+{
+    match order {
+        Order::Big => true,
+        Order::Little => false,
+    }
+}
+
+// The length of the whole frame in its first two bytes, and nothing else.
+fn is_built_spec(spec: &ProtoSpec) -> bool
+    ensures { result ≡ is_built_spec (spec_data spec.now) }
+{
+    match spec {
+        ProtoSpec::Length {
+            place,
+            value_offset,
+            per_count,
+            discard,
+            sync,
+            max,
+            fill,
+        } => {
+            is_first_two(place)
+                && *value_offset == 0
+                && *per_count == 1
+                && *discard == 0
+                && sync.as_slice().is_empty()
+                && max.is_none()
+                && !*fill
+        }
+        ProtoSpec::Burst { .. } => false,
+        ProtoSpec::Fixed { .. } => false,
+        ProtoSpec::Terminated { .. } => false,
+        ProtoSpec::Preidentified { .. } => false,
+    }
+}
+
+fn is_built_use(proto: &ProtoUse) -> bool
+    ensures { result ≡ is_built_use proto.now }
+{
+    is_built_spec(&proto.spec) && proto.reads && proto.writes
+}
+
+fn is_built_chain(chain: &[ProtoUse]) -> bool
+    ensures { result ≡ is_built_chain chain.now }
+{
+    match chain {
+        [only] => is_built_use(only),
         _ => false,
     }
 }
 
-fn are_site_words(words: &[Bytes]) -> bool
-    ensures { result ≡ are_words words.now site_words }
+fn is_built_interface(interface: &Interface) -> bool
+    ensures { result ≡ is_built_interface interface.now }
 {
-    are_words(words, &SITE_WORDS)
+    is_built_chain(interface.chain.as_slice())
 }
 
-// The words are these texts and no others. It calls itself no more often than there are texts.
-fn are_words(words: &[Bytes], texts: &[&[u8]]) -> bool
-    ensures { result ≡ are_words words.now (map (λ t. t.now) texts.now) }
+fn are_built_interfaces(interfaces: &[Interface]) -> bool
+    ensures { result ≡ list_all is_built_interface interfaces.now }
 {
-    let Some((word, more_words)) = words.split_first() else {
-        return texts.is_empty();
-    };
-    let Some((text, more_texts)) = texts.split_first() else {
-        return false;
-    };
-    is_text(word.as_slice(), text) && are_words(more_words, more_texts)
+    interfaces
+        .iter()
+        .all(|interface| is_built_interface(interface))
 }
 
-fn is_text(bytes: &[u8], text: &[u8]) -> bool
-    ensures { result ≡ is_text bytes.now text.now }
+/// Whether there is no router, and the frames of every interface state their length.
+pub fn is_built_site(site: &Site) -> bool
+    ensures { result ≡ is_built_site site.now }
 {
-    bytes == text
-}
-
-/// The events of a script with the numbers of their lines, if each of its statements has one.
-pub fn script_events(
-    alloc: Global,
-    statements: &[Statement],
-) -> Result<Option<Vec<(u32, Event)>>, Memory>
-    ensures { IfOk result (λ events. option_map (λ v. v.items) events ≡ script_events statements.now) }
-{
-    let mut events = Vec::new(alloc);
-    let mut left = statements;
-    'statements: while let Some((statement, after)) = left.split_first() {
-        let Some(event) = words_event(alloc, statement.words.as_slice())? else {
-            return Ok(None);
-        };
-        events.push((statement.line, event))?;
-        left = after;
-    }
-    Ok(Some(events))
-}
-
-// The event of a statement's words, if they have one.
-fn words_event(alloc: Global, words: &[Bytes]) -> Result<Option<Event>, Memory>
-    ensures { IfOk result (λ event. event ≡ words_event words.now) }
-{
-    match words {
-        [keyword, interface] => Ok(opening(keyword.as_slice(), interface.as_slice())),
-        [keyword, interface, word] if is_text(interface.as_slice(), b"I") => {
-            third_event(alloc, keyword.as_slice(), word.as_slice())
-        }
-        _ => Ok(None),
-    }
-}
-
-fn opening(keyword: &[u8], interface: &[u8]) -> Option<Event>
-    ensures { result ≡ words_event (keyword.now ∷ interface.now ∷ []) }
-{
-    if is_text(keyword, b"OPEN") && is_text(interface, b"I") {
-        Some(Event::Opens(0))
-    } else {
-        None
-    }
-}
-
-fn third_event(alloc: Global, keyword: &[u8], word: &[u8]) -> Result<Option<Event>, Memory>
-    ensures { IfOk result (λ event. event ≡ third_event keyword.now word.now) }
-{
-    if is_text(keyword, b"BYTES") {
-        piece(alloc, word)
-    } else if is_text(keyword, b"CLOSE") && is_text(word, b"PEER") {
-        Ok(Some(Event::Finish(0, Why::PeerEnded)))
-    } else {
-        Ok(None)
-    }
-}
-
-// The piece of bytes that these digits write.
-fn piece(alloc: Global, digits: &[u8]) -> Result<Option<Event>, Memory>
-    ensures { IfOk result (λ event. event ≡ piece_of (decode_of digits.now)) }
-{
-    match hex::decode(alloc, digits) {
-        Ok(bytes) => {
-            if is_piece(&bytes) {
-                Ok(Some(Event::Piece(0, Bytes::of(bytes))))
-            } else {
-                Ok(None)
-            }
-        }
-        Err(FromHexError::OutOfMemory) => Err(Memory),
-        Err(_) => Ok(None),
-    }
+    site.routers.as_slice().is_empty() && are_built_interfaces(site.interfaces.as_slice())
 }

@@ -2,6 +2,7 @@
 #![tactic(auto)]
 
 mod command;
+mod connection;
 mod events;
 mod file_kind;
 mod form;
@@ -14,6 +15,8 @@ mod reading;
 mod refusal;
 mod refused;
 mod replay;
+mod request;
+mod script;
 mod status;
 mod stop;
 mod texts;

@@ -1,20 +1,25 @@
-// The three files of a command, read and taken.
-ghost use Rattle.std.specs.Prelude.{◌≡◌, ◌≤◌, [], length, unwrap_or, IfOk, IfSome};
-ghost use Rattle.cts_serve.specs.FirstForm.{script_events};
-ghost use Rattle.cts_serve.specs.Judging.{file_limit, judge_definitions, judge_site, judge_script};
-ghost use Rattle.cts_serve.specs.Outcomes.{statements_in};
-ghost use Rattle.cts_serve.specs.Fetching.{IsReadAs, GivesStatements, IsTakenAs, IsNotBuilt, IsRefusedAt, answer_seen};
-ghost use Rattle.cts_serve.specs.Loading.{Loads, LoadCause};
+// The files of a command, read and taken.
+ghost use Rattle.std.specs.Prelude.{◌≡◌, ◌≤◌, ◌||◌, is_none, length, IfOk, IfSome};
+ghost use Rattle.cts_serve.specs.Forms.{are_built_definitions, is_built_site};
+ghost use Rattle.cts_serve.specs.Judging.{file_limit, judge_definitions, judge_site, judge_script, definitions_read, definitions_in, site_read, site_in, events_in};
+ghost use Rattle.cts_serve.specs.Outcomes.{is_taken};
+ghost use Rattle.cts_serve.specs.Fetching.{IsReadAs, GivesStatements, Takes, GivesRead, IsNotBuilt, IsRefusedAt, answer_seen};
+ghost use Rattle.cts_serve.specs.Loading.{LoadsSite, LoadCause};
 ghost use Rattle.cts_serve.specs.declared.refused.Refused.TheVariants.{Memory as NoMemory};
 
 use crate::file_kind::{FileKind, fault_line};
-use crate::form::{is_site, script_events};
+use crate::form::{are_built_definitions, is_built_site};
 use crate::reading::{FetchFault, fetch};
 use crate::refused::Refused;
+use crate::request::Request;
+use crate::script::script_events;
 use crate::{Status, texts};
 use cts_base::{Bytes, Memory};
+use cts_def::{Definitions, Site};
+use cts_defread::{DefFault, read_definitions};
 use cts_entry::Event;
 use cts_outside::Files;
+use cts_plan::{SiteFault, read_site};
 use cts_words::{Statement, WordFault, statements};
 use std::alloc::Global;
 
@@ -29,64 +34,116 @@ impl From<Memory> for Refused {
     }
 }
 
-/// Reads the three files in order, each with its refusals before the next one, and gives the
-/// events of the script with their lines.
-pub fn load<F: Files>(
+/// Reads the definitions and then the site, each with its refusals before the next file is read. A
+/// check takes all that can be read, and a replay what is built.
+pub fn load_site<F: Files>(
     alloc: Global,
     files: &mut F,
-    definitions: &str,
-    site: &str,
-    script: &str,
-) -> Result<Vec<(u32, Event)>, Refused>
+    request: &Request<'_>,
+) -> Result<Site, Refused>
     ensures stays { F.told files.new ≡ F.told files.old }
-    ensures content { IfSome (F.told files.old) (λ all.
-        Loads all (record { definitions = definitions.now; site = site.now; script = script.now }) (answer_seen (λ v. v.items) result)) }
+    ensures content { IfSome (F.told files.old) (λ all. LoadsSite all request.now result) }
     ensures cause { LoadCause result (F.faults files.old) (F.faults files.new) (F.absences files.old) (F.absences files.new) }
 {
-    take_definitions(alloc, files, definitions)?;
-    take_site(alloc, files, site)?;
-    take_script(alloc, files, script)
+    let definitions = take_definitions(alloc, files, request)?;
+    take_site(alloc, files, request, definitions)
 }
 
-fn take_definitions<F: Files>(alloc: Global, files: &mut F, name: &str) -> Result<(), Refused>
-    ensures stays { F.told files.new ≡ F.told files.old }
-    ensures content { IfSome (F.told files.old) (λ all. IsTakenAs judge_definitions name.now (all name.now) result) }
-    ensures cause { LoadCause result (F.faults files.old) (F.faults files.new) (F.absences files.old) (F.absences files.new) }
-{
-    let found = read_statements(alloc, files, name, FileKind::Configuration)?;
-    if found.is_empty() {
-        return Ok(());
-    }
-    Err(not_built(alloc, name))
-}
-
-fn take_site<F: Files>(alloc: Global, files: &mut F, name: &str) -> Result<(), Refused>
-    ensures stays { F.told files.new ≡ F.told files.old }
-    ensures content { IfSome (F.told files.old) (λ all. IsTakenAs judge_site name.now (all name.now) result) }
-    ensures cause { LoadCause result (F.faults files.old) (F.faults files.new) (F.absences files.old) (F.absences files.new) }
-{
-    let found = read_statements(alloc, files, name, FileKind::Configuration)?;
-    if is_site(&found) {
-        return Ok(());
-    }
-    Err(not_built(alloc, name))
-}
-
-fn take_script<F: Files>(
+/// Reads the script of a replay, and gives its events with their lines.
+pub fn load_script<F: Files>(
     alloc: Global,
     files: &mut F,
     name: &str,
+    site: &Site,
 ) -> Result<Vec<(u32, Event)>, Refused>
     ensures stays { F.told files.new ≡ F.told files.old }
-    ensures content { IfSome (F.told files.old) (λ all. IsTakenAs judge_script name.now (all name.now) result) }
-    ensures events { IfSome (F.told files.old) (λ all.
-        IfOk result (λ events. unwrap_or (script_events (statements_in (unwrap_or (all name.now) []))) [] ≡ events.items)) }
+    ensures content { IfSome (F.told files.old) (λ all. Takes (judge_script site.now) (events_in site.now) name.now (all name.now) (answer_seen (λ v. v.items) result)) }
     ensures cause { LoadCause result (F.faults files.old) (F.faults files.new) (F.absences files.old) (F.absences files.new) }
 {
     let found = read_statements(alloc, files, name, FileKind::Script)?;
-    match script_events(alloc, &found)? {
+    match script_events(alloc, site, &found)? {
         Some(events) => Ok(events),
         None => Err(not_built(alloc, name)),
+    }
+}
+
+fn take_definitions<F: Files>(
+    alloc: Global,
+    files: &mut F,
+    request: &Request<'_>,
+) -> Result<Definitions, Refused>
+    ensures stays { F.told files.new ≡ F.told files.old }
+    ensures content { IfSome (F.told files.old) (λ all. Takes (judge_definitions (is_taken request.now are_built_definitions)) definitions_in request.now.definitions (all request.now.definitions) result) }
+    ensures cause { LoadCause result (F.faults files.old) (F.faults files.new) (F.absences files.old) (F.absences files.new) }
+{
+    let name = request.definitions;
+    let found = read_statements(alloc, files, name, FileKind::Configuration)?;
+    let definitions = definitions_of(alloc, name, &found)?;
+    if request.script.is_none() || are_built_definitions(&definitions) {
+        return Ok(definitions);
+    }
+    Err(not_built(alloc, name))
+}
+
+fn take_site<F: Files>(
+    alloc: Global,
+    files: &mut F,
+    request: &Request<'_>,
+    definitions: Definitions,
+) -> Result<Site, Refused>
+    ensures stays { F.told files.new ≡ F.told files.old }
+    ensures content { IfSome (F.told files.old) (λ all. Takes (judge_site (is_taken request.now is_built_site) definitions) (site_in definitions) request.now.site (all request.now.site) result) }
+    ensures cause { LoadCause result (F.faults files.old) (F.faults files.new) (F.absences files.old) (F.absences files.new) }
+{
+    let name = request.site;
+    let found = read_statements(alloc, files, name, FileKind::Configuration)?;
+    let site = site_of(alloc, name, &found, definitions)?;
+    if request.script.is_none() || is_built_site(&site) {
+        return Ok(site);
+    }
+    Err(not_built(alloc, name))
+}
+
+// What the statements of a file define, or why the command ends at one of them.
+fn definitions_of(alloc: Global, name: &str, found: &[Statement]) -> Result<Definitions, Refused>
+    ensures { GivesRead name.now (definitions_read found.now) result }
+{
+    match read_definitions(alloc, found) {
+        Ok(definitions) => Ok(definitions),
+        Err(DefFault::Refused { line, cause }) => {
+            Err(refused_at(
+                alloc,
+                name,
+                FileKind::Configuration,
+                line,
+                cause.name().as_bytes(),
+            ))
+        }
+        Err(DefFault::Memory) => Err(Refused::Memory),
+    }
+}
+
+// The site that the statements of a file say, or why the command ends at one of them.
+fn site_of(
+    alloc: Global,
+    name: &str,
+    found: &[Statement],
+    definitions: Definitions,
+) -> Result<Site, Refused>
+    ensures { GivesRead name.now (site_read definitions found.now) result }
+{
+    match read_site(alloc, found, definitions) {
+        Ok(site) => Ok(site),
+        Err(SiteFault::Refused { line, cause }) => {
+            Err(refused_at(
+                alloc,
+                name,
+                FileKind::Configuration,
+                line,
+                cause.name().as_bytes(),
+            ))
+        }
+        Err(SiteFault::Memory) => Err(Refused::Memory),
     }
 }
 

@@ -1,6 +1,7 @@
-// The three files loaded from memory: the refusals in their order, and the lines of a script.
-use crate::loading::load;
+// The files of a replay loaded from memory: the refusals in their order, and the lines of a script.
+use crate::loading::{load_script, load_site};
 use crate::refused::Refused;
+use crate::request::Request;
 use cts_base::Bytes;
 use cts_entry::{Event, Why};
 use cts_outside::MemFiles;
@@ -13,8 +14,25 @@ const SITE: &[u8] =
 const SITE_SPACED: &[u8] =
     b"# one interface\n INTERFACE I tcpip_client_interface.rb localhost 8080 &\r\n\t8080 10.0 'nil' LENGTH 0 16 0 1\n\n";
 
-const TWO_SITES: &[u8] =
-    b"INTERFACE I tcpip_client_interface.rb localhost 8080 8080 10.0 nil LENGTH 0 16 0 1\nTITLE x\n";
+const TWO: &[u8] =
+    b"INTERFACE I tcpip_client_interface.rb localhost 8080 8080 10.0 nil LENGTH 0 16 0 1\nINTERFACE j tcpip_client_interface.rb localhost 8081 8081 10.0 nil LENGTH 0 16 0 1\n";
+
+const ROUTED: &[u8] =
+    b"INTERFACE I tcpip_client_interface.rb localhost 8080 8080 10.0 nil LENGTH 0 16 0 1\nROUTER R tcpip_server_interface.rb 2950 2950 10.0 nil BURST\n";
+
+const LINES: &[u8] =
+    b"INTERFACE I tcpip_client_interface.rb localhost 8080 8080 10.0 nil TERMINATED 0x0A 0x0A\n";
+
+const STATED_AFTER: &[u8] =
+    b"INTERFACE I tcpip_client_interface.rb localhost 8080 8080 10.0 nil LENGTH 0 16 2 1\n";
+
+const READ_ONLY: &[u8] =
+    b"INTERFACE I tcpip_client_interface.rb localhost 8080 8080 10.0 nil\nPROTOCOL READ LENGTH 0 16 0 1\n";
+
+const LIMITED: &[u8] =
+    b"TELEMETRY T A BIG_ENDIAN\nAPPEND_ITEM X 8 UINT\nLIMITS DEFAULT 1 ENABLED 1 2 3 4\n";
+
+const COLORED: &[u8] = b"TELEMETRY T A BIG_ENDIAN\nAPPEND_ITEM X 8 UINT\nSTATE ON 1 GREEN\n";
 
 // The files `d`, `s` and `p`, where they are given.
 fn files(
@@ -43,6 +61,17 @@ fn add(
     Ok(())
 }
 
+// The events of the script `p` over the site of `d` and `s`.
+fn load_all(alloc: Global, files: &mut MemFiles) -> Result<Vec<(u32, Event)>, Refused> {
+    let request = Request {
+        definitions: "d",
+        site: "s",
+        script: Some("p"),
+    };
+    let site = load_site(alloc, files, &request)?;
+    load_script(alloc, files, "p", &site)
+}
+
 // What was loaded, a line for each event, or the status and the line of a refusal.
 fn shown(alloc: Global, loaded: Result<Vec<(u32, Event)>, Refused>) -> Result<Vec<u8>, AllocError> {
     match loaded {
@@ -62,11 +91,15 @@ fn shown_events(alloc: Global, events: &[(u32, Event)]) -> Result<Vec<u8>, Alloc
     for (line, event) in events {
         text.extend_from_slice(format!(in alloc; "{line} ")?.as_bytes())?;
         match event {
-            Event::Opens(0) => text.extend_from_slice(b"opens\n")?,
-            Event::Finish(0, Why::PeerEnded) => text.extend_from_slice(b"finish\n")?,
-            Event::Piece(0, bytes) => {
-                text.extend_from_slice(hex::encode(alloc, bytes.as_slice())?.as_bytes())?;
-                text.extend_from_slice(b"\n")?;
+            Event::Opens(by) => {
+                text.extend_from_slice(format!(in alloc; "opens {by}\n")?.as_bytes())?;
+            }
+            Event::Finish(by, Why::PeerEnded) => {
+                text.extend_from_slice(format!(in alloc; "finish {by}\n")?.as_bytes())?;
+            }
+            Event::Piece(by, bytes) => {
+                let digits = hex::encode(alloc, bytes.as_slice())?;
+                text.extend_from_slice(format!(in alloc; "{by} {digits}\n")?.as_bytes())?;
             }
             _ => text.extend_from_slice(b"another\n")?,
         }
@@ -77,7 +110,7 @@ fn shown_events(alloc: Global, events: &[(u32, Event)]) -> Result<Vec<u8>, Alloc
 #[test]
 fn each_file_has_its_refusals_before_the_next(rt: HostRuntime) -> Result<(), Fail> {
     let alloc = rt.alloc();
-    let rows: [([Option<&[u8]>; 3], &[u8]); 15] = [
+    let rows: [([Option<&[u8]>; 3], &[u8]); 21] = [
         ([None, None, None], b"Absent absent: d\n"),
         (
             [Some(b"A 'b"), None, None],
@@ -91,7 +124,15 @@ fn each_file_has_its_refusals_before_the_next(rt: HostRuntime) -> Result<(), Fai
             [Some(b"A\n\xff '"), None, None],
             b"ConfigRefused refused: d line 0: NotText\n",
         ),
-        ([Some(b"x"), None, None], b"NotBuilt not built: d\n"),
+        (
+            [Some(b"x"), None, None],
+            b"ConfigRefused refused: d line 1: UnknownKeyword\n",
+        ),
+        ([Some(LIMITED), None, None], b"NotBuilt not built: d\n"),
+        (
+            [Some(COLORED), Some(b"x"), None],
+            b"NotBuilt not built: d\n",
+        ),
         (
             [Some(b"\n # no statement\n"), None, None],
             b"Absent absent: s\n",
@@ -100,12 +141,21 @@ fn each_file_has_its_refusals_before_the_next(rt: HostRuntime) -> Result<(), Fai
             [Some(b""), Some(b"\""), None],
             b"ConfigRefused refused: s line 1: OpenQuote\n",
         ),
-        ([Some(b""), Some(b""), None], b"NotBuilt not built: s\n"),
-        ([Some(b""), Some(b"x"), None], b"NotBuilt not built: s\n"),
         (
-            [Some(b""), Some(TWO_SITES), None],
+            [Some(b""), Some(b"\nx"), None],
+            b"ConfigRefused refused: s line 2: UnknownKeyword\n",
+        ),
+        ([Some(b""), Some(ROUTED), None], b"NotBuilt not built: s\n"),
+        ([Some(b""), Some(LINES), None], b"NotBuilt not built: s\n"),
+        (
+            [Some(b""), Some(STATED_AFTER), None],
             b"NotBuilt not built: s\n",
         ),
+        (
+            [Some(b""), Some(READ_ONLY), None],
+            b"NotBuilt not built: s\n",
+        ),
+        ([Some(b""), Some(b""), None], b"Absent absent: p\n"),
         ([Some(b""), Some(SITE), None], b"Absent absent: p\n"),
         (
             [Some(b""), Some(SITE_SPACED), Some(b"OPEN I\nx '\n")],
@@ -119,11 +169,15 @@ fn each_file_has_its_refusals_before_the_next(rt: HostRuntime) -> Result<(), Fai
             [Some(b""), Some(SITE), Some(b"x")],
             b"NotBuilt not built: p\n",
         ),
-        ([Some(b""), Some(SITE), Some(b"OPEN I")], b"1 opens\n"),
+        (
+            [Some(b""), Some(b""), Some(b"OPEN I")],
+            b"NotBuilt not built: p\n",
+        ),
+        ([Some(b""), Some(SITE), Some(b"OPEN I")], b"1 opens 0\n"),
     ];
     for (contents, expected) in rows {
         let mut files = files(alloc, contents, Vec::new(alloc))?;
-        let loaded = load(alloc, &mut files, "d", "s", "p");
+        let loaded = load_all(alloc, &mut files);
         assert_eq!(rt; shown(alloc, loaded)?.as_slice(), expected);
     }
     Ok(())
@@ -132,32 +186,39 @@ fn each_file_has_its_refusals_before_the_next(rt: HostRuntime) -> Result<(), Fai
 #[test]
 fn each_statement_of_a_script_has_one_event(rt: HostRuntime) -> Result<(), Fail> {
     let alloc = rt.alloc();
-    let rows: [(&[u8], &[u8]); 17] = [
+    let rows: [(&[u8], &[u8]); 21] = [
         (b"", b""),
         (b"\n\n# nothing\n", b""),
-        (b"OPEN I", b"1 opens\n"),
-        (b"\nOPEN I\r\n", b"2 opens\n"),
+        (b"OPEN I", b"1 opens 0\n"),
+        (b"\nOPEN J\r\n", b"2 opens 1\n"),
         (
-            b"OPEN I # first\n\nBYTES I &\n 00fFaB\n\t'CLOSE' I \"PEER\"",
-            b"1 opens\n3 00ffab\n5 finish\n",
+            b"OPEN I # first\n\nBYTES J &\n 00fFaB\n\t'CLOSE' I \"PEER\"",
+            b"1 opens 0\n3 1 00ffab\n5 finish 0\n",
         ),
-        (b"open I\n", b"NotBuilt not built: p\n"),
-        (b"OPEN i\n", b"NotBuilt not built: p\n"),
-        (b"OPEN J\n", b"NotBuilt not built: p\n"),
+        (
+            b"open i\nByTeS i 00\nclose J PEER\n",
+            b"1 opens 0\n2 0 00\n3 finish 1\n",
+        ),
+        (b"OPEN K\n", b"NotBuilt not built: p\n"),
+        (b"OPEN\n", b"NotBuilt not built: p\n"),
         (b"OPEN I I\n", b"NotBuilt not built: p\n"),
         (b"CLOSE I\n", b"NotBuilt not built: p\n"),
         (b"CLOSE I READ\n", b"NotBuilt not built: p\n"),
+        (b"CLOSE I peer\n", b"NotBuilt not built: p\n"),
         (b"BYTES I\n", b"NotBuilt not built: p\n"),
         (b"BYTES I ''\n", b"NotBuilt not built: p\n"),
         (b"BYTES I 0\n", b"NotBuilt not built: p\n"),
         (b"BYTES I 0g\n", b"NotBuilt not built: p\n"),
         (b"BYTES I 00 11\n", b"NotBuilt not built: p\n"),
-        (b"BYTES J 00\n", b"NotBuilt not built: p\n"),
+        (b"BYTES K 00\n", b"NotBuilt not built: p\n"),
+        (b"TIME 5\n", b"NotBuilt not built: p\n"),
+        (b"TRY OPEN I\n", b"NotBuilt not built: p\n"),
+        (b"STOP\n", b"NotBuilt not built: p\n"),
     ];
     for (script, expected) in rows {
-        let contents = [Some(b"".as_slice()), Some(SITE), Some(script)];
+        let contents = [Some(b"".as_slice()), Some(TWO), Some(script)];
         let mut files = files(alloc, contents, Vec::new(alloc))?;
-        let loaded = load(alloc, &mut files, "d", "s", "p");
+        let loaded = load_all(alloc, &mut files);
         assert_eq!(rt; shown(alloc, loaded)?.as_slice(), expected);
     }
     Ok(())
@@ -172,7 +233,7 @@ fn each_read_fails_in_turn(rt: HostRuntime) -> Result<(), Fail> {
         (2, 1, b"ReadFault read fault: s\n"),
         (3, 1, b"ReadFault read fault: p\n"),
         (4, 1, b"ReadFault read fault: p\n"),
-        (5, 0, b"1 opens\n"),
+        (5, 0, b"1 opens 0\n"),
     ];
     for (failing, faults, expected) in rows {
         let contents = [
@@ -181,7 +242,7 @@ fn each_read_fails_in_turn(rt: HostRuntime) -> Result<(), Fail> {
             Some(b"OPEN I\n".as_slice()),
         ];
         let mut files = files(alloc, contents, vec![in alloc; failing]?)?;
-        let loaded = load(alloc, &mut files, "d", "s", "p");
+        let loaded = load_all(alloc, &mut files);
         assert_eq!(rt; shown(alloc, loaded)?.as_slice(), expected);
         assert_eq!(rt; files.faults(), faults);
     }
@@ -200,11 +261,7 @@ fn add_times(text: &mut Vec<u8>, part: &[u8], count: u32) -> Result<(), AllocErr
 fn count_events(alloc: Global, script: &[u8]) -> Result<Option<usize>, Fail> {
     let contents = [Some(b"".as_slice()), Some(SITE), Some(script)];
     let mut files = files(alloc, contents, Vec::new(alloc))?;
-    Ok(
-        load(alloc, &mut files, "d", "s", "p")
-            .ok()
-            .map(|events| events.len()),
-    )
+    Ok(load_all(alloc, &mut files).ok().map(|events| events.len()))
 }
 
 #[test]
@@ -229,7 +286,7 @@ fn said_of_one_word(alloc: Global, length: usize) -> Result<Vec<u8>, AllocError>
     let mut held = Vec::new(alloc);
     held.push((Bytes::of(b"d".to_vec(alloc)?), one_word(alloc, length)?))?;
     let mut files = MemFiles::new(held, Vec::new(alloc));
-    shown(alloc, load(alloc, &mut files, "d", "s", "p"))
+    shown(alloc, load_all(alloc, &mut files))
 }
 
 #[test]
@@ -237,7 +294,7 @@ fn a_file_has_67108864_bytes_at_most(rt: HostRuntime) -> Result<(), Fail> {
     let alloc = rt.alloc();
     assert_eq!(rt;
         said_of_one_word(alloc, 67_108_864)?.as_slice(),
-        b"NotBuilt not built: d\n".as_slice()
+        b"ConfigRefused refused: d line 1: UnknownKeyword\n".as_slice()
     );
     assert_eq!(rt;
         said_of_one_word(alloc, 67_108_865)?.as_slice(),

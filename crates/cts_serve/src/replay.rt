@@ -1,6 +1,7 @@
 // The events of a script, one after another.
 ghost use Rattle.cts_serve.specs.Replays.{Replays, StopPuts, EndPuts};
-ghost use Rattle.cts_serve.specs.Worlds.{held_in};
+ghost use Rattle.cts_serve.specs.Worlds.{Stands, held_in};
+ghost use Rattle.cts_core.specs.States.{opening};
 
 use crate::events::do_event;
 use crate::last::{put_last, put_memory};
@@ -8,19 +9,43 @@ use crate::refusal::Refusal;
 use crate::stop::Stop;
 use crate::world::World;
 use crate::{Status, texts};
+use cts_def::Site;
 use cts_entry::Event;
 use cts_outside::Sink;
 use std::alloc::Global;
 
-/// Does the events of a script in order, each with its line, and puts the lines of each when it is
-/// done; then `END n`, or the line that says why the replay stops there.
-pub fn replay<O: Sink>(alloc: Global, script: &str, events: &[(u32, Event)], out: &mut O) -> Status
-    ensures { Replays script.now events.now result (record { old = O.told out.old; new = O.told out.new; before = O.faults out.old; now = O.faults out.new }) }
+/// Does the events of a script on a site in order, each with its line, and puts the lines of each when it is done; then
+/// `END n`, or the line that says why the replay stops there.
+pub fn replay<O: Sink>(
+    alloc: Global,
+    site: &Site,
+    script: &str,
+    events: &[(u32, Event)],
+    out: &mut O,
+) -> Status
+    ensures { Replays site.now script.now events.now result (record { old = O.told out.old; new = O.told out.new; before = O.faults out.old; now = O.faults out.new }) }
 {
-    let mut world = World::new(alloc);
+    match World::new(alloc, site) {
+        Ok(world) => replay_from(alloc, site, script, events, world, out),
+        Err(_) => put_memory(out),
+    }
+}
+
+// Does the events in a world in which nothing has happened.
+fn replay_from<O: Sink>(
+    alloc: Global,
+    site: &Site,
+    script: &str,
+    events: &[(u32, Event)],
+    mut world: World,
+    out: &mut O,
+) -> Status
+    requires { Stands site.now (held_in world) opening }
+    ensures { Replays site.now script.now events.now result (record { old = O.told out.old; new = O.told out.new; before = O.faults out.old; now = O.faults out.new }) }
+{
     let mut left = events;
     'events: while let Some((next, after)) = left.split_first() {
-        match do_event(alloc, &mut world, &next.1, out) {
+        match do_event(alloc, site, &mut world, &next.1, out) {
             Ok(()) => left = after,
             Err(stop) => return put_stop(alloc, script, next.0, stop, &world, out),
         }

@@ -1,8 +1,10 @@
 // The lines that a command prints for itself.
-ghost use Rattle.std.specs.Prelude.{◌≡◌, ◌++◌, ◌∷◌, [], IfOk};
-ghost use Rattle.cts_serve.specs.Texts.{usage_line, memory_line, read_fault_line, absent_line, not_built_line, refused_line, full_line, end_line};
+ghost use Rattle.std.specs.Prelude.{◌≡◌, ◌≤◌, ◌++◌, ◌∷◌, [], IfOk};
+ghost use Rattle.cts_serve.specs.Texts.{usage_line, memory_line, read_fault_line, absent_line, not_built_line, refused_line, full_line, end_line, numbers_line, counts_line};
+ghost use Rattle.cts_def.specs.Packets.{items_in};
 
 use cts_base::Memory;
+use cts_def::{Packet, Site};
 use std::alloc::Global;
 
 /// The line for words that fit no command.
@@ -67,6 +69,55 @@ pub fn end(alloc: Global, entries: u64) -> Result<Vec<u8>, Memory>
 {
     let line = format!(in alloc; "END {entries}\n")?;
     Ok(line.as_bytes().to_vec(alloc)?)
+}
+
+/// The line that says how many packets, commands, items of both, interfaces and routers a site has.
+pub fn counts(alloc: Global, site: &Site) -> Result<Vec<u8>, Memory>
+    ensures { IfOk result (λ line. line.items ≡ counts_line site.now) }
+{
+    let telemetry = site.definitions.telemetry.as_slice();
+    let commands = site.definitions.commands.as_slice();
+    let items = items_in(telemetry) + items_in(commands);
+    let interfaces = site.interfaces.as_slice().len();
+    let routers = site.routers.as_slice().len();
+    numbers(
+        alloc,
+        telemetry.len(),
+        commands.len(),
+        items,
+        interfaces,
+        routers,
+    )
+}
+
+fn numbers(
+    alloc: Global,
+    telemetry: usize,
+    commands: usize,
+    items: usize,
+    interfaces: usize,
+    routers: usize,
+) -> Result<Vec<u8>, Memory>
+    ensures { IfOk result (λ line. line.items ≡ numbers_line telemetry commands items interfaces routers) }
+{
+    let line = format!(in alloc;
+        "telemetry {telemetry} commands {commands} items {items} interfaces {interfaces} routers {routers}\n"
+    )?;
+    Ok(Vec::from_slice(alloc, line.as_bytes())?)
+}
+
+// How many items these packets have.
+fn items_in(packets: &[Packet]) -> usize
+    requires { items_in packets.now ≤ 65536 }
+    ensures { result ≡ items_in packets.now }
+{
+    let mut items = 0;
+    let mut left = packets;
+    'packets: while let Some((packet, after)) = left.split_first() {
+        items += packet.items.as_slice().len();
+        left = after;
+    }
+    items
 }
 
 // A line of this front and a file's name.

@@ -1,11 +1,12 @@
-// The core that runs events: one interface, whose frames state their length.
-ghost use Rattle.std.specs.Prelude.{◌≤◌};
+// The core that runs events: the interfaces of a site, whose frames state their length.
+ghost use Rattle.std.specs.Prelude.{◌≡◌, ◌≤◌, length, nat_lt};
 
-use crate::posting::{INTERFACE, drop_front, packets};
+use crate::connection::Connection;
+use crate::posting::{drop_front, packets};
 use crate::refusal::Refusal;
 use cts_base::Memory;
 use cts_core::{is_piece, may_close};
-use cts_def::{BadCause, Loss, Time};
+use cts_def::{BadCause, Loss, Site, Time};
 use cts_entry::{Entry, Event, Why};
 use cts_proto::{Cutting, cut_length};
 use std::alloc::Global;
@@ -14,14 +15,14 @@ const MOST_ENTRIES: u64 = 4_000_000;
 
 const MOST_BYTES: u64 = 1_073_741_824;
 
-/// The server's history, and of the connection that stands the bytes that no packet has yet.
+/// The server's history, and of the connections that stand the bytes that no packet has yet.
 #[derive(Debug, Drop)]
 pub struct World {
     pub time: Time,
     pub history: Vec<Entry>,
-    pub connected: bool,
+    /// The connections of the interfaces, in order of the site.
+    pub connections: Vec<Connection>,
     pub stopped: bool,
-    pub rest: Vec<u8>,
     /// How many entries count against the limit.
     pub entries: u64,
     /// How many bytes count against the limit.
@@ -31,41 +32,43 @@ pub struct World {
 }
 
 impl World {
-    ghost use Rattle.std.specs.Prelude.{◌≡◌, ◌==◌, ◌&&◌, ◌≤◌, ◌+◌, nat_le, not, length, List, vec_len, OnOk};
+    ghost use Rattle.std.specs.Prelude.{◌≡◌, ◌&&◌, ◌<◌, ◌≤◌, ◌+◌, ◌++◌, ◌^◌, nat_le, nat_lt, not, length, List, true, vec_len, IfOk, OnOk};
     ghost use Rattle.cts_core.specs.States.{State, opening, may_close};
+    ghost use Rattle.cts_def.specs.Sites.{SiteData};
     ghost use Rattle.cts_entry.specs.declared.entry.Entry.{Entry};
     ghost use Rattle.cts_entry.specs.declared.event.Event.TheVariants as event;
     ghost use Rattle.cts_entry.specs.Histories.{is_stopped};
-    ghost use Rattle.cts_proto.specs.Cuttings.{Tiles};
-    ghost use Rattle.cts_serve.specs.Worlds.{Steps, Stands, held_in, posted, closed, settled};
+    ghost use Rattle.cts_proto.specs.Cuttings.{Tiles, IsCutting};
+    ghost use Rattle.cts_serve.specs.Worlds.{Steps, Stands, held_in, line_at, opened, extended, posted, closed, settled};
 
-    /// A world in which nothing has happened.
-    pub fn new(alloc: Global) -> World
-        ensures { Stands (held_in result) opening }
+    /// A world of a site in which nothing has happened.
+    pub fn new(alloc: Global, site: &Site) -> Result<World, Memory>
+        ensures { IfOk result (λ world. Stands site.now (held_in world) opening) }
     {
-        World {
+        let connections = Connection::none_stands(alloc, site.interfaces.len())?;
+        Ok(World {
             time: Time {
                 seconds: 0,
                 micros: 0,
             },
             history: Vec::new(alloc),
-            connected: false,
+            connections,
             stopped: false,
-            rest: Vec::new(alloc),
             entries: 0,
             bytes: 0,
-        }
+        })
     }
 
-    /// Does one event, whose entries then stand at the end of the history.
-    pub fn step(&mut self, alloc: Global, event: &Event) -> Result<(), Refusal>
-        ensures { (s : State) → Stands (held_in self.old) s → Steps s event.now result (held_in self.new) }
+    /// Does one event of the site for which the world was made. Its entries then stand at the end of the history.
+    pub fn step(&mut self, alloc: Global, site: &Site, event: &Event) -> Result<(), Refusal>
+        requires { vec_len self.old.connections ≡ length site.now.interfaces }
+        ensures { (s : State) → Stands site.now (held_in self.old) s → Steps site.now s event.now result (held_in self.new) }
     {
         match event {
             Event::SetTime(time) => self.set_time(*time),
-            Event::Opens(by) => self.open(*by),
-            Event::Piece(by, piece) => self.receive(alloc, *by, piece.as_slice()),
-            Event::Finish(by, why) => self.finish(*by, *why),
+            Event::Opens(by) => self.open(site, *by),
+            Event::Piece(by, piece) => self.receive(alloc, site, *by, piece.as_slice()),
+            Event::Finish(by, why) => self.finish(site, *by, *why),
             Event::Stop => self.stop(),
             Event::Write(_, _) => Err(Refusal::NotEnabled),
             Event::Call(_, _) => Err(Refusal::NotEnabled),
@@ -75,7 +78,7 @@ impl World {
     }
 
     fn set_time(&mut self, time: Time) -> Result<(), Refusal>
-        ensures { (s : State) → Stands (held_in self.old) s → Steps s (event.SetTime time) result (held_in self.new) }
+        ensures { (site : SiteData) (s : State) → Stands site (held_in self.old) s → Steps site s (event.SetTime time) result (held_in self.new) }
     {
         if !time.is_of_clock() {
             return Err(Refusal::NotEnabled);
@@ -84,77 +87,165 @@ impl World {
         Ok(())
     }
 
-    fn open(&mut self, by: u32) -> Result<(), Refusal>
-        ensures { (s : State) → Stands (held_in self.old) s → Steps s (event.Opens by) result (held_in self.new) }
+    fn open(&mut self, site: &Site, by: u32) -> Result<(), Refusal>
+        requires { vec_len self.old.connections ≡ length site.now.interfaces }
+        ensures { (s : State) → Stands site.now (held_in self.old) s → Steps site.now s (event.Opens by) result (held_in self.new) }
     {
-        if !self.may_open(by) {
+        if !self.may_open(site, by) {
             return Err(Refusal::NotEnabled);
         }
         if self.entries >= MOST_ENTRIES {
             return Err(Refusal::HistoryFull);
         }
-        self.history.push(Entry::opened(INTERFACE, self.time))?;
-        self.connected = true;
-        self.rest.clear();
+        self.begin(by)?;
+        Ok(())
+    }
+
+    // Appends the Opened of a connection, which stands then.
+    fn begin(&mut self, by: u32) -> Result<(), Memory>
+        requires there { by < vec_len self.old.connections }
+        requires room { self.old.entries < 4000000 }
+        ensures { OnOk result (held_in self.new ≡ opened by (held_in self.old)) }
+    {
+        self.history.push(Entry::opened(by, self.time))?;
+        self.connections[by as usize].open();
         self.entries += 1;
         Ok(())
     }
 
-    fn may_open(&self, by: u32) -> bool
-        ensures { result ≡ ((by == 0) && (not self.now.connected && not self.now.stopped)) }
+    fn finish(&mut self, site: &Site, by: u32, why: Why) -> Result<(), Refusal>
+        requires { vec_len self.old.connections ≡ length site.now.interfaces }
+        ensures { (s : State) → Stands site.now (held_in self.old) s → Steps site.now s (event.Finish by why) result (held_in self.new) }
     {
-        by == INTERFACE && (!self.connected && !self.stopped)
-    }
-
-    fn may_finish(&self, by: u32, why: Why) -> bool
-        ensures { (history : List Entry) → is_stopped history ≡ self.now.stopped → result ≡ ((by == 0) && (self.now.connected && may_close history why)) }
-    {
-        by == INTERFACE && (self.connected && may_close(why, self.stopped))
-    }
-
-    fn may_receive(&self, by: u32, piece: &[u8]) -> bool
-        ensures { result ≡ ((by == 0) && (self.now.connected && (nat_le 1 (length piece.now) && nat_le (length piece.now) 65536))) }
-    {
-        by == INTERFACE && (self.connected && is_piece(piece))
-    }
-
-    fn finish(&mut self, by: u32, why: Why) -> Result<(), Refusal>
-        ensures { (s : State) → Stands (held_in self.old) s → Steps s (event.Finish by why) result (held_in self.new) }
-    {
-        if !self.may_finish(by, why) {
+        if !self.may_finish(site, by, why) {
             return Err(Refusal::NotEnabled);
         }
-        self.close(why)?;
+        self.close(by, why)?;
         Ok(())
     }
 
-    fn receive(&mut self, alloc: Global, by: u32, piece: &[u8]) -> Result<(), Refusal>
-        ensures { (s : State) → Stands (held_in self.old) s → Steps s (event.Piece by piece.now) result (held_in self.new) }
+    fn receive(&mut self, alloc: Global, site: &Site, by: u32, piece: &[u8]) -> Result<(), Refusal>
+        requires { vec_len self.old.connections ≡ length site.now.interfaces }
+        ensures { (s : State) → Stands site.now (held_in self.old) s → Steps site.now s (event.Piece by piece.now) result (held_in self.new) }
     {
-        if !self.may_receive(by, piece) {
+        if !self.may_receive(site, by, piece) {
             return Err(Refusal::NotEnabled);
         }
-        self.rest.extend_from_slice(piece)?;
-        let cutting = cut_length(alloc, &self.rest)?;
+        let cutting = self.extend(alloc, by, piece)?;
         if !self.has_room(&cutting) {
             return Err(Refusal::HistoryFull);
         }
-        self.post(alloc, &cutting)?;
-        self.settle(cutting.short)?;
+        self.post(alloc, site, by, &cutting)?;
+        self.settle(by, cutting.short)?;
         Ok(())
     }
 
-    // Closes the connection where an error stands at its rest.
-    fn settle(&mut self, short: Option<i128>) -> Result<(), Memory>
-        ensures { OnOk result (held_in self.new ≡ settled (held_in self.old) short) }
+    // Puts a piece behind the rest of its connection, and cuts that.
+    fn extend(&mut self, alloc: Global, by: u32, piece: &[u8]) -> Result<Cutting, Memory>
+        requires { by < vec_len self.old.connections }
+        ensures cutting { IfOk result (λ cutting. IsCutting ((line_at (held_in self.old).lines by).rest ++ piece.now) cutting) }
+        ensures held { OnOk result (held_in self.new ≡ extended by (held_in self.old) piece.now) }
+        ensures count { vec_len self.new.connections ≡ vec_len self.old.connections }
+        ensures small { OnOk result (length ((line_at (held_in self.old).lines by).rest ++ piece.now) < 2 ^ 64) }
+    {
+        let connection = &mut self.connections[by as usize];
+        connection.rest.extend_from_slice(piece)?;
+        cut_length(alloc, &connection.rest)
+    }
+
+    // Closes a connection where an error stands at its rest.
+    fn settle(&mut self, by: u32, short: Option<i128>) -> Result<(), Memory>
+        requires { by < vec_len self.old.connections }
+        ensures { OnOk result (held_in self.new ≡ settled by (held_in self.old) short) }
     {
         match short {
             None => Ok(()),
-            Some(stated) => self.close(Why::BadFrame {
-                stage: 1,
-                cause: BadCause::Short(stated),
-            }),
+            Some(stated) => self.close(
+                by,
+                Why::BadFrame {
+                    stage: 1,
+                    cause: BadCause::Short(stated),
+                },
+            ),
         }
+    }
+
+    // Appends the packets of a cutting of a connection's rest, and gives up their bytes.
+    fn post(&mut self, alloc: Global, site: &Site, by: u32, cutting: &Cutting) -> Result<(), Memory>
+        requires there { by < vec_len self.old.connections }
+        requires interface { by < length site.now.interfaces }
+        requires tiles { Tiles 0 cutting.now.frames cutting.now.rest }
+        requires within { cutting.now.rest ≤ length (line_at (held_in self.old).lines by).rest }
+        requires entries { self.old.entries + length cutting.now.frames ≤ 4000000 }
+        requires bytes { self.old.bytes + cutting.now.rest ≤ 1073741824 }
+        ensures posted { OnOk result (held_in self.new ≡ posted site.now by (held_in self.old) cutting.now) }
+        ensures count { vec_len self.new.connections ≡ vec_len self.old.connections }
+    {
+        let connection = &mut self.connections[by as usize];
+        let mut entries = packets(alloc, site, by, self.time, &connection.rest, cutting)?;
+        self.history.append(&mut entries)?;
+        drop_front(&mut connection.rest, cutting.rest);
+        self.entries += cutting.frames.as_slice().len() as u64;
+        self.bytes += cutting.rest as u64;
+        Ok(())
+    }
+
+    // Appends the Closed of a connection, whose rest is lost.
+    fn close(&mut self, by: u32, why: Why) -> Result<(), Memory>
+        requires { by < vec_len self.old.connections }
+        ensures held { OnOk result (held_in self.new ≡ closed by (held_in self.old) why) }
+        ensures small { OnOk result (length (line_at (held_in self.old).lines by).rest < 2 ^ 64) }
+    {
+        let connection = &mut self.connections[by as usize];
+        let loss = Loss {
+            held: [connection.rest.len() as u64, 0, 0, 0],
+            skipped: 0,
+            empty: 0,
+        };
+        self.history.push(Entry::closed(by, self.time, why, loss))?;
+        connection.close();
+        Ok(())
+    }
+
+    fn stop(&mut self) -> Result<(), Refusal>
+        ensures { (site : SiteData) (s : State) → Stands site (held_in self.old) s → Steps site s event.Stop result (held_in self.new) }
+    {
+        if self.stopped {
+            return Err(Refusal::NotEnabled);
+        }
+        self.history.push(Entry::stop(self.time))?;
+        self.stopped = true;
+        Ok(())
+    }
+
+    // ---- tests
+
+    fn is_connected(&self, by: u32) -> bool
+        ensures { result ≡ (line_at (held_in self.now).lines by).connected }
+    {
+        match self.connections.get(by as usize) {
+            Some(connection) => connection.connected,
+            None => false,
+        }
+    }
+
+    fn may_open(&self, site: &Site, by: u32) -> bool
+        ensures { result ≡ (nat_lt by (length site.now.interfaces) && (not (line_at (held_in self.now).lines by).connected && not self.now.stopped)) }
+    {
+        is_interface(site, by) && (!self.is_connected(by) && !self.stopped)
+    }
+
+    fn may_finish(&self, site: &Site, by: u32, why: Why) -> bool
+        ensures there { result ≡ true → by < length site.now.interfaces }
+        ensures test { (history : List Entry) → is_stopped history ≡ self.now.stopped → result ≡ (nat_lt by (length site.now.interfaces) && ((line_at (held_in self.now).lines by).connected && may_close history why)) }
+    {
+        is_interface(site, by) && (self.is_connected(by) && may_close(why, self.stopped))
+    }
+
+    fn may_receive(&self, site: &Site, by: u32, piece: &[u8]) -> bool
+        ensures { result ≡ (nat_lt by (length site.now.interfaces) && ((line_at (held_in self.now).lines by).connected && (nat_le 1 (length piece.now) && nat_le (length piece.now) 65536))) }
+    {
+        is_interface(site, by) && (self.is_connected(by) && is_piece(piece))
     }
 
     // The packets of a cutting would pass no limit.
@@ -164,47 +255,10 @@ impl World {
         let entries = cutting.frames.as_slice().len() as u64;
         entries <= MOST_ENTRIES - self.entries && cutting.rest as u64 <= MOST_BYTES - self.bytes
     }
+}
 
-    // Appends the packets of a cutting of the rest, and gives up their bytes.
-    fn post(&mut self, alloc: Global, cutting: &Cutting) -> Result<(), Memory>
-        requires tiles { Tiles 0 cutting.now.frames cutting.now.rest }
-        requires within { cutting.now.rest ≤ vec_len self.old.rest }
-        requires entries { self.old.entries + length cutting.now.frames ≤ 4000000 }
-        requires bytes { self.old.bytes + cutting.now.rest ≤ 1073741824 }
-        ensures { OnOk result (held_in self.new ≡ posted (held_in self.old) cutting.now) }
-    {
-        let mut entries = packets(alloc, self.time, &self.rest, cutting)?;
-        self.history.append(&mut entries)?;
-        drop_front(&mut self.rest, cutting.rest);
-        self.entries += cutting.frames.as_slice().len() as u64;
-        self.bytes += cutting.rest as u64;
-        Ok(())
-    }
-
-    // Appends the Closed of the connection, whose rest is lost.
-    fn close(&mut self, why: Why) -> Result<(), Memory>
-        ensures { OnOk result (held_in self.new ≡ closed (held_in self.old) why) }
-    {
-        let loss = Loss {
-            held: [self.rest.len() as u64, 0, 0, 0],
-            skipped: 0,
-            empty: 0,
-        };
-        self.history
-            .push(Entry::closed(INTERFACE, self.time, why, loss))?;
-        self.connected = false;
-        self.rest.clear();
-        Ok(())
-    }
-
-    fn stop(&mut self) -> Result<(), Refusal>
-        ensures { (s : State) → Stands (held_in self.old) s → Steps s event.Stop result (held_in self.new) }
-    {
-        if self.stopped {
-            return Err(Refusal::NotEnabled);
-        }
-        self.history.push(Entry::stop(self.time))?;
-        self.stopped = true;
-        Ok(())
-    }
+fn is_interface(site: &Site, by: u32) -> bool
+    ensures { result ≡ nat_lt by (length site.now.interfaces) }
+{
+    (by as usize) < site.interfaces.len()
 }

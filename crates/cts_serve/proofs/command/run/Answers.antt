@@ -1,8 +1,9 @@
+use Rattle.std.proofs.Common.{sym}
 use Rattle.cts_serve.proofs.Commands.{usage_answers, completes}
 use Rattle.cts_serve.proofs.command.run.Goals as goal
 
 pub returns-in-None-clause-transcript : goal.returns-in-None-clause-transcript
-returns-in-None-clause-transcript g c = usage_answers _ _ _ _ c.in-None.ensures c.put_last.ensures.status (rw (← c.usage_text.ensures) c.put_last.ensures.printed)
+returns-in-None-clause-transcript g c = usage_answers _ _ _ _ (sym c.in-None.ensures) c.put_last.ensures.status (rw (← c.usage_text.ensures) c.put_last.ensures.printed)
 
 pub returns-in-None-clause-complete : goal.returns-in-None-clause-complete
 returns-in-None-clause-complete g c =

@@ -1,8 +1,16 @@
-use Rattle.std.proofs.Common.{arith, rules, sym, ◌∙◌}
+use Rattle.std.proofs.Common.{rules, ◌≡◌, true, false, sym, ◌∙◌}
 use Rattle.cts_serve.specs.Worlds.{held_in}
-use Rattle.cts_serve.proofs.WorldSteps.{finished}
+use Rattle.cts_serve.proofs.WorldSteps.{may_finish_is, finished}
 use Rattle.cts_serve.proofs.world.World.finish.Goals as goal
 
+pub returns-then-not-may_finish : goal.returns-then-not-may_finish
+returns-then-not-may_finish c =
+    let off : c.may_finish.result ≡ false = search rules in
+    λ s h. sym (may_finish_is c.args.site.now (held_in c.args.self.now) s c.args.by c.args.why h) ∙ (sym (c.may_finish.ensures.test s.history (sym h.stopped)) ∙ off)
+
 pub returns : goal.returns
-returns c = λ s h. finished (held_in c.args.self.now) _ s c.args.by c.args.why c.in_ok-close.ensures
-    (sym (c.may_finish.ensures s.history (sym h.stopped)) ∙ (search rules)) c.args.self.now.entries_within c.args.self.now.bytes_within (omega (arith, c.args.self.now.rest.small, c.args.self.now.rest.ok.0)) h
+returns c =
+    let on : c.may_finish.result ≡ true = search rules in
+    λ s h. finished c.args.site.now (held_in c.args.self.now) (held_in c.close.new.self) s c.args.by c.args.why c.in_ok-close.ensures.held
+    (sym (may_finish_is c.args.site.now (held_in c.args.self.now) s c.args.by c.args.why h) ∙ (sym (c.may_finish.ensures.test s.history (sym h.stopped)) ∙ on))
+    c.args.self.now.entries_within c.args.self.now.bytes_within c.in_ok-close.ensures.small h

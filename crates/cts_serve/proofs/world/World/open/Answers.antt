@@ -1,8 +1,20 @@
-use Rattle.std.proofs.Common.{arith, rules, List, [], ◌∷◌, ◌++◌, ◌∙◌, ap}
-use Rattle.cts_entry.specs.declared.entry.Entry.{Entry}
+use Rattle.std.proofs.Common.{rules, ◌≡◌, true, false, sym, ◌∙◌}
 use Rattle.cts_serve.specs.Worlds.{held_in}
-use Rattle.cts_serve.proofs.WorldSteps.{opened}
+use Rattle.cts_serve.proofs.WorldSteps.{may_open_is, open_full, opens}
 use Rattle.cts_serve.proofs.world.World.open.Goals as goal
 
+pub returns-then-not-may_open : goal.returns-then-not-may_open
+returns-then-not-may_open c =
+    let off : c.may_open.result ≡ false = search rules in
+    λ s h. sym (may_open_is c.args.site.now (held_in c.args.self.now) s c.args.by h) ∙ (sym c.may_open.ensures ∙ off)
+
+pub returns-then-self-ge-MOST_ENTRIES : goal.returns-then-self-ge-MOST_ENTRIES
+returns-then-self-ge-MOST_ENTRIES c =
+    let on : c.may_open.result ≡ true = search rules in
+    λ s h. open_full c.args.site.now (held_in c.args.self.now) s c.args.by (sym (may_open_is c.args.site.now (held_in c.args.self.now) s c.args.by h) ∙ (sym c.may_open.ensures ∙ on)) (search rules) h
+
 pub returns : goal.returns
-returns c = λ s h. opened (held_in c.args.self.now) s c.args.by _ _ (search rules) (omega arith) c.args.self.now.bytes_within (c.in_ok-push.ensures.items ∙ ap (λ (e : Entry). c.args.self.now.history.items ++ e ∷ []) c.opened.ensures) c.clear.ensures.items h
+returns c =
+    let on : c.may_open.result ≡ true = search rules in
+    λ s h. opens c.args.site.now (held_in c.args.self.now) (held_in c.begin.new.self) s c.args.by c.in_ok-begin.ensures
+    (sym (may_open_is c.args.site.now (held_in c.args.self.now) s c.args.by h) ∙ (sym c.may_open.ensures ∙ on)) (search rules) c.args.self.now.bytes_within h

@@ -1,0 +1,11 @@
+use Rattle.std.proofs.Common.{◌∙◌, sym, ap}
+use Rattle.cts_def.specs.Sites.{routed_targets}
+use Rattle.cts_ident.specs.Identification.{fits}
+use Rattle.cts_ident.specs.Matches.{at_place}
+use Rattle.cts_ident.proofs.Firsts.{first_is_place}
+use Rattle.cts_ident.proofs.search.first_that_fits.Goals as goal
+
+pub returns : goal.returns
+returns c =
+    c.ident.ensures ∙ ap at_place c.place_that_fits.ensures
+    ∙ sym (first_is_place (routed_targets c.args.interfaces.now c.args.routes.now) c.args.packets.now (fits c.args.bytes.now))

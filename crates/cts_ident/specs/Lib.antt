@@ -1,0 +1,2 @@
+pub mod Identification
+pub mod Matches

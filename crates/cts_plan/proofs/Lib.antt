@@ -1,0 +1,7 @@
+pub mod Lists
+pub mod Chained
+pub mod Finished
+pub mod More
+pub mod Keeps
+pub mod Runs
+pub mod Heads

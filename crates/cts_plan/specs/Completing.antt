@@ -1,0 +1,71 @@
+-- What is judged when an interface or router is complete: at the statement that opens the next one, or at the end.
+use Rattle.std.specs.Prelude.{ℕ, ◌+◌, Bool, true, false, not, ◌&&◌, ◌||◌, ◌==◌, nat_lt, List, [], ◌∷◌, length, map, Option, Some, None, if◌then◌else◌}
+use Rattle.std.specs.List.{list_any, list_all}
+use Rattle.cts_def.specs.Items.{is_same}
+use Rattle.cts_def.specs.Beginnings.{start_of}
+use Rattle.cts_def.specs.Packets.{PacketData, DefinitionsData, of_targets}
+use Rattle.cts_def.specs.Protocols.{is_start_within}
+use Rattle.cts_def.specs.Starts.{StartData}
+use Rattle.cts_words.specs.Refusals.{Refusal, or_else}
+use Rattle.cts_words.specs.Blocks.{last_of}
+use Rattle.cts_plan.specs.declared.step.Step.{Step}
+use Rattle.cts_plan.specs.declared.step.Step.TheVariants.{Ready, Fixed}
+use Rattle.cts_plan.specs.declared.fault.SiteCause.{SiteCause}
+use Rattle.cts_plan.specs.declared.fault.SiteCause.TheVariants.{ChainTooLong, MinIdSize, VariableLength}
+use Rattle.cts_plan.specs.Steps.{FixedStepData}
+use Rattle.cts_plan.specs.Chains.{whole_chain}
+use Rattle.cts_plan.specs.Connections.{ConnectionData}
+
+-- the packets among which FIXED looks: telemetry packets or commands
+abbrev pub packets_of : DefinitionsData → Bool → List PacketData
+packets_of d telemetry = if telemetry then d.telemetry else d.commands
+
+-- how the packets of these targets begin
+abbrev pub starts_of : List (List ℕ) → List PacketData → List StartData
+starts_of targets packets = map start_of (of_targets targets packets)
+
+-- a min id size of 0, one that ends before the sync does, or with which a packet is too short or an id field lies outside
+abbrev pub is_bad_min_id : FixedStepData → List StartData → Bool
+is_bad_min_id f starts =
+    f.min_id == 0 || nat_lt (f.discard + f.min_id) (length f.sync) || not (list_all (is_start_within f.min_id) starts)
+
+abbrev pub is_of : List (List ℕ) → PacketData → Bool
+is_of targets p = list_any (is_same p.target) targets
+
+-- a packet of these targets whose length is not known
+abbrev pub have_variable : List (List ℕ) → List PacketData → Bool
+have_variable targets packets = list_any (λ (p : PacketData). is_of targets p && p.variable) packets
+
+abbrev pub cause_of_fixed : List (List ℕ) → List PacketData → FixedStepData → Option SiteCause
+cause_of_fixed targets packets f =
+    if is_bad_min_id f (starts_of targets packets) then Some MinIdSize
+    else if have_variable targets packets then Some VariableLength
+    else None
+
+abbrev pub at_number : ℕ → Option SiteCause → Option (Refusal SiteCause)
+at_number n None = None
+at_number n (Some cause) = Some (n, cause)
+
+-- what is wrong with a protocol of a connection with these targets, at its own line
+abbrev pub step_fault : DefinitionsData → List (List ℕ) → Step → Option (Refusal SiteCause)
+step_fault d targets (Ready u) = None
+step_fault d targets (Fixed f) = at_number f.line (cause_of_fixed targets (packets_of d f.telemetry) f)
+
+abbrev pub first_step_fault : DefinitionsData → List (List ℕ) → List Step → Option (Refusal SiteCause)
+first_step_fault d targets [] = None
+first_step_fault d targets (s ∷ ss) = or_else (step_fault d targets s) (first_step_fault d targets ss)
+
+-- What is wrong with a complete interface or router: with the protocol that is added, its chain is too long, or the first of
+-- its FIXED protocols that is wrong.
+abbrev pub fault_of : DefinitionsData → ConnectionData → Option (Refusal SiteCause)
+fault_of d c =
+    if nat_lt 4 (length (whole_chain c.steps)) then Some (c.line, ChainTooLong)
+    else first_step_fault d c.targets c.steps
+
+abbrev pub fault_in : DefinitionsData → Option ConnectionData → Option (Refusal SiteCause)
+fault_in d None = None
+fault_in d (Some c) = fault_of d c
+
+-- what is wrong with the interface or router that is completed now
+abbrev pub due : DefinitionsData → List ConnectionData → Option (Refusal SiteCause)
+due d cs = fault_in d (last_of cs)

@@ -1,0 +1,13 @@
+pub mod Words
+pub mod Forms
+pub mod Steps
+pub mod Chains
+pub mod Connections
+pub mod Lines
+pub mod Standing
+pub mod Causes
+pub mod Sound
+pub mod Completing
+pub mod SiteFiles
+pub mod Placing
+pub mod Laws

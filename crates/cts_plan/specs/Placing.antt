@@ -1,0 +1,98 @@
+-- What one more line changes, and what functions answer. Functions of the crate cite this, and the definitions do not.
+use Rattle.std.specs.Prelude.{◌≡◌, ℕ, pos, ◌≤◌, Bool, false, ◌&&◌, int_le, nat_le, nat_lt, nat_eq, List, [], ◌∷◌, ◌++◌, map, length, option_to_list, Some, None, Option, Result, Ok, Err, IsTrue}
+use Rattle.std.specs.Int.{is_negative}
+use Rattle.std.specs.List.{filter, list_any, flat_map, list_all, IsDistinct, AllByRecursion}
+use Rattle.cts_def.specs.Items.{is_same}
+use Rattle.cts_def.specs.Packets.{DefinitionsData}
+use Rattle.cts_words.specs.declared.statement.Statement.{Statement}
+use Rattle.cts_words.specs.Blocks.{last_of, on_last}
+use Rattle.cts_plan.specs.declared.line.Line.{Line}
+use Rattle.cts_plan.specs.declared.line.Line.TheVariants as line
+use Rattle.cts_plan.specs.declared.line.Detail.{Detail}
+use Rattle.cts_plan.specs.declared.line.Detail.TheVariants as detail
+use Rattle.cts_plan.specs.declared.fault.SiteFault.{SiteFault}
+use Rattle.cts_plan.specs.declared.fault.SiteFault.TheVariants as fault
+use Rattle.cts_plan.specs.declared.draft.Draft.{Draft}
+use Rattle.cts_plan.specs.Chains.{step_reads, step_reads_packets}
+use Rattle.cts_plan.specs.Connections.{ConnectionData}
+use Rattle.cts_plan.specs.Standing.{StandingData, standing}
+use Rattle.cts_plan.specs.Sound.{interface_name, router_name, interface_targets, router_routes, interface_names, router_names}
+use Rattle.cts_plan.specs.Completing.{fault_of}
+use Rattle.cts_plan.specs.SiteFiles.{Refused, parts, line_in, refusal_in}
+
+abbrev pub change_connection : Detail → ConnectionData → ConnectionData
+change_connection (detail.Target name) c = record c { targets = c.targets ++ name ∷ [] }
+change_connection (detail.Step step) c = record c { steps = c.steps ++ step ∷ [] }
+change_connection (detail.Route number targets) c = record c { targets = c.targets ++ targets; routes = c.routes ++ number ∷ [] }
+change_connection (detail.Delay delay) c = record c { delay = delay }
+change_connection detail.DontReconnect c = record c { reconnect = false }
+change_connection (detail.Logged logged) c = record c { logged = logged }
+
+abbrev pub place : Line → StandingData → StandingData
+place line.Nothing s = s
+place (line.ApiPort port) s = record s { api_port = port }
+place (line.Desks desks) s = record s { desks = desks }
+place (line.Opening c) s = record s { connections = s.connections ++ c ∷ [] }
+place (line.Detail d) s = record s { connections = on_last (change_connection d) s.connections }
+
+-- the detail can be added to the connection
+abbrev pub Fits : Detail → ConnectionData → Type 0
+Fits (detail.Target name) c = Unit {0}
+Fits (detail.Step step) c =
+    (nat_le 4 (length c.steps) ≡ false) × ((step_reads step && list_any step_reads_packets c.steps) ≡ false)
+Fits (detail.Route number targets) c = list_any (λ route. nat_eq route number) c.routes ≡ false
+Fits (detail.Delay delay) c = is_negative delay.parts ≡ false
+Fits detail.DontReconnect c = Unit {0}
+Fits (detail.Logged logged) c = Unit {0}
+
+abbrev pub FitsLast : Detail → Option ConnectionData → Type 0
+FitsLast d None = Unit {0}
+FitsLast d (Some c) = Fits d c
+
+-- the line can be added to what stands
+abbrev pub FitsIn : Line → List ConnectionData → Type 0
+FitsIn (line.Detail d) cs = FitsLast d (last_of cs)
+FitsIn _ cs = Unit {0}
+
+abbrev pub seen : Draft → StandingData
+seen d = record { connections = d.connections.items; api_port = d.api_port; desks = d.desks }
+
+-- ---- what is true of all that stands
+
+abbrev pub targets_of : List ConnectionData → List (List ℕ)
+targets_of cs = flat_map interface_targets cs
+
+abbrev pub routes_of : List ConnectionData → List ℕ
+routes_of cs = flat_map router_routes cs
+
+pub record IsSoundStanding (s : StandingData) : Type 0 where
+  pub few_interfaces : length (interface_names s.connections) ≤ 16
+  pub few_routers : length (router_names s.connections) ≤ 4
+  pub distinct_interfaces : IsDistinct is_same (interface_names s.connections)
+  pub distinct_routers : IsDistinct is_same (router_names s.connections)
+  pub targets : IsDistinct is_same (targets_of s.connections)
+  pub routes : IsTrue (list_all (λ n. nat_lt n (length (interface_names s.connections))) (routes_of s.connections))
+  pub api_port : 1 ≤ s.api_port
+  pub some_desks : 1 ≤ s.desks
+  pub few_desks : s.desks ≤ 4
+
+-- ---- answers
+
+-- nothing is wrong with any of these
+abbrev pub AreSettled : DefinitionsData → List ConnectionData → Type 0
+AreSettled d cs = AllByRecursion (λ c. fault_of d c ≡ None) cs
+
+-- what a function returned is what the definition says, unless memory ran out
+abbrev pub Fails : {Y : Type 0} → SiteFault → Result Y Refused → Type 0
+Fails fault.Memory said = Unit {0}
+Fails (fault.Refused n c) said = said ≡ Err (n, c)
+
+abbrev pub Gives : {X Y : Type 0} → (X → Y) → Result X SiteFault → Result Y Refused → Type 0
+Gives view (Ok x) said = said ≡ Ok (view x)
+Gives view (Err e) said = Fails e said
+
+-- A statement without refusal says this line, and one with a refusal has this one.
+abbrev pub Judged : DefinitionsData → List ConnectionData → Statement → Result Line SiteFault → Type 0
+Judged d cs s (Ok l) = (refusal_in d cs s ≡ None) × (line_in cs s.line (parts s.words) ≡ Some l)
+Judged d cs s (Err fault.Memory) = Unit {0}
+Judged d cs s (Err (fault.Refused n c)) = refusal_in d cs s ≡ Some (n, c)

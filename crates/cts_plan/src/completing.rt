@@ -1,0 +1,189 @@
+// What is judged when an interface or router is complete.
+ghost use Rattle.std.specs.Prelude.{◌≡◌, ◌≤◌, length, IfOk};
+ghost use Rattle.std.specs.List.{list_any, list_all};
+ghost use Rattle.std.specs.Option.{option_copied};
+ghost use Rattle.cts_def.specs.Protocols.{is_id_within, is_start_within};
+ghost use Rattle.cts_def.specs.Starts.{id_field_data, id_fields};
+ghost use Rattle.cts_plan.specs.Chains.{step_reads, whole_chain};
+ghost use Rattle.cts_plan.specs.Completing.{packets_of, starts_of, is_bad_min_id, is_of, have_variable, cause_of_fixed, at_number, step_fault, first_step_fault, fault_of, fault_in, due};
+
+use crate::causes::step_reads;
+use crate::connection::Connection;
+use crate::fault::SiteCause;
+use crate::last::last;
+use crate::step::{FixedStep, Step};
+use cts_base::{Memory, Name};
+use cts_bits::Place;
+use cts_def::{Definitions, Packet, Start};
+use std::alloc::Global;
+
+/// The packets among which FIXED looks: telemetry packets or commands.
+pub fn packets_of(definitions: &Definitions, telemetry: bool) -> &[Packet]
+    ensures { result.now ≡ packets_of definitions.now telemetry }
+{
+    if telemetry {
+        definitions.telemetry.as_slice()
+    } else {
+        definitions.commands.as_slice()
+    }
+}
+
+fn is_of(targets: &[Name], packet: &Packet) -> bool
+    ensures { result ≡ is_of targets.now packet.now }
+{
+    targets.iter().any(|target| packet.target == *target)
+}
+
+/// How the packets of these targets begin.
+pub fn starts_of(alloc: Global, targets: &[Name], packets: &[Packet]) -> Result<Vec<Start>, Memory>
+    ensures { IfOk result (λ starts. starts.items ≡ starts_of targets.now packets.now) }
+{
+    let mut starts = Vec::new(alloc);
+    for packet in packets {
+        if is_of(targets, packet) {
+            starts.push(packet.start(alloc)?)?;
+        }
+    }
+    Ok(starts)
+}
+
+fn are_ids_within(min_id: u32, ids: &[(Place, i128, bool)]) -> bool
+    ensures { result ≡ list_all (λ i. is_id_within min_id (id_field_data i)) ids.now }
+{
+    ids.iter().all(|id| id.0.reach() <= min_id)
+}
+
+fn are_fields_within(min_id: u32, ids: &[(Place, i128, bool)]) -> bool
+    ensures { result ≡ list_all (is_id_within min_id) (id_fields ids.now) }
+{
+    are_ids_within(min_id, ids)
+}
+
+fn is_start_within(min_id: u32, start: &Start) -> bool
+    ensures { result ≡ is_start_within min_id start.now }
+{
+    min_id <= start.length && are_fields_within(min_id, start.ids.as_slice())
+}
+
+fn are_starts_within(min_id: u32, starts: &[Start]) -> bool
+    ensures { result ≡ list_all (is_start_within min_id) starts.now }
+{
+    starts.iter().all(|start| is_start_within(min_id, start))
+}
+
+fn is_bad_min_id(fixed: &FixedStep, starts: &[Start]) -> bool
+    ensures { result ≡ is_bad_min_id fixed.now starts.now }
+{
+    fixed.min_id == 0
+        || ((fixed.discard + fixed.min_id) as usize) < fixed.sync.as_slice().len()
+        || !are_starts_within(fixed.min_id, starts)
+}
+
+fn have_variable(targets: &[Name], packets: &[Packet]) -> bool
+    ensures { result ≡ have_variable targets.now packets.now }
+{
+    packets
+        .iter()
+        .any(|packet| is_of(targets, packet) && packet.variable)
+}
+
+fn cause_of_fixed(
+    alloc: Global,
+    targets: &[Name],
+    packets: &[Packet],
+    fixed: &FixedStep,
+) -> Result<Option<SiteCause>, Memory>
+    ensures { IfOk result (λ cause. cause ≡ cause_of_fixed targets.now packets.now fixed.now) }
+{
+    let starts = starts_of(alloc, targets, packets)?;
+    if is_bad_min_id(fixed, &starts) {
+        return Ok(Some(SiteCause::MinIdSize));
+    }
+    if have_variable(targets, packets) {
+        return Ok(Some(SiteCause::VariableLength));
+    }
+    Ok(None)
+}
+
+fn step_fault(
+    alloc: Global,
+    definitions: &Definitions,
+    targets: &[Name],
+    step: &Step,
+) -> Result<Option<(u32, SiteCause)>, Memory>
+    ensures { IfOk result (λ fault. fault ≡ step_fault definitions.now targets.now step.now) }
+{
+    match step {
+        Step::Ready(_) => Ok(None),
+        Step::Fixed(fixed) => {
+            let packets = packets_of(definitions, fixed.telemetry);
+            match cause_of_fixed(alloc, targets, packets, fixed)? {
+                Some(cause) => Ok(Some((fixed.line, cause))),
+                None => Ok(None),
+            }
+        }
+    }
+}
+
+fn first_step_fault(
+    alloc: Global,
+    definitions: &Definitions,
+    targets: &[Name],
+    steps: &[Step],
+) -> Result<Option<(u32, SiteCause)>, Memory>
+    ensures { IfOk result (λ fault. fault ≡ first_step_fault definitions.now targets.now steps.now) }
+{
+    for step in steps {
+        if let Some(fault) = step_fault(alloc, definitions, targets, step)? {
+            return Ok(Some(fault));
+        }
+    }
+    Ok(None)
+}
+
+/// Whether one of these protocols cuts what is read.
+pub fn any_reads(steps: &[Step]) -> bool
+    ensures { result ≡ list_any step_reads steps.now }
+{
+    steps.iter().any(|step| step_reads(step))
+}
+
+// How many protocols there are with the one that is added where none reads.
+fn whole_length(steps: &[Step]) -> usize
+    requires { length steps.now ≤ 4 }
+    ensures { result ≡ length (whole_chain steps.now) }
+{
+    if any_reads(steps) {
+        steps.len()
+    } else {
+        steps.len() + 1
+    }
+}
+
+fn fault_of(
+    alloc: Global,
+    definitions: &Definitions,
+    connection: &Connection,
+) -> Result<Option<(u32, SiteCause)>, Memory>
+    ensures { IfOk result (λ fault. fault ≡ fault_of definitions.now connection.now) }
+{
+    let steps = connection.steps.as_slice();
+    if 4 < whole_length(steps) {
+        return Ok(Some((connection.line, SiteCause::ChainTooLong)));
+    }
+    first_step_fault(alloc, definitions, connection.targets.as_slice(), steps)
+}
+
+/// What is wrong with the last interface or router, which is complete now.
+pub fn due(
+    alloc: Global,
+    definitions: &Definitions,
+    connections: &[Connection],
+) -> Result<Option<(u32, SiteCause)>, Memory>
+    ensures { IfOk result (λ fault. fault ≡ due definitions.now connections.now) }
+{
+    match last(connections) {
+        Some(connection) => fault_of(alloc, definitions, connection),
+        None => Ok(None),
+    }
+}

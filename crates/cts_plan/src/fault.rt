@@ -1,0 +1,123 @@
+//! Why a site file is refused.
+
+ghost use Rattle.std.specs.Prelude.{◌≡◌};
+ghost use Rattle.cts_plan.specs.declared.fault.SiteFault.TheVariants.{Memory as NoMemory};
+
+use cts_base::Memory;
+use std::alloc::{AllocError, AllocFailed};
+use std::fmt;
+use thiserror::Error;
+
+/// Why a statement of a site file is refused, in the order in which the causes are tried. Its text is the variant's name.
+#[derive(Clone, Copy, Debug, PartialEq, Eq)]
+pub enum SiteCause {
+    /// The first word is no keyword.
+    UnknownKeyword,
+    /// The line needs an interface or router before it, or one of the two kinds.
+    OutsideInterface,
+    /// Too few or too many words, or a fixed word that is none of its choices.
+    WrongCount,
+    /// The file name is not in the table, or no interface has the name that ROUTE gives.
+    UnknownInterface,
+    /// A name is not 1 to 255 letters, digits and underscores.
+    BadName,
+    /// A number or pattern has another form or is out of its bounds.
+    NotNumber,
+    /// An interface, router or route stands already.
+    DoubleName,
+    /// The ports differ, or one is `nil`.
+    TwoPorts,
+    /// No definition has the target.
+    UnknownTarget,
+    /// An interface has the target already.
+    TargetTwice,
+    /// The protocol is none of the five.
+    ProtocolKind,
+    /// A sync `0x`, or a read termination of no bytes.
+    EmptySync,
+    /// More than four protocols, with the BURST that is added where none reads.
+    ChainTooLong,
+    /// A protocol reads behind a FIXED or PREIDENTIFIED that reads.
+    NotLast,
+    /// FIXED cannot tell its packets by so few bytes, or its sync pattern is longer than what it discards and these.
+    MinIdSize,
+    /// FIXED has a packet whose length is not fixed.
+    VariableLength,
+    /// More than 16 interfaces or 4 routers.
+    TooMany,
+}
+
+impl SiteCause {
+    ghost use Rattle.cts_plan.specs.Causes.{name_of_cause};
+
+    /// The variant's name.
+    pub fn name(self) -> &'static str
+        ensures { result.now ≡ name_of_cause self }
+    {
+        match self {
+            SiteCause::UnknownKeyword => "UnknownKeyword",
+            SiteCause::OutsideInterface => "OutsideInterface",
+            SiteCause::WrongCount => "WrongCount",
+            SiteCause::UnknownInterface => "UnknownInterface",
+            SiteCause::BadName => "BadName",
+            SiteCause::NotNumber => "NotNumber",
+            SiteCause::DoubleName => "DoubleName",
+            SiteCause::TwoPorts => "TwoPorts",
+            SiteCause::UnknownTarget => "UnknownTarget",
+            SiteCause::TargetTwice => "TargetTwice",
+            SiteCause::ProtocolKind => "ProtocolKind",
+            SiteCause::EmptySync => "EmptySync",
+            SiteCause::ChainTooLong => "ChainTooLong",
+            SiteCause::NotLast => "NotLast",
+            SiteCause::MinIdSize => "MinIdSize",
+            SiteCause::VariableLength => "VariableLength",
+            SiteCause::TooMany => "TooMany",
+        }
+    }
+}
+
+impl fmt::Display for SiteCause {
+    fn fmt<W: fmt::Write>(&self, f: &mut fmt::Formatter<W>) -> fmt::Result {
+        f.write_str(self.name())
+    }
+}
+
+/// Why there is no site.
+#[derive(Clone, Copy, Debug, Error, PartialEq, Eq)]
+pub enum SiteFault {
+    /// The statement of this line is the first with a cause, and this is its first one.
+    #[error("line {line}: {cause}")]
+    Refused {
+        /// The line of the statement, counted from 1.
+        line: u32,
+        /// Why it is refused.
+        cause: SiteCause,
+    },
+    /// No memory was found.
+    #[error("out of memory")]
+    Memory,
+}
+
+impl From<Memory> for SiteFault {
+    ghost from_gives = { λ _ e. e ≡ NoMemory };
+
+    fn from(_: Memory) -> SiteFault {
+        SiteFault::Memory
+    }
+}
+
+impl From<AllocError> for SiteFault {
+    ghost from_gives = { λ _ e. e ≡ NoMemory };
+
+    fn from(_: AllocError) -> SiteFault {
+        SiteFault::Memory
+    }
+}
+
+impl<T: Drop> From<AllocFailed<T>> for SiteFault {
+    ghost from_gives = { λ _ e. e ≡ NoMemory };
+
+    fn from(_: AllocFailed<T>) -> SiteFault {
+        SiteFault::Memory
+    }
+}

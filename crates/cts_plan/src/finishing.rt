@@ -1,0 +1,255 @@
+// The site of interfaces and routers that are complete and without fault.
+ghost use Rattle.std.specs.Prelude.{◌≡◌, ◌++◌, ◌∷◌, [], None, IfOk, OnOk, map};
+ghost use Rattle.cts_plan.specs.Completing.{step_fault, first_step_fault, fault_of};
+ghost use Rattle.cts_plan.specs.Chains.{whole_chain, added};
+ghost use Rattle.cts_plan.specs.SiteFiles.{use_of, chain_of, interface_of, router_of, interfaces_of, routers_of, site_in};
+ghost use Rattle.cts_plan.specs.declared.step.Step.TheVariants as step;
+ghost use Rattle.cts_plan.specs.Placing.{AreSettled, IsSoundStanding, seen};
+
+use crate::completing::{any_reads, packets_of, starts_of};
+use crate::connection::Connection;
+use crate::draft::Draft;
+use crate::step::{FixedStep, Step};
+use cts_base::{Bytes, List, Memory, Name};
+use cts_def::{Definitions, Interface, ProtoSpec, ProtoUse, Router, Site};
+use std::alloc::Global;
+
+fn fixed_use(
+    alloc: Global,
+    definitions: &Definitions,
+    targets: &[Name],
+    fixed: FixedStep,
+) -> Result<ProtoUse, Memory>
+    requires { step_fault definitions.now targets.now (step.Fixed fixed) ≡ None }
+    ensures { IfOk result (λ u. u ≡ use_of definitions.now targets.now (step.Fixed fixed)) }
+{
+    let starts = starts_of(alloc, targets, packets_of(definitions, fixed.telemetry))?;
+    let FixedStep {
+        line: _,
+        min_id,
+        discard,
+        sync,
+        telemetry,
+        fill,
+        raise,
+        reads,
+        writes,
+    } = fixed;
+    Ok(ProtoUse {
+        spec: ProtoSpec::Fixed {
+            min_id,
+            discard,
+            sync,
+            telemetry,
+            fill,
+            raise,
+            starts: List::of(starts),
+        },
+        reads,
+        writes,
+    })
+}
+
+fn use_of(
+    alloc: Global,
+    definitions: &Definitions,
+    targets: &[Name],
+    step: Step,
+) -> Result<ProtoUse, Memory>
+    requires { step_fault definitions.now targets.now step ≡ None }
+    ensures { IfOk result (λ u. u ≡ use_of definitions.now targets.now step) }
+{
+    match step {
+        Step::Ready(ready) => Ok(ready),
+        Step::Fixed(fixed) => fixed_use(alloc, definitions, targets, fixed),
+    }
+}
+
+fn uses_of(
+    alloc: Global,
+    definitions: &Definitions,
+    targets: &[Name],
+    steps: List<Step>,
+) -> Result<List<ProtoUse>, Memory>
+    requires { first_step_fault definitions.now targets.now steps ≡ None }
+    ensures { IfOk result (λ uses. uses ≡ map (use_of definitions.now targets.now) steps) }
+{
+    let mut uses = List::new(alloc);
+    for step in steps.into_vec() {
+        uses.push(use_of(alloc, definitions, targets, step)?)?;
+    }
+    Ok(uses)
+}
+
+// A BURST that reads, with its defaults.
+fn added(alloc: Global) -> Result<ProtoUse, Memory>
+    ensures { IfOk result (λ u. step.Ready u ≡ added) }
+{
+    Ok(ProtoUse {
+        spec: ProtoSpec::Burst {
+            discard: 0,
+            sync: Bytes::copy(alloc, b"")?,
+            fill: false,
+        },
+        reads: true,
+        writes: false,
+    })
+}
+
+// The protocols, with the one that is added where none reads.
+fn chain_of(
+    alloc: Global,
+    definitions: &Definitions,
+    targets: &[Name],
+    steps: List<Step>,
+) -> Result<List<ProtoUse>, Memory>
+    requires { first_step_fault definitions.now targets.now steps ≡ None }
+    ensures { IfOk result (λ uses. uses ≡ map (use_of definitions.now targets.now) (whole_chain steps)) }
+{
+    let reads = any_reads(steps.as_slice());
+    let mut uses = uses_of(alloc, definitions, targets, steps)?;
+    if !reads {
+        uses.push(added(alloc)?)?;
+    }
+    Ok(uses)
+}
+
+fn interface_of(
+    alloc: Global,
+    definitions: &Definitions,
+    connection: Connection,
+) -> Result<Interface, Memory>
+    requires { fault_of definitions.now connection ≡ None }
+    ensures { IfOk result (λ i. i ≡ interface_of definitions.now connection) }
+{
+    let Connection {
+        line: _,
+        name,
+        is_router: _,
+        host,
+        serves,
+        port,
+        steps,
+        targets,
+        routes: _,
+        delay,
+        reconnect,
+        logged,
+    } = connection;
+    let chain = chain_of(alloc, definitions, targets.as_slice(), steps)?;
+    Ok(Interface {
+        name,
+        aim_host: host,
+        port,
+        serves,
+        targets,
+        chain,
+        reconnect,
+        delay,
+        logged,
+    })
+}
+
+fn router_of(
+    alloc: Global,
+    definitions: &Definitions,
+    connection: Connection,
+) -> Result<Router, Memory>
+    requires { fault_of definitions.now connection ≡ None }
+    ensures { IfOk result (λ r. r ≡ router_of definitions.now connection) }
+{
+    let Connection {
+        line: _,
+        name,
+        is_router: _,
+        host: _,
+        serves: _,
+        port,
+        steps,
+        targets,
+        routes,
+        delay: _,
+        reconnect: _,
+        logged: _,
+    } = connection;
+    let chain = chain_of(alloc, definitions, targets.as_slice(), steps)?;
+    Ok(Router {
+        name,
+        port,
+        routes,
+        chain,
+    })
+}
+
+/// The interfaces and routers of connections.
+#[derive(Drop)]
+struct Made {
+    interfaces: List<Interface>,
+    routers: List<Router>,
+}
+
+impl Made {
+    // Adds an interface or router that is complete.
+    fn add(
+        &mut self,
+        alloc: Global,
+        definitions: &Definitions,
+        connection: Connection,
+    ) -> Result<(), Memory>
+        requires { fault_of definitions.now connection ≡ None }
+        ensures interfaces { OnOk result (self.new.interfaces ≡ self.old.interfaces ++ interfaces_of definitions.now (connection ∷ [])) }
+        ensures routers { OnOk result (self.new.routers ≡ self.old.routers ++ routers_of definitions.now (connection ∷ [])) }
+    {
+        if connection.is_router {
+            self.routers
+                .push(router_of(alloc, definitions, connection)?)
+        } else {
+            self.interfaces
+                .push(interface_of(alloc, definitions, connection)?)
+        }
+    }
+}
+
+fn made_of(
+    alloc: Global,
+    definitions: &Definitions,
+    connections: Vec<Connection>,
+) -> Result<Made, Memory>
+    requires { AreSettled definitions.now connections.items }
+    ensures interfaces { IfOk result (λ m. m.interfaces ≡ interfaces_of definitions.now connections.items) }
+    ensures routers { IfOk result (λ m. m.routers ≡ routers_of definitions.now connections.items) }
+{
+    let mut made = Made {
+        interfaces: List::new(alloc),
+        routers: List::new(alloc),
+    };
+    for connection in connections {
+        made.add(alloc, definitions, connection)?;
+    }
+    Ok(made)
+}
+
+/// The site of what stands.
+pub fn site_of(alloc: Global, definitions: Definitions, draft: Draft) -> Result<Site, Memory>
+    requires settled { AreSettled definitions draft.connections.items }
+    requires sound { IsSoundStanding (seen draft) }
+    ensures { IfOk result (λ site. site ≡ site_in definitions (seen draft)) }
+{
+    let Draft {
+        connections,
+        api_port,
+        desks,
+    } = draft;
+    let made = made_of(alloc, &definitions, connections)?;
+    let Made {
+        interfaces,
+        routers,
+    } = made;
+    Ok(Site {
+        definitions,
+        interfaces,
+        routers,
+        api_port,
+        desks,
+    })
+}

@@ -1,0 +1,452 @@
+// The statements of a site file, and which words follow their keywords.
+ghost use Rattle.std.specs.Prelude.{◌≡◌, ◌+◌, length, drop, zip};
+ghost use Rattle.std.specs.List.{list_any, list_all};
+ghost use Rattle.cts_base.specs.Names.{is_name_byte, is_name};
+ghost use Rattle.cts_plan.specs.Words.{is_nil};
+ghost use Rattle.cts_plan.specs.Forms.{keyword_of, peer_of, opening_fields, head_fields, parameter_fields, required, takes_protocol, has_protocol, protocol_of, parameters, fields_of, is_other_choice, is_bad_name, is_no_number, is_empty_sync, any_field};
+
+use crate::words::{
+    bits_of, delay_of, desks_of, flag_of, is_decimal, is_empty_pattern, is_nil, is_pattern_word,
+    kind_of, max_of, order_of, per_count_of, port_of, signed_of, size_of, spells, way_of, word,
+};
+use cts_base::Bytes;
+use cts_def::Kind;
+
+/// The keyword of a statement.
+#[derive(Clone, Copy, Debug, PartialEq, Eq)]
+pub enum Keyword {
+    /// A title, taken without effect.
+    Title,
+    /// The port of the desks.
+    Port,
+    /// The number of desks.
+    Desks,
+    /// Opens an interface.
+    Interface,
+    /// Maps a target to the interface.
+    Target,
+    /// Adds a protocol.
+    Protocol,
+    /// How long the interface waits before it connects again.
+    ReconnectDelay,
+    /// The interface does not connect again.
+    DontReconnect,
+    /// The interface is logged.
+    Log,
+    /// The interface is not logged.
+    DontLog,
+    /// Opens a router.
+    Router,
+    /// Routes an interface to the router.
+    Route,
+}
+
+/// What the file name of an INTERFACE or ROUTER statement makes of it.
+#[derive(Clone, Copy, Debug, PartialEq, Eq)]
+pub enum Peer {
+    /// It connects.
+    Client,
+    /// It accepts a connection.
+    Server,
+}
+
+/// What a word of a statement has to be.
+#[derive(Clone, Copy, Debug, PartialEq, Eq)]
+pub enum Field {
+    /// Any word.
+    Text,
+    /// A name.
+    Name,
+    /// `CTS_API`.
+    ApiWord,
+    /// `DEFAULT`.
+    DefaultWord,
+    /// `READ`, `WRITE` or `READ_WRITE`.
+    Way,
+    /// `true` or `false`, in any case.
+    Flag,
+    /// `BIG_ENDIAN` or `LITTLE_ENDIAN`.
+    Endianness,
+    /// A port.
+    Port,
+    /// A port or `nil`.
+    PeerPort,
+    /// A number of desks.
+    Desks,
+    /// A decimal or `nil`.
+    Timeout,
+    /// A decimal of at least 0.
+    Delay,
+    /// A number of bytes within the greatest frame.
+    Size,
+    /// An offset or size in bits.
+    Bits,
+    /// A whole number of 32 bits.
+    ValueOffset,
+    /// How many bytes one count stands for.
+    PerCount,
+    /// The greatest count, or `nil`.
+    Max,
+    /// A sync pattern: not `0x`.
+    Sync,
+    /// A pattern.
+    Pattern,
+    /// A pattern that has bytes.
+    Termination,
+}
+
+/// The keyword that a word is, in any case.
+pub fn keyword_of(word: &[u8]) -> Option<Keyword>
+    ensures { result ≡ keyword_of word.now }
+{
+    if spells(word, b"TITLE") {
+        Some(Keyword::Title)
+    } else if spells(word, b"PORT") {
+        Some(Keyword::Port)
+    } else if spells(word, b"DESKS") {
+        Some(Keyword::Desks)
+    } else if spells(word, b"INTERFACE") {
+        Some(Keyword::Interface)
+    } else if spells(word, b"TARGET") {
+        Some(Keyword::Target)
+    } else if spells(word, b"PROTOCOL") {
+        Some(Keyword::Protocol)
+    } else if spells(word, b"RECONNECT_DELAY") {
+        Some(Keyword::ReconnectDelay)
+    } else if spells(word, b"DONT_RECONNECT") {
+        Some(Keyword::DontReconnect)
+    } else if spells(word, b"LOG") {
+        Some(Keyword::Log)
+    } else if spells(word, b"DONT_LOG") {
+        Some(Keyword::DontLog)
+    } else if spells(word, b"ROUTER") {
+        Some(Keyword::Router)
+    } else if spells(word, b"ROUTE") {
+        Some(Keyword::Route)
+    } else {
+        None
+    }
+}
+
+/// What the file name makes of a statement, where it stands in the table for its keyword.
+pub fn peer_of(keyword: Keyword, words: &[Bytes]) -> Option<Peer>
+    ensures { result ≡ peer_of keyword words.now }
+{
+    let file = word(words, 1);
+    match keyword {
+        Keyword::Interface => {
+            if file == b"tcpip_client_interface.rb".as_slice() {
+                Some(Peer::Client)
+            } else if file == b"tcpip_server_interface.rb".as_slice() {
+                Some(Peer::Server)
+            } else {
+                None
+            }
+        }
+        Keyword::Router => {
+            if file == b"tcpip_server_interface.rb".as_slice() {
+                Some(Peer::Server)
+            } else {
+                None
+            }
+        }
+        _ => None,
+    }
+}
+
+fn opening_fields(peer: Option<Peer>) -> &'static [Field]
+    ensures { result.now ≡ opening_fields peer }
+{
+    match peer {
+        None => &[Field::Name, Field::Text],
+        Some(Peer::Client) => &[
+            Field::Name,
+            Field::Text,
+            Field::Text,
+            Field::PeerPort,
+            Field::PeerPort,
+            Field::Timeout,
+            Field::Timeout,
+        ],
+        Some(Peer::Server) => &[
+            Field::Name,
+            Field::Text,
+            Field::PeerPort,
+            Field::PeerPort,
+            Field::Timeout,
+            Field::Timeout,
+        ],
+    }
+}
+
+/// The words behind the keyword, before a protocol.
+#[tactic(auto, unfolding(crate::specs::Forms::head_fields))]
+pub fn head_fields(keyword: Keyword, words: &[Bytes]) -> &'static [Field]
+    ensures { result.now ≡ head_fields keyword words.now }
+{
+    match keyword {
+        Keyword::Title => &[Field::Text],
+        Keyword::Port => &[Field::ApiWord, Field::Port],
+        Keyword::Desks => &[Field::Desks],
+        Keyword::Target => &[Field::Name],
+        Keyword::Protocol => &[Field::Way],
+        Keyword::ReconnectDelay => &[Field::Delay],
+        Keyword::DontReconnect => &[],
+        Keyword::Log => &[Field::DefaultWord],
+        Keyword::DontLog => &[],
+        Keyword::Route => &[Field::Text],
+        Keyword::Interface => opening_fields(peer_of(Keyword::Interface, words)),
+        Keyword::Router => opening_fields(peer_of(Keyword::Router, words)),
+    }
+}
+
+/// The parameters of a protocol, in order.
+pub fn parameter_fields(kind: Kind) -> &'static [Field]
+    ensures { result.now ≡ parameter_fields kind }
+{
+    match kind {
+        Kind::Burst => &[Field::Size, Field::Sync, Field::Flag],
+        Kind::Fixed => &[
+            Field::Size,
+            Field::Size,
+            Field::Sync,
+            Field::Flag,
+            Field::Flag,
+            Field::Flag,
+        ],
+        Kind::Length => &[
+            Field::Bits,
+            Field::Bits,
+            Field::ValueOffset,
+            Field::PerCount,
+            Field::Endianness,
+            Field::Size,
+            Field::Sync,
+            Field::Max,
+            Field::Flag,
+        ],
+        Kind::Terminated => &[
+            Field::Pattern,
+            Field::Termination,
+            Field::Flag,
+            Field::Size,
+            Field::Sync,
+            Field::Flag,
+        ],
+        Kind::Preidentified => &[Field::Sync, Field::Max],
+    }
+}
+
+/// How many parameters are required.
+pub fn required(kind: Kind) -> usize
+    ensures { result ≡ required kind }
+{
+    match kind {
+        Kind::Fixed => 1,
+        Kind::Terminated => 2,
+        Kind::Burst | Kind::Length | Kind::Preidentified => 0,
+    }
+}
+
+fn takes_protocol(keyword: Keyword, words: &[Bytes]) -> bool
+    ensures { result ≡ takes_protocol keyword words.now }
+{
+    match keyword {
+        Keyword::Protocol => true,
+        _ => peer_of(keyword, words).is_some(),
+    }
+}
+
+/// Whether a protocol's name stands behind the head.
+pub fn has_protocol(keyword: Keyword, words: &[Bytes]) -> bool
+    ensures { result ≡ has_protocol keyword words.now }
+{
+    takes_protocol(keyword, words) && head_fields(keyword, words).len() < words.len()
+}
+
+/// The protocol of a statement, if it has one of the five.
+#[tactic(auto, unfolding(crate::specs::Forms::protocol_of))]
+pub fn protocol_of(keyword: Keyword, words: &[Bytes]) -> Option<Kind>
+    ensures { result ≡ protocol_of keyword words.now }
+{
+    if has_protocol(keyword, words) {
+        kind_of(word(words, head_fields(keyword, words).len()))
+    } else {
+        None
+    }
+}
+
+/// The words behind the protocol's name.
+#[tactic(auto, unfolding(crate::specs::Forms::parameters))]
+pub fn parameters(keyword: Keyword, words: &[Bytes]) -> &[Bytes]
+    ensures { result.now ≡ parameters keyword words.now }
+{
+    match words.get(head_fields(keyword, words).len() + 1..) {
+        Some(rest) => rest,
+        None => &[],
+    }
+}
+
+fn fields_of(kind: Option<Kind>) -> &'static [Field]
+    ensures { result.now ≡ fields_of kind }
+{
+    match kind {
+        Some(kind) => parameter_fields(kind),
+        None => &[],
+    }
+}
+
+fn has_name_bytes(word: &[u8]) -> bool
+    ensures { result ≡ list_all is_name_byte word.now }
+{
+    word.iter().all(|c| is_name_byte(*c))
+}
+
+fn is_name_byte(c: u8) -> bool
+    ensures { result ≡ is_name_byte c }
+{
+    c.is_ascii_alphanumeric() || c == b'_'
+}
+
+fn is_name(word: &[u8]) -> bool
+    ensures { result ≡ is_name word.now }
+{
+    1 <= word.len() && word.len() <= 255 && has_name_bytes(word)
+}
+
+impl Field {
+    /// Whether a word is a fixed word that is none of the field's choices.
+    pub fn is_other_choice(self, word: &[u8]) -> bool
+        ensures { result ≡ is_other_choice self word.now }
+    {
+        match self {
+            Field::ApiWord => word != b"CTS_API".as_slice(),
+            Field::DefaultWord => word != b"DEFAULT".as_slice(),
+            Field::Way => way_of(word).is_none(),
+            Field::Flag => flag_of(word).is_none(),
+            Field::Endianness => order_of(word).is_none(),
+            _ => false,
+        }
+    }
+
+    /// Whether a word is no name where one is asked for.
+    pub fn is_bad_name(self, word: &[u8]) -> bool
+        ensures { result ≡ is_bad_name self word.now }
+    {
+        match self {
+            Field::Name => !is_name(word),
+            _ => false,
+        }
+    }
+
+    /// Whether a word is a number or pattern of another form, or out of its bounds.
+    pub fn is_no_number(self, word: &[u8]) -> bool
+        ensures { result ≡ is_no_number self word.now }
+    {
+        match self {
+            Field::Port => port_of(word).is_none(),
+            Field::PeerPort => !is_nil(word) && port_of(word).is_none(),
+            Field::Desks => desks_of(word).is_none(),
+            Field::Timeout => !is_nil(word) && !is_decimal(word),
+            Field::Delay => delay_of(word).is_none(),
+            Field::Size => size_of(word).is_none(),
+            Field::Bits => bits_of(word).is_none(),
+            Field::ValueOffset => signed_of(word).is_none(),
+            Field::PerCount => per_count_of(word).is_none(),
+            Field::Max => !is_nil(word) && max_of(word).is_none(),
+            Field::Sync | Field::Pattern | Field::Termination => !is_pattern_word(word),
+            _ => false,
+        }
+    }
+
+    /// Whether a word is a sync `0x`, or a read termination of no bytes.
+    pub fn is_empty_sync(self, word: &[u8]) -> bool
+        ensures { result ≡ is_empty_sync self word.now }
+    {
+        match self {
+            Field::Sync => is_empty_pattern(word),
+            Field::Termination => is_empty_pattern(word) || is_nil(word),
+            _ => false,
+        }
+    }
+}
+
+fn have_other_choice(fields: &[Field], words: &[Bytes]) -> bool
+    ensures { result ≡ list_any (λ p. is_other_choice p.0 p.1) (zip fields.now words.now) }
+{
+    fields
+        .iter()
+        .zip(words)
+        .any(|(field, word)| field.is_other_choice(word.as_slice()))
+}
+
+fn have_bad_name(fields: &[Field], words: &[Bytes]) -> bool
+    ensures { result ≡ list_any (λ p. is_bad_name p.0 p.1) (zip fields.now words.now) }
+{
+    fields
+        .iter()
+        .zip(words)
+        .any(|(field, word)| field.is_bad_name(word.as_slice()))
+}
+
+fn have_no_number(fields: &[Field], words: &[Bytes]) -> bool
+    ensures { result ≡ list_any (λ p. is_no_number p.0 p.1) (zip fields.now words.now) }
+{
+    fields
+        .iter()
+        .zip(words)
+        .any(|(field, word)| field.is_no_number(word.as_slice()))
+}
+
+fn have_empty_sync(fields: &[Field], words: &[Bytes]) -> bool
+    ensures { result ≡ list_any (λ p. is_empty_sync p.0 p.1) (zip fields.now words.now) }
+{
+    fields
+        .iter()
+        .zip(words)
+        .any(|(field, word)| field.is_empty_sync(word.as_slice()))
+}
+
+/// Whether a statement has a fixed word that is none of its field's choices.
+pub fn has_other_choice(keyword: Keyword, words: &[Bytes]) -> bool
+    ensures { result ≡ any_field is_other_choice keyword words.now }
+{
+    have_other_choice(head_fields(keyword, words), words)
+        || have_other_choice(
+            fields_of(protocol_of(keyword, words)),
+            parameters(keyword, words),
+        )
+}
+
+/// Whether a name of a statement is no name.
+pub fn has_bad_name(keyword: Keyword, words: &[Bytes]) -> bool
+    ensures { result ≡ any_field is_bad_name keyword words.now }
+{
+    have_bad_name(head_fields(keyword, words), words)
+        || have_bad_name(
+            fields_of(protocol_of(keyword, words)),
+            parameters(keyword, words),
+        )
+}
+
+/// Whether a number or pattern of a statement has another form or is out of its bounds.
+pub fn has_no_number(keyword: Keyword, words: &[Bytes]) -> bool
+    ensures { result ≡ any_field is_no_number keyword words.now }
+{
+    have_no_number(head_fields(keyword, words), words)
+        || have_no_number(
+            fields_of(protocol_of(keyword, words)),
+            parameters(keyword, words),
+        )
+}
+
+/// Whether a statement has a sync `0x`, or a read termination of no bytes.
+pub fn has_empty_sync(keyword: Keyword, words: &[Bytes]) -> bool
+    ensures { result ≡ any_field is_empty_sync keyword words.now }
+{
+    have_empty_sync(head_fields(keyword, words), words)
+        || have_empty_sync(
+            fields_of(protocol_of(keyword, words)),
+            parameters(keyword, words),
+        )
+}

@@ -1,0 +1,530 @@
+// What a statement says.
+ghost use Rattle.std.specs.Prelude.{◌≡◌, ◌≤◌, ◌+◌, ◌<◌, false, length, option_to_list, option_map, unwrap_or, pos, IfOk, IsTrue};
+ghost use Rattle.cts_plan.specs.Chains.{are_packets_last};
+ghost use Rattle.cts_plan.specs.Words.{word, signed_of, per_count_of};
+ghost use Rattle.cts_plan.specs.Lines.{flag_or, size, name_of, begins_before_start, is_bad_place, length_offset, length_bits, length_order, is_bad_length, burst_of, fixed_of, length_of, terminated_of, preidentified_of, ready, step_of, step_in, step_at, is_router, is_server, port_at, host_of, port_or_one, opening_of, find_interface, place_at, opening_line, target_line, protocol_line, route_line, port_line, desks_line, delay_line, line_of};
+ghost use Rattle.cts_bits.specs.Places.{is_whole};
+ghost use Rattle.cts_def.specs.Starts.{place_data};
+ghost use Rattle.cts_plan.specs.Sound.{IsSoundLine, IsAlwaysSound};
+
+use crate::connection::Connection;
+use crate::keyword::{Keyword, Peer, parameters, peer_of, protocol_of};
+use crate::last::{is_router_open, last};
+use crate::step::{FixedStep, Step};
+use crate::words::{
+    Way, bits_of, delay_of, desks_of, flag_of, max_of, order_of, pattern_of, per_count_of, port_of,
+    signed_of, size_of, spells, way_of, word,
+};
+use cts_base::{Bytes, Decimal, List, Memory, Name, NameFault};
+use cts_bits::{Order, Place};
+use cts_def::{Kind, ProtoSpec, ProtoUse};
+use std::alloc::Global;
+
+/// Five seconds, in parts of 10^-12.
+const FIVE_SECONDS: i128 = 5_000_000_000_000;
+
+/// What a statement says. The words of a statement that is refused may say anything.
+#[derive(Debug, Drop)]
+pub enum Line {
+    /// Nothing that the site needs.
+    Nothing,
+    /// The port of the desks.
+    ApiPort(u16),
+    /// The number of desks.
+    Desks(u32),
+    /// An interface or router.
+    Opening(Connection),
+    /// Something of the last interface or router.
+    Detail(Detail),
+}
+
+/// What belongs to the last interface or router.
+#[derive(Debug, Drop)]
+pub enum Detail {
+    /// A target of the interface.
+    Target(Name),
+    /// A further protocol.
+    Step(Step),
+    /// The number of an interface that is routed, and its targets.
+    Route(u32, List<Name>),
+    /// How many seconds the interface waits.
+    Delay(Decimal),
+    /// The interface does not connect again.
+    DontReconnect,
+    /// Whether the interface is logged.
+    Logged(bool),
+}
+
+fn flag_or(default: bool, word: &[u8]) -> bool
+    ensures { result ≡ flag_or default word.now }
+{
+    flag_of(word).unwrap_or(default)
+}
+
+fn size(word: &[u8]) -> u32
+    ensures value { result ≡ size word.now }
+    ensures within { result ≤ 1048576 }
+{
+    match size_of(word) {
+        Some(size) => size,
+        None => 0,
+    }
+}
+
+fn name_of(alloc: Global, word: &[u8]) -> Result<Option<Name>, Memory>
+    ensures { IfOk result (λ name. name ≡ name_of word.now) }
+{
+    match Name::read(alloc, word) {
+        Ok(name) => Ok(Some(name)),
+        Err(NameFault::BadName) => Ok(None),
+        Err(NameFault::Memory) => Err(Memory),
+    }
+}
+
+fn burst_of(alloc: Global, way: Way, words: &[Bytes]) -> Result<Step, Memory>
+    ensures { IfOk result (λ s. s ≡ ready way (burst_of words.now)) }
+{
+    Ok(Step::Ready(ProtoUse {
+        spec: ProtoSpec::Burst {
+            discard: size(word(words, 0)),
+            sync: pattern_of(alloc, word(words, 1))?,
+            fill: flag_or(false, word(words, 2)),
+        },
+        reads: way.reads(),
+        writes: way.writes(),
+    }))
+}
+
+fn fixed_of(alloc: Global, line: u32, way: Way, words: &[Bytes]) -> Result<FixedStep, Memory>
+    ensures { IfOk result (λ f. f ≡ fixed_of line way words.now) }
+{
+    Ok(FixedStep {
+        line,
+        min_id: size(word(words, 0)),
+        discard: size(word(words, 1)),
+        sync: pattern_of(alloc, word(words, 2))?,
+        telemetry: flag_or(true, word(words, 3)),
+        fill: flag_or(false, word(words, 4)),
+        raise: flag_or(false, word(words, 5)),
+        reads: way.reads(),
+        writes: way.writes(),
+    })
+}
+
+fn length_offset(words: &[Bytes]) -> u32
+    ensures value { result ≡ length_offset words.now }
+    ensures within { result ≤ 8388608 }
+{
+    match bits_of(word(words, 0)) {
+        Some(offset) => offset,
+        None => 0,
+    }
+}
+
+fn length_bits(words: &[Bytes]) -> u32
+    ensures value { result ≡ length_bits words.now }
+    ensures within { result ≤ 8388608 }
+{
+    match bits_of(word(words, 1)) {
+        Some(bits) => bits,
+        None => 16,
+    }
+}
+
+fn length_order(words: &[Bytes]) -> Order
+    ensures { result ≡ length_order words.now }
+{
+    order_of(word(words, 4)).unwrap_or(Order::Big)
+}
+
+fn begins_before_start(offset: u32, bits: u32, order: Order) -> bool
+    requires some { 1 ≤ bits }
+    requires few { bits ≤ 64 }
+    ensures { result ≡ begins_before_start offset bits order }
+{
+    match order {
+        Order::Big => false,
+        Order::Little => {
+            !is_whole(offset, bits) && offset / 8 + 1 < (offset % 8 + bits - 1) / 8 + 1
+        }
+    }
+}
+
+fn is_whole(offset: u32, bits: u32) -> bool
+    ensures { result ≡ is_whole offset bits }
+{
+    offset % 8 == 0 && (bits == 8 || bits == 16 || bits == 32 || bits == 64)
+}
+
+fn is_bad_place(offset: u32, bits: u32, order: Order) -> bool
+    requires offset { offset ≤ 8388608 }
+    requires bits { bits ≤ 8388608 }
+    ensures { result ≡ is_bad_place offset bits order }
+{
+    bits == 0 || 64 < bits || 8_388_608 < offset + bits || begins_before_start(offset, bits, order)
+}
+
+/// Whether these parameters of LENGTH have a place that no field has.
+pub fn is_bad_length(words: &[Bytes]) -> bool
+    ensures { result ≡ is_bad_length words.now }
+{
+    is_bad_place(
+        length_offset(words),
+        length_bits(words),
+        length_order(words),
+    )
+}
+
+// The place of a length field, if there is such a one.
+fn place_at(offset: u32, bits: u32, order: Order) -> Option<Place>
+    requires offset { offset ≤ 8388608 }
+    requires bits { bits ≤ 8388608 }
+    ensures { option_map place_data result ≡ place_at offset bits order }
+{
+    if is_bad_place(offset, bits, order) {
+        return None;
+    }
+    match Place::new(offset, bits, order) {
+        Ok(place) => Some(place),
+        Err(_) => None,
+    }
+}
+
+fn signed_or_zero(word: &[u8]) -> i32
+    ensures { result ≡ unwrap_or (signed_of word.now) (pos 0) }
+{
+    signed_of(word).unwrap_or(0)
+}
+
+fn per_count(word: &[u8]) -> u32
+    ensures value { result ≡ unwrap_or (per_count_of word.now) 1 }
+    ensures least { 1 ≤ result }
+    ensures most { result ≤ 65535 }
+{
+    match per_count_of(word) {
+        Some(count) => count,
+        None => 1,
+    }
+}
+
+fn length_of(alloc: Global, way: Way, words: &[Bytes]) -> Result<Option<Step>, Memory>
+    ensures { IfOk result (λ s. s ≡ option_map (ready way) (length_of words.now)) }
+{
+    let Some(place) = place_at(
+        length_offset(words),
+        length_bits(words),
+        length_order(words),
+    ) else {
+        return Ok(None);
+    };
+    Ok(Some(Step::Ready(ProtoUse {
+        spec: ProtoSpec::Length {
+            place,
+            value_offset: signed_or_zero(word(words, 2)),
+            per_count: per_count(word(words, 3)),
+            discard: size(word(words, 5)),
+            sync: pattern_of(alloc, word(words, 6))?,
+            max: max_of(word(words, 7)),
+            fill: flag_or(false, word(words, 8)),
+        },
+        reads: way.reads(),
+        writes: way.writes(),
+    })))
+}
+
+fn terminated_of(alloc: Global, way: Way, words: &[Bytes]) -> Result<Option<Step>, Memory>
+    ensures { IfOk result (λ s. s ≡ option_map (ready way) (terminated_of words.now)) }
+{
+    let read = pattern_of(alloc, word(words, 1))?;
+    if read.as_slice().is_empty() {
+        return Ok(None);
+    }
+    Ok(Some(Step::Ready(ProtoUse {
+        spec: ProtoSpec::Terminated {
+            write: pattern_of(alloc, word(words, 0))?,
+            read,
+            strip: flag_or(true, word(words, 2)),
+            discard: size(word(words, 3)),
+            sync: pattern_of(alloc, word(words, 4))?,
+            fill: flag_or(false, word(words, 5)),
+        },
+        reads: way.reads(),
+        writes: way.writes(),
+    })))
+}
+
+fn preidentified_of(alloc: Global, way: Way, words: &[Bytes]) -> Result<Step, Memory>
+    ensures { IfOk result (λ s. s ≡ ready way (preidentified_of words.now)) }
+{
+    Ok(Step::Ready(ProtoUse {
+        spec: ProtoSpec::Preidentified {
+            sync: pattern_of(alloc, word(words, 0))?,
+            max: max_of(word(words, 1)),
+        },
+        reads: way.reads(),
+        writes: way.writes(),
+    }))
+}
+
+// The protocol of a statement of this line, used this way, with these parameters.
+fn step_of(
+    alloc: Global,
+    line: u32,
+    way: Way,
+    kind: Kind,
+    words: &[Bytes],
+) -> Result<Option<Step>, Memory>
+    ensures { IfOk result (λ s. s ≡ step_of line way kind words.now) }
+{
+    match kind {
+        Kind::Burst => Ok(Some(burst_of(alloc, way, words)?)),
+        Kind::Fixed => Ok(Some(Step::Fixed(fixed_of(alloc, line, way, words)?))),
+        Kind::Length => length_of(alloc, way, words),
+        Kind::Terminated => terminated_of(alloc, way, words),
+        Kind::Preidentified => Ok(Some(preidentified_of(alloc, way, words)?)),
+    }
+}
+
+fn step_at(
+    alloc: Global,
+    line: u32,
+    way: Way,
+    keyword: Keyword,
+    words: &[Bytes],
+) -> Result<Option<Step>, Memory>
+    ensures { IfOk result (λ s. s ≡ step_at line way keyword words.now) }
+{
+    match protocol_of(keyword, words) {
+        Some(kind) => step_of(alloc, line, way, kind, parameters(keyword, words)),
+        None => Ok(None),
+    }
+}
+
+fn is_server(peer: Option<Peer>) -> bool
+    ensures { result ≡ is_server peer }
+{
+    match peer {
+        Some(Peer::Server) => true,
+        Some(Peer::Client) => false,
+        None => false,
+    }
+}
+
+/// Which word is the port for writing; that for reading is the next.
+pub fn port_at(peer: Option<Peer>) -> usize
+    ensures value { result ≡ port_at peer }
+    ensures within { result ≤ 3 }
+{
+    match peer {
+        Some(Peer::Client) => 3,
+        Some(Peer::Server) => 2,
+        None => 2,
+    }
+}
+
+fn host_of(alloc: Global, peer: Option<Peer>, words: &[Bytes]) -> Result<Bytes, Memory>
+    ensures { IfOk result (λ b. b ≡ host_of peer words.now) }
+{
+    match peer {
+        Some(Peer::Client) => Bytes::copy(alloc, word(words, 2)),
+        Some(Peer::Server) => Bytes::copy(alloc, b""),
+        None => Bytes::copy(alloc, b""),
+    }
+}
+
+/// The port that a word writes, 1 where it writes none.
+pub fn port_or_one(word: &[u8]) -> u16
+    ensures value { result ≡ port_or_one word.now }
+    ensures some { 1 ≤ result }
+{
+    match port_of(word) {
+        Some(port) => port,
+        None => 1,
+    }
+}
+
+fn steps_of(alloc: Global, step: Option<Step>) -> Result<List<Step>, Memory>
+    ensures value { IfOk result (λ steps. steps ≡ option_to_list step) }
+    ensures few { IfOk result (λ steps. length steps ≤ 1) }
+    ensures packets_last { IfOk result (λ steps. IsTrue (are_packets_last steps)) }
+{
+    let mut steps = List::new(alloc);
+    if let Some(step) = step {
+        steps.push(step)?;
+    }
+    Ok(steps)
+}
+
+fn is_router(keyword: Keyword) -> bool
+    ensures { result ≡ is_router keyword }
+{
+    match keyword {
+        Keyword::Router => true,
+        _ => false,
+    }
+}
+
+fn opening_of(
+    alloc: Global,
+    line: u32,
+    keyword: Keyword,
+    words: &[Bytes],
+    name: Name,
+) -> Result<Connection, Memory>
+    ensures { IfOk result (λ c. c ≡ opening_of line keyword words.now name) }
+{
+    let peer = peer_of(keyword, words);
+    let step = step_at(alloc, line, Way::ReadWrite, keyword, words)?;
+    Ok(Connection {
+        line,
+        name,
+        is_router: is_router(keyword),
+        host: host_of(alloc, peer, words)?,
+        serves: is_server(peer),
+        port: port_or_one(word(words, port_at(peer))),
+        steps: steps_of(alloc, step)?,
+        targets: List::new(alloc),
+        routes: List::new(alloc),
+        delay: Decimal {
+            parts: FIVE_SECONDS,
+        },
+        reconnect: true,
+        logged: true,
+    })
+}
+
+/// The number of the interface whose name a word is, and the interface.
+pub fn find_interface<'a>(
+    connections: &'a [Connection],
+    word: &[u8],
+) -> Option<(u32, &'a Connection)>
+    requires { length connections.now ≤ 20 }
+    ensures { option_map (λ p. (p.0, p.1.now.targets)) result ≡ find_interface 0 connections.now word.now }
+{
+    let mut number: u32 = 0;
+    for connection in connections {
+        if !connection.is_router {
+            if spells(word, connection.name.as_slice()) {
+                return Some((number, connection));
+            }
+            number += 1;
+        }
+    }
+    None
+}
+
+fn copied(alloc: Global, names: &[Name]) -> Result<List<Name>, Memory>
+    ensures { IfOk result (λ copy. copy ≡ names.now) }
+{
+    let mut copy = List::new(alloc);
+    for name in names {
+        copy.push(name.clone()?)?;
+    }
+    Ok(copy)
+}
+
+fn opening_line(alloc: Global, line: u32, keyword: Keyword, words: &[Bytes]) -> Result<Line, Memory>
+    ensures value { IfOk result (λ l. l ≡ opening_line line keyword words.now) }
+    ensures sound { IfOk result (λ l. IsAlwaysSound l) }
+{
+    match name_of(alloc, word(words, 0))? {
+        Some(name) => Ok(Line::Opening(opening_of(alloc, line, keyword, words, name)?)),
+        None => Ok(Line::Nothing),
+    }
+}
+
+fn target_line(alloc: Global, words: &[Bytes]) -> Result<Line, Memory>
+    ensures value { IfOk result (λ l. l ≡ target_line words.now) }
+    ensures sound { IfOk result (λ l. IsAlwaysSound l) }
+{
+    match name_of(alloc, word(words, 0))? {
+        Some(name) => Ok(Line::Detail(Detail::Target(name))),
+        None => Ok(Line::Nothing),
+    }
+}
+
+fn protocol_line(alloc: Global, line: u32, words: &[Bytes]) -> Result<Line, Memory>
+    ensures value { IfOk result (λ l. l ≡ protocol_line line words.now) }
+    ensures sound { IfOk result (λ l. IsAlwaysSound l) }
+{
+    let way = way_of(word(words, 0)).unwrap_or(Way::ReadWrite);
+    match step_at(alloc, line, way, Keyword::Protocol, words)? {
+        Some(step) => Ok(Line::Detail(Detail::Step(step))),
+        None => Ok(Line::Nothing),
+    }
+}
+
+fn route_line(alloc: Global, connections: &[Connection], words: &[Bytes]) -> Result<Line, Memory>
+    requires { length connections.now ≤ 20 }
+    ensures value { IfOk result (λ l. l ≡ route_line connections.now words.now) }
+    ensures sound { IfOk result (λ l. IsSoundLine connections.now l) }
+{
+    if !is_router_open(last(connections)) {
+        return Ok(Line::Nothing);
+    }
+    match find_interface(connections, word(words, 0)) {
+        Some((number, interface)) => {
+            let targets = copied(alloc, interface.targets.as_slice())?;
+            Ok(Line::Detail(Detail::Route(number, targets)))
+        }
+        None => Ok(Line::Nothing),
+    }
+}
+
+fn port_line(words: &[Bytes]) -> Line
+    ensures value { result ≡ port_line words.now }
+    ensures sound { IsAlwaysSound result }
+{
+    match port_of(word(words, 1)) {
+        Some(port) => Line::ApiPort(port),
+        None => Line::Nothing,
+    }
+}
+
+fn desks_line(words: &[Bytes]) -> Line
+    ensures value { result ≡ desks_line words.now }
+    ensures sound { IsAlwaysSound result }
+{
+    match desks_of(word(words, 0)) {
+        Some(desks) => Line::Desks(desks),
+        None => Line::Nothing,
+    }
+}
+
+fn delay_line(words: &[Bytes]) -> Line
+    ensures value { result ≡ delay_line words.now }
+    ensures sound { IsAlwaysSound result }
+{
+    match delay_of(word(words, 0)) {
+        Some(delay) => Line::Detail(Detail::Delay(delay)),
+        None => Line::Nothing,
+    }
+}
+
+/// What the words of a statement say behind the interfaces and routers that stand.
+pub fn line_of(
+    alloc: Global,
+    connections: &[Connection],
+    line: u32,
+    keyword: Keyword,
+    words: &[Bytes],
+) -> Result<Line, Memory>
+    requires { length connections.now ≤ 20 }
+    ensures value { IfOk result (λ l. l ≡ line_of connections.now line keyword words.now) }
+    ensures sound { IfOk result (λ l. IsSoundLine connections.now l) }
+{
+    match keyword {
+        Keyword::Title => Ok(Line::Nothing),
+        Keyword::Port => Ok(port_line(words)),
+        Keyword::Desks => Ok(desks_line(words)),
+        Keyword::Interface => opening_line(alloc, line, Keyword::Interface, words),
+        Keyword::Router => opening_line(alloc, line, Keyword::Router, words),
+        Keyword::Target => target_line(alloc, words),
+        Keyword::Protocol => protocol_line(alloc, line, words),
+        Keyword::ReconnectDelay => Ok(delay_line(words)),
+        Keyword::DontReconnect => Ok(Line::Detail(Detail::DontReconnect)),
+        Keyword::Log => Ok(Line::Detail(Detail::Logged(true))),
+        Keyword::DontLog => Ok(Line::Detail(Detail::Logged(false))),
+        Keyword::Route => route_line(alloc, connections, words),
+    }
+}

@@ -1,0 +1,14 @@
+use Rattle.std.proofs.Common.{ℕ, List, subst}
+use Rattle.cts_entry.specs.declared.event.Event.{Event}
+use Rattle.cts_serve.specs.Replays.{Replays}
+use Rattle.cts_serve.proofs.Commands.{script_refuses, replay_answers}
+use Rattle.cts_serve.proofs.command.replay_script.Goals as goal
+
+pub returns-in-Err-clause-transcript : goal.returns-in-Err-clause-transcript
+returns-in-Err-clause-transcript g c =
+    script_refuses _ c.args.request.now c.args.site.now c.args.script.now c.in-Err.refused _ _ c.requires.asked c.requires.taken c.in-Err.ensures.content c.put_refused.ensures
+
+pub returns-in-Ok-clause-transcript : goal.returns-in-Ok-clause-transcript
+returns-in-Ok-clause-transcript g c =
+    replay_answers _ c.args.request.now c.args.site.now c.args.script.now c.in-Ok.events.items _ _ c.requires.asked c.requires.taken c.in-Ok.ensures.content
+    (rw c.as_slice.ensures.value at c.replay.ensures)

@@ -1,9 +1,0 @@
-use Rattle.std.proofs.Common.{length}
-use Rattle.cts_serve.proofs.Forms.{IsReading}
-use Rattle.cts_serve.proofs.form.script_events.Given as goal
-
-abbrev pub invariant-statements : goal.invariant-statements
-invariant-statements l = IsReading l.events.items l.left l.fn.statements
-
-abbrev pub decreases-statements : goal.decreases-statements
-decreases-statements l = length l.left
