@@ -23,6 +23,4 @@ pub use laws::connections_are_of_their_lines;
 pub use reading::read_site;
 
 #[cfg(test)]
-mod target_tests;
-#[cfg(test)]
 mod tests;

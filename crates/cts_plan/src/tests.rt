@@ -1,11 +1,11 @@
 // What no clause says: which site files are refused and why, what is read where a word is left out, and that reading
 // succeeds where there is memory.
 use super::*;
-use crate::target_tests::definitions;
-use cts_base::List;
-use cts_def::{Definitions, ProtoSpec, ProtoUse, Site};
+use cts_base::{Bytes, List};
+use cts_bits::Place;
+use cts_def::{Definitions, Interface, ProtoSpec, Site};
 use cts_words::statements;
-use std::alloc::Global;
+use std::alloc::{AllocError, Global};
 use std::process::Abort;
 use std::test::Fail;
 
@@ -133,38 +133,15 @@ read|READ PREIDENTIFIED nil 5
 2 WrongCount|read_write BURST
 read|WRITE burst_PROTOCOL.RB";
 
-/// Lines behind an interface, with the definitions of two targets.
-const TARGETS: &str = "\
-read|TARGET INST
-read|TARGET inst;TARGET AUX
-2 UnknownTarget|TARGET NONE
-3 TargetTwice|TARGET INST;TARGET Inst
-4 TargetTwice|TARGET INST;INTERFACE J tcpip_server_interface.rb 2 2 nil nil;TARGET INST
-read|TARGET INST;ROUTER J tcpip_server_interface.rb 2 2 nil nil;ROUTE I
-read|PROTOCOL READ FIXED 2;TARGET INST
-2 MinIdSize|PROTOCOL READ FIXED 1;TARGET INST
-2 MinIdSize|PROTOCOL READ FIXED 3;TARGET INST
-read|TARGET INST;PROTOCOL READ FIXED 1 0 nil false
-2 VariableLength|PROTOCOL READ FIXED 1;TARGET AUX
-2 MinIdSize|PROTOCOL READ FIXED 3;TARGET AUX
-read|PROTOCOL READ FIXED 1 0 nil false;TARGET AUX
-3 VariableLength|TARGET AUX;PROTOCOL READ FIXED 1;INTERFACE
-5 NotNumber|TARGET AUX;ROUTER J tcpip_server_interface.rb 2 2 nil nil FIXED 2;ROUTE I;DESKS x
-3 VariableLength|TARGET AUX;ROUTER J tcpip_server_interface.rb 2 2 nil nil FIXED 2;ROUTE I;ROUTER
-4 MinIdSize|DESKS 2;TARGET INST;PROTOCOL WRITE FIXED 1;PROTOCOL READ BURST
-3 MinIdSize|TARGET INST;ROUTER J tcpip_server_interface.rb 2 2 nil nil FIXED 1;ROUTE I
-read|TARGET INST;ROUTER J tcpip_server_interface.rb 2 2 nil nil FIXED 2;ROUTE I
-4 UnknownInterface|TARGET INST;ROUTER J tcpip_server_interface.rb 2 2 nil nil FIXED 1;ROUTER K x.rb";
-
 /// Protocols behind the words of an interface, with all their parameters as they are read.
 const DEFAULTS: &str = "\
 BURST 0 [] false true false|
 BURST 0 [] false true true| BURST
 BURST 3 [10, 240] true true true| burstprotocol 3 0x0aF0 True
-FIXED 2 0 [] true false false 0 true true| FIXED 2
-FIXED 2 1 [255] false true true 0 true true| FixedProtocol 2 1 0xFF false true TRUE
-LENGTH 0 16 0 1 Big 0 [] None false true true| LENGTH
-LENGTH 8 12 -3 2 Little 4 [1] Some(99) true true true| length_protocol.rb 8 12 -3 2 LITTLE_ENDIAN 4 0x01 99 true
+FIXED 2 0 [] (true, false, false) true true| FIXED 2
+FIXED 2 1 [255] (false, true, true) true true| FixedProtocol 2 1 0xFF false true TRUE
+LENGTH 0 16 Big (0, 1, 0) [] None false true true| LENGTH
+LENGTH 8 12 Little (-3, 2, 4) [1] Some(99) true true true| length_protocol.rb 8 12 -3 2 LITTLE_ENDIAN 4 0x01 99 true
 TERMINATED [13] [10] true 0 [] false true true| TERMINATED 0x0D 0x0A
 TERMINATED [] [10] false 7 [2] true true true| TERMINATED nil 0x0A false 7 0x02 true
 PREIDENTIFIED [] None true true| PREIDENTIFIED
@@ -193,7 +170,7 @@ fn lines(alloc: Global, front: &str, text: &str) -> Result<Vec<u8>, Fail> {
 }
 
 /// The site of a text, or the line and the cause of its refusal.
-pub fn read(
+fn read(
     rt: &impl Abort,
     alloc: Global,
     text: &[u8],
@@ -227,7 +204,7 @@ fn compare(rt: &impl Abort, alloc: Global, front: &str, rows: &str) -> Result<()
             return Err(Fail::new("no row"));
         };
         let text = lines(alloc, front, text)?;
-        let found = outcome(rt, alloc, &text, definitions(alloc)?)?;
+        let found = outcome(rt, alloc, &text, no_definitions(alloc))?;
         assert_eq!(rt; found.as_str(), want, "at {row}");
     }
     Ok(())
@@ -252,12 +229,6 @@ fn a_connection_is_judged_when_it_is_complete(rt: HostRuntime) -> Result<(), Fai
 fn numbers_and_patterns_have_bounds(rt: HostRuntime) -> Result<(), Fail> {
     let front = format!(in rt.alloc(); "{INTERFACE}\nPROTOCOL ")?;
     compare(&rt, rt.alloc(), front.as_str(), NUMBERS)
-}
-
-#[test]
-fn targets_and_their_packets_are_judged(rt: HostRuntime) -> Result<(), Fail> {
-    let front = format!(in rt.alloc(); "{INTERFACE}\n")?;
-    compare(&rt, rt.alloc(), front.as_str(), TARGETS)
 }
 
 #[test]
@@ -300,17 +271,68 @@ fn interfaces_and_routers_are_few(rt: HostRuntime) -> Result<(), Fail> {
     Ok(())
 }
 
+fn burst(alloc: Global, discard: u32, sync: &Bytes, fill: bool) -> Result<String, AllocError> {
+    format!(in alloc; "BURST {discard} {:?} {fill}", sync.as_slice())
+}
+
+fn fixed(
+    alloc: Global,
+    min_id: u32,
+    discard: u32,
+    sync: &Bytes,
+    flags: (bool, bool, bool),
+) -> Result<String, AllocError> {
+    format!(in alloc; "FIXED {min_id} {discard} {:?} {flags:?}", sync.as_slice())
+}
+
+fn place(alloc: Global, place: &Place) -> Result<String, AllocError> {
+    format!(in alloc; "{} {} {:?}", place.offset(), place.bits(), place.order())
+}
+
+fn length(
+    alloc: Global,
+    place: &str,
+    counts: (i32, u32, u32),
+    sync: &Bytes,
+    max: Option<u64>,
+    fill: bool,
+) -> Result<String, AllocError> {
+    format!(in alloc;
+        "LENGTH {place} {counts:?} {:?} {max:?} {fill}",
+        sync.as_slice()
+    )
+}
+
+fn ends(alloc: Global, write: &Bytes, read: &Bytes) -> Result<String, AllocError> {
+    format!(in alloc; "{:?} {:?}", write.as_slice(), read.as_slice())
+}
+
+fn terminated(
+    alloc: Global,
+    ends: &str,
+    strip: bool,
+    discard: u32,
+    sync: &Bytes,
+    fill: bool,
+) -> Result<String, AllocError> {
+    format!(in alloc;
+        "TERMINATED {ends} {strip} {discard} {:?} {fill}",
+        sync.as_slice()
+    )
+}
+
+fn preidentified(alloc: Global, sync: &Bytes, max: Option<u64>) -> Result<String, AllocError> {
+    format!(in alloc; "PREIDENTIFIED {:?} {max:?}", sync.as_slice())
+}
+
 /// A protocol's parameters as a test writes them.
-fn shown(alloc: Global, used: &ProtoUse) -> Result<Vec<u8>, Fail> {
-    let text = match &used.spec {
+fn shown(alloc: Global, spec: &ProtoSpec) -> Result<String, AllocError> {
+    match spec {
         ProtoSpec::Burst {
             discard,
             sync,
             fill,
-        } => {
-            let sync = sync.as_slice();
-            format!(in alloc; "BURST {discard} {sync:?} {fill}")?
-        }
+        } => burst(alloc, *discard, sync, *fill),
         ProtoSpec::Fixed {
             min_id,
             discard,
@@ -318,16 +340,10 @@ fn shown(alloc: Global, used: &ProtoUse) -> Result<Vec<u8>, Fail> {
             telemetry,
             fill,
             raise,
-            starts,
-        } => {
-            let sync = sync.as_slice();
-            let count = starts.as_slice().len();
-            format!(in alloc;
-                "FIXED {min_id} {discard} {sync:?} {telemetry} {fill} {raise} {count}"
-            )?
-        }
+            starts: _,
+        } => { fixed(alloc, *min_id, *discard, sync, (*telemetry, *fill, *raise)) }
         ProtoSpec::Length {
-            place,
+            place: at,
             value_offset,
             per_count,
             discard,
@@ -335,13 +351,15 @@ fn shown(alloc: Global, used: &ProtoUse) -> Result<Vec<u8>, Fail> {
             max,
             fill,
         } => {
-            let sync = sync.as_slice();
-            let offset = place.offset();
-            let bits = place.bits();
-            let order = place.order();
-            format!(in alloc;
-                "LENGTH {offset} {bits} {value_offset} {per_count} {order:?} {discard} {sync:?} {max:?} {fill}"
-            )?
+            let at = place(alloc, at)?;
+            length(
+                alloc,
+                at.as_str(),
+                (*value_offset, *per_count, *discard),
+                sync,
+                *max,
+                *fill,
+            )
         }
         ProtoSpec::Terminated {
             write,
@@ -351,20 +369,32 @@ fn shown(alloc: Global, used: &ProtoUse) -> Result<Vec<u8>, Fail> {
             sync,
             fill,
         } => {
-            let write = write.as_slice();
-            let read = read.as_slice();
-            let sync = sync.as_slice();
-            format!(in alloc; "TERMINATED {write:?} {read:?} {strip} {discard} {sync:?} {fill}")?
+            let ends = ends(alloc, write, read)?;
+            terminated(alloc, ends.as_str(), *strip, *discard, sync, *fill)
         }
-        ProtoSpec::Preidentified { sync, max } => {
-            let sync = sync.as_slice();
-            format!(in alloc; "PREIDENTIFIED {sync:?} {max:?}")?
-        }
+        ProtoSpec::Preidentified { sync, max } => preidentified(alloc, sync, *max),
+    }
+}
+
+fn shown_interface(alloc: Global, interface: &Interface) -> Result<String, AllocError> {
+    let port = interface.port;
+    let serves = interface.serves;
+    let parts = interface.delay.parts;
+    let reconnect = interface.reconnect;
+    let logged = interface.logged;
+    format!(in alloc; "{port} {serves} {parts} {reconnect} {logged}")
+}
+
+/// The first interface's only protocol, with whether it reads and writes.
+fn first_protocol(alloc: Global, site: &Site) -> Result<String, Fail> {
+    let [interface] = site.interfaces.as_slice() else {
+        return Err(Fail::new("not one interface"));
     };
-    let reads = used.reads;
-    let writes = used.writes;
-    let whole = format!(in alloc; "{text} {reads} {writes}")?;
-    Ok(whole.as_bytes().to_vec(alloc)?)
+    let [used] = interface.chain.as_slice() else {
+        return Err(Fail::new("not one protocol"));
+    };
+    let parameters = shown(alloc, &used.spec)?;
+    Ok(format!(in alloc; "{parameters} {} {}", used.reads, used.writes)?)
 }
 
 #[test]
@@ -377,57 +407,49 @@ fn parameters_that_are_left_out_have_defaults(rt: HostRuntime) -> Result<(), Fai
         let Ok(site) = read(&rt, rt.alloc(), &text, no_definitions(rt.alloc()))? else {
             return Err(Fail::new("refused"));
         };
-        let [interface] = site.interfaces.as_slice() else {
-            return Err(Fail::new("not one interface"));
-        };
-        let [used] = interface.chain.as_slice() else {
-            return Err(Fail::new("not one protocol"));
-        };
-        assert_eq!(rt;
-            shown(rt.alloc(), used)?.as_slice(),
-            want.as_bytes(),
-            "at {row}"
-        );
+        let found = first_protocol(rt.alloc(), &site)?;
+        assert_eq!(rt; found.as_str(), want, "at {row}");
+    }
+    Ok(())
+}
+
+/// Three interfaces with settings, and how they are read.
+const SETTINGS: &str = "title A;TITLE B;PORT CTS_API 1;DESKS 1;PORT CTS_API 65535;DESKS 3;\
+INTERFACE A tcpip_client_interface.rb here 2 2 10.0 nil;\
+RECONNECT_DELAY 1.5;DONT_RECONNECT;RECONNECT_DELAY 0.25;DONT_LOG;LOG DEFAULT;\
+INTERFACE B tcpip_server_interface.rb 3 0x3 -1 nil;LOG DEFAULT;DONT_LOG;PORT CTS_API 80;\
+INTERFACE C tcpip_client_interface.rb '' 4 4 nil nil";
+
+const AS_READ: [&str; 3] = [
+    "2 false 250000000000 false true",
+    "3 true 5000000000000 true false",
+    "4 false 5000000000000 true true",
+];
+
+#[test]
+fn the_last_of_a_setting_counts(rt: HostRuntime) -> Result<(), Fail> {
+    let text = lines(rt.alloc(), "", SETTINGS)?;
+    let Ok(site) = read(&rt, rt.alloc(), &text, no_definitions(rt.alloc()))? else {
+        return Err(Fail::new("refused"));
+    };
+    assert_eq!(rt; site.api_port, 80);
+    assert_eq!(rt; site.desks, 3);
+    assert_eq!(rt; site.interfaces.len(), 3);
+    for (interface, want) in site.interfaces.as_slice().iter().zip(AS_READ) {
+        let found = shown_interface(rt.alloc(), interface)?;
+        assert_eq!(rt; found.as_str(), want);
     }
     Ok(())
 }
 
 #[test]
-fn the_last_of_a_setting_counts(rt: HostRuntime) -> Result<(), Fail> {
-    let text = b"title A\nTITLE B\nPORT CTS_API 1\nDESKS 1\nPORT CTS_API 65535\nDESKS 3
-INTERFACE A tcpip_client_interface.rb here 2 2 10.0 nil
-RECONNECT_DELAY 1.5\nDONT_RECONNECT\nRECONNECT_DELAY 0.25\nDONT_LOG\nLOG DEFAULT
-INTERFACE B tcpip_server_interface.rb 3 0x3 -1 nil\nLOG DEFAULT\nDONT_LOG\nPORT CTS_API 80
-INTERFACE C tcpip_client_interface.rb '' 4 4 nil nil";
-    let Ok(site) = read(&rt, rt.alloc(), text, no_definitions(rt.alloc()))? else {
+fn an_empty_file_is_a_site(rt: HostRuntime) -> Result<(), Fail> {
+    let Ok(site) = read(&rt, rt.alloc(), b"", no_definitions(rt.alloc()))? else {
         return Err(Fail::new("refused"));
     };
-    assert_eq!(rt; (site.api_port, site.desks), (80, 3));
-    let [a, b, c] = site.interfaces.as_slice() else {
-        return Err(Fail::new("not three interfaces"));
-    };
-    assert_eq!(rt;
-        (a.aim_host.as_slice(), a.port, a.serves),
-        (b"here".as_slice(), 2, false)
-    );
-    assert_eq!(rt;
-        (a.delay.parts, a.reconnect, a.logged),
-        (250_000_000_000, false, true)
-    );
-    assert_eq!(rt;
-        (b.aim_host.as_slice(), b.port, b.serves),
-        (b"".as_slice(), 3, true)
-    );
-    assert_eq!(rt;
-        (b.delay.parts, b.reconnect, b.logged),
-        (5_000_000_000_000, true, false)
-    );
-    assert_eq!(rt; (c.name.as_slice(), c.logged), (b"C".as_slice(), true));
-    let Ok(empty) = read(&rt, rt.alloc(), b"", no_definitions(rt.alloc()))? else {
-        return Err(Fail::new("refused"));
-    };
-    assert_eq!(rt; (empty.api_port, empty.desks), (7777, 4));
-    assert!(rt; empty.interfaces.is_empty() && empty.routers.is_empty());
+    assert_eq!(rt; site.api_port, 7777);
+    assert_eq!(rt; site.desks, 4);
+    assert!(rt; site.interfaces.is_empty() && site.routers.is_empty());
     Ok(())
 }
 
