@@ -5,3 +5,4 @@ pub mod More
 pub mod Keeps
 pub mod Runs
 pub mod Heads
+pub mod Empty
