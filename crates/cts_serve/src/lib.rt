@@ -27,6 +27,10 @@ pub use laws::outcomes;
 pub use status::Status;
 
 #[cfg(test)]
+mod ident_tests;
+#[cfg(test)]
 mod loading_tests;
+#[cfg(test)]
+mod site_tests;
 #[cfg(test)]
 mod tests;

@@ -35,7 +35,7 @@ const LIMITED: &[u8] =
 const COLORED: &[u8] = b"TELEMETRY T A BIG_ENDIAN\nAPPEND_ITEM X 8 UINT\nSTATE ON 1 GREEN\n";
 
 // The files `d`, `s` and `p`, where they are given.
-fn files(
+pub(crate) fn files(
     alloc: Global,
     contents: [Option<&[u8]>; 3],
     failing: Vec<u64>,
@@ -299,6 +299,59 @@ fn a_file_has_67108864_bytes_at_most(rt: HostRuntime) -> Result<(), Fail> {
     assert_eq!(rt;
         said_of_one_word(alloc, 67_108_865)?.as_slice(),
         b"ConfigRefused refused: d line 0: TooLarge\n".as_slice()
+    );
+    Ok(())
+}
+
+// A packet of this number with 4,096 items.
+fn add_packet(alloc: Global, text: &mut Vec<u8>, number: u32) -> Result<(), AllocError> {
+    text.extend_from_slice(format!(in alloc; "TELEMETRY T P{number} BIG_ENDIAN\n")?.as_bytes())?;
+    for item in 0..4096u32 {
+        text.extend_from_slice(format!(in alloc; "APPEND_ITEM I{item} 8 UINT\n")?.as_bytes())?;
+    }
+    Ok(())
+}
+
+// What is said of these definitions, where no site is there.
+fn said_of(alloc: Global, definitions: &[u8]) -> Result<Vec<u8>, AllocError> {
+    let mut files = files(alloc, [Some(definitions), None, None], Vec::new(alloc))?;
+    shown(alloc, load_all(alloc, &mut files))
+}
+
+#[test]
+fn definitions_have_65536_items_at_most(rt: HostRuntime) -> Result<(), Fail> {
+    let alloc = rt.alloc();
+    let mut text = Vec::new(alloc);
+    for number in 0..16u32 {
+        add_packet(alloc, &mut text, number)?;
+    }
+    assert_eq!(rt;
+        said_of(alloc, &text)?.as_slice(),
+        b"Absent absent: s\n".as_slice()
+    );
+    text.extend_from_slice(b"TELEMETRY T Q BIG_ENDIAN\nAPPEND_ITEM A 8 UINT\n")?;
+    assert_eq!(rt;
+        said_of(alloc, &text)?.as_slice(),
+        b"ConfigRefused refused: d line 65554: TooMany\n".as_slice()
+    );
+    Ok(())
+}
+
+#[test]
+fn definitions_have_4096_commands_at_most(rt: HostRuntime) -> Result<(), Fail> {
+    let alloc = rt.alloc();
+    let mut text = Vec::new(alloc);
+    for number in 0..4096u32 {
+        text.extend_from_slice(format!(in alloc; "COMMAND T C{number} BIG_ENDIAN\n")?.as_bytes())?;
+    }
+    assert_eq!(rt;
+        said_of(alloc, &text)?.as_slice(),
+        b"Absent absent: s\n".as_slice()
+    );
+    text.extend_from_slice(b"COMMAND U C BIG_ENDIAN\n")?;
+    assert_eq!(rt;
+        said_of(alloc, &text)?.as_slice(),
+        b"ConfigRefused refused: d line 4097: TooMany\n".as_slice()
     );
     Ok(())
 }

@@ -4,7 +4,7 @@ use Rattle.std.specs.List.{list_all, flat_map}
 use Rattle.cts_words.specs.Grammar.{Word, Bare, Quoted, Between, text, words, is_white, is_quote, hash}
 use Rattle.cts_words.specs.Statements.{lines, is_join, joins, own, statement, joined_from}
 
--- whether a line ends here, or white space or a comment follows
+-- whether a line ends here, or white space follows
 abbrev pub ends_word : List ℕ → Bool
 ends_word [] = true
 ends_word (c ∷ rest) = is_white c

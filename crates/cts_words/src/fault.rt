@@ -19,6 +19,7 @@ pub enum WordFault {
     /// The byte at this place begins no whole character of UTF-8.
     #[error("not UTF-8 at byte {0}")]
     NotText(u64),
+    /// No memory was found.
     #[error("out of memory")]
     Memory,
 }

@@ -8,6 +8,7 @@
 //! A statement is the words of a line or of joined lines; lines without words give none.
 #![tactic(auto)]
 
+mod end;
 mod fault;
 mod joiner;
 pub mod laws;
@@ -15,6 +16,7 @@ mod line;
 mod reading;
 mod statement;
 
+pub use end::last;
 pub use fault::WordFault;
 pub use reading::statements;
 pub use statement::Statement;

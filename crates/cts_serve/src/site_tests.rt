@@ -1,0 +1,205 @@
+// Site files over definitions that were read: what depends on the packets of a target.
+use crate::loading::load_site;
+use crate::loading_tests::files;
+use crate::refused::Refused;
+use crate::request::Request;
+use cts_def::{ProtoSpec, ProtoUse, Site, Start};
+use std::alloc::{AllocError, Global};
+use std::test::Fail;
+
+const DEFINITIONS: &str = "\
+TELEMETRY INST HS BIG_ENDIAN;ID_ITEM PKTID 8 8 UINT 1;ITEM REST 16 8 UINT;\
+TELEMETRY INST WIDE LITTLE_ENDIAN;ID_ITEM PKTID 8 16 INT -2;ITEM LAST 31 1 UINT;\
+TELEMETRY AUX LINE BIG_ENDIAN;ID_ITEM PKTID 0 8 UINT 1;APPEND_ITEM TEXT 0 STRING;\
+TELEMETRY BARE ONE BIG_ENDIAN;ITEM X 0 8 UINT;\
+COMMAND INST GO BIG_ENDIAN;APPEND_ID_PARAMETER CODE 32 UINT 7 7 7;\
+COMMAND TOOL CUT BIG_ENDIAN;APPEND_PARAMETER TEXT 0 STRING 'a'";
+
+const INTERFACE: &str = "INTERFACE I tcpip_client_interface.rb h 1 1 nil nil";
+
+/// What is wanted, a bar, and what follows the words of an interface; lines end with `;`.
+const ROWS: &str = "\
+read| BURST;TARGET INST;TARGET AUX;TARGET TOOL
+read| BURST;TARGET inst;TARGET Bare
+refused: s line 3: UnknownTarget| BURST;TARGET INST;TARGET INS
+refused: s line 2: UnknownTarget| BURST;TARGET UNKNOWN
+refused: s line 3: TargetTwice| BURST;TARGET INST;TARGET inst
+refused: s line 4: TargetTwice|;TARGET INST;INTERFACE J tcpip_server_interface.rb 2 2 nil nil;TARGET INST
+read| FIXED 3;TARGET INST
+refused: s line 1: MinIdSize| FIXED 2;TARGET INST
+read| FIXED 1;TARGET BARE
+refused: s line 1: MinIdSize| FIXED 2;TARGET BARE
+refused: s line 1: MinIdSize| FIXED 3;TARGET INST;TARGET BARE
+refused: s line 1: MinIdSize| FIXED 4;TARGET INST
+read| FIXED 4 0 nil false;TARGET INST
+refused: s line 1: MinIdSize| FIXED 3 0 nil false;TARGET INST
+refused: s line 1: MinIdSize| FIXED 5 0 nil false;TARGET INST
+refused: s line 1: VariableLength| FIXED 1;TARGET AUX
+refused: s line 1: MinIdSize| FIXED 3;TARGET AUX
+read| FIXED 1 0 nil false;TARGET AUX
+refused: s line 1: MinIdSize| FIXED 1 0 nil false;TARGET TOOL
+read| FIXED 1;TARGET TOOL
+refused: s line 3: VariableLength| TERMINATED nil 0x0A;TARGET AUX;PROTOCOL WRITE FIXED 1;LOG DEFAULT;ROUTER R x.rb
+refused: s line 4: WrongCount| FIXED 1;TARGET AUX;LOG DEFAULT;LOG
+refused: s line 3: MinIdSize| BURST;TARGET INST;ROUTER R tcpip_server_interface.rb 2 2 nil nil FIXED 2;ROUTE I
+read| BURST;TARGET INST;ROUTER R tcpip_server_interface.rb 2 2 nil nil FIXED 3;ROUTE I
+refused: s line 3: VariableLength| BURST;TARGET AUX;ROUTER R tcpip_server_interface.rb 2 2 nil nil FIXED 1;ROUTE I
+read| BURST;TARGET AUX;ROUTER R tcpip_server_interface.rb 2 2 nil nil FIXED 1";
+
+/// A text whose lines end with line feeds, of one whose lines end with `;`.
+fn lines(alloc: Global, front: &str, text: &str) -> Result<Vec<u8>, AllocError> {
+    let mut out = front.as_bytes().to_vec(alloc)?;
+    for c in text.as_bytes() {
+        out.push(if *c == b';' { b'\n' } else { *c })?;
+    }
+    Ok(out)
+}
+
+fn loaded(alloc: Global, definitions: &[u8], site: &[u8]) -> Result<Result<Site, Refused>, Fail> {
+    let contents = [Some(definitions), Some(site), None];
+    let mut files = files(alloc, contents, Vec::new(alloc))?;
+    let request = Request {
+        definitions: "d",
+        site: "s",
+        script: None,
+    };
+    Ok(load_site(alloc, &mut files, &request))
+}
+
+/// The site of two texts whose lines end with `;`.
+pub(crate) fn site_of(alloc: Global, definitions: &str, site: &str) -> Result<Site, Fail> {
+    let definitions = lines(alloc, "", definitions)?;
+    let site = lines(alloc, "", site)?;
+    match loaded(alloc, &definitions, &site)? {
+        Ok(site) => Ok(site),
+        Err(_) => Err(Fail::new("refused")),
+    }
+}
+
+/// `read`, or the line of the refusal.
+fn outcome(alloc: Global, definitions: &[u8], site: &[u8]) -> Result<Vec<u8>, Fail> {
+    match loaded(alloc, definitions, site)? {
+        Ok(_) => Ok(b"read\n".to_vec(alloc)?),
+        Err(Refused::Said { line, .. }) => Ok(line),
+        Err(Refused::Memory) => Err(Fail::new("out of memory")),
+    }
+}
+
+#[test]
+fn a_site_is_judged_over_its_definitions(rt: HostRuntime) -> Result<(), Fail> {
+    let definitions = lines(rt.alloc(), "", DEFINITIONS)?;
+    for row in ROWS.lines() {
+        let Some((want, words)) = row.split_once('|') else {
+            return Err(Fail::new("no row"));
+        };
+        let site = lines(rt.alloc(), INTERFACE, words)?;
+        let want = format!(in rt.alloc(); "{want}\n")?;
+        let found = outcome(rt.alloc(), &definitions, &site)?;
+        assert_eq!(rt; found.as_slice(), want.as_bytes(), "at {row}");
+    }
+    Ok(())
+}
+
+/// How a packet begins: its bytes, and each id field with its bits and its number.
+fn shown_start(alloc: Global, start: &Start) -> Result<String, AllocError> {
+    let mut text = format!(in alloc; "{}", start.length)?;
+    for (place, id, signed) in start.ids.as_slice() {
+        let field = format!(in alloc;
+            " {} {} {:?} {id} {signed}",
+            place.offset(),
+            place.bits(),
+            place.order()
+        )?;
+        text.push_str(field.as_str())?;
+    }
+    Ok(text)
+}
+
+/// The starts of the first protocol, which is FIXED.
+fn fixed_starts(chain: &[ProtoUse]) -> Result<&[Start], Fail> {
+    let Some(used) = chain.first() else {
+        return Err(Fail::new("no protocol"));
+    };
+    match &used.spec {
+        ProtoSpec::Fixed { starts, .. } => Ok(starts.as_slice()),
+        _ => Err(Fail::new("no FIXED")),
+    }
+}
+
+#[test]
+fn fixed_knows_how_its_packets_begin(rt: HostRuntime) -> Result<(), Fail> {
+    let site = site_of(
+        rt.alloc(),
+        DEFINITIONS,
+        "INTERFACE I tcpip_client_interface.rb h 1 1 nil nil FIXED 3;TARGET INST;\
+ROUTER R tcpip_server_interface.rb 2 2 nil nil FIXED 4 0 nil false;ROUTE I",
+    )?;
+    let ([interface], [router]) = (site.interfaces.as_slice(), site.routers.as_slice()) else {
+        return Err(Fail::new("not one interface and one router"));
+    };
+    let [first, second] = fixed_starts(interface.chain.as_slice())? else {
+        return Err(Fail::new("not two telemetry packets"));
+    };
+    let [command] = fixed_starts(router.chain.as_slice())? else {
+        return Err(Fail::new("not one command"));
+    };
+    assert_eq!(rt;
+        shown_start(rt.alloc(), first)?.as_str(),
+        "3 8 8 Big 1 false"
+    );
+    assert_eq!(rt;
+        shown_start(rt.alloc(), second)?.as_str(),
+        "4 8 16 Little -2 true"
+    );
+    assert_eq!(rt;
+        shown_start(rt.alloc(), command)?.as_str(),
+        "4 0 32 Big 7 false"
+    );
+    Ok(())
+}
+
+/// The names of all interfaces with their ports and the number of their targets, and of all routers with their routes.
+fn shown_site(alloc: Global, site: &Site) -> Result<String, AllocError> {
+    let mut text = String::new(alloc);
+    for interface in site.interfaces.as_slice() {
+        let line = format!(in alloc;
+            "{:?} {} {};",
+            interface.name.as_slice(),
+            interface.port,
+            interface.targets.len()
+        )?;
+        text.push_str(line.as_str())?;
+    }
+    for router in site.routers.as_slice() {
+        let line = format!(in alloc;
+            "{:?} {} {:?}",
+            router.name.as_slice(),
+            router.port,
+            router.routes.as_slice()
+        )?;
+        text.push_str(line.as_str())?;
+    }
+    Ok(text)
+}
+
+#[test]
+fn a_whole_site_has_its_lines(rt: HostRuntime) -> Result<(), Fail> {
+    let site = site_of(
+        rt.alloc(),
+        DEFINITIONS,
+        "TITLE 'Demo';\
+INTERFACE A tcpip_client_interface.rb localhost 8080 8080 10.0 nil LENGTH 0 16 0 1 BIG_ENDIAN 2 nil nil true;\
+  TARGET INST;  TARGET BARE;\
+INTERFACE b tcpip_client_interface.rb localhost 8081 8081 10.0 nil TERMINATED 0x0A 0x0A;\
+  TARGET AUX;\
+ROUTER R tcpip_server_interface.rb 2950 2950 10.0 nil PREIDENTIFIED;\
+  ROUTE B;  ROUTE A",
+    )?;
+    assert_eq!(rt;
+        shown_site(rt.alloc(), &site)?.as_str(),
+        "[65] 8080 2;[66] 8081 1;[82] 2950 [1, 0]"
+    );
+    assert_eq!(rt; site.definitions.telemetry.len(), 4);
+    assert_eq!(rt; site.definitions.commands.len(), 2);
+    Ok(())
+}
