@@ -138,3 +138,10 @@ fn an_earlier_kind_of_fault_hides_a_later_one(rt: HostRuntime) {
         );
     }
 }
+
+#[test]
+fn the_last_one_is_found(rt: HostRuntime) {
+    assert_eq!(rt; last(&[1u8, 2, 3]), Some(&3));
+    assert_eq!(rt; last(&[1u8]), Some(&1));
+    assert_eq!(rt; last::<u8>(&[]), None);
+}
