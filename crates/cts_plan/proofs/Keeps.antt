@@ -13,7 +13,7 @@ use Rattle.cts_plan.specs.declared.line.Detail.{Detail}
 use Rattle.cts_plan.specs.declared.line.Detail.TheVariants as detail
 use Rattle.cts_plan.specs.Connections.{ConnectionData}
 use Rattle.cts_plan.specs.Standing.{StandingData}
-use Rattle.cts_plan.specs.Words.{spells}
+use Rattle.cts_base.specs.Names.{spells}
 use Rattle.cts_plan.specs.Lines.{is_router_open, find_interface}
 use Rattle.cts_plan.specs.Causes.{is_same_kind, has_name_of, is_double, maps, is_target_twice, most, is_too_many, open_routes, routes_in}
 use Rattle.cts_plan.specs.Sound.{interface_name, router_name, interface_targets, router_routes, interface_names, router_names, IsSoundLine}

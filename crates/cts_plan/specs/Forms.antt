@@ -2,7 +2,7 @@
 use Rattle.std.specs.Prelude.{ℕ, ◌+◌, Bool, true, false, not, ◌&&◌, ◌||◌, ◌==◌, nat_lt, List, [], ◌∷◌, length, drop, zip, codes, Option, Some, None, is_none, is_some, if◌then◌else◌}
 use Rattle.std.specs.List.{list_any}
 use Rattle.std.specs.Str.{bytes_eq}
-use Rattle.cts_base.specs.Names.{is_name}
+use Rattle.cts_base.specs.Names.{is_name, spells}
 use Rattle.cts_def.specs.declared.proto_spec.Kind.{Kind}
 use Rattle.cts_def.specs.declared.proto_spec.Kind.TheVariants as kind
 use Rattle.cts_plan.specs.declared.keyword.Keyword.{Keyword}
@@ -11,7 +11,7 @@ use Rattle.cts_plan.specs.declared.keyword.Peer.{Peer}
 use Rattle.cts_plan.specs.declared.keyword.Peer.TheVariants.{Client, Server}
 use Rattle.cts_plan.specs.declared.keyword.Field.{Field}
 use Rattle.cts_plan.specs.declared.keyword.Field.TheVariants as field
-use Rattle.cts_plan.specs.Words.{word, spells, is_nil, flag_of, order_of, way_of, kind_of, port_of, desks_of, size_of, bits_of, per_count_of, max_of, signed_of, is_decimal, delay_of, is_pattern_word, is_empty_pattern}
+use Rattle.cts_plan.specs.Words.{word, is_nil, flag_of, order_of, way_of, kind_of, port_of, desks_of, size_of, bits_of, per_count_of, max_of, signed_of, is_decimal, delay_of, is_pattern_word, is_empty_pattern}
 
 abbrev pub keyword_of : List ℕ → Option Keyword
 keyword_of word =

@@ -2,7 +2,7 @@
 -- that is used: a missing parameter and one that is no such number read as the default.
 use Rattle.std.specs.Prelude.{ℕ, ℤ, pos, ◌+◌, ◌*◌, ◌^◌, ◌/◌, ◌%◌, Bool, true, false, not, ◌&&◌, ◌||◌, ◌==◌, nat_eq, nat_lt, nat_le, List, [], ◌∷◌, ◌++◌, length, map, option_to_list, Option, Some, None, unwrap_or, option_map, if◌then◌else◌}
 use Rattle.cts_base.specs.declared.decimal.Decimal.{Decimal}
-use Rattle.cts_base.specs.Names.{is_name, upper}
+use Rattle.cts_base.specs.Names.{is_name, in_upper_case, spells}
 use Rattle.cts_bits.specs.Places.{is_whole, span}
 use Rattle.cts_bits.specs.declared.order.Order.{Order}
 use Rattle.cts_bits.specs.declared.order.Order.TheVariants.{Big, Little}
@@ -25,7 +25,7 @@ use Rattle.cts_plan.specs.declared.line.Detail.{Detail}
 use Rattle.cts_plan.specs.declared.line.Detail.TheVariants as detail
 use Rattle.cts_plan.specs.Connections.{ConnectionData}
 use Rattle.cts_plan.specs.Steps.{FixedStepData}
-use Rattle.cts_plan.specs.Words.{word, spells, flag_of, order_of, way_of, way_reads, way_writes, port_of, desks_of, size_of, bits_of, per_count_of, max_of, signed_of, delay_of, pattern_of}
+use Rattle.cts_plan.specs.Words.{word, flag_of, order_of, way_of, way_reads, way_writes, port_of, desks_of, size_of, bits_of, per_count_of, max_of, signed_of, delay_of, pattern_of}
 use Rattle.cts_plan.specs.Forms.{peer_of, head_fields, protocol_of, parameters}
 
 abbrev pub flag_or : Bool → List ℕ → Bool
@@ -36,7 +36,7 @@ size word = unwrap_or (size_of word) 0
 
 -- the name that a word writes, in upper case
 abbrev pub name_of : List ℕ → Option (List ℕ)
-name_of word = if is_name word then Some (map upper word) else None
+name_of word = if is_name word then Some (in_upper_case word) else None
 
 -- ---- protocols
 

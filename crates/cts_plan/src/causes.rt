@@ -8,18 +8,18 @@ ghost use Rattle.cts_def.specs.Protocols.{reads_packets, is_packet_kind, spec_da
 ghost use Rattle.cts_plan.specs.Chains.{step_reads, step_reads_packets};
 ghost use Rattle.cts_plan.specs.Causes.{is_interface_open, steps_in, routes_in, open_steps, open_routes, is_outside, is_wrong_protocol_count, is_file_unknown, is_protocol_missing, has_wrong_rest, is_wrong_count, is_unknown_interface, is_length, is_not_number, are_two, are_two_at, is_two_ports, is_other_kind, is_same_kind, has_name_of, is_double, has_target, is_unknown_target, maps, is_target_twice, is_chain_too_long, is_not_last, most, is_too_many, holds, order};
 
-use crate::connection::Connection;
+use crate::connection::{Connection, is_router_open};
 use crate::fault::SiteCause;
 use crate::keyword::{
     Keyword, has_bad_name, has_empty_sync, has_no_number, has_other_choice, has_protocol,
     head_fields, parameter_fields, parameters, peer_of, protocol_of, required,
 };
-use crate::last::{is_router_open, last};
 use crate::line::{Detail, Line, find_interface, is_bad_length, port_at, port_or_one};
 use crate::step::Step;
 use crate::words::{is_nil, word};
 use cts_base::{Bytes, Name};
 use cts_def::{Definitions, Kind, Packet, ProtoSpec, ProtoUse};
+use cts_words::last;
 
 /// The causes of a statement with a known keyword, in the order in which they are tried.
 const ORDER: [SiteCause; 14] = [

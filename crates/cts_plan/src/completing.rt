@@ -10,11 +10,11 @@ ghost use Rattle.cts_plan.specs.Completing.{packets_of, starts_of, is_bad_min_id
 use crate::causes::step_reads;
 use crate::connection::Connection;
 use crate::fault::SiteCause;
-use crate::last::last;
 use crate::step::{FixedStep, Step};
 use cts_base::{Memory, Name};
 use cts_bits::Place;
 use cts_def::{Definitions, Packet, Start};
+use cts_words::last;
 use std::alloc::Global;
 
 /// The packets among which FIXED looks: telemetry packets or commands.

@@ -1,15 +1,14 @@
 // The statements of a site file, and which words follow their keywords.
 ghost use Rattle.std.specs.Prelude.{◌≡◌, ◌+◌, length, drop, zip};
-ghost use Rattle.std.specs.List.{list_any, list_all};
-ghost use Rattle.cts_base.specs.Names.{is_name_byte, is_name};
+ghost use Rattle.std.specs.List.{list_any};
 ghost use Rattle.cts_plan.specs.Words.{is_nil};
 ghost use Rattle.cts_plan.specs.Forms.{keyword_of, peer_of, opening_fields, head_fields, parameter_fields, required, takes_protocol, has_protocol, protocol_of, parameters, fields_of, is_other_choice, is_bad_name, is_no_number, is_empty_sync, any_field};
 
 use crate::words::{
     bits_of, delay_of, desks_of, flag_of, is_decimal, is_empty_pattern, is_nil, is_pattern_word,
-    kind_of, max_of, order_of, per_count_of, port_of, signed_of, size_of, spells, way_of, word,
+    kind_of, max_of, order_of, per_count_of, port_of, signed_of, size_of, way_of, word,
 };
-use cts_base::Bytes;
+use cts_base::{Bytes, is_name, spells};
 use cts_def::Kind;
 
 /// The keyword of a statement.
@@ -294,24 +293,6 @@ fn fields_of(kind: Option<Kind>) -> &'static [Field]
         Some(kind) => parameter_fields(kind),
         None => &[],
     }
-}
-
-fn has_name_bytes(word: &[u8]) -> bool
-    ensures { result ≡ list_all is_name_byte word.now }
-{
-    word.iter().all(|c| is_name_byte(*c))
-}
-
-fn is_name_byte(c: u8) -> bool
-    ensures { result ≡ is_name_byte c }
-{
-    c.is_ascii_alphanumeric() || c == b'_'
-}
-
-fn is_name(word: &[u8]) -> bool
-    ensures { result ≡ is_name word.now }
-{
-    1 <= word.len() && word.len() <= 255 && has_name_bytes(word)
 }
 
 impl Field {

@@ -11,7 +11,6 @@ mod draft;
 mod fault;
 mod finishing;
 mod keyword;
-mod last;
 mod laws;
 mod line;
 mod reading;

@@ -9,15 +9,16 @@ ghost use Rattle.cts_plan.specs.Sound.{IsSoundLine, IsAlwaysSound};
 
 use crate::connection::Connection;
 use crate::keyword::{Keyword, Peer, parameters, peer_of, protocol_of};
-use crate::last::{is_router_open, last};
+use crate::connection::is_router_open;
 use crate::step::{FixedStep, Step};
 use crate::words::{
     Way, bits_of, delay_of, desks_of, flag_of, max_of, order_of, pattern_of, per_count_of, port_of,
-    signed_of, size_of, spells, way_of, word,
+    signed_of, size_of, way_of, word,
 };
-use cts_base::{Bytes, Decimal, List, Memory, Name, NameFault};
+use cts_base::{Bytes, Decimal, List, Memory, Name, NameFault, spells};
 use cts_bits::{Order, Place};
 use cts_def::{Kind, ProtoSpec, ProtoUse};
+use cts_words::last;
 use std::alloc::Global;
 
 /// Five seconds, in parts of 10^-12.
