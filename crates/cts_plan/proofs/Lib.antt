@@ -1,5 +1,8 @@
 pub mod Lists
 pub mod Chained
+pub mod ReadySteps
+pub mod Settled
+pub mod Numbers
 pub mod Finished
 pub mod More
 pub mod Keeps

@@ -2,7 +2,7 @@
 -- that is used: a missing parameter and one that is no such number read as the default.
 use Rattle.std.specs.Prelude.{ℕ, ℤ, pos, ◌+◌, ◌*◌, ◌^◌, ◌/◌, ◌%◌, Bool, true, false, not, ◌&&◌, ◌||◌, ◌==◌, nat_eq, nat_lt, nat_le, List, [], ◌∷◌, ◌++◌, length, map, option_to_list, Option, Some, None, unwrap_or, option_map, if◌then◌else◌}
 use Rattle.cts_base.specs.declared.decimal.Decimal.{Decimal}
-use Rattle.cts_base.specs.Names.{is_name, in_upper_case, spells}
+use Rattle.cts_base.specs.Names.{is_name, in_upper_case}
 use Rattle.cts_bits.specs.Places.{is_whole, span}
 use Rattle.cts_bits.specs.declared.order.Order.{Order}
 use Rattle.cts_bits.specs.declared.order.Order.TheVariants.{Big, Little}
@@ -10,7 +10,6 @@ use Rattle.cts_def.specs.declared.proto_spec.Kind.{Kind}
 use Rattle.cts_def.specs.declared.proto_spec.Kind.TheVariants as kind
 use Rattle.cts_def.specs.Starts.{PlaceData}
 use Rattle.cts_def.specs.Protocols.{SpecData, Burst, Length, Terminated, Preidentified}
-use Rattle.cts_words.specs.Blocks.{last_of}
 use Rattle.cts_plan.specs.declared.keyword.Keyword.{Keyword}
 use Rattle.cts_plan.specs.declared.keyword.Keyword.TheVariants as keyword
 use Rattle.cts_plan.specs.declared.keyword.Peer.{Peer}
@@ -170,22 +169,6 @@ opening_of n k ws name =
       logged = true;
     }
 
--- the number of the interface whose name this word is and its targets, where n interfaces stand before these
-abbrev pub find_interface : ℕ → List ConnectionData → List ℕ → Option (ℕ × List (List ℕ))
-find_interface n [] word = None
-find_interface n (c ∷ cs) word =
-    if c.is_router then find_interface n cs word
-    else if spells word c.name then Some (n, c.targets)
-    else find_interface (n + 1) cs word
-
-abbrev pub is_router_open : Option ConnectionData → Bool
-is_router_open None = false
-is_router_open (Some c) = c.is_router
-
--- the interface that a ROUTE statement names, among those that stand
-abbrev pub routed : List ConnectionData → List (List ℕ) → Option (ℕ × List (List ℕ))
-routed cs ws = find_interface 0 cs (word ws 0)
-
 -- ---- all statements
 
 abbrev pub said_or_nothing : {X : Type 0} → (X → Line) → Option X → Line
@@ -211,22 +194,20 @@ protocol_line n ws =
 abbrev pub delay_line : List (List ℕ) → Line
 delay_line ws = said_or_nothing (λ delay. line.Detail (detail.Delay delay)) (delay_of (word ws 0))
 
--- nothing where no router is open
-abbrev pub route_line : List ConnectionData → List (List ℕ) → Line
-route_line cs ws =
-    if is_router_open (last_of cs) then said_or_nothing (λ r. line.Detail (detail.Route r.0 r.1)) (routed cs ws) else line.Nothing
+abbrev pub route_line : List (List ℕ) → Line
+route_line ws = said_or_nothing (λ name. line.Detail (detail.Route name)) (name_of (word ws 0))
 
--- What a statement of this number says behind the interfaces and routers that stand.
-abbrev pub line_of : List ConnectionData → ℕ → Keyword → List (List ℕ) → Line
-line_of cs n keyword.Title ws = line.Nothing
-line_of cs n keyword.Port ws = port_line ws
-line_of cs n keyword.Desks ws = desks_line ws
-line_of cs n keyword.Interface ws = opening_line n keyword.Interface ws
-line_of cs n keyword.Router ws = opening_line n keyword.Router ws
-line_of cs n keyword.Target ws = target_line ws
-line_of cs n keyword.Protocol ws = protocol_line n ws
-line_of cs n keyword.ReconnectDelay ws = delay_line ws
-line_of cs n keyword.DontReconnect ws = line.Detail detail.DontReconnect
-line_of cs n keyword.Log ws = line.Detail (detail.Logged true)
-line_of cs n keyword.DontLog ws = line.Detail (detail.Logged false)
-line_of cs n keyword.Route ws = route_line cs ws
+-- What a statement of this number says.
+abbrev pub line_of : ℕ → Keyword → List (List ℕ) → Line
+line_of n keyword.Title ws = line.Nothing
+line_of n keyword.Port ws = port_line ws
+line_of n keyword.Desks ws = desks_line ws
+line_of n keyword.Interface ws = opening_line n keyword.Interface ws
+line_of n keyword.Router ws = opening_line n keyword.Router ws
+line_of n keyword.Target ws = target_line ws
+line_of n keyword.Protocol ws = protocol_line n ws
+line_of n keyword.ReconnectDelay ws = delay_line ws
+line_of n keyword.DontReconnect ws = line.Detail detail.DontReconnect
+line_of n keyword.Log ws = line.Detail (detail.Logged true)
+line_of n keyword.DontLog ws = line.Detail (detail.Logged false)
+line_of n keyword.Route ws = route_line ws

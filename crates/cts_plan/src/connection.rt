@@ -1,7 +1,4 @@
 // Interfaces and routers as their statements give them.
-ghost use Rattle.std.specs.Prelude.{◌≡◌};
-ghost use Rattle.std.specs.Option.{option_copied};
-ghost use Rattle.cts_plan.specs.Lines.{is_router_open};
 
 use crate::step::Step;
 use cts_base::{Bytes, Decimal, List, Name};
@@ -24,10 +21,10 @@ pub struct Connection {
     pub port: u16,
     /// Its protocols so far.
     pub steps: List<Step>,
-    /// The targets of the interface, or those of all routed interfaces.
+    /// The targets of the interface.
     pub targets: List<Name>,
-    /// The numbers of the routed interfaces.
-    pub routes: List<u32>,
+    /// The names of the interfaces that are routed to the router.
+    pub routes: List<Name>,
     /// How many seconds it waits before it connects again.
     pub delay: Decimal,
     /// Whether it connects again.
@@ -44,14 +41,4 @@ impl Model for Connection {
     ghost view = { λ c. record { line = c.line; name = c.name; is_router = c.is_router; host = c.host; serves = c.serves; port = c.port; steps = c.steps; targets = c.targets; routes = c.routes; delay = c.delay; reconnect = c.reconnect; logged = c.logged } };
 
     ghost invariant = { λ c. IsSoundConnection (record { line = c.line; name = c.name; is_router = c.is_router; host = c.host; serves = c.serves; port = c.port; steps = c.steps; targets = c.targets; routes = c.routes; delay = c.delay; reconnect = c.reconnect; logged = c.logged }) };
-}
-
-/// Whether the last interface or router, if there is one, is a router.
-pub fn is_router_open(connection: Option<&Connection>) -> bool
-    ensures { result ≡ is_router_open (option_copied connection.entry) }
-{
-    match connection {
-        Some(connection) => connection.is_router,
-        None => false,
-    }
 }

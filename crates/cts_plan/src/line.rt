@@ -1,24 +1,22 @@
 // What a statement says.
-ghost use Rattle.std.specs.Prelude.{◌≡◌, ◌≤◌, ◌+◌, ◌<◌, false, length, option_to_list, option_map, unwrap_or, pos, IfOk, IsTrue};
+ghost use Rattle.std.specs.Prelude.{◌≡◌, ◌≤◌, length, option_to_list, option_map, unwrap_or, pos, IfOk, IsTrue};
 ghost use Rattle.cts_plan.specs.Chains.{are_packets_last};
 ghost use Rattle.cts_plan.specs.Words.{word, signed_of, per_count_of};
-ghost use Rattle.cts_plan.specs.Lines.{flag_or, size, name_of, begins_before_start, is_bad_place, length_offset, length_bits, length_order, is_bad_length, burst_of, fixed_of, length_of, terminated_of, preidentified_of, ready, step_of, step_in, step_at, is_router, is_server, port_at, host_of, port_or_one, opening_of, find_interface, place_at, opening_line, target_line, protocol_line, route_line, port_line, desks_line, delay_line, line_of};
+ghost use Rattle.cts_plan.specs.Lines.{flag_or, size, name_of, begins_before_start, is_bad_place, length_offset, length_bits, length_order, is_bad_length, burst_of, fixed_of, length_of, terminated_of, preidentified_of, ready, step_of, step_in, step_at, is_router, is_server, port_at, host_of, port_or_one, opening_of, place_at, opening_line, target_line, protocol_line, route_line, port_line, desks_line, delay_line, line_of};
 ghost use Rattle.cts_bits.specs.Places.{is_whole};
 ghost use Rattle.cts_def.specs.Starts.{place_data};
-ghost use Rattle.cts_plan.specs.Sound.{IsSoundLine, IsAlwaysSound};
+ghost use Rattle.cts_plan.specs.Sound.{IsSoundLine};
 
 use crate::connection::Connection;
 use crate::keyword::{Keyword, Peer, parameters, peer_of, protocol_of};
-use crate::connection::is_router_open;
 use crate::step::{FixedStep, Step};
 use crate::words::{
     Way, bits_of, delay_of, desks_of, flag_of, max_of, order_of, pattern_of, per_count_of, port_of,
     signed_of, size_of, way_of, word,
 };
-use cts_base::{Bytes, Decimal, List, Memory, Name, NameFault, spells};
+use cts_base::{Bytes, Decimal, List, Memory, Name, NameFault};
 use cts_bits::{Order, Place};
 use cts_def::{Kind, ProtoSpec, ProtoUse};
-use cts_words::last;
 use std::alloc::Global;
 
 /// Five seconds, in parts of 10^-12.
@@ -46,8 +44,8 @@ pub enum Detail {
     Target(Name),
     /// A further protocol.
     Step(Step),
-    /// The number of an interface that is routed, and its targets.
-    Route(u32, List<Name>),
+    /// The name of an interface that is routed to the router.
+    Route(Name),
     /// How many seconds the interface waits.
     Delay(Decimal),
     /// The interface does not connect again.
@@ -394,39 +392,9 @@ fn opening_of(
     })
 }
 
-/// The number of the interface whose name a word is, and the interface.
-pub fn find_interface<'a>(
-    connections: &'a [Connection],
-    word: &[u8],
-) -> Option<(u32, &'a Connection)>
-    requires { length connections.now ≤ 20 }
-    ensures { option_map (λ p. (p.0, p.1.now.targets)) result ≡ find_interface 0 connections.now word.now }
-{
-    let mut number: u32 = 0;
-    for connection in connections {
-        if !connection.is_router {
-            if spells(word, connection.name.as_slice()) {
-                return Some((number, connection));
-            }
-            number += 1;
-        }
-    }
-    None
-}
-
-fn copied(alloc: Global, names: &[Name]) -> Result<List<Name>, Memory>
-    ensures { IfOk result (λ copy. copy ≡ names.now) }
-{
-    let mut copy = List::new(alloc);
-    for name in names {
-        copy.push(name.clone()?)?;
-    }
-    Ok(copy)
-}
-
 fn opening_line(alloc: Global, line: u32, keyword: Keyword, words: &[Bytes]) -> Result<Line, Memory>
     ensures value { IfOk result (λ l. l ≡ opening_line line keyword words.now) }
-    ensures sound { IfOk result (λ l. IsAlwaysSound l) }
+    ensures sound { IfOk result (λ l. IsSoundLine l) }
 {
     match name_of(alloc, word(words, 0))? {
         Some(name) => Ok(Line::Opening(opening_of(alloc, line, keyword, words, name)?)),
@@ -436,7 +404,7 @@ fn opening_line(alloc: Global, line: u32, keyword: Keyword, words: &[Bytes]) -> 
 
 fn target_line(alloc: Global, words: &[Bytes]) -> Result<Line, Memory>
     ensures value { IfOk result (λ l. l ≡ target_line words.now) }
-    ensures sound { IfOk result (λ l. IsAlwaysSound l) }
+    ensures sound { IfOk result (λ l. IsSoundLine l) }
 {
     match name_of(alloc, word(words, 0))? {
         Some(name) => Ok(Line::Detail(Detail::Target(name))),
@@ -446,7 +414,7 @@ fn target_line(alloc: Global, words: &[Bytes]) -> Result<Line, Memory>
 
 fn protocol_line(alloc: Global, line: u32, words: &[Bytes]) -> Result<Line, Memory>
     ensures value { IfOk result (λ l. l ≡ protocol_line line words.now) }
-    ensures sound { IfOk result (λ l. IsAlwaysSound l) }
+    ensures sound { IfOk result (λ l. IsSoundLine l) }
 {
     let way = way_of(word(words, 0)).unwrap_or(Way::ReadWrite);
     match step_at(alloc, line, way, Keyword::Protocol, words)? {
@@ -455,26 +423,19 @@ fn protocol_line(alloc: Global, line: u32, words: &[Bytes]) -> Result<Line, Memo
     }
 }
 
-fn route_line(alloc: Global, connections: &[Connection], words: &[Bytes]) -> Result<Line, Memory>
-    requires { length connections.now ≤ 20 }
-    ensures value { IfOk result (λ l. l ≡ route_line connections.now words.now) }
-    ensures sound { IfOk result (λ l. IsSoundLine connections.now l) }
+fn route_line(alloc: Global, words: &[Bytes]) -> Result<Line, Memory>
+    ensures value { IfOk result (λ l. l ≡ route_line words.now) }
+    ensures sound { IfOk result (λ l. IsSoundLine l) }
 {
-    if !is_router_open(last(connections)) {
-        return Ok(Line::Nothing);
-    }
-    match find_interface(connections, word(words, 0)) {
-        Some((number, interface)) => {
-            let targets = copied(alloc, interface.targets.as_slice())?;
-            Ok(Line::Detail(Detail::Route(number, targets)))
-        }
+    match name_of(alloc, word(words, 0))? {
+        Some(name) => Ok(Line::Detail(Detail::Route(name))),
         None => Ok(Line::Nothing),
     }
 }
 
 fn port_line(words: &[Bytes]) -> Line
     ensures value { result ≡ port_line words.now }
-    ensures sound { IsAlwaysSound result }
+    ensures sound { IsSoundLine result }
 {
     match port_of(word(words, 1)) {
         Some(port) => Line::ApiPort(port),
@@ -484,7 +445,7 @@ fn port_line(words: &[Bytes]) -> Line
 
 fn desks_line(words: &[Bytes]) -> Line
     ensures value { result ≡ desks_line words.now }
-    ensures sound { IsAlwaysSound result }
+    ensures sound { IsSoundLine result }
 {
     match desks_of(word(words, 0)) {
         Some(desks) => Line::Desks(desks),
@@ -494,7 +455,7 @@ fn desks_line(words: &[Bytes]) -> Line
 
 fn delay_line(words: &[Bytes]) -> Line
     ensures value { result ≡ delay_line words.now }
-    ensures sound { IsAlwaysSound result }
+    ensures sound { IsSoundLine result }
 {
     match delay_of(word(words, 0)) {
         Some(delay) => Line::Detail(Detail::Delay(delay)),
@@ -502,17 +463,15 @@ fn delay_line(words: &[Bytes]) -> Line
     }
 }
 
-/// What the words of a statement say behind the interfaces and routers that stand.
+/// What the words of a statement say.
 pub fn line_of(
     alloc: Global,
-    connections: &[Connection],
     line: u32,
     keyword: Keyword,
     words: &[Bytes],
 ) -> Result<Line, Memory>
-    requires { length connections.now ≤ 20 }
-    ensures value { IfOk result (λ l. l ≡ line_of connections.now line keyword words.now) }
-    ensures sound { IfOk result (λ l. IsSoundLine connections.now l) }
+    ensures value { IfOk result (λ l. l ≡ line_of line keyword words.now) }
+    ensures sound { IfOk result (λ l. IsSoundLine l) }
 {
     match keyword {
         Keyword::Title => Ok(Line::Nothing),
@@ -526,6 +485,6 @@ pub fn line_of(
         Keyword::DontReconnect => Ok(Line::Detail(Detail::DontReconnect)),
         Keyword::Log => Ok(Line::Detail(Detail::Logged(true))),
         Keyword::DontLog => Ok(Line::Detail(Detail::Logged(false))),
-        Keyword::Route => route_line(alloc, connections, words),
+        Keyword::Route => route_line(alloc, words),
     }
 }
