@@ -8,4 +8,5 @@ pub mod More
 pub mod Keeps
 pub mod Runs
 pub mod Heads
+pub mod FirstRefused
 pub mod Empty

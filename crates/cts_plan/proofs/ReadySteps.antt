@@ -13,7 +13,7 @@ use Rattle.cts_plan.specs.declared.step.Step.{Step}
 use Rattle.cts_plan.specs.Chains.{is_ready}
 use Rattle.cts_plan.specs.Words.{word, pattern_of}
 use Rattle.cts_plan.specs.Forms.{protocol_of, parameters}
-use Rattle.cts_plan.specs.Lines.{place_at, length_offset, length_bits, length_order, length_with, terminated_of, ready, step_of, step_in, step_at}
+use Rattle.cts_plan.specs.Lines.{length_place, length_with, terminated_of, ready, step_of, step_in, step_at}
 
 abbrev steps_are_ready : Option Step → Type 0
 steps_are_ready o = list_all is_ready (option_to_list o) ≡ true
@@ -29,7 +29,7 @@ ready_unless false way t = refl
 ready_step : (n : ℕ) (way : Way) (k : Kind) (ws : List (List ℕ)) → steps_are_ready (step_of n way k ws)
 ready_step n way kind.Burst ws = refl
 ready_step n way kind.Fixed ws = refl
-ready_step n way kind.Length ws = ready_length way ws (place_at (length_offset ws) (length_bits ws) (length_order ws))
+ready_step n way kind.Length ws = ready_length way ws (length_place ws)
 ready_step n way kind.Terminated ws = ready_unless (nat_eq (length (pattern_of (word ws 1))) 0) way _
 ready_step n way kind.Preidentified ws = refl
 

@@ -1,6 +1,6 @@
 -- What a statement says, read from its words. Of words that are not what their fields ask for, the reading says nothing
 -- that is used: a missing parameter and one that is no such number read as the default.
-use Rattle.std.specs.Prelude.{ℕ, ℤ, pos, ◌+◌, ◌*◌, ◌^◌, ◌/◌, ◌%◌, Bool, true, false, not, ◌&&◌, ◌||◌, ◌==◌, nat_eq, nat_lt, nat_le, List, [], ◌∷◌, ◌++◌, length, map, option_to_list, Option, Some, None, unwrap_or, option_map, if◌then◌else◌}
+use Rattle.std.specs.Prelude.{ℕ, ℤ, pos, ◌+◌, ◌*◌, ◌^◌, ◌/◌, ◌%◌, Bool, true, false, not, ◌&&◌, ◌||◌, ◌==◌, nat_eq, nat_lt, nat_le, List, [], ◌∷◌, ◌++◌, length, map, option_to_list, Option, Some, None, unwrap_or, option_map, is_none, if◌then◌else◌}
 use Rattle.cts_base.specs.declared.decimal.Decimal.{Decimal}
 use Rattle.cts_base.specs.Names.{is_name, in_upper_case}
 use Rattle.cts_bits.specs.Places.{is_whole, span}
@@ -44,7 +44,7 @@ abbrev pub begins_before_start : ℕ → ℕ → Order → Bool
 begins_before_start offset bits Big = false
 begins_before_start offset bits Little = not (is_whole offset bits) && nat_lt (offset / 8 + 1) (span offset bits)
 
--- no length field has this place
+-- no field has this place
 abbrev pub is_bad_place : ℕ → ℕ → Order → Bool
 is_bad_place offset bits order =
     bits == 0 || nat_lt 64 bits || nat_lt 8388608 (offset + bits) || begins_before_start offset bits order
@@ -58,13 +58,16 @@ length_bits ws = unwrap_or (bits_of (word ws 1)) 16
 abbrev pub length_order : List (List ℕ) → Order
 length_order ws = unwrap_or (order_of (word ws 4)) Big
 
-abbrev pub is_bad_length : List (List ℕ) → Bool
-is_bad_length ws = is_bad_place (length_offset ws) (length_bits ws) (length_order ws)
-
 -- the place of a length field, if there is such a one
 abbrev pub place_at : ℕ → ℕ → Order → Option PlaceData
 place_at offset bits order =
     if is_bad_place offset bits order then None else Some (record { offset = offset; bits = bits; order = order })
+
+abbrev pub length_place : List (List ℕ) → Option PlaceData
+length_place ws = place_at (length_offset ws) (length_bits ws) (length_order ws)
+
+abbrev pub is_bad_length : List (List ℕ) → Bool
+is_bad_length ws = is_none (length_place ws)
 
 abbrev pub burst_of : List (List ℕ) → SpecData
 burst_of ws = Burst (record { discard = size (word ws 0); sync = pattern_of (word ws 1); fill = flag_or false (word ws 2) })
@@ -94,7 +97,7 @@ length_with ws place = Length (record {
 })
 
 abbrev pub length_of : List (List ℕ) → Option SpecData
-length_of ws = option_map (length_with ws) (place_at (length_offset ws) (length_bits ws) (length_order ws))
+length_of ws = option_map (length_with ws) (length_place ws)
 
 abbrev pub terminated_of : List (List ℕ) → Option SpecData
 terminated_of ws = if nat_eq (length (pattern_of (word ws 1))) 0 then None else Some (Terminated (record {

@@ -18,7 +18,7 @@ mod step;
 mod words;
 
 pub use fault::{SiteCause, SiteFault};
-pub use laws::connections_are_of_their_lines;
+pub use laws::{connections_are_of_their_lines, first_statement_is_refused};
 pub use reading::read_site;
 
 #[cfg(test)]

@@ -2,8 +2,7 @@
 ghost use Rattle.std.specs.Prelude.{◌≡◌, ◌≤◌, length, option_to_list, option_map, unwrap_or, pos, IfOk, IsTrue};
 ghost use Rattle.cts_plan.specs.Chains.{are_packets_last};
 ghost use Rattle.cts_plan.specs.Words.{word, signed_of, per_count_of};
-ghost use Rattle.cts_plan.specs.Lines.{flag_or, size, name_of, begins_before_start, is_bad_place, length_offset, length_bits, length_order, is_bad_length, burst_of, fixed_of, length_of, terminated_of, preidentified_of, ready, step_of, step_in, step_at, is_router, is_server, port_at, host_of, port_or_one, opening_of, place_at, opening_line, target_line, protocol_line, route_line, port_line, desks_line, delay_line, line_of};
-ghost use Rattle.cts_bits.specs.Places.{is_whole};
+ghost use Rattle.cts_plan.specs.Lines.{flag_or, size, name_of, length_offset, length_bits, length_order, length_place, is_bad_length, burst_of, fixed_of, length_of, terminated_of, preidentified_of, ready, step_of, step_in, step_at, is_router, is_server, port_at, host_of, port_or_one, opening_of, place_at, opening_line, target_line, protocol_line, route_line, port_line, desks_line, delay_line, line_of};
 ghost use Rattle.cts_def.specs.Starts.{place_data};
 ghost use Rattle.cts_plan.specs.Sound.{IsSoundLine};
 
@@ -15,7 +14,7 @@ use crate::words::{
     signed_of, size_of, way_of, word,
 };
 use cts_base::{Bytes, Decimal, List, Memory, Name, NameFault};
-use cts_bits::{Order, Place};
+use cts_bits::{Order, Place, PlaceFault};
 use cts_def::{Kind, ProtoSpec, ProtoUse};
 use std::alloc::Global;
 
@@ -136,57 +135,32 @@ fn length_order(words: &[Bytes]) -> Order
     order_of(word(words, 4)).unwrap_or(Order::Big)
 }
 
-fn begins_before_start(offset: u32, bits: u32, order: Order) -> bool
-    requires some { 1 ≤ bits }
-    requires few { bits ≤ 64 }
-    ensures { result ≡ begins_before_start offset bits order }
+// The place of a length field, if there is such a one.
+fn place_at(offset: u32, bits: u32, order: Order) -> Option<Place>
+    ensures { option_map place_data result ≡ place_at offset bits order }
 {
-    match order {
-        Order::Big => false,
-        Order::Little => {
-            !is_whole(offset, bits) && offset / 8 + 1 < (offset % 8 + bits - 1) / 8 + 1
-        }
+    match Place::new(offset, bits, order) {
+        Ok(place) => Some(place),
+        Err(PlaceFault::Size) => None,
+        Err(PlaceFault::BeforeStart) => None,
     }
 }
 
-fn is_whole(offset: u32, bits: u32) -> bool
-    ensures { result ≡ is_whole offset bits }
+fn length_place(words: &[Bytes]) -> Option<Place>
+    ensures { option_map place_data result ≡ length_place words.now }
 {
-    offset % 8 == 0 && (bits == 8 || bits == 16 || bits == 32 || bits == 64)
-}
-
-fn is_bad_place(offset: u32, bits: u32, order: Order) -> bool
-    requires offset { offset ≤ 8388608 }
-    requires bits { bits ≤ 8388608 }
-    ensures { result ≡ is_bad_place offset bits order }
-{
-    bits == 0 || 64 < bits || 8_388_608 < offset + bits || begins_before_start(offset, bits, order)
-}
-
-/// Whether these parameters of LENGTH have a place that no field has.
-pub fn is_bad_length(words: &[Bytes]) -> bool
-    ensures { result ≡ is_bad_length words.now }
-{
-    is_bad_place(
+    place_at(
         length_offset(words),
         length_bits(words),
         length_order(words),
     )
 }
 
-// The place of a length field, if there is such a one.
-fn place_at(offset: u32, bits: u32, order: Order) -> Option<Place>
-    requires offset { offset ≤ 8388608 }
-    requires bits { bits ≤ 8388608 }
-    ensures { option_map place_data result ≡ place_at offset bits order }
+/// Whether these parameters of LENGTH have a place that no field has.
+pub fn is_bad_length(words: &[Bytes]) -> bool
+    ensures { result ≡ is_bad_length words.now }
 {
-    if is_bad_place(offset, bits, order) {
-        return None;
-    }
-    match Place::new(offset, bits, order) {
-        Ok(place) => Some(place),
-        Err(_) => None,
-    }
+    length_place(words).is_none()
 }
 
 fn signed_or_zero(word: &[u8]) -> i32
@@ -209,11 +183,7 @@ fn per_count(word: &[u8]) -> u32
 fn length_of(alloc: Global, way: Way, words: &[Bytes]) -> Result<Option<Step>, Memory>
     ensures { IfOk result (λ s. s ≡ option_map (ready way) (length_of words.now)) }
 {
-    let Some(place) = place_at(
-        length_offset(words),
-        length_bits(words),
-        length_order(words),
-    ) else {
+    let Some(place) = length_place(words) else {
         return Ok(None);
     };
     Ok(Some(Step::Ready(ProtoUse {
