@@ -1,6 +1,7 @@
 -- Each cause, judged by what stands before a statement and by the statement.
-use Rattle.std.specs.Prelude.{ℕ, ◌+◌, Bool, true, false, not, ◌||◌, ◌&&◌, ◌==◌, nat_lt, nat_le, List, [], ◌∷◌, length, Option, Some, None, is_none, find, codes, if◌then◌else◌}
+use Rattle.std.specs.Prelude.{ℕ, ◌+◌, Bool, true, false, not, ◌||◌, ◌&&◌, nat_eq, nat_lt, nat_le, List, [], ◌∷◌, length, Option, Some, None, is_none, find, codes, if◌then◌else◌}
 use Rattle.std.specs.List.{list_any, filter}
+use Rattle.std.specs.Option.{option_eq}
 use Rattle.cts_base.specs.Names.{spells}
 use Rattle.cts_def.specs.declared.proto_spec.Kind.{Kind}
 use Rattle.cts_def.specs.declared.proto_spec.Kind.TheVariants as kind
@@ -16,11 +17,11 @@ use Rattle.cts_plan.specs.declared.line.Line.TheVariants as line
 use Rattle.cts_plan.specs.declared.line.Detail.TheVariants as detail
 use Rattle.cts_plan.specs.declared.fault.SiteCause.{SiteCause}
 use Rattle.cts_plan.specs.declared.fault.SiteCause.TheVariants.{UnknownKeyword, WrongCount, BadName, NotNumber, DoubleName, OutsideInterface, UnknownTarget, TargetTwice, UnknownInterface, TwoPorts, ProtocolKind, ChainTooLong, NotLast, MinIdSize, VariableLength, EmptySync, TooMany}
-use Rattle.cts_plan.specs.Words.{word, is_nil}
-use Rattle.cts_plan.specs.Forms.{peer_of, head_fields, required, parameter_fields, has_protocol, protocol_of, parameters, is_other_choice, is_bad_name, is_no_number, is_empty_sync, any_field}
+use Rattle.cts_plan.specs.Words.{word, is_nil, port_of}
+use Rattle.cts_plan.specs.Forms.{role_of, head_fields, required, parameter_fields, has_protocol, protocol_of, parameters, is_other_choice, is_bad_name, is_no_number, is_empty_sync, any_field}
 use Rattle.cts_plan.specs.Chains.{step_reads, step_reads_packets}
 use Rattle.cts_plan.specs.Connections.{ConnectionData}
-use Rattle.cts_plan.specs.Lines.{port_at, port_or_one, is_bad_length}
+use Rattle.cts_plan.specs.Lines.{port_at, is_bad_length}
 
 -- ---- what stands
 
@@ -78,8 +79,8 @@ is_wrong_protocol_count (Some kind) ws = nat_lt (length ws) (required kind) || n
 
 -- behind a file name that is not in the table, words are not counted
 abbrev pub is_file_unknown : Keyword → List (List ℕ) → Bool
-is_file_unknown keyword.Interface ws = is_none (peer_of keyword.Interface ws)
-is_file_unknown keyword.Router ws = is_none (peer_of keyword.Router ws)
+is_file_unknown keyword.Interface ws = is_none (role_of keyword.Interface ws)
+is_file_unknown keyword.Router ws = is_none (role_of keyword.Router ws)
 is_file_unknown _ ws = false
 
 -- a PROTOCOL statement has a protocol
@@ -115,14 +116,14 @@ is_not_number k ws = any_field is_no_number k ws || (is_length (protocol_of k ws
 
 -- two port words that differ, or of which one is `nil`
 abbrev pub are_two : List ℕ → List ℕ → Bool
-are_two a b = is_nil a || is_nil b || not (port_or_one a == port_or_one b)
+are_two a b = is_nil a || is_nil b || not (option_eq nat_eq (port_of a) (port_of b))
 
 abbrev pub are_two_at : List (List ℕ) → ℕ → Bool
 are_two_at ws at = are_two (word ws at) (word ws (at + 1))
 
 abbrev pub is_two_ports : Keyword → List (List ℕ) → Bool
-is_two_ports keyword.Interface ws = are_two_at ws (port_at (peer_of keyword.Interface ws))
-is_two_ports keyword.Router ws = are_two_at ws (port_at (peer_of keyword.Router ws))
+is_two_ports keyword.Interface ws = are_two_at ws (port_at (role_of keyword.Interface ws))
+is_two_ports keyword.Router ws = are_two_at ws (port_at (role_of keyword.Router ws))
 is_two_ports _ ws = false
 
 abbrev pub is_other_kind : Keyword → List (List ℕ) → Bool

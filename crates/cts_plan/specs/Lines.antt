@@ -12,8 +12,8 @@ use Rattle.cts_def.specs.Starts.{PlaceData}
 use Rattle.cts_def.specs.Protocols.{SpecData, Burst, Length, Terminated, Preidentified}
 use Rattle.cts_plan.specs.declared.keyword.Keyword.{Keyword}
 use Rattle.cts_plan.specs.declared.keyword.Keyword.TheVariants as keyword
-use Rattle.cts_plan.specs.declared.keyword.Peer.{Peer}
-use Rattle.cts_plan.specs.declared.keyword.Peer.TheVariants.{Client, Server}
+use Rattle.cts_plan.specs.declared.keyword.Role.{Role}
+use Rattle.cts_plan.specs.declared.keyword.Role.TheVariants.{Client, Server}
 use Rattle.cts_plan.specs.declared.words.Way.{Way}
 use Rattle.cts_plan.specs.declared.words.Way.TheVariants.{ReadWrite}
 use Rattle.cts_plan.specs.declared.step.Step.{Step}
@@ -25,13 +25,13 @@ use Rattle.cts_plan.specs.declared.line.Detail.TheVariants as detail
 use Rattle.cts_plan.specs.Connections.{ConnectionData}
 use Rattle.cts_plan.specs.Steps.{FixedStepData}
 use Rattle.cts_plan.specs.Words.{word, flag_of, order_of, way_of, way_reads, way_writes, port_of, desks_of, size_of, bits_of, per_count_of, max_of, signed_of, delay_of, pattern_of}
-use Rattle.cts_plan.specs.Forms.{peer_of, head_fields, protocol_of, parameters}
+use Rattle.cts_plan.specs.Forms.{role_of, head_fields, protocol_of, parameters}
 
 abbrev pub flag_or : Bool → List ℕ → Bool
 flag_or default word = unwrap_or (flag_of word) default
 
-abbrev pub size : List ℕ → ℕ
-size word = unwrap_or (size_of word) 0
+abbrev pub size_or_zero : List ℕ → ℕ
+size_or_zero word = unwrap_or (size_of word) 0
 
 -- the name that a word writes, in upper case
 abbrev pub name_of : List ℕ → Option (List ℕ)
@@ -70,13 +70,13 @@ abbrev pub is_bad_length : List (List ℕ) → Bool
 is_bad_length ws = is_none (length_place ws)
 
 abbrev pub burst_of : List (List ℕ) → SpecData
-burst_of ws = Burst (record { discard = size (word ws 0); sync = pattern_of (word ws 1); fill = flag_or false (word ws 2) })
+burst_of ws = Burst (record { discard = size_or_zero (word ws 0); sync = pattern_of (word ws 1); fill = flag_or false (word ws 2) })
 
 abbrev pub fixed_of : ℕ → Way → List (List ℕ) → FixedStepData
 fixed_of n way ws = record {
   line = n;
-  min_id = size (word ws 0);
-  discard = size (word ws 1);
+  min_id = size_or_zero (word ws 0);
+  discard = size_or_zero (word ws 1);
   sync = pattern_of (word ws 2);
   telemetry = flag_or true (word ws 3);
   fill = flag_or false (word ws 4);
@@ -90,7 +90,7 @@ length_with ws place = Length (record {
   place = place;
   value_offset = unwrap_or (signed_of (word ws 2)) (pos 0);
   per_count = unwrap_or (per_count_of (word ws 3)) 1;
-  discard = size (word ws 5);
+  discard = size_or_zero (word ws 5);
   sync = pattern_of (word ws 6);
   max = max_of (word ws 7);
   fill = flag_or false (word ws 8);
@@ -104,7 +104,7 @@ terminated_of ws = if nat_eq (length (pattern_of (word ws 1))) 0 then None else 
   write = pattern_of (word ws 0);
   read = pattern_of (word ws 1);
   strip = flag_or true (word ws 2);
-  discard = size (word ws 3);
+  discard = size_or_zero (word ws 3);
   sync = pattern_of (word ws 4);
   fill = flag_or false (word ws 5);
 }))
@@ -133,20 +133,20 @@ step_at n way k ws = step_in n way (parameters k ws) (protocol_of k ws)
 
 -- ---- interfaces and routers
 
-abbrev pub is_router : Keyword → Bool
-is_router keyword.Router = true
-is_router _ = false
+abbrev pub opens_router : Keyword → Bool
+opens_router keyword.Router = true
+opens_router _ = false
 
-abbrev pub is_server : Option Peer → Bool
+abbrev pub is_server : Option Role → Bool
 is_server (Some Server) = true
 is_server _ = false
 
 -- which word is the port for writing; that for reading is the next
-abbrev pub port_at : Option Peer → ℕ
+abbrev pub port_at : Option Role → ℕ
 port_at (Some Client) = 3
 port_at _ = 2
 
-abbrev pub host_of : Option Peer → List (List ℕ) → List ℕ
+abbrev pub host_of : Option Role → List (List ℕ) → List ℕ
 host_of (Some Client) ws = word ws 2
 host_of _ ws = []
 
@@ -156,14 +156,14 @@ port_or_one word = unwrap_or (port_of word) 1
 -- an interface or router as its own statement gives it
 abbrev pub opening_of : ℕ → Keyword → List (List ℕ) → List ℕ → ConnectionData
 opening_of n k ws name =
-    let peer = peer_of k ws in
+    let role = role_of k ws in
     record {
       line = n;
       name = name;
-      is_router = is_router k;
-      host = host_of peer ws;
-      serves = is_server peer;
-      port = port_or_one (word ws (port_at peer));
+      is_router = opens_router k;
+      host = host_of role ws;
+      serves = is_server role;
+      port = port_or_one (word ws (port_at role));
       steps = option_to_list (step_at n ReadWrite k ws);
       targets = [];
       routes = [];

@@ -13,11 +13,11 @@ use crate::connection::Connection;
 use crate::fault::SiteCause;
 use crate::keyword::{
     Keyword, has_bad_name, has_empty_sync, has_no_number, has_other_choice, has_protocol,
-    head_fields, parameter_fields, parameters, peer_of, protocol_of, required,
+    head_fields, parameter_fields, parameters, role_of, protocol_of, required,
 };
-use crate::line::{Detail, Line, is_bad_length, port_at, port_or_one};
+use crate::line::{Detail, Line, is_bad_length, port_at};
 use crate::step::Step;
-use crate::words::{is_nil, word};
+use crate::words::{is_nil, port_of, word};
 use cts_base::{Bytes, Name, spells};
 use cts_def::{Definitions, Kind, Packet, ProtoSpec, ProtoUse};
 use cts_words::last;
@@ -116,8 +116,8 @@ fn is_file_unknown(keyword: Keyword, words: &[Bytes]) -> bool
     ensures { result ≡ is_file_unknown keyword words.now }
 {
     match keyword {
-        Keyword::Interface => peer_of(Keyword::Interface, words).is_none(),
-        Keyword::Router => peer_of(Keyword::Router, words).is_none(),
+        Keyword::Interface => role_of(Keyword::Interface, words).is_none(),
+        Keyword::Router => role_of(Keyword::Router, words).is_none(),
         _ => false,
     }
 }
@@ -190,7 +190,7 @@ fn is_not_number(keyword: Keyword, words: &[Bytes]) -> bool
 fn are_two(a: &[u8], b: &[u8]) -> bool
     ensures { result ≡ are_two a.now b.now }
 {
-    is_nil(a) || is_nil(b) || port_or_one(a) != port_or_one(b)
+    is_nil(a) || is_nil(b) || port_of(a) != port_of(b)
 }
 
 fn are_two_at(words: &[Bytes], at: usize) -> bool
@@ -204,8 +204,8 @@ fn is_two_ports(keyword: Keyword, words: &[Bytes]) -> bool
     ensures { result ≡ is_two_ports keyword words.now }
 {
     match keyword {
-        Keyword::Interface => are_two_at(words, port_at(peer_of(Keyword::Interface, words))),
-        Keyword::Router => are_two_at(words, port_at(peer_of(Keyword::Router, words))),
+        Keyword::Interface => are_two_at(words, port_at(role_of(Keyword::Interface, words))),
+        Keyword::Router => are_two_at(words, port_at(role_of(Keyword::Router, words))),
         _ => false,
     }
 }

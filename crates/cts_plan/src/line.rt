@@ -2,12 +2,12 @@
 ghost use Rattle.std.specs.Prelude.{◌≡◌, ◌≤◌, length, option_to_list, option_map, unwrap_or, pos, IfOk, IsTrue};
 ghost use Rattle.cts_plan.specs.Chains.{are_packets_last};
 ghost use Rattle.cts_plan.specs.Words.{word, signed_of, per_count_of};
-ghost use Rattle.cts_plan.specs.Lines.{flag_or, size, name_of, length_offset, length_bits, length_order, length_place, is_bad_length, burst_of, fixed_of, length_of, terminated_of, preidentified_of, ready, step_of, step_in, step_at, is_router, is_server, port_at, host_of, port_or_one, opening_of, place_at, opening_line, target_line, protocol_line, route_line, port_line, desks_line, delay_line, line_of};
+ghost use Rattle.cts_plan.specs.Lines.{flag_or, size_or_zero, name_of, length_offset, length_bits, length_order, length_place, is_bad_length, burst_of, fixed_of, length_of, terminated_of, preidentified_of, ready, step_of, step_in, step_at, opens_router, is_server, port_at, host_of, port_or_one, opening_of, place_at, opening_line, target_line, protocol_line, route_line, port_line, desks_line, delay_line, line_of};
 ghost use Rattle.cts_def.specs.Starts.{place_data};
 ghost use Rattle.cts_plan.specs.Sound.{IsSoundLine};
 
 use crate::connection::Connection;
-use crate::keyword::{Keyword, Peer, parameters, peer_of, protocol_of};
+use crate::keyword::{Keyword, Role, parameters, role_of, protocol_of};
 use crate::step::{FixedStep, Step};
 use crate::words::{
     Way, bits_of, delay_of, desks_of, flag_of, max_of, order_of, pattern_of, per_count_of, port_of,
@@ -59,8 +59,8 @@ fn flag_or(default: bool, word: &[u8]) -> bool
     flag_of(word).unwrap_or(default)
 }
 
-fn size(word: &[u8]) -> u32
-    ensures value { result ≡ size word.now }
+fn size_or_zero(word: &[u8]) -> u32
+    ensures value { result ≡ size_or_zero word.now }
     ensures within { result ≤ 1048576 }
 {
     match size_of(word) {
@@ -84,7 +84,7 @@ fn burst_of(alloc: Global, way: Way, words: &[Bytes]) -> Result<Step, Memory>
 {
     Ok(Step::Ready(ProtoUse {
         spec: ProtoSpec::Burst {
-            discard: size(word(words, 0)),
+            discard: size_or_zero(word(words, 0)),
             sync: pattern_of(alloc, word(words, 1))?,
             fill: flag_or(false, word(words, 2)),
         },
@@ -98,8 +98,8 @@ fn fixed_of(alloc: Global, line: u32, way: Way, words: &[Bytes]) -> Result<Fixed
 {
     Ok(FixedStep {
         line,
-        min_id: size(word(words, 0)),
-        discard: size(word(words, 1)),
+        min_id: size_or_zero(word(words, 0)),
+        discard: size_or_zero(word(words, 1)),
         sync: pattern_of(alloc, word(words, 2))?,
         telemetry: flag_or(true, word(words, 3)),
         fill: flag_or(false, word(words, 4)),
@@ -191,7 +191,7 @@ fn length_of(alloc: Global, way: Way, words: &[Bytes]) -> Result<Option<Step>, M
             place,
             value_offset: signed_or_zero(word(words, 2)),
             per_count: per_count(word(words, 3)),
-            discard: size(word(words, 5)),
+            discard: size_or_zero(word(words, 5)),
             sync: pattern_of(alloc, word(words, 6))?,
             max: max_of(word(words, 7)),
             fill: flag_or(false, word(words, 8)),
@@ -213,7 +213,7 @@ fn terminated_of(alloc: Global, way: Way, words: &[Bytes]) -> Result<Option<Step
             write: pattern_of(alloc, word(words, 0))?,
             read,
             strip: flag_or(true, word(words, 2)),
-            discard: size(word(words, 3)),
+            discard: size_or_zero(word(words, 3)),
             sync: pattern_of(alloc, word(words, 4))?,
             fill: flag_or(false, word(words, 5)),
         },
@@ -269,40 +269,40 @@ fn step_at(
     }
 }
 
-fn is_server(peer: Option<Peer>) -> bool
-    ensures { result ≡ is_server peer }
+fn is_server(role: Option<Role>) -> bool
+    ensures { result ≡ is_server role }
 {
-    match peer {
-        Some(Peer::Server) => true,
-        Some(Peer::Client) => false,
+    match role {
+        Some(Role::Server) => true,
+        Some(Role::Client) => false,
         None => false,
     }
 }
 
 /// Which word is the port for writing; that for reading is the next.
-pub fn port_at(peer: Option<Peer>) -> usize
-    ensures value { result ≡ port_at peer }
+pub fn port_at(role: Option<Role>) -> usize
+    ensures value { result ≡ port_at role }
     ensures within { result ≤ 3 }
 {
-    match peer {
-        Some(Peer::Client) => 3,
-        Some(Peer::Server) => 2,
+    match role {
+        Some(Role::Client) => 3,
+        Some(Role::Server) => 2,
         None => 2,
     }
 }
 
-fn host_of(alloc: Global, peer: Option<Peer>, words: &[Bytes]) -> Result<Bytes, Memory>
-    ensures { IfOk result (λ b. b ≡ host_of peer words.now) }
+fn host_of(alloc: Global, role: Option<Role>, words: &[Bytes]) -> Result<Bytes, Memory>
+    ensures { IfOk result (λ b. b ≡ host_of role words.now) }
 {
-    match peer {
-        Some(Peer::Client) => Bytes::copy(alloc, word(words, 2)),
-        Some(Peer::Server) => Bytes::copy(alloc, b""),
+    match role {
+        Some(Role::Client) => Bytes::copy(alloc, word(words, 2)),
+        Some(Role::Server) => Bytes::copy(alloc, b""),
         None => Bytes::copy(alloc, b""),
     }
 }
 
 /// The port that a word writes, 1 where it writes none.
-pub fn port_or_one(word: &[u8]) -> u16
+fn port_or_one(word: &[u8]) -> u16
     ensures value { result ≡ port_or_one word.now }
     ensures some { 1 ≤ result }
 {
@@ -324,8 +324,8 @@ fn steps_of(alloc: Global, step: Option<Step>) -> Result<List<Step>, Memory>
     Ok(steps)
 }
 
-fn is_router(keyword: Keyword) -> bool
-    ensures { result ≡ is_router keyword }
+fn opens_router(keyword: Keyword) -> bool
+    ensures { result ≡ opens_router keyword }
 {
     match keyword {
         Keyword::Router => true,
@@ -342,15 +342,15 @@ fn opening_of(
 ) -> Result<Connection, Memory>
     ensures { IfOk result (λ c. c ≡ opening_of line keyword words.now name) }
 {
-    let peer = peer_of(keyword, words);
+    let role = role_of(keyword, words);
     let step = step_at(alloc, line, Way::ReadWrite, keyword, words)?;
     Ok(Connection {
         line,
         name,
-        is_router: is_router(keyword),
-        host: host_of(alloc, peer, words)?,
-        serves: is_server(peer),
-        port: port_or_one(word(words, port_at(peer))),
+        is_router: opens_router(keyword),
+        host: host_of(alloc, role, words)?,
+        serves: is_server(role),
+        port: port_or_one(word(words, port_at(role))),
         steps: steps_of(alloc, step)?,
         targets: List::new(alloc),
         routes: List::new(alloc),
