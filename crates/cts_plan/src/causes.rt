@@ -13,7 +13,7 @@ use crate::connection::Connection;
 use crate::fault::SiteCause;
 use crate::keyword::{
     Keyword, has_bad_name, has_empty_sync, has_no_number, has_other_choice, has_protocol,
-    head_fields, parameter_fields, parameters, role_of, protocol_of, required,
+    head_fields, parameter_fields, parameters, protocol_of, required, role_of,
 };
 use crate::line::{Detail, Line, is_bad_length, port_at};
 use crate::step::Step;

@@ -7,7 +7,7 @@ ghost use Rattle.cts_def.specs.Starts.{place_data};
 ghost use Rattle.cts_plan.specs.Sound.{IsSoundLine};
 
 use crate::connection::Connection;
-use crate::keyword::{Keyword, Role, parameters, role_of, protocol_of};
+use crate::keyword::{Keyword, Role, parameters, protocol_of, role_of};
 use crate::step::{FixedStep, Step};
 use crate::words::{
     Way, bits_of, delay_of, desks_of, flag_of, max_of, order_of, pattern_of, per_count_of, port_of,
@@ -434,12 +434,7 @@ fn delay_line(words: &[Bytes]) -> Line
 }
 
 /// What the words of a statement say.
-pub fn line_of(
-    alloc: Global,
-    line: u32,
-    keyword: Keyword,
-    words: &[Bytes],
-) -> Result<Line, Memory>
+pub fn line_of(alloc: Global, line: u32, keyword: Keyword, words: &[Bytes]) -> Result<Line, Memory>
     ensures value { IfOk result (λ l. l ≡ line_of line keyword words.now) }
     ensures sound { IfOk result (λ l. IsSoundLine l) }
 {
