@@ -12,6 +12,7 @@ use crate::causes::step_reads;
 use crate::connection::Connection;
 use crate::fault::SiteCause;
 use crate::step::{FixedStep, Step};
+use crate::targets::Targets;
 use cts_base::{List, Memory, Name};
 use cts_bits::Place;
 use cts_def::{Definitions, Packet, Start};
@@ -29,14 +30,14 @@ pub fn packets_of(definitions: &Definitions, telemetry: bool) -> &[Packet]
     }
 }
 
-fn is_of(targets: &[Name], packet: &Packet) -> bool
+fn is_of(targets: &Targets, packet: &Packet) -> bool
     ensures { result ≡ is_of targets.now packet.now }
 {
-    targets.iter().any(|target| packet.target == *target)
+    targets.has(&packet.target)
 }
 
 /// How the packets of these targets begin.
-pub fn starts_of(alloc: Global, targets: &[Name], packets: &[Packet]) -> Result<Vec<Start>, Memory>
+pub fn starts_of(alloc: Global, targets: &Targets, packets: &[Packet]) -> Result<Vec<Start>, Memory>
     ensures { IfOk result (λ starts. starts.items ≡ starts_of targets.now packets.now) }
 {
     let mut starts = Vec::new(alloc);
@@ -80,7 +81,7 @@ fn is_bad_min_id(fixed: &FixedStep, starts: &[Start]) -> bool
         || !are_starts_within(fixed.min_id, starts)
 }
 
-fn have_variable(targets: &[Name], packets: &[Packet]) -> bool
+fn have_variable(targets: &Targets, packets: &[Packet]) -> bool
     ensures { result ≡ have_variable targets.now packets.now }
 {
     packets
@@ -90,7 +91,7 @@ fn have_variable(targets: &[Name], packets: &[Packet]) -> bool
 
 fn cause_of_fixed(
     alloc: Global,
-    targets: &[Name],
+    targets: &Targets,
     packets: &[Packet],
     fixed: &FixedStep,
 ) -> Result<Option<SiteCause>, Memory>
@@ -109,7 +110,7 @@ fn cause_of_fixed(
 fn step_fault(
     alloc: Global,
     definitions: &Definitions,
-    targets: &[Name],
+    targets: &Targets,
     step: &Step,
 ) -> Result<Option<(u32, SiteCause)>, Memory>
     ensures { IfOk result (λ fault. fault ≡ step_fault definitions.now targets.now step.now) }
@@ -129,7 +130,7 @@ fn step_fault(
 fn first_step_fault(
     alloc: Global,
     definitions: &Definitions,
-    targets: &[Name],
+    targets: &Targets,
     steps: &[Step],
 ) -> Result<Option<(u32, SiteCause)>, Memory>
     ensures { IfOk result (λ fault. fault ≡ first_step_fault definitions.now targets.now steps.now) }
@@ -164,7 +165,7 @@ fn whole_length(steps: &[Step]) -> usize
 fn fault_of(
     alloc: Global,
     definitions: &Definitions,
-    targets: &[Name],
+    targets: &Targets,
     connection: &Connection,
 ) -> Result<Option<(u32, SiteCause)>, Memory>
     ensures { IfOk result (λ fault. fault ≡ fault_of definitions.now targets.now connection.now) }
@@ -222,6 +223,23 @@ fn routed_targets(
     Ok(targets)
 }
 
+fn targets_for(
+    alloc: Global,
+    connections: &[Connection],
+    connection: &Connection,
+) -> Result<Targets, Memory>
+    ensures { IfOk result (λ targets. targets ≡ targets_for connections.now connection.now) }
+{
+    if connection.is_router {
+        let names = routed_targets(alloc, connections, connection.routes.as_slice())?;
+        Targets::of(alloc, names)
+    } else {
+        let mut names = List::new(alloc);
+        append(&mut names, connection.targets.as_slice())?;
+        Targets::of(alloc, names)
+    }
+}
+
 fn fault_in(
     alloc: Global,
     definitions: &Definitions,
@@ -230,17 +248,8 @@ fn fault_in(
 ) -> Result<Option<(u32, SiteCause)>, Memory>
     ensures { IfOk result (λ fault. fault ≡ fault_of definitions.now (targets_for connections.now connection.now) connection.now) }
 {
-    if connection.is_router {
-        let targets = routed_targets(alloc, connections, connection.routes.as_slice())?;
-        fault_of(alloc, definitions, targets.as_slice(), connection)
-    } else {
-        fault_of(
-            alloc,
-            definitions,
-            connection.targets.as_slice(),
-            connection,
-        )
-    }
+    let targets = targets_for(alloc, connections, connection)?;
+    fault_of(alloc, definitions, &targets, connection)
 }
 
 /// What is wrong with the last interface or router, which is complete now.

@@ -12,6 +12,7 @@ use crate::completing::{any_reads, append, packets_of, starts_of};
 use crate::connection::Connection;
 use crate::draft::Draft;
 use crate::step::{FixedStep, Step};
+use crate::targets::Targets;
 use cts_base::{Bytes, List, Memory, Name};
 use cts_def::{Definitions, Interface, ProtoSpec, ProtoUse, Router, Site};
 use std::alloc::Global;
@@ -19,7 +20,7 @@ use std::alloc::Global;
 fn fixed_use(
     alloc: Global,
     definitions: &Definitions,
-    targets: &[Name],
+    targets: &Targets,
     fixed: FixedStep,
 ) -> Result<ProtoUse, Memory>
     requires { step_fault definitions.now targets.now (step.Fixed fixed) ≡ None }
@@ -55,7 +56,7 @@ fn fixed_use(
 fn use_of(
     alloc: Global,
     definitions: &Definitions,
-    targets: &[Name],
+    targets: &Targets,
     step: Step,
 ) -> Result<ProtoUse, Memory>
     requires { step_fault definitions.now targets.now step ≡ None }
@@ -70,7 +71,7 @@ fn use_of(
 fn uses_of(
     alloc: Global,
     definitions: &Definitions,
-    targets: &[Name],
+    targets: &Targets,
     steps: List<Step>,
 ) -> Result<List<ProtoUse>, Memory>
     requires { first_step_fault definitions.now targets.now steps ≡ None }
@@ -102,7 +103,7 @@ fn added(alloc: Global) -> Result<ProtoUse, Memory>
 fn chain_of(
     alloc: Global,
     definitions: &Definitions,
-    targets: &[Name],
+    targets: &Targets,
     steps: List<Step>,
 ) -> Result<List<ProtoUse>, Memory>
     requires { first_step_fault definitions.now targets.now steps ≡ None }
@@ -138,13 +139,14 @@ fn interface_of(
         reconnect,
         logged,
     } = connection;
-    let chain = chain_of(alloc, definitions, targets.as_slice(), steps)?;
+    let targets = Targets::of(alloc, targets)?;
+    let chain = chain_of(alloc, definitions, &targets, steps)?;
     Ok(Interface {
         name,
         aim_host: host,
         port,
         serves,
-        targets,
+        targets: targets.into_names(),
         chain,
         reconnect,
         delay,
@@ -227,8 +229,9 @@ fn router_of(
         logged: _,
     } = connection;
     let routes = numbers_of(alloc, interfaces, names.as_slice())?;
-    let targets = routed_targets(alloc, interfaces, routes.as_slice())?;
-    let chain = chain_of(alloc, definitions, targets.as_slice(), steps)?;
+    let names = routed_targets(alloc, interfaces, routes.as_slice())?;
+    let targets = Targets::of(alloc, names)?;
+    let chain = chain_of(alloc, definitions, &targets, steps)?;
     Ok(Router {
         name,
         port,

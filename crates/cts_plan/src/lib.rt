@@ -15,6 +15,7 @@ mod laws;
 mod line;
 mod reading;
 mod step;
+mod targets;
 mod words;
 
 pub use fault::{SiteCause, SiteFault};

@@ -12,6 +12,6 @@ invariant_of-result c =
       port = sound.port;
       host = sound.host;
       chain = subst (λ (us : List UseData). IsTrue (is_chain us)) (sym c.in_ok-chain.ensures)
-          (sound_chain c.args.definitions.now c.as_slice.result.now c.connection.inside.steps (ap (λ (x : ConnectionData). nat_lt 4 (length (whole_chain x.steps))) c.connection.view_is ∙ not_too_long c.args.definitions.now c.args.connection.targets c.args.connection c.requires.right) sound.packets_last);
+          (sound_chain c.args.definitions.now _ c.connection.inside.steps (ap (λ (x : ConnectionData). nat_lt 4 (length (whole_chain x.steps))) c.connection.view_is ∙ not_too_long c.args.definitions.now c.args.connection.targets c.args.connection c.requires.right) sound.packets_last);
       delay = sound.delay;
     }

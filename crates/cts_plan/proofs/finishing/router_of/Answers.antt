@@ -16,7 +16,7 @@ invariant_of-result c =
     let sound = c.connection.invariant in record {
       port = sound.port;
       chain = subst (λ (us : List UseData). IsTrue (is_chain us)) (sym c.in_ok-chain.ensures)
-          (sound_chain c.args.definitions.now c.as_slice-3.result.now c.connection.inside.steps (ap (λ (x : ConnectionData). nat_lt 4 (length (whole_chain x.steps))) c.connection.view_is ∙ not_too_long c.args.definitions.now (routed_targets c.args.interfaces.now (map (number_of c.args.interfaces.now) c.args.connection.routes)) c.args.connection c.requires.right) sound.packets_last);
+          (sound_chain c.args.definitions.now _ c.connection.inside.steps (ap (λ (x : ConnectionData). nat_lt 4 (length (whole_chain x.steps))) c.connection.view_is ∙ not_too_long c.args.definitions.now (routed_targets c.args.interfaces.now (map (number_of c.args.interfaces.now) c.args.connection.routes)) c.args.connection c.requires.right) sound.packets_last);
       routes = subst (IsDistinct nat_eq) (sym (c.in_ok-routes.ensures ∙ ap (map (number_of c.args.interfaces.now)) c.as_slice.ensures))
           (distinct_numbers c.args.interfaces.now c.connection.inside.routes
           (ap (λ (x : ConnectionData). are_known c.args.interfaces.now x.routes) c.connection.view_is ∙ c.requires.known) sound.routes);
