@@ -128,8 +128,8 @@ long_or_not true o r e = absurd cc
 long_or_not false o r e = refl
 
 -- a connection without fault has no chain that is too long
-pub not_too_long : (d : DefinitionsData) (c : ConnectionData) → fault_of d c ≡ None → nat_lt 4 (length (whole_chain c.steps)) ≡ false
-not_too_long d c none = long_or_not (nat_lt 4 (length (whole_chain c.steps))) (first_step_fault d c.targets c.steps) _ none
+pub not_too_long : (d : DefinitionsData) (targets : List (List ℕ)) (c : ConnectionData) → fault_of d targets c ≡ None → nat_lt 4 (length (whole_chain c.steps)) ≡ false
+not_too_long d targets c none = long_or_not (nat_lt 4 (length (whole_chain c.steps))) (first_step_fault d targets c.steps) _ none
 
 -- a chain of fewer than four has room for one more
 pub room_for : (n : ℕ) → nat_le 4 n ≡ false → n + 1 ≤ 4

@@ -7,18 +7,20 @@ use Rattle.std.proofs.lemmas.Grind.{flat_map-append}
 use Rattle.std.proofs.lemmas.List.Folds.{list_any-append, list_all-append}
 use Rattle.cts_words.specs.Blocks.{last_of, on_last}
 use Rattle.cts_def.specs.Items.{is_same}
+use Rattle.cts_def.specs.Packets.{DefinitionsData}
+use Rattle.cts_def.specs.Sites.{is_known_target}
 use Rattle.cts_plan.specs.declared.line.Line.{Line}
 use Rattle.cts_plan.specs.declared.line.Line.TheVariants as line
 use Rattle.cts_plan.specs.declared.line.Detail.{Detail}
 use Rattle.cts_plan.specs.declared.line.Detail.TheVariants as detail
+use Rattle.cts_plan.specs.Chains.{is_ready}
 use Rattle.cts_plan.specs.Connections.{ConnectionData}
-use Rattle.cts_plan.specs.Standing.{StandingData}
-use Rattle.cts_plan.specs.Words.{spells}
-use Rattle.cts_plan.specs.Lines.{is_router_open, find_interface}
-use Rattle.cts_plan.specs.Causes.{is_same_kind, has_name_of, is_double, maps, is_target_twice, most, is_too_many, open_routes, routes_in}
+use Rattle.cts_plan.specs.Standing.{StandingData, route_in}
+use Rattle.cts_plan.specs.Causes.{is_same_kind, has_name_of, is_double, maps, is_unknown_target, is_target_twice, most, is_too_many}
+use Rattle.cts_plan.specs.Completing.{is_named}
 use Rattle.cts_plan.specs.Sound.{interface_name, router_name, interface_targets, router_routes, interface_names, router_names, IsSoundLine}
-use Rattle.cts_plan.specs.Placing.{change_connection, place, targets_of, routes_of, IsSoundStanding}
-use Rattle.cts_plan.proofs.Lists.{both, and_true, neither, any_snoc, all_append, distinct_snoc}
+use Rattle.cts_plan.specs.Placing.{change_connection, place, targets_of, AreRoutedBehind, AreKnownTargets, AreReady, IsSoundStanding}
+use Rattle.cts_plan.proofs.Lists.{both, and_true, neither, any_snoc, all_append, distinct_snoc, not_false}
 
 -- ---- what each connection adds to a list
 
@@ -138,24 +140,43 @@ targets_new : (c : ConnectionData) (cs : List ConnectionData) → c.targets ≡ 
 targets_new c cs e =
     flat_snoc interface_targets cs c ∙ ap (λ ts. targets_of cs ++ cond c.is_router [] ts) e ∙ ap (λ ts. targets_of cs ++ ts) (cond_nil c.is_router) ∙ append-nil (targets_of cs)
 
-routes_new : (c : ConnectionData) (cs : List ConnectionData) → c.routes ≡ [] → routes_of (cs ++ c ∷ []) ≡ routes_of cs
-routes_new c cs e =
-    flat_snoc router_routes cs c ∙ ap (λ ns. routes_of cs ++ cond c.is_router ns []) e ∙ ap (λ ns. routes_of cs ++ ns) (cond_nil c.is_router) ∙ append-nil (routes_of cs)
+-- ---- routes
 
-wider_at : (n m k : ℕ) → n ≤ m → nat_lt k n ≡ true → nat_lt k m ≡ true
-wider_at n m k le e = grind arith
+-- one more that has no routes
+routed_new : (front cs : List ConnectionData) (c : ConnectionData) → c.routes ≡ [] → AreRoutedBehind front cs → AreRoutedBehind front (cs ++ c ∷ [])
+routed_new front [] c e routed = (no_routes c.is_router, tt) where
+  no_routes : (r : Bool) → list_all (λ name. list_any (is_named name) front) (cond r c.routes []) ≡ true
+  no_routes true = ap (list_all (λ name. list_any (is_named name) front)) e
+  no_routes false = refl
+routed_new front (b ∷ cs) c e routed = (routed.0, routed_new (front ++ b ∷ []) cs c e routed.1)
 
--- routes within fewer interfaces are within more
-pub wider : (n m : ℕ) (ks : List ℕ) → n ≤ m → list_all (λ k. nat_lt k n) ks ≡ true → list_all (λ k. nat_lt k m) ks ≡ true
-wider n m [] le e = refl
-wider n m (k ∷ ks) le e =
-    let parts = both (nat_lt k n) (list_all (λ k. nat_lt k n) ks) e in
-    and_true (nat_lt k m) (list_all (λ k. nat_lt k m) ks) (wider_at n m k le parts.0) (wider n m ks le parts.1)
+-- a change of the last connection that changes no routes
+routed_kept : (front cs : List ConnectionData) (change : ConnectionData → ConnectionData) → ((c : ConnectionData) → router_routes (change c) ≡ router_routes c)
+    → AreRoutedBehind front cs → AreRoutedBehind front (on_last change cs)
+routed_kept front [] change h routed = tt
+routed_kept front (c ∷ []) change h routed = (ap (list_all (λ name. list_any (is_named name) front)) (h c) ∙ routed.0, tt)
+routed_kept front (c ∷ c2 ∷ cs) change h routed = (routed.0, routed_kept (front ++ c ∷ []) (c2 ∷ cs) change h routed.1)
 
-length_more : (cs : List ConnectionData) (name : List ℕ) → length (interface_names cs) ≤ length (interface_names cs ++ name ∷ [])
-length_more cs name =
-    let longer = length-append (interface_names cs) (name ∷ []) in
-    grind arith
+-- a router is no interface of a name
+found_before : (front : List ConnectionData) (c : ConnectionData) (name : List ℕ) → c.is_router ≡ true → list_any (is_named name) (front ++ c ∷ []) ≡ true → list_any (is_named name) front ≡ true
+found_before front c name router found =
+    let no : is_named name c ≡ false = ap (λ b. not b && is_same name c.name) router in
+    sym (any_snoc (is_named name) front c ∙ ap (λ b. list_any (is_named name) front || b) no ∙ or_false (list_any (is_named name) front)) ∙ found
+
+route_known : (front : List ConnectionData) (c : ConnectionData) (name : List ℕ) (r : Bool) → c.is_router ≡ r → list_any (is_named name) (front ++ c ∷ []) ≡ true
+    → list_all (λ n. list_any (is_named n) front) (cond r c.routes []) ≡ true → list_all (λ n. list_any (is_named n) front) (cond r (c.routes ++ name ∷ []) []) ≡ true
+route_known front c name true router found all = all_append (λ n. list_any (is_named n) front) c.routes name all (found_before front c name router found)
+route_known front c name false router found all = refl
+
+-- a route to an interface that stands
+routed_more : (front cs : List ConnectionData) (name : List ℕ) → list_any (is_named name) (front ++ cs) ≡ true → AreRoutedBehind front cs
+    → AreRoutedBehind front (on_last (change_connection (detail.Route name)) cs)
+routed_more front [] name found routed = tt
+routed_more front (c ∷ []) name found routed = (route_known front c name c.is_router refl found routed.0, tt)
+routed_more front (c ∷ c2 ∷ cs) name found routed =
+    let behind : list_any (is_named name) ((front ++ c ∷ []) ++ c2 ∷ cs) ≡ true =
+    ap (list_any (is_named name)) (append_assoc front (c ∷ []) (c2 ∷ cs)) ∙ found in
+    (routed.0, routed_more (front ++ c ∷ []) (c2 ∷ cs) name behind routed.1)
 
 opens_router : (c : ConnectionData) (s : StandingData) → c.is_router ≡ true → c.targets ≡ [] → c.routes ≡ [] → list_any (has_name_of c) s.connections ≡ false
     → nat_le (most c) (length (filter (is_same_kind c) s.connections)) ≡ false → IsSoundStanding s → IsSoundStanding (place (line.Opening c) s)
@@ -173,8 +194,7 @@ opens_router c s e no_targets no_routes double many sound =
       distinct_interfaces = subst (IsDistinct is_same) (sym others) sound.distinct_interfaces;
       distinct_routers = subst (IsDistinct is_same) (sym names) (named true c cs sound.distinct_routers not_named);
       targets = subst (IsDistinct is_same) (sym (targets_new c cs no_targets)) sound.targets;
-      routes = ap (λ (ns : List (List ℕ)). list_all (λ k. nat_lt k (length ns)) (routes_of (cs ++ c ∷ []))) others
-          ∙ ap (list_all (λ k. nat_lt k (length (interface_names cs)))) (routes_new c cs no_routes) ∙ sound.routes;
+      routes = routed_new [] cs c no_routes sound.routes;
       api_port = sound.api_port;
       some_desks = sound.some_desks;
       few_desks = sound.few_desks;
@@ -196,9 +216,7 @@ opens_interface c s e no_targets no_routes double many sound =
       distinct_interfaces = subst (IsDistinct is_same) (sym names) (named false c cs sound.distinct_interfaces not_named);
       distinct_routers = subst (IsDistinct is_same) (sym others) sound.distinct_routers;
       targets = subst (IsDistinct is_same) (sym (targets_new c cs no_targets)) sound.targets;
-      routes = ap (λ (ns : List (List ℕ)). list_all (λ k. nat_lt k (length ns)) (routes_of (cs ++ c ∷ []))) names
-          ∙ ap (list_all (λ k. nat_lt k (length (interface_names cs ++ c.name ∷ [])))) (routes_new c cs no_routes)
-          ∙ wider (length (interface_names cs)) (length (interface_names cs ++ c.name ∷ [])) (routes_of cs) (length_more cs c.name) sound.routes;
+      routes = routed_new [] cs c no_routes sound.routes;
       api_port = sound.api_port;
       some_desks = sound.some_desks;
       few_desks = sound.few_desks;
@@ -228,8 +246,7 @@ same_lists d s kind name targets routes sound =
       distinct_interfaces = subst (IsDistinct is_same) (sym names) sound.distinct_interfaces;
       distinct_routers = subst (IsDistinct is_same) (sym routers) sound.distinct_routers;
       targets = subst (IsDistinct is_same) (sym (flat_kept interface_targets f cs targets)) sound.targets;
-      routes = ap (λ (ns : List (List ℕ)). list_all (λ k. nat_lt k (length ns)) (routes_of (on_last f cs))) names
-          ∙ ap (list_all (λ k. nat_lt k (length (interface_names cs)))) (flat_kept router_routes f cs routes) ∙ sound.routes;
+      routes = routed_kept [] cs f routes sound.routes;
       api_port = sound.api_port;
       some_desks = sound.some_desks;
       few_desks = sound.few_desks;
@@ -273,58 +290,26 @@ targets_more name s none sound =
       distinct_interfaces = subst (IsDistinct is_same) (sym names) sound.distinct_interfaces;
       distinct_routers = subst (IsDistinct is_same) (sym routers) sound.distinct_routers;
       targets = subst (IsDistinct is_same) (sym targets) (distinct_at (last_of cs) name (targets_of cs) sound.targets (not_mapped name cs none));
-      routes = ap (λ (ns : List (List ℕ)). list_all (λ k. nat_lt k (length ns)) (routes_of (on_last f cs))) names
-          ∙ ap (list_all (λ k. nat_lt k (length (interface_names cs)))) (flat_kept router_routes f cs (λ c. refl)) ∙ sound.routes;
+      routes = routed_kept [] cs f (λ c. refl) sound.routes;
       api_port = sound.api_port;
       some_desks = sound.some_desks;
       few_desks = sound.few_desks;
     }
 
--- a route of the last connection, which is a router
-route_added : (r : Bool) (ns : List ℕ) (n : ℕ) → cond r (ns ++ n ∷ []) [] ≡ cond r ns [] ++ cond r (n ∷ []) []
-route_added true ns n = refl
-route_added false ns n = refl
-
-abbrev route_more : ℕ → ConnectionData → List ℕ
-route_more n c = cond c.is_router (n ∷ []) []
-
-within_at : (o : Option ConnectionData) (count n : ℕ) (ns : List ℕ) → list_all (λ k. nat_lt k count) ns ≡ true → n < count → list_all (λ k. nat_lt k count) (ns ++ at_last (route_more n) o) ≡ true
-within_at None count n ns all lt = ap (list_all (λ k. nat_lt k count)) (append-nil ns) ∙ all
-within_at (Some c) count n ns all lt = by_kind c.is_router where
-  below : nat_lt n count ≡ true
-  below = grind (arith, lt)
-
-  by_kind : (r : Bool) → list_all (λ k. nat_lt k count) (ns ++ cond r (n ∷ []) []) ≡ true
-  by_kind true = all_append (λ k. nat_lt k count) ns n all below
-  by_kind false = ap (list_all (λ k. nat_lt k count)) (append-nil ns) ∙ all
-
--- what the last one adds to the targets, where it is a router
-flat_kept_last : (f : ConnectionData → List (List ℕ)) (change : ConnectionData → ConnectionData) (cs : List ConnectionData) → is_router_open (last_of cs) ≡ true
-    → ((c : ConnectionData) → c.is_router ≡ true → f (change c) ≡ f c) → flat_map f (on_last change cs) ≡ flat_map f cs
-flat_kept_last f change [] is_open h = refl
-flat_kept_last f change (c ∷ []) is_open h = ap (λ ys. ys ++ []) (h c is_open)
-flat_kept_last f change (c ∷ c2 ∷ cs) is_open h = ap (λ ys. f c ++ ys) (flat_kept_last f change (c2 ∷ cs) is_open h)
-
-routes_more : (n : ℕ) (ts : List (List ℕ)) (s : StandingData) → n < length (interface_names s.connections) → is_router_open (last_of s.connections) ≡ true → IsSoundStanding s
-    → IsSoundStanding (place (line.Detail (detail.Route n ts)) s)
-routes_more n ts s lt is_open sound =
+-- a route of the last connection
+routes_more : (name : List ℕ) (s : StandingData) → list_any (is_named name) s.connections ≡ true → IsSoundStanding s → IsSoundStanding (place (line.Detail (detail.Route name)) s)
+routes_more name s found sound =
     let cs = s.connections in
-    let f = change_connection (detail.Route n ts) in
+    let f = change_connection (detail.Route name) in
     let names : interface_names (on_last f cs) ≡ interface_names cs = flat_kept interface_name f cs (λ c. refl) in
     let routers : router_names (on_last f cs) ≡ router_names cs = flat_kept router_name f cs (λ c. refl) in
-    let targets : targets_of (on_last f cs) ≡ targets_of cs =
-    flat_kept_last interface_targets f cs is_open (λ c e. ap (λ b. cond b [] (c.targets ++ ts)) e ∙ sym (ap (λ b. cond b [] c.targets) e)) in
-    let routes : routes_of (on_last f cs) ≡ routes_of cs ++ at_last (route_more n) (last_of cs) =
-    flat_added router_routes (route_more n) f cs (λ c. route_added c.is_router c.routes n) in
     record {
       few_interfaces = subst (λ (ns : List (List ℕ)). length ns ≤ 16) (sym names) sound.few_interfaces;
       few_routers = subst (λ (ns : List (List ℕ)). length ns ≤ 4) (sym routers) sound.few_routers;
       distinct_interfaces = subst (IsDistinct is_same) (sym names) sound.distinct_interfaces;
       distinct_routers = subst (IsDistinct is_same) (sym routers) sound.distinct_routers;
-      targets = subst (IsDistinct is_same) (sym targets) sound.targets;
-      routes = ap (λ (ns : List (List ℕ)). list_all (λ k. nat_lt k (length ns)) (routes_of (on_last f cs))) names
-          ∙ ap (list_all (λ k. nat_lt k (length (interface_names cs)))) routes
-          ∙ within_at (last_of cs) (length (interface_names cs)) n (routes_of cs) sound.routes lt;
+      targets = subst (IsDistinct is_same) (sym (flat_kept interface_targets f cs (λ c. refl))) sound.targets;
+      routes = routed_more [] cs name found sound.routes;
       api_port = sound.api_port;
       some_desks = sound.some_desks;
       few_desks = sound.few_desks;
@@ -334,35 +319,16 @@ pub no_two : {X : Type 0} (e : X → X → Bool) → IsDistinct e []
 unfolding IsDistinct
 no_two e = tt
 
--- ---- the interfaces that are found
-
-some_same : {X : Type 0} (x y : X) → Some x ≡ Some y → x ≡ y
-some_same x y e = cc
-
-found_at : (r t : Bool) (n count : ℕ) (ts name : List (List ℕ)) (same more : Option (ℕ × List (List ℕ))) (p : ℕ × List (List ℕ)) → length name ≡ 1
-    → (same ≡ Some p → p.0 < n + count) → (more ≡ Some p → p.0 < n + 1 + count)
-    → cond r same (cond t (Some (n, ts)) more) ≡ Some p → p.0 < n + length (cond r [] name) + count
-found_at true t n count ts name same more p one h g e = let below = h e in omega arith
-found_at false true n count ts name same more p one h g e =
-    let number : n ≡ p.0 = ap (λ (q : ℕ × List (List ℕ)). q.0) (some_same (n, ts) p e) in
-    omega arith
-found_at false false n count ts name same more p one h g e = let below = g e in omega arith
-
--- the number of an interface that is found is one of the interfaces'
-pub found_within : (n : ℕ) (cs : List ConnectionData) (w : List ℕ) (p : ℕ × List (List ℕ)) → find_interface n cs w ≡ Some p → p.0 < n + length (interface_names cs)
-found_within n [] w p e = absurd cc
-found_within n (c ∷ cs) w p e =
-    let here = found_at c.is_router (spells w c.name) n (length (interface_names cs)) c.targets (c.name ∷ []) (find_interface n cs w) (find_interface (n + 1) cs w) p refl
-    (found_within n cs w p) (found_within (n + 1) cs w p) e in
-    let longer = length-append (interface_name c) (interface_names cs) in
-    omega arith
-
 -- ---- a line more
 
-pub keeps : (l : Line) (s : StandingData) → IsSoundLine s.connections l → is_double s.connections l ≡ false → is_target_twice s.connections l ≡ false → is_too_many s.connections l ≡ false
+-- a ROUTE line names an interface that stands
+abbrev pub IsRouted : List ConnectionData → Line → Type 0
+IsRouted cs l = (name : List ℕ) → route_in l ≡ Some name → list_any (is_named name) cs ≡ true
+
+pub keeps : (l : Line) (s : StandingData) → IsSoundLine l → IsRouted s.connections l → is_double s.connections l ≡ false → is_target_twice s.connections l ≡ false → is_too_many s.connections l ≡ false
     → IsSoundStanding s → IsSoundStanding (place l s)
-keeps line.Nothing s line double twice many sound = sound
-keeps (line.ApiPort port) s line double twice many sound = record {
+keeps line.Nothing s line routed double twice many sound = sound
+keeps (line.ApiPort port) s line routed double twice many sound = record {
   few_interfaces = sound.few_interfaces;
   few_routers = sound.few_routers;
   distinct_interfaces = sound.distinct_interfaces;
@@ -373,7 +339,7 @@ keeps (line.ApiPort port) s line double twice many sound = record {
   some_desks = sound.some_desks;
   few_desks = sound.few_desks;
 }
-keeps (line.Desks desks) s line double twice many sound = record {
+keeps (line.Desks desks) s line routed double twice many sound = record {
   few_interfaces = sound.few_interfaces;
   few_routers = sound.few_routers;
   distinct_interfaces = sound.distinct_interfaces;
@@ -384,10 +350,63 @@ keeps (line.Desks desks) s line double twice many sound = record {
   some_desks = line.0;
   few_desks = line.1;
 }
-keeps (line.Opening c) s line double twice many sound = opens c.is_router c s refl line.0 line.1 double many sound
-keeps (line.Detail (detail.Target name)) s line double twice many sound = targets_more name s twice sound
-keeps (line.Detail (detail.Step step)) s line double twice many sound = same_lists (detail.Step step) s (λ c. refl) (λ c. refl) (λ c. refl) (λ c. refl) sound
-keeps (line.Detail (detail.Route n ts)) s line double twice many sound = routes_more n ts s line.0 line.1 sound
-keeps (line.Detail (detail.Delay delay)) s line double twice many sound = same_lists (detail.Delay delay) s (λ c. refl) (λ c. refl) (λ c. refl) (λ c. refl) sound
-keeps (line.Detail detail.DontReconnect) s line double twice many sound = same_lists detail.DontReconnect s (λ c. refl) (λ c. refl) (λ c. refl) (λ c. refl) sound
-keeps (line.Detail (detail.Logged logged)) s line double twice many sound = same_lists (detail.Logged logged) s (λ c. refl) (λ c. refl) (λ c. refl) (λ c. refl) sound
+keeps (line.Opening c) s line routed double twice many sound = opens c.is_router c s refl line.0 line.1 double many sound
+keeps (line.Detail (detail.Target name)) s line routed double twice many sound = targets_more name s twice sound
+keeps (line.Detail (detail.Step step)) s line routed double twice many sound = same_lists (detail.Step step) s (λ c. refl) (λ c. refl) (λ c. refl) (λ c. refl) sound
+keeps (line.Detail (detail.Route name)) s line routed double twice many sound = routes_more name s (routed name refl) sound
+keeps (line.Detail (detail.Delay delay)) s line routed double twice many sound = same_lists (detail.Delay delay) s (λ c. refl) (λ c. refl) (λ c. refl) (λ c. refl) sound
+keeps (line.Detail detail.DontReconnect) s line routed double twice many sound = same_lists detail.DontReconnect s (λ c. refl) (λ c. refl) (λ c. refl) (λ c. refl) sound
+keeps (line.Detail (detail.Logged logged)) s line routed double twice many sound = same_lists (detail.Logged logged) s (λ c. refl) (λ c. refl) (λ c. refl) (λ c. refl) sound
+
+-- ---- known targets
+
+known_at : (d : DefinitionsData) (name : List ℕ) (ts : List (List ℕ)) (o : Option ConnectionData) → is_known_target d name ≡ true → list_all (is_known_target d) ts ≡ true
+    → list_all (is_known_target d) (ts ++ at_last (target_more name) o) ≡ true
+known_at d name ts None known all = ap (list_all (is_known_target d)) (append-nil ts) ∙ all
+known_at d name ts (Some c) known all = by_kind c.is_router where
+  by_kind : (r : Bool) → list_all (is_known_target d) (ts ++ cond r [] (name ∷ [])) ≡ true
+  by_kind true = ap (list_all (is_known_target d)) (append-nil ts) ∙ all
+  by_kind false = all_append (is_known_target d) ts name all known
+
+same_targets : (d : DefinitionsData) (t : Detail) (s : StandingData) → ((c : ConnectionData) → interface_targets (change_connection t c) ≡ interface_targets c) → AreKnownTargets d s.connections
+    → AreKnownTargets d (place (line.Detail t) s).connections
+same_targets d t s same known = ap (list_all (is_known_target d)) (flat_kept interface_targets (change_connection t) s.connections same) ∙ known
+
+pub keeps_known : (d : DefinitionsData) (l : Line) (s : StandingData) → IsSoundLine l → is_unknown_target d l ≡ false → AreKnownTargets d s.connections → AreKnownTargets d (place l s).connections
+keeps_known d line.Nothing s line unknown known = known
+keeps_known d (line.ApiPort port) s line unknown known = known
+keeps_known d (line.Desks desks) s line unknown known = known
+keeps_known d (line.Opening c) s line unknown known = ap (list_all (is_known_target d)) (targets_new c s.connections line.0) ∙ known
+keeps_known d (line.Detail (detail.Target name)) s line unknown known =
+    ap (list_all (is_known_target d)) (flat_added interface_targets (target_more name) (change_connection (detail.Target name)) s.connections (λ c. target_added c.is_router c.targets name))
+    ∙ known_at d name (targets_of s.connections) (last_of s.connections) (not_false (is_known_target d name) unknown) known
+keeps_known d (line.Detail (detail.Step step)) s line unknown known = same_targets d (detail.Step step) s (λ c. refl) known
+keeps_known d (line.Detail (detail.Route name)) s line unknown known = same_targets d (detail.Route name) s (λ c. refl) known
+keeps_known d (line.Detail (detail.Delay delay)) s line unknown known = same_targets d (detail.Delay delay) s (λ c. refl) known
+keeps_known d (line.Detail detail.DontReconnect) s line unknown known = same_targets d detail.DontReconnect s (λ c. refl) known
+keeps_known d (line.Detail (detail.Logged logged)) s line unknown known = same_targets d (detail.Logged logged) s (λ c. refl) known
+
+-- ---- protocols that need nothing more
+
+abbrev steps_ready : ConnectionData → Bool
+steps_ready c = list_all is_ready c.steps
+
+all_on_last : (p : ConnectionData → Bool) (f : ConnectionData → ConnectionData) (cs : List ConnectionData) → ((c : ConnectionData) → p c ≡ true → p (f c) ≡ true) → list_all p cs ≡ true
+    → list_all p (on_last f cs) ≡ true
+all_on_last p f [] h all = refl
+all_on_last p f (c ∷ []) h all = and_true (p (f c)) true (h c (both (p c) true all).0) refl
+all_on_last p f (c ∷ c2 ∷ cs) h all =
+    let parts = both (p c) (list_all p (c2 ∷ cs)) all in
+    and_true (p c) (list_all p (on_last f (c2 ∷ cs))) parts.0 (all_on_last p f (c2 ∷ cs) h parts.1)
+
+pub keeps_ready : (l : Line) (s : StandingData) → IsSoundLine l → AreReady s.connections → AreReady (place l s).connections
+keeps_ready line.Nothing s line ready = ready
+keeps_ready (line.ApiPort port) s line ready = ready
+keeps_ready (line.Desks desks) s line ready = ready
+keeps_ready (line.Opening c) s line ready = all_append steps_ready s.connections c ready line.2
+keeps_ready (line.Detail (detail.Target name)) s line ready = all_on_last steps_ready (change_connection (detail.Target name)) s.connections (λ c h. h) ready
+keeps_ready (line.Detail (detail.Step step)) s line ready = all_on_last steps_ready (change_connection (detail.Step step)) s.connections (λ c h. all_append is_ready c.steps step h line) ready
+keeps_ready (line.Detail (detail.Route name)) s line ready = all_on_last steps_ready (change_connection (detail.Route name)) s.connections (λ c h. h) ready
+keeps_ready (line.Detail (detail.Delay delay)) s line ready = all_on_last steps_ready (change_connection (detail.Delay delay)) s.connections (λ c h. h) ready
+keeps_ready (line.Detail detail.DontReconnect) s line ready = all_on_last steps_ready (change_connection detail.DontReconnect) s.connections (λ c h. h) ready
+keeps_ready (line.Detail (detail.Logged logged)) s line ready = all_on_last steps_ready (change_connection (detail.Logged logged)) s.connections (λ c h. h) ready

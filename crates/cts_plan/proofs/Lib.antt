@@ -1,8 +1,12 @@
 pub mod Lists
 pub mod Chained
+pub mod ReadySteps
+pub mod Settled
+pub mod Numbers
 pub mod Finished
 pub mod More
 pub mod Keeps
 pub mod Runs
 pub mod Heads
+pub mod FirstRefused
 pub mod Empty

@@ -1,5 +1,6 @@
 -- Lists of plain values, and tests of them.
 use Rattle.std.proofs.Common.{◌≡◌, ℕ, ◌+◌, ◌<◌, Bool, true, false, not, ◌&&◌, ◌||◌, List, [], ◌∷◌, ◌++◌, length, map, get_or, take, drop, refl, sym, ap, ◌∙◌, add-one, append_assoc, arith}
+use Rattle.cts_words.specs.Blocks.{on_last}
 use Rattle.std.specs.List.{list_all, list_any, AllByRecursion, IsDistinct}
 use Rattle.std.proofs.Math.Seq.{drop-cons}
 use Rattle.std.proofs.lemmas.List.{append-nil}
@@ -81,3 +82,21 @@ all_moved done left all so_far none = sym (append-nil done) ∙ ap (λ ys. done 
 pub not_false : (b : Bool) → not b ≡ false → b ≡ true
 not_false true e = refl
 not_false false e = absurd cc
+
+-- ---- all but the last one
+
+abbrev pub but_last : {X : Type 0} → List X → List X
+but_last [] = []
+but_last (x ∷ []) = []
+but_last (x ∷ y ∷ xs) = x ∷ but_last (y ∷ xs)
+
+pub but_last_snoc : {X : Type 0} (xs : List X) (x : X) → but_last (xs ++ x ∷ []) ≡ xs
+but_last_snoc [] x = refl
+but_last_snoc (y ∷ []) x = refl
+but_last_snoc (y ∷ z ∷ xs) x = ap (λ ys. y ∷ ys) (but_last_snoc (z ∷ xs) x)
+
+pub but_last_kept : {X : Type 0} (f : X → X) (xs : List X) → but_last (on_last f xs) ≡ but_last xs
+but_last_kept f [] = refl
+but_last_kept f (x ∷ []) = refl
+but_last_kept f (x ∷ y ∷ []) = refl
+but_last_kept f (x ∷ y ∷ z ∷ xs) = ap (λ ys. x ∷ ys) (but_last_kept f (y ∷ z ∷ xs))

@@ -1,11 +1,10 @@
 -- One more line changes what stands by one step.
 use Rattle.std.proofs.Common.{◌≡◌, ℕ, Bool, true, false, not, ◌&&◌, ◌||◌, List, [], ◌∷◌, ◌++◌, map, Option, Some, None, refl, sym, ap, ◌∙◌, append_assoc}
-use Rattle.std.specs.Prelude.{unwrap_or, option_to_list}
-use Rattle.std.specs.List.{filter_map, flat_map, list_any}
+use Rattle.std.specs.Prelude.{unwrap_or}
+use Rattle.std.specs.List.{filter_map, list_any}
 use Rattle.std.proofs.lemmas.List.{append-nil, map-append}
 use Rattle.std.proofs.lemmas.List.Elements.{filter_map-append}
 use Rattle.std.proofs.lemmas.List.Folds.{list_any-append}
-use Rattle.std.proofs.lemmas.Grind.{flat_map-append}
 use Rattle.cts_base.specs.declared.decimal.Decimal.{Decimal}
 use Rattle.cts_words.specs.declared.statement.Statement.{Statement}
 use Rattle.cts_words.specs.Blocks.{blocks, last_of, on_last, with_line}
@@ -16,14 +15,14 @@ use Rattle.cts_plan.specs.declared.line.Line.TheVariants as line
 use Rattle.cts_plan.specs.declared.line.Detail.{Detail}
 use Rattle.cts_plan.specs.declared.line.Detail.TheVariants as detail
 use Rattle.cts_plan.specs.Connections.{ConnectionData}
-use Rattle.cts_plan.specs.Standing.{opening_in, api_port_in, desks_in, targets_in, step_in, route_in, delay_in, ends_reconnecting, logged_in, connection_of, StandingData, standing}
-use Rattle.cts_plan.specs.SiteFiles.{line_behind, lines_from, after}
+use Rattle.cts_plan.specs.Standing.{opening_in, api_port_in, desks_in, target_in, step_in, route_in, delay_in, ends_reconnecting, logged_in, connection_of, StandingData, standing}
+use Rattle.cts_plan.specs.SiteFiles.{line_of_statement, lines_of, after}
 use Rattle.cts_plan.specs.Placing.{change_connection, place}
 
 -- ---- one connection
 
 -- a connection with what its lines say
-abbrev built : ConnectionData → List Step → List (List ℕ) → List ℕ → Option Decimal → Bool → Option Bool → ConnectionData
+abbrev built : ConnectionData → List Step → List (List ℕ) → List (List ℕ) → Option Decimal → Bool → Option Bool → ConnectionData
 built c steps targets routes delay ends logged = record {
   line = c.line;
   name = c.name;
@@ -40,10 +39,10 @@ built c steps targets routes delay ends logged = record {
 }
 
 one_line : (c : ConnectionData) (body : List Line) (l : Line) → connection_of (c, body ++ l ∷ []) ≡ built c
-    (filter_map step_in body ++ filter_map step_in (l ∷ [])) (flat_map targets_in body ++ flat_map targets_in (l ∷ []))
+    (filter_map step_in body ++ filter_map step_in (l ∷ [])) (filter_map target_in body ++ filter_map target_in (l ∷ []))
     (filter_map route_in body ++ filter_map route_in (l ∷ [])) (last_of (filter_map delay_in body ++ filter_map delay_in (l ∷ [])))
     (list_any ends_reconnecting body || list_any ends_reconnecting (l ∷ [])) (last_of (filter_map logged_in body ++ filter_map logged_in (l ∷ [])))
-one_line c body l = rw (filter_map-append step_in body (l ∷ []), filter_map-append route_in body (l ∷ []), filter_map-append delay_in body (l ∷ []), filter_map-append logged_in body (l ∷ []), flat_map-append targets_in body (l ∷ []), list_any-append ends_reconnecting body (l ∷ [])) refl
+one_line c body l = rw (filter_map-append step_in body (l ∷ []), filter_map-append route_in body (l ∷ []), filter_map-append delay_in body (l ∷ []), filter_map-append logged_in body (l ∷ []), filter_map-append target_in body (l ∷ []), list_any-append ends_reconnecting body (l ∷ [])) refl
 
 or_false : (b : Bool) → (b || false) ≡ b
 or_false true = refl
@@ -65,13 +64,13 @@ and_true false = refl
 connection-more : (c : ConnectionData) (body : List Line) (d : Detail) → connection_of (c, body ++ line.Detail d ∷ []) ≡ change_connection d (connection_of (c, body))
 connection-more c body (detail.Target name) = one_line c body (line.Detail (detail.Target name)) ∙ simp (append-nil, or_false, append_assoc)
 connection-more c body (detail.Step step) = one_line c body (line.Detail (detail.Step step)) ∙ simp (append-nil, or_false, append_assoc)
-connection-more c body (detail.Route number targets) = one_line c body (line.Detail (detail.Route number targets)) ∙ simp (append-nil, or_false, append_assoc)
+connection-more c body (detail.Route name) = one_line c body (line.Detail (detail.Route name)) ∙ simp (append-nil, or_false, append_assoc)
 connection-more c body (detail.Delay delay) = one_line c body (line.Detail (detail.Delay delay)) ∙ simp (append-nil, or_false, last_snoc)
 connection-more c body detail.DontReconnect = one_line c body (line.Detail detail.DontReconnect) ∙ simp (append-nil, or_true, and_false)
 connection-more c body (detail.Logged logged) = one_line c body (line.Detail (detail.Logged logged)) ∙ simp (append-nil, or_false, last_snoc)
 
 -- a line of no connection
-connection-same : (c : ConnectionData) (body : List Line) (l : Line) → step_in l ≡ None → targets_in l ≡ [] → route_in l ≡ None → delay_in l ≡ None → ends_reconnecting l ≡ false → logged_in l ≡ None
+connection-same : (c : ConnectionData) (body : List Line) (l : Line) → step_in l ≡ None → target_in l ≡ None → route_in l ≡ None → delay_in l ≡ None → ends_reconnecting l ≡ false → logged_in l ≡ None
     → connection_of (c, body ++ l ∷ []) ≡ connection_of (c, body)
 connection-same c body l s t r d e g = one_line c body l ∙ rw (s, t, r, d, e, g) (simp (append-nil, or_false))
 
@@ -139,11 +138,10 @@ with_connections port desks cs = record { connections = cs; api_port = port; des
 
 -- ---- one more statement
 
-lines-more : (ls : List Line) (ss : List Statement) (s : Statement) → lines_from ls (ss ++ s ∷ []) ≡ lines_from ls ss ++ option_to_list (line_behind (lines_from ls ss) s)
-lines-more ls [] s = refl
-lines-more ls (t ∷ ss) s = lines-more (ls ++ option_to_list (line_behind ls t)) ss s
+lines-more : (before : List Statement) (s : Statement) (l : Line) → line_of_statement s ≡ Some l → lines_of (before ++ s ∷ []) ≡ lines_of before ++ l ∷ []
+lines-more before s l e =
+    let one : lines_of (s ∷ []) ≡ l ∷ [] = rw e refl in
+    filter_map-append line_of_statement before (s ∷ []) ∙ ap (λ (ls : List Line). lines_of before ++ ls) one
 
-pub after-more : (before : List Statement) (s : Statement) (l : Line) → line_behind (lines_from [] before) s ≡ Some l → after (before ++ s ∷ []) ≡ place l (after before)
-after-more before s l e =
-    ap standing (lines-more [] before s ∙ ap (λ o. lines_from [] before ++ option_to_list o) e)
-    ∙ standing-more (lines_from [] before) l
+pub after-more : (before : List Statement) (s : Statement) (l : Line) → line_of_statement s ≡ Some l → after (before ++ s ∷ []) ≡ place l (after before)
+after-more before s l e = ap standing (lines-more before s l e) ∙ standing-more (lines_of before) l

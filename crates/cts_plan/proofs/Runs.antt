@@ -5,6 +5,7 @@ use Rattle.std.specs.Int.{is_negative}
 use Rattle.std.specs.List.{AllByRecursion, IsDistinct, list_any, list_all}
 use Rattle.std.proofs.lemmas.List.{take_more}
 use Rattle.std.proofs.Math.Seq.{drop-cons}
+use Rattle.cts_base.specs.Names.{is_name, in_upper_case}
 use Rattle.cts_def.specs.Items.{is_same}
 use Rattle.cts_def.specs.Packets.{DefinitionsData}
 use Rattle.cts_def.specs.Sites.{SiteData}
@@ -27,40 +28,19 @@ use Rattle.cts_plan.specs.declared.line.Detail.TheVariants as detail
 use Rattle.cts_plan.specs.declared.words.Way.TheVariants.{ReadWrite}
 use Rattle.cts_plan.specs.Words.{word, port_of, desks_of, delay_of, way_of}
 use Rattle.cts_plan.specs.Connections.{ConnectionData}
-use Rattle.cts_plan.specs.Standing.{StandingData, standing}
-use Rattle.cts_plan.specs.Lines.{line_of, name_of, step_at, said_or_nothing, routed, is_router_open}
-use Rattle.cts_plan.specs.Causes.{holds, order, is_double, is_target_twice, is_chain_too_long, is_not_last, is_too_many}
-use Rattle.cts_plan.specs.Completing.{fault_of, due}
+use Rattle.cts_plan.specs.Standing.{StandingData, route_in}
+use Rattle.cts_plan.specs.Lines.{line_of, name_of, step_at, said_or_nothing, opening_of}
+use Rattle.cts_plan.specs.Causes.{holds, order, is_spelled, is_unknown_interface, is_double, is_unknown_target, is_target_twice, is_chain_too_long, is_not_last, is_too_many}
+use Rattle.cts_plan.specs.Completing.{is_named, due}
 use Rattle.cts_plan.specs.Sound.{IsSoundLine, interface_name, router_name, interface_names, router_names}
-use Rattle.cts_plan.specs.SiteFiles.{Refused, parts, opening, opens, line_in, lines_from, cause_in, at_line, after, refusal_in, refusal, at_end, site_in, site_or, site_of}
-use Rattle.cts_plan.specs.Placing.{change_connection, place, targets_of, routes_of, seen, Fits, FitsLast, FitsIn, AreSettled, IsSoundStanding, Fails, Judged}
-use Rattle.cts_plan.proofs.Keeps.{keeps, no_two}
+use Rattle.cts_plan.specs.SiteFiles.{Refused, parts, opening, opens, line_in, line_of_statement, cause_in, at_line, after, refusal_in, refusal, at_end, site_in, site_or, site_of}
+use Rattle.cts_plan.specs.Placing.{change_connection, place, targets_of, seen, Fits, FitsLast, FitsIn, AreRoutedBehind, AreKnownTargets, AreReady, IsSoundStanding, Fails, Judged}
+use Rattle.cts_plan.proofs.Keeps.{keeps, keeps_known, keeps_ready, no_two, IsRouted}
+use Rattle.cts_plan.proofs.Lists.{not_false, but_last, but_last_snoc, but_last_kept}
+use Rattle.cts_plan.proofs.Settled.{AreSettledBehind, settled_all}
 use Rattle.cts_plan.proofs.More.{after-more, with_connections}
 
--- ---- lists
-
-abbrev pub but_last : {X : Type 0} → List X → List X
-but_last [] = []
-but_last (x ∷ []) = []
-but_last (x ∷ y ∷ xs) = x ∷ but_last (y ∷ xs)
-
-but_last_snoc : {X : Type 0} (xs : List X) (x : X) → but_last (xs ++ x ∷ []) ≡ xs
-but_last_snoc [] x = refl
-but_last_snoc (y ∷ []) x = refl
-but_last_snoc (y ∷ z ∷ xs) x = ap (λ ys. y ∷ ys) (but_last_snoc (z ∷ xs) x)
-
-but_last_kept : {X : Type 0} (f : X → X) (xs : List X) → but_last (on_last f xs) ≡ but_last xs
-but_last_kept f [] = refl
-but_last_kept f (x ∷ []) = refl
-but_last_kept f (x ∷ y ∷ []) = refl
-but_last_kept f (x ∷ y ∷ z ∷ xs) = ap (λ ys. x ∷ ys) (but_last_kept f (y ∷ z ∷ xs))
-
 -- ---- interfaces and routers that are complete
-
-pub settled_all : (d : DefinitionsData) (cs : List ConnectionData) → AreSettled d (but_last cs) → due d cs ≡ None → AreSettled d cs
-settled_all d [] h e = tt
-settled_all d (c ∷ []) h e = (e, tt)
-settled_all d (c ∷ c2 ∷ cs) h e = (h.0, settled_all d (c2 ∷ cs) h.1 e)
 
 abbrev is_opening : Line → Bool
 is_opening (line.Opening c) = true
@@ -70,28 +50,55 @@ said_is_not : {X : Type 0} (f : X → Line) (o : Option X) → ((x : X) → is_o
 said_is_not f None h = refl
 said_is_not f (Some x) h = h x
 
-route_is_not : (b : Bool) (o : Option (ℕ × List (List ℕ))) → is_opening (cond b (said_or_nothing (λ r. line.Detail (detail.Route r.0 r.1)) o) line.Nothing) ≡ false
-route_is_not true o = said_is_not (λ r. line.Detail (detail.Route r.0 r.1)) o (λ r. refl)
-route_is_not false o = refl
-
 clash : (b : Bool) → b ≡ false → b ≡ true → ⊥
 clash true e f = absurd cc
 clash false e f = absurd cc
 
 -- only an INTERFACE or ROUTER statement opens one
-opening_keyword : (cs : List ConnectionData) (n : ℕ) (k : Keyword) (ws : List (List ℕ)) → is_opening (line_of cs n k ws) ≡ true → opening k ≡ true
-opening_keyword cs n keyword.Title ws e = absurd cc
-opening_keyword cs n keyword.Port ws e = absurd (clash (is_opening (line_of cs n keyword.Port ws)) (said_is_not (λ port. line.ApiPort port) (port_of (word ws 1)) (λ x. refl)) e)
-opening_keyword cs n keyword.Desks ws e = absurd (clash (is_opening (line_of cs n keyword.Desks ws)) (said_is_not (λ desks. line.Desks desks) (desks_of (word ws 0)) (λ x. refl)) e)
-opening_keyword cs n keyword.Interface ws e = refl
-opening_keyword cs n keyword.Target ws e = absurd (clash (is_opening (line_of cs n keyword.Target ws)) (said_is_not (λ name. line.Detail (detail.Target name)) (name_of (word ws 0)) (λ x. refl)) e)
-opening_keyword cs n keyword.Protocol ws e = absurd (clash (is_opening (line_of cs n keyword.Protocol ws)) (said_is_not (λ step. line.Detail (detail.Step step)) (step_at n (unwrap_or (way_of (word ws 0)) ReadWrite) keyword.Protocol ws) (λ x. refl)) e)
-opening_keyword cs n keyword.ReconnectDelay ws e = absurd (clash (is_opening (line_of cs n keyword.ReconnectDelay ws)) (said_is_not (λ delay. line.Detail (detail.Delay delay)) (delay_of (word ws 0)) (λ x. refl)) e)
-opening_keyword cs n keyword.DontReconnect ws e = absurd cc
-opening_keyword cs n keyword.Log ws e = absurd cc
-opening_keyword cs n keyword.DontLog ws e = absurd cc
-opening_keyword cs n keyword.Router ws e = refl
-opening_keyword cs n keyword.Route ws e = absurd (clash (is_opening (line_of cs n keyword.Route ws)) (route_is_not (is_router_open (last_of cs)) (routed cs ws)) e)
+opening_keyword : (n : ℕ) (k : Keyword) (ws : List (List ℕ)) → is_opening (line_of n k ws) ≡ true → opening k ≡ true
+opening_keyword n keyword.Title ws e = absurd cc
+opening_keyword n keyword.Port ws e = absurd (clash (is_opening (line_of n keyword.Port ws)) (said_is_not (λ port. line.ApiPort port) (port_of (word ws 1)) (λ x. refl)) e)
+opening_keyword n keyword.Desks ws e = absurd (clash (is_opening (line_of n keyword.Desks ws)) (said_is_not (λ desks. line.Desks desks) (desks_of (word ws 0)) (λ x. refl)) e)
+opening_keyword n keyword.Interface ws e = refl
+opening_keyword n keyword.Target ws e = absurd (clash (is_opening (line_of n keyword.Target ws)) (said_is_not (λ name. line.Detail (detail.Target name)) (name_of (word ws 0)) (λ x. refl)) e)
+opening_keyword n keyword.Protocol ws e = absurd (clash (is_opening (line_of n keyword.Protocol ws)) (said_is_not (λ step. line.Detail (detail.Step step)) (step_at n (unwrap_or (way_of (word ws 0)) ReadWrite) keyword.Protocol ws) (λ x. refl)) e)
+opening_keyword n keyword.ReconnectDelay ws e = absurd (clash (is_opening (line_of n keyword.ReconnectDelay ws)) (said_is_not (λ delay. line.Detail (detail.Delay delay)) (delay_of (word ws 0)) (λ x. refl)) e)
+opening_keyword n keyword.DontReconnect ws e = absurd cc
+opening_keyword n keyword.Log ws e = absurd cc
+opening_keyword n keyword.DontLog ws e = absurd cc
+opening_keyword n keyword.Router ws e = refl
+opening_keyword n keyword.Route ws e = absurd (clash (is_opening (line_of n keyword.Route ws)) (said_is_not (λ name. line.Detail (detail.Route name)) (name_of (word ws 0)) (λ x. refl)) e)
+
+-- ---- the interface that a ROUTE statement names
+
+no_route_said : {X : Type 0} (f : X → Line) (o : Option X) → ((x : X) → route_in (f x) ≡ None) → route_in (said_or_nothing f o) ≡ None
+no_route_said f None h = refl
+no_route_said f (Some x) h = h x
+
+no_such_route : {X : Type 0} (o : Option X) (x : X) → o ≡ None → o ≡ Some x → ⊥
+no_such_route None x e f = cc
+no_such_route (Some y) x e f = absurd cc
+
+spelled : (b : Bool) (w : List ℕ) (cs : List ConnectionData) (name : List ℕ) → route_in (said_or_nothing (λ n. line.Detail (detail.Route n)) (cond b (Some (in_upper_case w)) None)) ≡ Some name
+    → not (list_any (is_spelled w) cs) ≡ false → list_any (is_named name) cs ≡ true
+spelled true w cs name e known =
+    let same : in_upper_case w ≡ name = cc in
+    subst (λ (n : List ℕ). list_any (is_named n) cs ≡ true) same (not_false (list_any (is_spelled w) cs) known)
+spelled false w cs name e known = absurd cc
+
+routed_keyword : (n : ℕ) (k : Keyword) (ws : List (List ℕ)) (cs : List ConnectionData) → is_unknown_interface cs k ws ≡ false → IsRouted cs (line_of n k ws)
+routed_keyword n keyword.Title ws cs known name e = absurd cc
+routed_keyword n keyword.Port ws cs known name e = absurd (no_such_route (route_in (line_of n keyword.Port ws)) name (no_route_said (λ port. line.ApiPort port) (port_of (word ws 1)) (λ x. refl)) e)
+routed_keyword n keyword.Desks ws cs known name e = absurd (no_such_route (route_in (line_of n keyword.Desks ws)) name (no_route_said (λ desks. line.Desks desks) (desks_of (word ws 0)) (λ x. refl)) e)
+routed_keyword n keyword.Interface ws cs known name e = absurd (no_such_route (route_in (line_of n keyword.Interface ws)) name (no_route_said (λ x. line.Opening (opening_of n keyword.Interface ws x)) (name_of (word ws 0)) (λ x. refl)) e)
+routed_keyword n keyword.Target ws cs known name e = absurd (no_such_route (route_in (line_of n keyword.Target ws)) name (no_route_said (λ x. line.Detail (detail.Target x)) (name_of (word ws 0)) (λ x. refl)) e)
+routed_keyword n keyword.Protocol ws cs known name e = absurd (no_such_route (route_in (line_of n keyword.Protocol ws)) name (no_route_said (λ step. line.Detail (detail.Step step)) (step_at n (unwrap_or (way_of (word ws 0)) ReadWrite) keyword.Protocol ws) (λ x. refl)) e)
+routed_keyword n keyword.ReconnectDelay ws cs known name e = absurd (no_such_route (route_in (line_of n keyword.ReconnectDelay ws)) name (no_route_said (λ delay. line.Detail (detail.Delay delay)) (delay_of (word ws 0)) (λ x. refl)) e)
+routed_keyword n keyword.DontReconnect ws cs known name e = absurd cc
+routed_keyword n keyword.Log ws cs known name e = absurd cc
+routed_keyword n keyword.DontLog ws cs known name e = absurd cc
+routed_keyword n keyword.Router ws cs known name e = absurd (no_such_route (route_in (line_of n keyword.Router ws)) name (no_route_said (λ x. line.Opening (opening_of n keyword.Router ws x)) (name_of (word ws 0)) (λ x. refl)) e)
+routed_keyword n keyword.Route ws cs known name e = spelled (is_name (word ws 0)) (word ws 0) cs name e known
 
 -- ---- a statement without refusal
 
@@ -105,7 +112,9 @@ no_cause s (Some c) e = absurd cc
 
 -- what is known of a line whose statement is not refused
 pub record IsFree (d : DefinitionsData) (cs : List ConnectionData) (l : Line) : Type 0 where
+  pub routed : IsRouted cs l
   pub double : is_double cs l ≡ false
+  pub unknown : is_unknown_target d l ≡ false
   pub twice : is_target_twice cs l ≡ false
   pub long : is_chain_too_long cs l ≡ false
   pub last : is_not_last cs l ≡ false
@@ -117,25 +126,27 @@ due_now true o e f = e
 due_now false o e f = absurd cc
 
 free_at : (d : DefinitionsData) (cs : List ConnectionData) (s : Statement) (k : Keyword) (ws : List (List ℕ))
-    → or_else (cond (opening k) (due d cs) None) (at_line s (find (λ c. holds c d cs k ws (line_of cs s.line k ws)) order)) ≡ None → IsFree d cs (line_of cs s.line k ws)
+    → or_else (cond (opening k) (due d cs) None) (at_line s (find (λ c. holds c d cs k ws (line_of s.line k ws)) order)) ≡ None → IsFree d cs (line_of s.line k ws)
 free_at d cs s k ws e =
-    let l = line_of cs s.line k ws in
+    let l = line_of s.line k ws in
     let parts = none_left (cond (opening k) (due d cs) None) (at_line s (find (λ c. holds c d cs k ws l) order)) e in
     let none = none_passes (λ c. holds c d cs k ws l) order (no_cause s (find (λ c. holds c d cs k ws l) order) parts.1) in
     record {
+      routed = routed_keyword s.line k ws cs none.1.1.0;
       double = none.1.1.1.1.1.0;
+      unknown = none.1.1.1.1.1.1.1.0;
       twice = none.1.1.1.1.1.1.1.1.0;
       long = none.1.1.1.1.1.1.1.1.1.1.1.0;
       last = none.1.1.1.1.1.1.1.1.1.1.1.1.0;
       many = none.1.1.1.1.1.1.1.1.1.1.1.1.1.0;
-      complete = λ is. due_now (opening k) (due d cs) parts.0 (opening_keyword cs s.line k ws is);
+      complete = λ is. due_now (opening k) (due d cs) parts.0 (opening_keyword s.line k ws is);
     }
 
 free_of : (d : DefinitionsData) (cs : List ConnectionData) (s : Statement) (p : Option (Keyword × List (List ℕ))) (l : Line)
-    → or_else (cond (opens p) (due d cs) None) (at_line s (cause_in d cs s.line p)) ≡ None → line_in cs s.line p ≡ Some l → IsFree d cs l
+    → or_else (cond (opens p) (due d cs) None) (at_line s (cause_in d cs s.line p)) ≡ None → line_in s.line p ≡ Some l → IsFree d cs l
 free_of d cs s None l e said = absurd cc
 free_of d cs s (Some p) l e said =
-    let same : line_of cs s.line p.0 p.1 ≡ l = cc in
+    let same : line_of s.line p.0 p.1 ≡ l = cc in
     subst (IsFree d cs) same (free_at d cs s p.0 p.1 e)
 
 pub free : (d : DefinitionsData) (cs : List ConnectionData) (s : Statement) (l : Line) → Judged d cs s (Ok l) → IsFree d cs l
@@ -143,39 +154,22 @@ free d cs s l judged = free_of d cs s (parts s.words) l judged.0 judged.1
 
 -- ---- the line can be added
 
-step_fits : (o : Option ConnectionData) (cs : List ConnectionData) (d : Detail) → last_of cs ≡ o → IsSoundLine cs (line.Detail d) → is_double cs (line.Detail d) ≡ false
+step_fits : (o : Option ConnectionData) (cs : List ConnectionData) (d : Detail) → last_of cs ≡ o → IsSoundLine (line.Detail d) → is_double cs (line.Detail d) ≡ false
     → is_chain_too_long cs (line.Detail d) ≡ false → is_not_last cs (line.Detail d) ≡ false → FitsLast d o
 step_fits None cs d at sound double long last = tt
 step_fits (Some c) cs (detail.Target name) at sound double long last = tt
 step_fits (Some c) cs (detail.Step step) at sound double long last = (rw at at long, rw at at last)
-step_fits (Some c) cs (detail.Route n ts) at sound double long last = rw at at double
+step_fits (Some c) cs (detail.Route name) at sound double long last = rw at at double
 step_fits (Some c) cs (detail.Delay delay) at sound double long last = sound
 step_fits (Some c) cs detail.DontReconnect at sound double long last = tt
 step_fits (Some c) cs (detail.Logged logged) at sound double long last = tt
 
-pub fits : (d : DefinitionsData) (cs : List ConnectionData) (l : Line) → IsFree d cs l → IsSoundLine cs l → FitsIn l cs
+pub fits : (d : DefinitionsData) (cs : List ConnectionData) (l : Line) → IsFree d cs l → IsSoundLine l → FitsIn l cs
 fits d cs line.Nothing is_free sound = tt
 fits d cs (line.ApiPort port) is_free sound = tt
 fits d cs (line.Desks desks) is_free sound = tt
 fits d cs (line.Opening c) is_free sound = tt
 fits d cs (line.Detail t) is_free sound = step_fits (last_of cs) cs t refl sound is_free.double is_free.long is_free.last
-
--- ---- how many there are
-
-count_one : (r : Bool) (name : List ℕ) (n : ℕ) (is rs : List (List ℕ)) → n ≡ length is + length rs → suc n ≡ length (cond r [] (name ∷ []) ++ is) + length (cond r (name ∷ []) [] ++ rs)
-count_one true name n is rs e = grind (arith, e)
-count_one false name n is rs e = grind (arith, e)
-
-count_all : (cs : List ConnectionData) → length cs ≡ length (interface_names cs) + length (router_names cs)
-count_all [] = refl
-count_all (c ∷ cs) = count_one c.is_router c.name (length cs) (interface_names cs) (router_names cs) (count_all cs)
-
-pub few_in_all : (s : StandingData) → IsSoundStanding s → length s.connections ≤ 20
-few_in_all s sound =
-    let all = count_all s.connections in
-    let is = sound.few_interfaces in
-    let rs = sound.few_routers in
-    omega arith
 
 -- ---- reading
 
@@ -183,7 +177,9 @@ few_in_all s sound =
 pub record IsReading (d : DefinitionsData) (draft : Draft) (before rest all : List Statement) : Type 0 where
   pub stands : seen draft ≡ after before
   pub sound : IsSoundStanding (seen draft)
-  pub settled : AreSettled d (but_last draft.connections.items)
+  pub known : AreKnownTargets d draft.connections.items
+  pub ready : AreReady draft.connections.items
+  pub settled : AreSettledBehind d [] (but_last draft.connections.items)
   pub refused : Decides (refusal d) (at_end d) before rest all
 
 -- the statement at i is the next one
@@ -203,41 +199,40 @@ begins d draft all none port desks = record {
     distinct_interfaces = subst (λ (cs : List ConnectionData). IsDistinct is_same (interface_names cs)) (sym none) (no_two is_same);
     distinct_routers = subst (λ (cs : List ConnectionData). IsDistinct is_same (router_names cs)) (sym none) (no_two is_same);
     targets = subst (λ (cs : List ConnectionData). IsDistinct is_same (targets_of cs)) (sym none) (no_two is_same);
-    routes = ap (λ (cs : List ConnectionData). list_all (λ k. nat_lt k (length (interface_names cs))) (routes_of cs)) none;
+    routes = subst (AreRoutedBehind []) (sym none) tt;
     api_port = subst (λ n. 1 ≤ n) (sym port) (omega arith);
     some_desks = subst (λ n. 1 ≤ n) (sym desks) (omega arith);
     few_desks = subst (λ n. n ≤ 4) (sym desks) (omega arith);
   };
-  settled = subst (λ (cs : List ConnectionData). AreSettled d (but_last cs)) (sym none) tt;
+  known = subst (AreKnownTargets d) (sym none) refl;
+  ready = subst AreReady (sym none) refl;
+  settled = subst (λ (cs : List ConnectionData). AreSettledBehind d [] (but_last cs)) (sym none) tt;
   refused = record { same = refl };
 }
 
-settled_more : (d : DefinitionsData) (l : Line) (s : StandingData) → IsFree d s.connections l → AreSettled d (but_last s.connections) → AreSettled d (but_last (place l s).connections)
+settled_more : (d : DefinitionsData) (l : Line) (s : StandingData) → IsFree d s.connections l → AreSettledBehind d [] (but_last s.connections) → AreSettledBehind d [] (but_last (place l s).connections)
 settled_more d line.Nothing s is_free settled = settled
 settled_more d (line.ApiPort port) s is_free settled = settled
 settled_more d (line.Desks desks) s is_free settled = settled
-settled_more d (line.Opening c) s is_free settled = subst (AreSettled d) (sym (but_last_snoc s.connections c)) (settled_all d s.connections settled (is_free.complete refl))
-settled_more d (line.Detail t) s is_free settled = subst (AreSettled d) (sym (but_last_kept (change_connection t) s.connections)) settled
-
--- the line of a statement behind others
-said_behind : (draft : Draft) (before : List Statement) (s : Statement) (l : Line) → seen draft ≡ after before → line_in draft.connections.items s.line (parts s.words) ≡ Some l
-    → line_in (after before).connections s.line (parts s.words) ≡ Some l
-said_behind draft before s l stands said = ap (λ (x : StandingData). line_in x.connections s.line (parts s.words)) (sym stands) ∙ said
+settled_more d (line.Opening c) s is_free settled = subst (AreSettledBehind d []) (sym (but_last_snoc s.connections c)) (settled_all d [] s.connections settled (is_free.complete refl))
+settled_more d (line.Detail t) s is_free settled = subst (AreSettledBehind d []) (sym (but_last_kept (change_connection t) s.connections)) settled
 
 goes_on : (d : DefinitionsData) (old new : Draft) (before rest all : List Statement) (s : Statement) (l : Line) → IsReading d old before (s ∷ rest) all
-    → Judged d old.connections.items s (Ok l) → IsSoundLine old.connections.items l → seen new ≡ place l (seen old) → IsReading d new (before ++ s ∷ []) rest all
+    → Judged d old.connections.items s (Ok l) → IsSoundLine l → seen new ≡ place l (seen old) → IsReading d new (before ++ s ∷ []) rest all
 goes_on d old new before rest all s l so_far judged sound placed =
     let is_free = free d old.connections.items s l judged in
     record {
-      stands = placed ∙ ap (place l) so_far.stands ∙ sym (after-more before s l (said_behind old before s l so_far.stands judged.1));
-      sound = subst IsSoundStanding (sym placed) (keeps l (seen old) sound is_free.double is_free.twice is_free.many so_far.sound);
-      settled = subst (λ (x : StandingData). AreSettled d (but_last x.connections)) (sym placed) (settled_more d l (seen old) is_free so_far.settled);
+      stands = placed ∙ ap (place l) so_far.stands ∙ sym (after-more before s l judged.1);
+      sound = subst IsSoundStanding (sym placed) (keeps l (seen old) sound is_free.routed is_free.double is_free.twice is_free.many so_far.sound);
+      ready = subst (λ (x : StandingData). AreReady x.connections) (sym placed) (keeps_ready l (seen old) sound so_far.ready);
+      known = subst (λ (x : StandingData). AreKnownTargets d x.connections) (sym placed) (keeps_known d l (seen old) sound is_free.unknown so_far.known);
+      settled = subst (λ (x : StandingData). AreSettledBehind d [] (but_last x.connections)) (sym placed) (settled_more d l (seen old) is_free so_far.settled);
       refused = refused.goes_on (refusal d) (at_end d) before rest all s
           (ap (λ (x : StandingData). refusal_in d x.connections s) (sym so_far.stands) ∙ judged.0) so_far.refused;
     }
 
 pub next : (d : DefinitionsData) (old new : Draft) (all : List Statement) (i : ℕ) (s : Statement) (l : Line) → i < length all → s ≡ get_or all i s → IsReading d old (take i all) (drop i all) all
-    → Judged d old.connections.items s (Ok l) → IsSoundLine old.connections.items l → seen new ≡ place l (seen old) → IsReading d new (take (i + 1) all) (drop (i + 1) all) all
+    → Judged d old.connections.items s (Ok l) → IsSoundLine l → seen new ≡ place l (seen old) → IsReading d new (take (i + 1) all) (drop (i + 1) all) all
 next d old new all i s l lt item so_far judged sound placed =
     let front : take i all ++ s ∷ [] ≡ take (i + 1) all = ap (λ (x : Statement). take i all ++ x ∷ []) item ∙ sym (take_more all i s lt) in
     subst (λ (b : List Statement). IsReading d new b (drop (i + 1) all) all) front

@@ -1,10 +1,13 @@
 -- Each cause, judged by what stands before a statement and by the statement.
-use Rattle.std.specs.Prelude.{ℕ, ◌+◌, Bool, true, false, not, ◌||◌, ◌&&◌, ◌==◌, nat_eq, nat_lt, nat_le, List, [], ◌∷◌, length, Option, Some, None, is_none, find, codes, if◌then◌else◌}
+use Rattle.std.specs.Prelude.{ℕ, ◌+◌, Bool, true, false, not, ◌||◌, ◌&&◌, nat_eq, nat_lt, nat_le, List, [], ◌∷◌, length, Option, Some, None, is_none, find, codes, if◌then◌else◌}
 use Rattle.std.specs.List.{list_any, filter}
+use Rattle.std.specs.Option.{option_eq}
+use Rattle.cts_base.specs.Names.{spells}
 use Rattle.cts_def.specs.declared.proto_spec.Kind.{Kind}
 use Rattle.cts_def.specs.declared.proto_spec.Kind.TheVariants as kind
 use Rattle.cts_def.specs.Items.{is_same}
-use Rattle.cts_def.specs.Packets.{PacketData, DefinitionsData}
+use Rattle.cts_def.specs.Packets.{DefinitionsData}
+use Rattle.cts_def.specs.Sites.{is_known_target}
 use Rattle.cts_words.specs.Blocks.{last_of}
 use Rattle.cts_plan.specs.declared.keyword.Keyword.{Keyword}
 use Rattle.cts_plan.specs.declared.keyword.Keyword.TheVariants as keyword
@@ -14,15 +17,19 @@ use Rattle.cts_plan.specs.declared.line.Line.TheVariants as line
 use Rattle.cts_plan.specs.declared.line.Detail.TheVariants as detail
 use Rattle.cts_plan.specs.declared.fault.SiteCause.{SiteCause}
 use Rattle.cts_plan.specs.declared.fault.SiteCause.TheVariants.{UnknownKeyword, WrongCount, BadName, NotNumber, DoubleName, OutsideInterface, UnknownTarget, TargetTwice, UnknownInterface, TwoPorts, ProtocolKind, ChainTooLong, NotLast, MinIdSize, VariableLength, EmptySync, TooMany}
-use Rattle.cts_plan.specs.Words.{word, is_nil}
-use Rattle.cts_plan.specs.Forms.{peer_of, head_fields, required, parameter_fields, has_protocol, protocol_of, parameters, is_other_choice, is_bad_name, is_no_number, is_empty_sync, any_field}
+use Rattle.cts_plan.specs.Words.{word, is_nil, port_of}
+use Rattle.cts_plan.specs.Forms.{role_of, head_fields, required, parameter_fields, has_protocol, protocol_of, parameters, is_other_choice, is_bad_name, is_no_number, is_empty_sync, any_field}
 use Rattle.cts_plan.specs.Chains.{step_reads, step_reads_packets}
 use Rattle.cts_plan.specs.Connections.{ConnectionData}
-use Rattle.cts_plan.specs.Lines.{is_router_open, port_at, port_or_one, is_bad_length, routed}
+use Rattle.cts_plan.specs.Lines.{port_at, is_bad_length}
 
 -- ---- what stands
 
 -- the last interface or router, to which further lines belong
+abbrev pub is_router_open : Option ConnectionData → Bool
+is_router_open None = false
+is_router_open (Some c) = c.is_router
+
 abbrev pub is_interface_open : Option ConnectionData → Bool
 is_interface_open None = false
 is_interface_open (Some c) = not c.is_router
@@ -31,14 +38,14 @@ abbrev pub steps_in : Option ConnectionData → List Step
 steps_in None = []
 steps_in (Some c) = c.steps
 
-abbrev pub routes_in : Option ConnectionData → List ℕ
+abbrev pub routes_in : Option ConnectionData → List (List ℕ)
 routes_in None = []
 routes_in (Some c) = c.routes
 
 abbrev pub open_steps : List ConnectionData → List Step
 open_steps cs = steps_in (last_of cs)
 
-abbrev pub open_routes : List ConnectionData → List ℕ
+abbrev pub open_routes : List ConnectionData → List (List ℕ)
 open_routes cs = routes_in (last_of cs)
 
 abbrev pub is_interface : ConnectionData → Bool
@@ -72,8 +79,8 @@ is_wrong_protocol_count (Some kind) ws = nat_lt (length ws) (required kind) || n
 
 -- behind a file name that is not in the table, words are not counted
 abbrev pub is_file_unknown : Keyword → List (List ℕ) → Bool
-is_file_unknown keyword.Interface ws = is_none (peer_of keyword.Interface ws)
-is_file_unknown keyword.Router ws = is_none (peer_of keyword.Router ws)
+is_file_unknown keyword.Interface ws = is_none (role_of keyword.Interface ws)
+is_file_unknown keyword.Router ws = is_none (role_of keyword.Router ws)
 is_file_unknown _ ws = false
 
 -- a PROTOCOL statement has a protocol
@@ -91,9 +98,13 @@ abbrev pub is_wrong_count : Keyword → List (List ℕ) → Bool
 is_wrong_count k ws =
     nat_lt (length ws) (length (head_fields k ws)) || is_protocol_missing k ws || has_wrong_rest k ws || any_field is_other_choice k ws
 
+-- an interface whose name this word is, in any case
+abbrev pub is_spelled : List ℕ → ConnectionData → Bool
+is_spelled word c = not c.is_router && spells word c.name
+
 -- the file name, or the interface that ROUTE names
 abbrev pub is_unknown_interface : List ConnectionData → Keyword → List (List ℕ) → Bool
-is_unknown_interface cs keyword.Route ws = is_none (routed cs ws)
+is_unknown_interface cs keyword.Route ws = not (list_any (is_spelled (word ws 0)) cs)
 is_unknown_interface cs k ws = is_file_unknown k ws
 
 abbrev pub is_length : Option Kind → Bool
@@ -105,14 +116,14 @@ is_not_number k ws = any_field is_no_number k ws || (is_length (protocol_of k ws
 
 -- two port words that differ, or of which one is `nil`
 abbrev pub are_two : List ℕ → List ℕ → Bool
-are_two a b = is_nil a || is_nil b || not (port_or_one a == port_or_one b)
+are_two a b = is_nil a || is_nil b || not (option_eq nat_eq (port_of a) (port_of b))
 
 abbrev pub are_two_at : List (List ℕ) → ℕ → Bool
 are_two_at ws at = are_two (word ws at) (word ws (at + 1))
 
 abbrev pub is_two_ports : Keyword → List (List ℕ) → Bool
-is_two_ports keyword.Interface ws = are_two_at ws (port_at (peer_of keyword.Interface ws))
-is_two_ports keyword.Router ws = are_two_at ws (port_at (peer_of keyword.Router ws))
+is_two_ports keyword.Interface ws = are_two_at ws (port_at (role_of keyword.Interface ws))
+is_two_ports keyword.Router ws = are_two_at ws (port_at (role_of keyword.Router ws))
 is_two_ports _ ws = false
 
 abbrev pub is_other_kind : Keyword → List (List ℕ) → Bool
@@ -130,15 +141,12 @@ has_name_of c d = is_same_kind c d && is_same d.name c.name
 -- a name of an interface or router, or a route, that stands already
 abbrev pub is_double : List ConnectionData → Line → Bool
 is_double cs (line.Opening c) = list_any (has_name_of c) cs
-is_double cs (line.Detail (detail.Route number targets)) = list_any (λ route. nat_eq route number) (open_routes cs)
+is_double cs (line.Detail (detail.Route name)) = list_any (λ route. is_same route name) (open_routes cs)
 is_double cs _ = false
-
-abbrev pub has_target : List PacketData → List ℕ → Bool
-has_target packets name = list_any (λ (p : PacketData). is_same p.target name) packets
 
 -- neither a packet nor a command has the target
 abbrev pub is_unknown_target : DefinitionsData → Line → Bool
-is_unknown_target d (line.Detail (detail.Target name)) = not (has_target d.telemetry name) && not (has_target d.commands name)
+is_unknown_target d (line.Detail (detail.Target name)) = not (is_known_target d name)
 is_unknown_target d _ = false
 
 abbrev pub maps : List ℕ → ConnectionData → Bool

@@ -1,6 +1,7 @@
 -- The protocols of a connection so far.
 use Rattle.std.specs.Prelude.{ℕ, Bool, true, false, not, ◌&&◌, nat_lt, List, [], ◌∷◌, ◌++◌, length, if◌then◌else◌}
 use Rattle.std.specs.List.{list_any}
+use Rattle.cts_def.specs.Protocols as spec
 use Rattle.cts_def.specs.Protocols.{UseData, SpecData, Burst, reads_packets}
 use Rattle.cts_plan.specs.declared.step.Step.{Step}
 use Rattle.cts_plan.specs.declared.step.Step.TheVariants.{Ready, Fixed}
@@ -13,6 +14,15 @@ step_reads (Fixed f) = f.reads
 abbrev pub step_reads_packets : Step → Bool
 step_reads_packets (Ready u) = reads_packets u
 step_reads_packets (Fixed f) = f.reads
+
+-- FIXED is kept without its packets
+abbrev pub is_ready_spec : SpecData → Bool
+is_ready_spec (spec.Fixed f) = false
+is_ready_spec _ = true
+
+abbrev pub is_ready : Step → Bool
+is_ready (Ready u) = is_ready_spec u.spec
+is_ready (Fixed f) = true
 
 -- no protocol reads behind one that reads packets
 abbrev pub are_packets_last : List Step → Bool

@@ -1,10 +1,11 @@
 -- What is judged when an interface or router is complete: at the statement that opens the next one, or at the end.
-use Rattle.std.specs.Prelude.{ℕ, ◌+◌, Bool, true, false, not, ◌&&◌, ◌||◌, ◌==◌, nat_lt, List, [], ◌∷◌, length, map, Option, Some, None, if◌then◌else◌}
-use Rattle.std.specs.List.{list_any, list_all}
+use Rattle.std.specs.Prelude.{ℕ, ◌+◌, Bool, true, false, not, ◌&&◌, ◌||◌, ◌==◌, nat_lt, List, [], ◌∷◌, length, map, find, Option, Some, None, if◌then◌else◌}
+use Rattle.std.specs.List.{list_any, list_all, flat_map}
 use Rattle.cts_def.specs.Items.{is_same}
 use Rattle.cts_def.specs.Beginnings.{start_of}
 use Rattle.cts_def.specs.Packets.{PacketData, DefinitionsData, of_targets}
 use Rattle.cts_def.specs.Protocols.{is_start_within}
+use Rattle.cts_def.specs.Sites.{packets_of}
 use Rattle.cts_def.specs.Starts.{StartData}
 use Rattle.cts_words.specs.Refusals.{Refusal, or_else}
 use Rattle.cts_words.specs.Blocks.{last_of}
@@ -15,10 +16,6 @@ use Rattle.cts_plan.specs.declared.fault.SiteCause.TheVariants.{ChainTooLong, Mi
 use Rattle.cts_plan.specs.Steps.{FixedStepData}
 use Rattle.cts_plan.specs.Chains.{whole_chain}
 use Rattle.cts_plan.specs.Connections.{ConnectionData}
-
--- the packets among which FIXED looks: telemetry packets or commands
-abbrev pub packets_of : DefinitionsData → Bool → List PacketData
-packets_of d telemetry = if telemetry then d.telemetry else d.commands
 
 -- how the packets of these targets begin
 abbrev pub starts_of : List (List ℕ) → List PacketData → List StartData
@@ -56,16 +53,35 @@ first_step_fault d targets [] = None
 first_step_fault d targets (s ∷ ss) = or_else (step_fault d targets s) (first_step_fault d targets ss)
 
 -- What is wrong with a complete interface or router: with the protocol that is added, its chain is too long, or the first of
--- its FIXED protocols that is wrong.
-abbrev pub fault_of : DefinitionsData → ConnectionData → Option (Refusal SiteCause)
-fault_of d c =
+-- its FIXED protocols is wrong for these targets.
+abbrev pub fault_of : DefinitionsData → List (List ℕ) → ConnectionData → Option (Refusal SiteCause)
+fault_of d targets c =
     if nat_lt 4 (length (whole_chain c.steps)) then Some (c.line, ChainTooLong)
-    else first_step_fault d c.targets c.steps
+    else first_step_fault d targets c.steps
 
-abbrev pub fault_in : DefinitionsData → Option ConnectionData → Option (Refusal SiteCause)
-fault_in d None = None
-fault_in d (Some c) = fault_of d c
+-- ---- the targets
+
+-- an interface of this name
+abbrev pub is_named : List ℕ → ConnectionData → Bool
+is_named name c = not c.is_router && is_same name c.name
+
+abbrev pub targets_in : Option ConnectionData → List (List ℕ)
+targets_in None = []
+targets_in (Some c) = c.targets
+
+abbrev pub targets_named : List ConnectionData → List ℕ → List (List ℕ)
+targets_named cs name = targets_in (find (is_named name) cs)
+
+-- The targets among whose packets FIXED looks: those of the interface, or of all interfaces that are routed to the router.
+abbrev pub targets_for : List ConnectionData → ConnectionData → List (List ℕ)
+targets_for cs c = if c.is_router then flat_map (targets_named cs) c.routes else c.targets
+
+-- ---- the last interface or router
+
+abbrev pub fault_in : DefinitionsData → List ConnectionData → Option ConnectionData → Option (Refusal SiteCause)
+fault_in d cs None = None
+fault_in d cs (Some c) = fault_of d (targets_for cs c) c
 
 -- what is wrong with the interface or router that is completed now
 abbrev pub due : DefinitionsData → List ConnectionData → Option (Refusal SiteCause)
-due d cs = fault_in d (last_of cs)
+due d cs = fault_in d cs (last_of cs)

@@ -2,48 +2,55 @@
 use Rattle.std.specs.Prelude.{ℕ, ◌+◌, Bool, true, false, not, ◌&&◌, ◌||◌, ◌==◌, nat_lt, List, [], ◌∷◌, length, drop, zip, codes, Option, Some, None, is_none, is_some, if◌then◌else◌}
 use Rattle.std.specs.List.{list_any}
 use Rattle.std.specs.Str.{bytes_eq}
-use Rattle.cts_base.specs.Names.{is_name}
+use Rattle.cts_base.specs.Names.{is_name, spells}
 use Rattle.cts_def.specs.declared.proto_spec.Kind.{Kind}
 use Rattle.cts_def.specs.declared.proto_spec.Kind.TheVariants as kind
 use Rattle.cts_plan.specs.declared.keyword.Keyword.{Keyword}
 use Rattle.cts_plan.specs.declared.keyword.Keyword.TheVariants as keyword
-use Rattle.cts_plan.specs.declared.keyword.Peer.{Peer}
-use Rattle.cts_plan.specs.declared.keyword.Peer.TheVariants.{Client, Server}
+use Rattle.cts_plan.specs.declared.keyword.Role.{Role}
+use Rattle.cts_plan.specs.declared.keyword.Role.TheVariants.{Client, Server}
 use Rattle.cts_plan.specs.declared.keyword.Field.{Field}
 use Rattle.cts_plan.specs.declared.keyword.Field.TheVariants as field
-use Rattle.cts_plan.specs.Words.{word, spells, is_nil, flag_of, order_of, way_of, kind_of, port_of, desks_of, size_of, bits_of, per_count_of, max_of, signed_of, is_decimal, delay_of, is_pattern_word, is_empty_pattern}
+use Rattle.cts_plan.specs.Words.{word, is_nil, flag_of, order_of, way_of, kind_of, port_of, desks_of, size_of, bits_of, per_count_of, max_of, signed_of, is_decimal, delay_of, is_pattern_word, is_empty_pattern}
+
+abbrev pub keywords : List (List ℕ × Keyword)
+keywords =
+    (codes "TITLE", keyword.Title)
+    ∷ (codes "PORT", keyword.Port)
+    ∷ (codes "DESKS", keyword.Desks)
+    ∷ (codes "INTERFACE", keyword.Interface)
+    ∷ (codes "TARGET", keyword.Target)
+    ∷ (codes "PROTOCOL", keyword.Protocol)
+    ∷ (codes "RECONNECT_DELAY", keyword.ReconnectDelay)
+    ∷ (codes "DONT_RECONNECT", keyword.DontReconnect)
+    ∷ (codes "LOG", keyword.Log)
+    ∷ (codes "DONT_LOG", keyword.DontLog)
+    ∷ (codes "ROUTER", keyword.Router)
+    ∷ (codes "ROUTE", keyword.Route) ∷ []
+
+-- the keyword of a list that the word is, in any case
+abbrev pub keyword_in : List (List ℕ × Keyword) → List ℕ → Option Keyword
+keyword_in [] word = None
+keyword_in (k ∷ list) word = if spells word k.0 then Some k.1 else keyword_in list word
 
 abbrev pub keyword_of : List ℕ → Option Keyword
-keyword_of word =
-    if spells word (codes "TITLE") then Some keyword.Title
-    else if spells word (codes "PORT") then Some keyword.Port
-    else if spells word (codes "DESKS") then Some keyword.Desks
-    else if spells word (codes "INTERFACE") then Some keyword.Interface
-    else if spells word (codes "TARGET") then Some keyword.Target
-    else if spells word (codes "PROTOCOL") then Some keyword.Protocol
-    else if spells word (codes "RECONNECT_DELAY") then Some keyword.ReconnectDelay
-    else if spells word (codes "DONT_RECONNECT") then Some keyword.DontReconnect
-    else if spells word (codes "LOG") then Some keyword.Log
-    else if spells word (codes "DONT_LOG") then Some keyword.DontLog
-    else if spells word (codes "ROUTER") then Some keyword.Router
-    else if spells word (codes "ROUTE") then Some keyword.Route
-    else None
+keyword_of word = keyword_in keywords word
 
 -- what the file name of an INTERFACE or ROUTER statement makes of it, if it stands in the table for this keyword
-abbrev pub peer_of : Keyword → List (List ℕ) → Option Peer
-peer_of keyword.Interface ws =
+abbrev pub role_of : Keyword → List (List ℕ) → Option Role
+role_of keyword.Interface ws =
     if bytes_eq (word ws 1) (codes "tcpip_client_interface.rb") then Some Client
     else if bytes_eq (word ws 1) (codes "tcpip_server_interface.rb") then Some Server
     else None
-peer_of keyword.Router ws = if bytes_eq (word ws 1) (codes "tcpip_server_interface.rb") then Some Server else None
-peer_of _ ws = None
+role_of keyword.Router ws = if bytes_eq (word ws 1) (codes "tcpip_server_interface.rb") then Some Server else None
+role_of _ ws = None
 
 -- the words of an INTERFACE or ROUTER statement before its protocol: those up to the file name, and those that the file asks for
-abbrev pub opening_fields : Option Peer → List Field
+abbrev pub opening_fields : Option Role → List Field
 opening_fields None = field.Name ∷ field.Text ∷ []
 opening_fields (Some Client) =
-    field.Name ∷ field.Text ∷ field.Text ∷ field.PeerPort ∷ field.PeerPort ∷ field.Timeout ∷ field.Timeout ∷ []
-opening_fields (Some Server) = field.Name ∷ field.Text ∷ field.PeerPort ∷ field.PeerPort ∷ field.Timeout ∷ field.Timeout ∷ []
+    field.Name ∷ field.Text ∷ field.Text ∷ field.PortOrNil ∷ field.PortOrNil ∷ field.Timeout ∷ field.Timeout ∷ []
+opening_fields (Some Server) = field.Name ∷ field.Text ∷ field.PortOrNil ∷ field.PortOrNil ∷ field.Timeout ∷ field.Timeout ∷ []
 
 -- the words behind the keyword, before a protocol
 unfoldable pub head_fields : Keyword → List (List ℕ) → List Field
@@ -57,8 +64,8 @@ head_fields keyword.DontReconnect ws = []
 head_fields keyword.Log ws = field.DefaultWord ∷ []
 head_fields keyword.DontLog ws = []
 head_fields keyword.Route ws = field.Text ∷ []
-head_fields keyword.Interface ws = opening_fields (peer_of keyword.Interface ws)
-head_fields keyword.Router ws = opening_fields (peer_of keyword.Router ws)
+head_fields keyword.Interface ws = opening_fields (role_of keyword.Interface ws)
+head_fields keyword.Router ws = opening_fields (role_of keyword.Router ws)
 
 -- the parameters of a protocol, in order
 abbrev pub parameter_fields : Kind → List Field
@@ -79,7 +86,7 @@ required _ = 0
 
 abbrev pub takes_protocol : Keyword → List (List ℕ) → Bool
 takes_protocol keyword.Protocol ws = true
-takes_protocol k ws = is_some (peer_of k ws)
+takes_protocol k ws = is_some (role_of k ws)
 
 -- a protocol's name stands behind the head
 abbrev pub has_protocol : Keyword → List (List ℕ) → Bool
@@ -115,7 +122,7 @@ is_bad_name _ word = false
 -- a number or pattern of another form, or out of its bounds
 abbrev pub is_no_number : Field → List ℕ → Bool
 is_no_number field.Port word = is_none (port_of word)
-is_no_number field.PeerPort word = not (is_nil word) && is_none (port_of word)
+is_no_number field.PortOrNil word = not (is_nil word) && is_none (port_of word)
 is_no_number field.Desks word = is_none (desks_of word)
 is_no_number field.Timeout word = not (is_nil word) && not (is_decimal word)
 is_no_number field.Delay word = is_none (delay_of word)

@@ -1,8 +1,8 @@
 -- What a statement says, read from its words. Of words that are not what their fields ask for, the reading says nothing
 -- that is used: a missing parameter and one that is no such number read as the default.
-use Rattle.std.specs.Prelude.{ℕ, ℤ, pos, ◌+◌, ◌*◌, ◌^◌, ◌/◌, ◌%◌, Bool, true, false, not, ◌&&◌, ◌||◌, ◌==◌, nat_eq, nat_lt, nat_le, List, [], ◌∷◌, ◌++◌, length, map, option_to_list, Option, Some, None, unwrap_or, option_map, if◌then◌else◌}
+use Rattle.std.specs.Prelude.{ℕ, ℤ, pos, ◌+◌, ◌*◌, ◌^◌, ◌/◌, ◌%◌, Bool, true, false, not, ◌&&◌, ◌||◌, ◌==◌, nat_eq, nat_lt, nat_le, List, [], ◌∷◌, ◌++◌, length, map, option_to_list, Option, Some, None, unwrap_or, option_map, is_none, if◌then◌else◌}
 use Rattle.cts_base.specs.declared.decimal.Decimal.{Decimal}
-use Rattle.cts_base.specs.Names.{is_name, upper}
+use Rattle.cts_base.specs.Names.{is_name, in_upper_case}
 use Rattle.cts_bits.specs.Places.{is_whole, span}
 use Rattle.cts_bits.specs.declared.order.Order.{Order}
 use Rattle.cts_bits.specs.declared.order.Order.TheVariants.{Big, Little}
@@ -10,11 +10,10 @@ use Rattle.cts_def.specs.declared.proto_spec.Kind.{Kind}
 use Rattle.cts_def.specs.declared.proto_spec.Kind.TheVariants as kind
 use Rattle.cts_def.specs.Starts.{PlaceData}
 use Rattle.cts_def.specs.Protocols.{SpecData, Burst, Length, Terminated, Preidentified}
-use Rattle.cts_words.specs.Blocks.{last_of}
 use Rattle.cts_plan.specs.declared.keyword.Keyword.{Keyword}
 use Rattle.cts_plan.specs.declared.keyword.Keyword.TheVariants as keyword
-use Rattle.cts_plan.specs.declared.keyword.Peer.{Peer}
-use Rattle.cts_plan.specs.declared.keyword.Peer.TheVariants.{Client, Server}
+use Rattle.cts_plan.specs.declared.keyword.Role.{Role}
+use Rattle.cts_plan.specs.declared.keyword.Role.TheVariants.{Client, Server}
 use Rattle.cts_plan.specs.declared.words.Way.{Way}
 use Rattle.cts_plan.specs.declared.words.Way.TheVariants.{ReadWrite}
 use Rattle.cts_plan.specs.declared.step.Step.{Step}
@@ -25,18 +24,18 @@ use Rattle.cts_plan.specs.declared.line.Detail.{Detail}
 use Rattle.cts_plan.specs.declared.line.Detail.TheVariants as detail
 use Rattle.cts_plan.specs.Connections.{ConnectionData}
 use Rattle.cts_plan.specs.Steps.{FixedStepData}
-use Rattle.cts_plan.specs.Words.{word, spells, flag_of, order_of, way_of, way_reads, way_writes, port_of, desks_of, size_of, bits_of, per_count_of, max_of, signed_of, delay_of, pattern_of}
-use Rattle.cts_plan.specs.Forms.{peer_of, head_fields, protocol_of, parameters}
+use Rattle.cts_plan.specs.Words.{word, flag_of, order_of, way_of, way_reads, way_writes, port_of, desks_of, size_of, bits_of, per_count_of, max_of, signed_of, delay_of, pattern_of}
+use Rattle.cts_plan.specs.Forms.{role_of, head_fields, protocol_of, parameters}
 
 abbrev pub flag_or : Bool → List ℕ → Bool
 flag_or default word = unwrap_or (flag_of word) default
 
-abbrev pub size : List ℕ → ℕ
-size word = unwrap_or (size_of word) 0
+abbrev pub size_or_zero : List ℕ → ℕ
+size_or_zero word = unwrap_or (size_of word) 0
 
 -- the name that a word writes, in upper case
 abbrev pub name_of : List ℕ → Option (List ℕ)
-name_of word = if is_name word then Some (map upper word) else None
+name_of word = if is_name word then Some (in_upper_case word) else None
 
 -- ---- protocols
 
@@ -45,7 +44,7 @@ abbrev pub begins_before_start : ℕ → ℕ → Order → Bool
 begins_before_start offset bits Big = false
 begins_before_start offset bits Little = not (is_whole offset bits) && nat_lt (offset / 8 + 1) (span offset bits)
 
--- no length field has this place
+-- no field has this place
 abbrev pub is_bad_place : ℕ → ℕ → Order → Bool
 is_bad_place offset bits order =
     bits == 0 || nat_lt 64 bits || nat_lt 8388608 (offset + bits) || begins_before_start offset bits order
@@ -59,22 +58,25 @@ length_bits ws = unwrap_or (bits_of (word ws 1)) 16
 abbrev pub length_order : List (List ℕ) → Order
 length_order ws = unwrap_or (order_of (word ws 4)) Big
 
-abbrev pub is_bad_length : List (List ℕ) → Bool
-is_bad_length ws = is_bad_place (length_offset ws) (length_bits ws) (length_order ws)
-
 -- the place of a length field, if there is such a one
 abbrev pub place_at : ℕ → ℕ → Order → Option PlaceData
 place_at offset bits order =
     if is_bad_place offset bits order then None else Some (record { offset = offset; bits = bits; order = order })
 
+abbrev pub length_place : List (List ℕ) → Option PlaceData
+length_place ws = place_at (length_offset ws) (length_bits ws) (length_order ws)
+
+abbrev pub is_bad_length : List (List ℕ) → Bool
+is_bad_length ws = is_none (length_place ws)
+
 abbrev pub burst_of : List (List ℕ) → SpecData
-burst_of ws = Burst (record { discard = size (word ws 0); sync = pattern_of (word ws 1); fill = flag_or false (word ws 2) })
+burst_of ws = Burst (record { discard = size_or_zero (word ws 0); sync = pattern_of (word ws 1); fill = flag_or false (word ws 2) })
 
 abbrev pub fixed_of : ℕ → Way → List (List ℕ) → FixedStepData
 fixed_of n way ws = record {
   line = n;
-  min_id = size (word ws 0);
-  discard = size (word ws 1);
+  min_id = size_or_zero (word ws 0);
+  discard = size_or_zero (word ws 1);
   sync = pattern_of (word ws 2);
   telemetry = flag_or true (word ws 3);
   fill = flag_or false (word ws 4);
@@ -88,21 +90,21 @@ length_with ws place = Length (record {
   place = place;
   value_offset = unwrap_or (signed_of (word ws 2)) (pos 0);
   per_count = unwrap_or (per_count_of (word ws 3)) 1;
-  discard = size (word ws 5);
+  discard = size_or_zero (word ws 5);
   sync = pattern_of (word ws 6);
   max = max_of (word ws 7);
   fill = flag_or false (word ws 8);
 })
 
 abbrev pub length_of : List (List ℕ) → Option SpecData
-length_of ws = option_map (length_with ws) (place_at (length_offset ws) (length_bits ws) (length_order ws))
+length_of ws = option_map (length_with ws) (length_place ws)
 
 abbrev pub terminated_of : List (List ℕ) → Option SpecData
 terminated_of ws = if nat_eq (length (pattern_of (word ws 1))) 0 then None else Some (Terminated (record {
   write = pattern_of (word ws 0);
   read = pattern_of (word ws 1);
   strip = flag_or true (word ws 2);
-  discard = size (word ws 3);
+  discard = size_or_zero (word ws 3);
   sync = pattern_of (word ws 4);
   fill = flag_or false (word ws 5);
 }))
@@ -131,20 +133,20 @@ step_at n way k ws = step_in n way (parameters k ws) (protocol_of k ws)
 
 -- ---- interfaces and routers
 
-abbrev pub is_router : Keyword → Bool
-is_router keyword.Router = true
-is_router _ = false
+abbrev pub opens_router : Keyword → Bool
+opens_router keyword.Router = true
+opens_router _ = false
 
-abbrev pub is_server : Option Peer → Bool
+abbrev pub is_server : Option Role → Bool
 is_server (Some Server) = true
 is_server _ = false
 
 -- which word is the port for writing; that for reading is the next
-abbrev pub port_at : Option Peer → ℕ
+abbrev pub port_at : Option Role → ℕ
 port_at (Some Client) = 3
 port_at _ = 2
 
-abbrev pub host_of : Option Peer → List (List ℕ) → List ℕ
+abbrev pub host_of : Option Role → List (List ℕ) → List ℕ
 host_of (Some Client) ws = word ws 2
 host_of _ ws = []
 
@@ -154,14 +156,14 @@ port_or_one word = unwrap_or (port_of word) 1
 -- an interface or router as its own statement gives it
 abbrev pub opening_of : ℕ → Keyword → List (List ℕ) → List ℕ → ConnectionData
 opening_of n k ws name =
-    let peer = peer_of k ws in
+    let role = role_of k ws in
     record {
       line = n;
       name = name;
-      is_router = is_router k;
-      host = host_of peer ws;
-      serves = is_server peer;
-      port = port_or_one (word ws (port_at peer));
+      is_router = opens_router k;
+      host = host_of role ws;
+      serves = is_server role;
+      port = port_or_one (word ws (port_at role));
       steps = option_to_list (step_at n ReadWrite k ws);
       targets = [];
       routes = [];
@@ -169,22 +171,6 @@ opening_of n k ws name =
       reconnect = true;
       logged = true;
     }
-
--- the number of the interface whose name this word is and its targets, where n interfaces stand before these
-abbrev pub find_interface : ℕ → List ConnectionData → List ℕ → Option (ℕ × List (List ℕ))
-find_interface n [] word = None
-find_interface n (c ∷ cs) word =
-    if c.is_router then find_interface n cs word
-    else if spells word c.name then Some (n, c.targets)
-    else find_interface (n + 1) cs word
-
-abbrev pub is_router_open : Option ConnectionData → Bool
-is_router_open None = false
-is_router_open (Some c) = c.is_router
-
--- the interface that a ROUTE statement names, among those that stand
-abbrev pub routed : List ConnectionData → List (List ℕ) → Option (ℕ × List (List ℕ))
-routed cs ws = find_interface 0 cs (word ws 0)
 
 -- ---- all statements
 
@@ -211,22 +197,20 @@ protocol_line n ws =
 abbrev pub delay_line : List (List ℕ) → Line
 delay_line ws = said_or_nothing (λ delay. line.Detail (detail.Delay delay)) (delay_of (word ws 0))
 
--- nothing where no router is open
-abbrev pub route_line : List ConnectionData → List (List ℕ) → Line
-route_line cs ws =
-    if is_router_open (last_of cs) then said_or_nothing (λ r. line.Detail (detail.Route r.0 r.1)) (routed cs ws) else line.Nothing
+abbrev pub route_line : List (List ℕ) → Line
+route_line ws = said_or_nothing (λ name. line.Detail (detail.Route name)) (name_of (word ws 0))
 
--- What a statement of this number says behind the interfaces and routers that stand.
-abbrev pub line_of : List ConnectionData → ℕ → Keyword → List (List ℕ) → Line
-line_of cs n keyword.Title ws = line.Nothing
-line_of cs n keyword.Port ws = port_line ws
-line_of cs n keyword.Desks ws = desks_line ws
-line_of cs n keyword.Interface ws = opening_line n keyword.Interface ws
-line_of cs n keyword.Router ws = opening_line n keyword.Router ws
-line_of cs n keyword.Target ws = target_line ws
-line_of cs n keyword.Protocol ws = protocol_line n ws
-line_of cs n keyword.ReconnectDelay ws = delay_line ws
-line_of cs n keyword.DontReconnect ws = line.Detail detail.DontReconnect
-line_of cs n keyword.Log ws = line.Detail (detail.Logged true)
-line_of cs n keyword.DontLog ws = line.Detail (detail.Logged false)
-line_of cs n keyword.Route ws = route_line cs ws
+-- What a statement of this number says.
+abbrev pub line_of : ℕ → Keyword → List (List ℕ) → Line
+line_of n keyword.Title ws = line.Nothing
+line_of n keyword.Port ws = port_line ws
+line_of n keyword.Desks ws = desks_line ws
+line_of n keyword.Interface ws = opening_line n keyword.Interface ws
+line_of n keyword.Router ws = opening_line n keyword.Router ws
+line_of n keyword.Target ws = target_line ws
+line_of n keyword.Protocol ws = protocol_line n ws
+line_of n keyword.ReconnectDelay ws = delay_line ws
+line_of n keyword.DontReconnect ws = line.Detail detail.DontReconnect
+line_of n keyword.Log ws = line.Detail (detail.Logged true)
+line_of n keyword.DontLog ws = line.Detail (detail.Logged false)
+line_of n keyword.Route ws = route_line ws

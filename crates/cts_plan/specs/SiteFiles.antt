@@ -1,8 +1,10 @@
 -- The site that statements say, or the first that is refused.
-use Rattle.std.specs.Prelude.{ℕ, Bool, true, false, List, [], ◌∷◌, ◌++◌, map, Option, Some, None, option_to_list, Result, Ok, Err, find, if◌then◌else◌}
+use Rattle.std.specs.Prelude.{ℕ, zero, suc, Bool, true, false, List, [], ◌∷◌, map, Option, Some, None, Result, Ok, Err, find, if◌then◌else◌}
+use Rattle.std.specs.List.{filter_map}
+use Rattle.cts_def.specs.Items.{is_same}
 use Rattle.cts_def.specs.Packets.{DefinitionsData}
 use Rattle.cts_def.specs.Protocols.{UseData, Fixed}
-use Rattle.cts_def.specs.Sites.{InterfaceData, RouterData, SiteData}
+use Rattle.cts_def.specs.Sites.{InterfaceData, RouterData, SiteData, packets_of, routed_targets}
 use Rattle.cts_words.specs.declared.statement.Statement.{Statement}
 use Rattle.cts_words.specs.Refusals.{Refusal, or_else, first_refusal}
 use Rattle.cts_plan.specs.declared.keyword.Keyword.{Keyword}
@@ -18,7 +20,7 @@ use Rattle.cts_plan.specs.Connections.{ConnectionData}
 use Rattle.cts_plan.specs.Lines.{line_of}
 use Rattle.cts_plan.specs.Standing.{StandingData, standing}
 use Rattle.cts_plan.specs.Causes.{holds, order, interfaces_in, routers_in}
-use Rattle.cts_plan.specs.Completing.{packets_of, starts_of, due}
+use Rattle.cts_plan.specs.Completing.{starts_of, due}
 
 -- ---- lines
 
@@ -31,29 +33,28 @@ abbrev pub parts : List (List ℕ) → Option (Keyword × List (List ℕ))
 parts [] = None
 parts (w ∷ ws) = with_words ws (keyword_of w)
 
--- what a statement says behind the interfaces and routers that stand
-abbrev pub line_in : List ConnectionData → ℕ → Option (Keyword × List (List ℕ)) → Option Line
-line_in cs n None = None
-line_in cs n (Some p) = Some (line_of cs n p.0 p.1)
+-- what a statement of this number says
+abbrev pub line_in : ℕ → Option (Keyword × List (List ℕ)) → Option Line
+line_in n None = None
+line_in n (Some p) = Some (line_of n p.0 p.1)
 
-abbrev pub line_behind : List Line → Statement → Option Line
-line_behind ls s = line_in (standing ls).connections s.line (parts s.words)
+abbrev pub line_of_statement : Statement → Option Line
+line_of_statement s = line_in s.line (parts s.words)
 
--- The lines of statements, behind those before: each says its line behind all lines before it.
-abbrev pub lines_from : List Line → List Statement → List Line
-lines_from ls [] = ls
-lines_from ls (s ∷ rest) = lines_from (ls ++ option_to_list (line_behind ls s)) rest
+-- what statements say, one line each
+abbrev pub lines_of : List Statement → List Line
+lines_of statements = filter_map line_of_statement statements
 
 -- what stands after statements
 abbrev pub after : List Statement → StandingData
-after statements = standing (lines_from [] statements)
+after statements = standing (lines_of statements)
 
 -- ---- refusals
 
 -- the first cause of a statement of this number, where these interfaces and routers stand
 abbrev pub cause_in : DefinitionsData → List ConnectionData → ℕ → Option (Keyword × List (List ℕ)) → Option SiteCause
 cause_in d cs n None = Some UnknownKeyword
-cause_in d cs n (Some p) = find (λ c. holds c d cs p.0 p.1 (line_of cs n p.0 p.1)) order
+cause_in d cs n (Some p) = find (λ c. holds c d cs p.0 p.1 (line_of n p.0 p.1)) order
 
 abbrev pub Refused : Type 0
 Refused = Refusal SiteCause
@@ -103,8 +104,9 @@ use_of d targets (step.Fixed f) = record {
   writes = f.writes;
 }
 
-abbrev pub chain_of : DefinitionsData → ConnectionData → List UseData
-chain_of d c = map (use_of d c.targets) (whole_chain c.steps)
+-- the protocols of an interface or router with these targets
+abbrev pub chain_of : DefinitionsData → List (List ℕ) → ConnectionData → List UseData
+chain_of d targets c = map (use_of d targets) (whole_chain c.steps)
 
 abbrev pub interface_of : DefinitionsData → ConnectionData → InterfaceData
 interface_of d c = record {
@@ -113,27 +115,38 @@ interface_of d c = record {
   port = c.port;
   serves = c.serves;
   targets = c.targets;
-  chain = chain_of d c;
+  chain = chain_of d c.targets c;
   reconnect = c.reconnect;
   delay = c.delay;
   logged = c.logged;
 }
 
-abbrev pub router_of : DefinitionsData → ConnectionData → RouterData
-router_of d c = record { name = c.name; port = c.port; routes = c.routes; chain = chain_of d c }
-
 abbrev pub interfaces_of : DefinitionsData → List ConnectionData → List InterfaceData
 interfaces_of d cs = map (interface_of d) (interfaces_in cs)
 
-abbrev pub routers_of : DefinitionsData → List ConnectionData → List RouterData
-routers_of d cs = map (router_of d) (routers_in cs)
+-- the number of the interface of this name, counted from 0
+abbrev pub number_of : List InterfaceData → List ℕ → ℕ
+number_of [] name = zero
+number_of (i ∷ interfaces) name = if is_same name i.name then zero else suc (number_of interfaces name)
+
+-- A router over these interfaces. FIXED looks among the packets of the interfaces that are routed to it.
+abbrev pub router_of : DefinitionsData → List InterfaceData → ConnectionData → RouterData
+router_of d interfaces c = let numbers = map (number_of interfaces) c.routes in record {
+  name = c.name;
+  port = c.port;
+  routes = numbers;
+  chain = chain_of d (routed_targets interfaces numbers) c;
+}
+
+abbrev pub routers_of : DefinitionsData → List InterfaceData → List ConnectionData → List RouterData
+routers_of d interfaces cs = map (router_of d interfaces) (routers_in cs)
 
 -- the site of what stands
 abbrev pub site_in : DefinitionsData → StandingData → SiteData
-site_in d s = record {
+site_in d s = let interfaces = interfaces_of d s.connections in record {
   definitions = d;
-  interfaces = interfaces_of d s.connections;
-  routers = routers_of d s.connections;
+  interfaces = interfaces;
+  routers = routers_of d interfaces s.connections;
   api_port = s.api_port;
   desks = s.desks;
 }

@@ -1,6 +1,6 @@
 -- What stands after some lines: the interfaces and routers, and the settings of the desks.
 use Rattle.std.specs.Prelude.{ℕ, Bool, true, false, not, ◌&&◌, List, [], ◌∷◌, ◌++◌, map, Option, Some, None, unwrap_or}
-use Rattle.std.specs.List.{filter_map, flat_map, list_any}
+use Rattle.std.specs.List.{filter_map, list_any}
 use Rattle.cts_base.specs.declared.decimal.Decimal.{Decimal}
 use Rattle.cts_words.specs.Blocks.{blocks, last_of}
 use Rattle.cts_plan.specs.declared.step.Step.{Step}
@@ -22,18 +22,16 @@ abbrev pub desks_in : Line → Option ℕ
 desks_in (line.Desks desks) = Some desks
 desks_in _ = None
 
--- the targets of a TARGET line, and of the interface of a ROUTE line
-abbrev pub targets_in : Line → List (List ℕ)
-targets_in (line.Detail (detail.Target name)) = name ∷ []
-targets_in (line.Detail (detail.Route number targets)) = targets
-targets_in _ = []
+abbrev pub target_in : Line → Option (List ℕ)
+target_in (line.Detail (detail.Target name)) = Some name
+target_in _ = None
 
 abbrev pub step_in : Line → Option Step
 step_in (line.Detail (detail.Step step)) = Some step
 step_in _ = None
 
-abbrev pub route_in : Line → Option ℕ
-route_in (line.Detail (detail.Route number targets)) = Some number
+abbrev pub route_in : Line → Option (List ℕ)
+route_in (line.Detail (detail.Route name)) = Some name
 route_in _ = None
 
 abbrev pub delay_in : Line → Option Decimal
@@ -59,7 +57,7 @@ connection_of block = let c = block.0 in let body = block.1 in record {
   serves = c.serves;
   port = c.port;
   steps = c.steps ++ filter_map step_in body;
-  targets = c.targets ++ flat_map targets_in body;
+  targets = c.targets ++ filter_map target_in body;
   routes = c.routes ++ filter_map route_in body;
   delay = unwrap_or (last_of (filter_map delay_in body)) c.delay;
   reconnect = c.reconnect && not (list_any ends_reconnecting body);

@@ -1,5 +1,5 @@
 -- What a word of a site file has to be at its place, and what it then says.
-use Rattle.std.specs.Prelude.{ℕ, ℤ, pos, negsuc, ◌+◌, ◌%◌, Bool, true, false, not, ◌&&◌, ◌||◌, ◌==◌, nat_lt, nat_le, int_lt, unsigned_abs, List, [], ◌∷◌, length, drop, map, zip, codes, slice_index, Option, Some, None, is_some, is_none, Result, Ok, Err, is_ok, if◌then◌else◌}
+use Rattle.std.specs.Prelude.{ℕ, ℤ, pos, negsuc, ◌+◌, ◌%◌, Bool, true, false, not, ◌&&◌, ◌||◌, ◌==◌, nat_lt, nat_le, int_lt, unsigned_abs, List, [], ◌∷◌, length, drop, codes, slice_index, Option, Some, None, is_some, is_none, Result, Ok, Err, is_ok, if◌then◌else◌}
 use Rattle.std.specs.Int.{is_negative}
 use Rattle.std.specs.List.{list_all, slice_index_or}
 use Rattle.std.specs.Str.{bytes_eq}
@@ -8,7 +8,7 @@ use Rattle.hex.specs.declared.error.FromHexError.{FromHexError}
 use Rattle.cts_base.specs.declared.decimal.Decimal.{Decimal}
 use Rattle.cts_base.specs.declared.decimal.NotDecimal.{NotDecimal}
 use Rattle.cts_base.specs.Decimals.{decimal_of}
-use Rattle.cts_base.specs.Names.{upper}
+use Rattle.cts_base.specs.Names.{spells}
 use Rattle.cts_base.specs.Wholes.{whole_of}
 use Rattle.cts_bits.specs.declared.order.Order.{Order}
 use Rattle.cts_bits.specs.declared.order.Order.TheVariants.{Big, Little}
@@ -22,10 +22,6 @@ abbrev pub word : List (List ℕ) → ℕ → List ℕ
 word ws at = slice_index_or ws at []
 
 -- ---- fixed words
-
--- the word is this upper-case text, in any case
-abbrev pub spells : List ℕ → List ℕ → Bool
-spells word text = length word == length text && list_all (λ p. upper p.0 == p.1) (zip word text)
 
 abbrev pub is_nil : List ℕ → Bool
 is_nil word = bytes_eq word (codes "nil")

@@ -1,25 +1,26 @@
 // The causes for which a statement is refused.
-ghost use Rattle.std.specs.Prelude.{◌≡◌, ◌≤◌, ◌==◌, find, length, nat_eq};
+ghost use Rattle.std.specs.Prelude.{◌≡◌, ◌≤◌, ◌==◌, find, length};
 ghost use Rattle.std.specs.List.{list_any, filter};
 ghost use Rattle.std.specs.Option.{option_copied};
 ghost use Rattle.cts_words.specs.Blocks.{last_of};
 ghost use Rattle.cts_def.specs.Items.{is_same};
+ghost use Rattle.cts_def.specs.Sites.{has_target, is_known_target};
 ghost use Rattle.cts_def.specs.Protocols.{reads_packets, is_packet_kind, spec_data};
 ghost use Rattle.cts_plan.specs.Chains.{step_reads, step_reads_packets};
-ghost use Rattle.cts_plan.specs.Causes.{is_interface_open, steps_in, routes_in, open_steps, open_routes, is_outside, is_wrong_protocol_count, is_file_unknown, is_protocol_missing, has_wrong_rest, is_wrong_count, is_unknown_interface, is_length, is_not_number, are_two, are_two_at, is_two_ports, is_other_kind, is_same_kind, has_name_of, is_double, has_target, is_unknown_target, maps, is_target_twice, is_chain_too_long, is_not_last, most, is_too_many, holds, order};
+ghost use Rattle.cts_plan.specs.Causes.{is_router_open, is_interface_open, is_spelled, steps_in, routes_in, open_steps, open_routes, is_outside, is_wrong_protocol_count, is_file_unknown, is_protocol_missing, has_wrong_rest, is_wrong_count, is_unknown_interface, is_length, is_not_number, are_two, are_two_at, is_two_ports, is_other_kind, is_same_kind, has_name_of, is_double, is_unknown_target, maps, is_target_twice, is_chain_too_long, is_not_last, most, is_too_many, holds, order};
 
 use crate::connection::Connection;
 use crate::fault::SiteCause;
 use crate::keyword::{
     Keyword, has_bad_name, has_empty_sync, has_no_number, has_other_choice, has_protocol,
-    head_fields, parameter_fields, parameters, peer_of, protocol_of, required,
+    head_fields, parameter_fields, parameters, protocol_of, required, role_of,
 };
-use crate::last::{is_router_open, last};
-use crate::line::{Detail, Line, find_interface, is_bad_length, port_at, port_or_one};
+use crate::line::{Detail, Line, is_bad_length, port_at};
 use crate::step::Step;
-use crate::words::{is_nil, word};
-use cts_base::{Bytes, Name};
+use crate::words::{is_nil, port_of, word};
+use cts_base::{Bytes, Name, spells};
 use cts_def::{Definitions, Kind, Packet, ProtoSpec, ProtoUse};
+use cts_words::last;
 
 /// The causes of a statement with a known keyword, in the order in which they are tried.
 const ORDER: [SiteCause; 14] = [
@@ -39,6 +40,15 @@ const ORDER: [SiteCause; 14] = [
     SiteCause::TooMany,
 ];
 
+fn is_router_open(connection: Option<&Connection>) -> bool
+    ensures { result ≡ is_router_open (option_copied connection.entry) }
+{
+    match connection {
+        Some(connection) => connection.is_router,
+        None => false,
+    }
+}
+
 fn is_interface_open(connection: Option<&Connection>) -> bool
     ensures { result ≡ is_interface_open (option_copied connection.entry) }
 {
@@ -57,7 +67,7 @@ fn steps_in(connection: Option<&Connection>) -> &[Step]
     }
 }
 
-fn routes_in(connection: Option<&Connection>) -> &[u32]
+fn routes_in(connection: Option<&Connection>) -> &[Name]
     ensures { result.now ≡ routes_in (option_copied connection.entry) }
 {
     match connection {
@@ -72,7 +82,7 @@ fn open_steps(connections: &[Connection]) -> &[Step]
     steps_in(last(connections))
 }
 
-fn open_routes(connections: &[Connection]) -> &[u32]
+fn open_routes(connections: &[Connection]) -> &[Name]
     ensures { result.now ≡ open_routes connections.now }
 {
     routes_in(last(connections))
@@ -106,8 +116,8 @@ fn is_file_unknown(keyword: Keyword, words: &[Bytes]) -> bool
     ensures { result ≡ is_file_unknown keyword words.now }
 {
     match keyword {
-        Keyword::Interface => peer_of(Keyword::Interface, words).is_none(),
-        Keyword::Router => peer_of(Keyword::Router, words).is_none(),
+        Keyword::Interface => role_of(Keyword::Interface, words).is_none(),
+        Keyword::Router => role_of(Keyword::Router, words).is_none(),
         _ => false,
     }
 }
@@ -140,12 +150,23 @@ fn is_wrong_count(keyword: Keyword, words: &[Bytes]) -> bool
         || has_other_choice(keyword, words)
 }
 
+fn is_spelled(word: &[u8], connection: &Connection) -> bool
+    ensures { result ≡ is_spelled word.now connection.now }
+{
+    !connection.is_router && spells(word, connection.name.as_slice())
+}
+
+fn has_spelled(connections: &[Connection], word: &[u8]) -> bool
+    ensures { result ≡ list_any (is_spelled word.now) connections.now }
+{
+    connections.iter().any(|c| is_spelled(word, c))
+}
+
 fn is_unknown_interface(connections: &[Connection], keyword: Keyword, words: &[Bytes]) -> bool
-    requires { length connections.now ≤ 20 }
     ensures { result ≡ is_unknown_interface connections.now keyword words.now }
 {
     match keyword {
-        Keyword::Route => find_interface(connections, word(words, 0)).is_none(),
+        Keyword::Route => !has_spelled(connections, word(words, 0)),
         _ => is_file_unknown(keyword, words),
     }
 }
@@ -169,7 +190,7 @@ fn is_not_number(keyword: Keyword, words: &[Bytes]) -> bool
 fn are_two(a: &[u8], b: &[u8]) -> bool
     ensures { result ≡ are_two a.now b.now }
 {
-    is_nil(a) || is_nil(b) || port_or_one(a) != port_or_one(b)
+    is_nil(a) || is_nil(b) || port_of(a) != port_of(b)
 }
 
 fn are_two_at(words: &[Bytes], at: usize) -> bool
@@ -183,8 +204,8 @@ fn is_two_ports(keyword: Keyword, words: &[Bytes]) -> bool
     ensures { result ≡ is_two_ports keyword words.now }
 {
     match keyword {
-        Keyword::Interface => are_two_at(words, port_at(peer_of(Keyword::Interface, words))),
-        Keyword::Router => are_two_at(words, port_at(peer_of(Keyword::Router, words))),
+        Keyword::Interface => are_two_at(words, port_at(role_of(Keyword::Interface, words))),
+        Keyword::Router => are_two_at(words, port_at(role_of(Keyword::Router, words))),
         _ => false,
     }
 }
@@ -217,10 +238,10 @@ fn has_double(connections: &[Connection], new: &Connection) -> bool
     connections.iter().any(|c| has_name_of(new, c))
 }
 
-fn has_route(routes: &[u32], number: u32) -> bool
-    ensures { result ≡ list_any (λ route. nat_eq route number) routes.now }
+fn has_name(names: &[Name], name: &Name) -> bool
+    ensures { result ≡ list_any (λ other. is_same other name.now) names.now }
 {
-    routes.iter().any(|route| *route == number)
+    names.iter().any(|other| *other == *name)
 }
 
 fn is_double(connections: &[Connection], line: &Line) -> bool
@@ -228,7 +249,7 @@ fn is_double(connections: &[Connection], line: &Line) -> bool
 {
     match line {
         Line::Opening(new) => has_double(connections, new),
-        Line::Detail(Detail::Route(number, _)) => has_route(open_routes(connections), *number),
+        Line::Detail(Detail::Route(name)) => has_name(open_routes(connections), name),
         _ => false,
     }
 }
@@ -239,22 +260,20 @@ fn has_target(packets: &[Packet], name: &Name) -> bool
     packets.iter().any(|packet| packet.target == *name)
 }
 
+fn is_known_target(definitions: &Definitions, name: &Name) -> bool
+    ensures { result ≡ is_known_target definitions.now name.now }
+{
+    has_target(definitions.telemetry.as_slice(), name)
+        || has_target(definitions.commands.as_slice(), name)
+}
+
 fn is_unknown_target(definitions: &Definitions, line: &Line) -> bool
     ensures { result ≡ is_unknown_target definitions.now line.now }
 {
     match line {
-        Line::Detail(Detail::Target(name)) => {
-            !has_target(definitions.telemetry.as_slice(), name)
-                && !has_target(definitions.commands.as_slice(), name)
-        }
+        Line::Detail(Detail::Target(name)) => !is_known_target(definitions, name),
         _ => false,
     }
-}
-
-fn has_name(names: &[Name], name: &Name) -> bool
-    ensures { result ≡ list_any (λ other. is_same other name.now) names.now }
-{
-    names.iter().any(|other| *other == *name)
 }
 
 fn maps(name: &Name, connection: &Connection) -> bool
@@ -370,7 +389,6 @@ fn holds(
     words: &[Bytes],
     line: &Line,
 ) -> bool
-    requires { length connections.now ≤ 20 }
     ensures { result ≡ holds cause definitions.now connections.now keyword words.now line.now }
 {
     match cause {
@@ -402,7 +420,6 @@ fn first_of(
     words: &[Bytes],
     line: &Line,
 ) -> Option<SiteCause>
-    requires { length connections.now ≤ 20 }
     ensures { result ≡ find (λ c. holds c definitions.now connections.now keyword words.now line.now) causes.now }
 {
     causes.iter().copied().find(|cause| holds(
@@ -423,7 +440,6 @@ pub fn first_cause(
     words: &[Bytes],
     line: &Line,
 ) -> Option<SiteCause>
-    requires { length connections.now ≤ 20 }
     ensures { result ≡ find (λ c. holds c definitions.now connections.now keyword words.now line.now) order }
 {
     first_of(&ORDER, definitions, connections, keyword, words, line)

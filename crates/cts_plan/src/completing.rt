@@ -1,20 +1,22 @@
 // What is judged when an interface or router is complete.
-ghost use Rattle.std.specs.Prelude.{◌≡◌, ◌≤◌, length, IfOk};
-ghost use Rattle.std.specs.List.{list_any, list_all};
+ghost use Rattle.std.specs.Prelude.{◌≡◌, ◌≤◌, ◌++◌, length, find, IfOk, OnOk};
+ghost use Rattle.std.specs.List.{list_any, list_all, flat_map};
 ghost use Rattle.std.specs.Option.{option_copied};
 ghost use Rattle.cts_def.specs.Protocols.{is_id_within, is_start_within};
+ghost use Rattle.cts_def.specs.Sites.{packets_of};
 ghost use Rattle.cts_def.specs.Starts.{id_field_data, id_fields};
 ghost use Rattle.cts_plan.specs.Chains.{step_reads, whole_chain};
-ghost use Rattle.cts_plan.specs.Completing.{packets_of, starts_of, is_bad_min_id, is_of, have_variable, cause_of_fixed, at_number, step_fault, first_step_fault, fault_of, fault_in, due};
+ghost use Rattle.cts_plan.specs.Completing.{starts_of, is_bad_min_id, is_of, have_variable, cause_of_fixed, at_number, step_fault, first_step_fault, fault_of, is_named, targets_named, targets_for, due};
 
 use crate::causes::step_reads;
 use crate::connection::Connection;
 use crate::fault::SiteCause;
-use crate::last::last;
 use crate::step::{FixedStep, Step};
-use cts_base::{Memory, Name};
+use crate::targets::Targets;
+use cts_base::{List, Memory, Name};
 use cts_bits::Place;
 use cts_def::{Definitions, Packet, Start};
+use cts_words::last;
 use std::alloc::Global;
 
 /// The packets among which FIXED looks: telemetry packets or commands.
@@ -28,14 +30,14 @@ pub fn packets_of(definitions: &Definitions, telemetry: bool) -> &[Packet]
     }
 }
 
-fn is_of(targets: &[Name], packet: &Packet) -> bool
+fn is_of(targets: &Targets, packet: &Packet) -> bool
     ensures { result ≡ is_of targets.now packet.now }
 {
-    targets.iter().any(|target| packet.target == *target)
+    targets.has(&packet.target)
 }
 
 /// How the packets of these targets begin.
-pub fn starts_of(alloc: Global, targets: &[Name], packets: &[Packet]) -> Result<Vec<Start>, Memory>
+pub fn starts_of(alloc: Global, targets: &Targets, packets: &[Packet]) -> Result<Vec<Start>, Memory>
     ensures { IfOk result (λ starts. starts.items ≡ starts_of targets.now packets.now) }
 {
     let mut starts = Vec::new(alloc);
@@ -79,7 +81,7 @@ fn is_bad_min_id(fixed: &FixedStep, starts: &[Start]) -> bool
         || !are_starts_within(fixed.min_id, starts)
 }
 
-fn have_variable(targets: &[Name], packets: &[Packet]) -> bool
+fn have_variable(targets: &Targets, packets: &[Packet]) -> bool
     ensures { result ≡ have_variable targets.now packets.now }
 {
     packets
@@ -89,7 +91,7 @@ fn have_variable(targets: &[Name], packets: &[Packet]) -> bool
 
 fn cause_of_fixed(
     alloc: Global,
-    targets: &[Name],
+    targets: &Targets,
     packets: &[Packet],
     fixed: &FixedStep,
 ) -> Result<Option<SiteCause>, Memory>
@@ -108,7 +110,7 @@ fn cause_of_fixed(
 fn step_fault(
     alloc: Global,
     definitions: &Definitions,
-    targets: &[Name],
+    targets: &Targets,
     step: &Step,
 ) -> Result<Option<(u32, SiteCause)>, Memory>
     ensures { IfOk result (λ fault. fault ≡ step_fault definitions.now targets.now step.now) }
@@ -128,7 +130,7 @@ fn step_fault(
 fn first_step_fault(
     alloc: Global,
     definitions: &Definitions,
-    targets: &[Name],
+    targets: &Targets,
     steps: &[Step],
 ) -> Result<Option<(u32, SiteCause)>, Memory>
     ensures { IfOk result (λ fault. fault ≡ first_step_fault definitions.now targets.now steps.now) }
@@ -163,15 +165,91 @@ fn whole_length(steps: &[Step]) -> usize
 fn fault_of(
     alloc: Global,
     definitions: &Definitions,
+    targets: &Targets,
     connection: &Connection,
 ) -> Result<Option<(u32, SiteCause)>, Memory>
-    ensures { IfOk result (λ fault. fault ≡ fault_of definitions.now connection.now) }
+    ensures { IfOk result (λ fault. fault ≡ fault_of definitions.now targets.now connection.now) }
 {
     let steps = connection.steps.as_slice();
     if 4 < whole_length(steps) {
         return Ok(Some((connection.line, SiteCause::ChainTooLong)));
     }
-    first_step_fault(alloc, definitions, connection.targets.as_slice(), steps)
+    first_step_fault(alloc, definitions, targets, steps)
+}
+
+fn is_named(name: &Name, connection: &Connection) -> bool
+    ensures { result ≡ is_named name.now connection.now }
+{
+    !connection.is_router && *name == connection.name
+}
+
+fn named<'a>(connections: &'a [Connection], name: &Name) -> Option<&'a Connection>
+    ensures { option_copied result ≡ find (is_named name.now) connections.now }
+{
+    connections.iter().find(|c| is_named(name, c))
+}
+
+fn targets_named<'a>(connections: &'a [Connection], name: &Name) -> &'a [Name]
+    ensures { result.now ≡ targets_named connections.now name.now }
+{
+    match named(connections, name) {
+        Some(connection) => connection.targets.as_slice(),
+        None => &[],
+    }
+}
+
+/// Puts copies of some targets behind others.
+pub fn append(targets: &mut List<Name>, more: &[Name]) -> Result<(), Memory>
+    ensures { OnOk result (targets.new ≡ targets.old ++ more.now) }
+{
+    for name in more {
+        targets.push(name.clone()?)?;
+    }
+    Ok(())
+}
+
+// The targets of all interfaces of these names.
+fn routed_targets(
+    alloc: Global,
+    connections: &[Connection],
+    routes: &[Name],
+) -> Result<List<Name>, Memory>
+    ensures { IfOk result (λ targets. targets ≡ flat_map (targets_named connections.now) routes.now) }
+{
+    let mut targets = List::new(alloc);
+    for name in routes {
+        append(&mut targets, targets_named(connections, name))?;
+    }
+    Ok(targets)
+}
+
+fn targets_for(
+    alloc: Global,
+    connections: &[Connection],
+    connection: &Connection,
+) -> Result<Targets, Memory>
+    ensures { IfOk result (λ targets. targets ≡ targets_for connections.now connection.now) }
+{
+    if connection.is_router {
+        let names = routed_targets(alloc, connections, connection.routes.as_slice())?;
+        Targets::of(alloc, names)
+    } else {
+        let mut names = List::new(alloc);
+        append(&mut names, connection.targets.as_slice())?;
+        Targets::of(alloc, names)
+    }
+}
+
+fn fault_in(
+    alloc: Global,
+    definitions: &Definitions,
+    connections: &[Connection],
+    connection: &Connection,
+) -> Result<Option<(u32, SiteCause)>, Memory>
+    ensures { IfOk result (λ fault. fault ≡ fault_of definitions.now (targets_for connections.now connection.now) connection.now) }
+{
+    let targets = targets_for(alloc, connections, connection)?;
+    fault_of(alloc, definitions, &targets, connection)
 }
 
 /// What is wrong with the last interface or router, which is complete now.
@@ -183,7 +261,7 @@ pub fn due(
     ensures { IfOk result (λ fault. fault ≡ due definitions.now connections.now) }
 {
     match last(connections) {
-        Some(connection) => fault_of(alloc, definitions, connection),
+        Some(connection) => fault_in(alloc, definitions, connections, connection),
         None => Ok(None),
     }
 }

@@ -21,10 +21,10 @@ pub struct Connection {
     pub port: u16,
     /// Its protocols so far.
     pub steps: List<Step>,
-    /// The targets of the interface, or those of all routed interfaces.
+    /// The targets of the interface.
     pub targets: List<Name>,
-    /// The numbers of the routed interfaces.
-    pub routes: List<u32>,
+    /// The names of the interfaces that are routed to the router.
+    pub routes: List<Name>,
     /// How many seconds it waits before it connects again.
     pub delay: Decimal,
     /// Whether it connects again.

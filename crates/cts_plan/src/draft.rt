@@ -1,5 +1,5 @@
 // The site as it grows, statement by statement.
-ghost use Rattle.std.specs.Prelude.{◌≡◌, ◌++◌, [], OnOk};
+ghost use Rattle.std.specs.Prelude.{◌≡◌, [], OnOk};
 ghost use Rattle.cts_plan.specs.Placing.{change_connection, place, Fits, FitsLast, FitsIn, seen};
 ghost use Rattle.cts_words.specs.Blocks.{last_of};
 ghost use Rattle.cts_plan.specs.declared.line.Line.TheVariants as line;
@@ -8,7 +8,7 @@ ghost use Rattle.cts_plan.specs.declared.line.Detail.TheVariants as detail;
 use crate::connection::Connection;
 use crate::line::{Detail, Line};
 use crate::step::Step;
-use cts_base::{List, Memory, Name};
+use cts_base::{Memory, Name};
 use std::alloc::Global;
 
 /// What stands so far.
@@ -22,15 +22,6 @@ pub struct Draft {
     pub desks: u32,
 }
 
-fn append(names: &mut List<Name>, more: List<Name>) -> Result<(), Memory>
-    ensures { OnOk result (names.new ≡ names.old ++ more) }
-{
-    for name in more.into_vec() {
-        names.push(name)?;
-    }
-    Ok(())
-}
-
 fn add_step(connection: &mut Connection, step: Step) -> Result<(), Memory>
     requires fits { Fits (detail.Step step) connection.old }
     ensures { OnOk result (connection.new ≡ change_connection (detail.Step step) connection.old) }
@@ -39,12 +30,11 @@ fn add_step(connection: &mut Connection, step: Step) -> Result<(), Memory>
     Ok(())
 }
 
-fn add_route(connection: &mut Connection, number: u32, targets: List<Name>) -> Result<(), Memory>
-    requires fits { Fits (detail.Route number targets) connection.old }
-    ensures { OnOk result (connection.new ≡ change_connection (detail.Route number targets) connection.old) }
+fn add_route(connection: &mut Connection, name: Name) -> Result<(), Memory>
+    requires fits { Fits (detail.Route name) connection.old }
+    ensures { OnOk result (connection.new ≡ change_connection (detail.Route name) connection.old) }
 {
-    append(&mut connection.targets, targets)?;
-    connection.routes.push(number)?;
+    connection.routes.push(name)?;
     Ok(())
 }
 
@@ -55,7 +45,7 @@ fn change_connection(connection: &mut Connection, detail: Detail) -> Result<(), 
     match detail {
         Detail::Target(name) => connection.targets.push(name)?,
         Detail::Step(step) => add_step(connection, step)?,
-        Detail::Route(number, targets) => add_route(connection, number, targets)?,
+        Detail::Route(name) => add_route(connection, name)?,
         Detail::Delay(delay) => connection.delay = delay,
         Detail::DontReconnect => connection.reconnect = false,
         Detail::Logged(logged) => connection.logged = logged,

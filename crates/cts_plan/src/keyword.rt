@@ -1,15 +1,14 @@
 // The statements of a site file, and which words follow their keywords.
-ghost use Rattle.std.specs.Prelude.{◌≡◌, ◌+◌, length, drop, zip};
-ghost use Rattle.std.specs.List.{list_any, list_all};
-ghost use Rattle.cts_base.specs.Names.{is_name_byte, is_name};
+ghost use Rattle.std.specs.Prelude.{◌≡◌, ◌+◌, length, drop, map, zip};
+ghost use Rattle.std.specs.List.{list_any};
 ghost use Rattle.cts_plan.specs.Words.{is_nil};
-ghost use Rattle.cts_plan.specs.Forms.{keyword_of, peer_of, opening_fields, head_fields, parameter_fields, required, takes_protocol, has_protocol, protocol_of, parameters, fields_of, is_other_choice, is_bad_name, is_no_number, is_empty_sync, any_field};
+ghost use Rattle.cts_plan.specs.Forms.{keyword_in, keyword_of, role_of, opening_fields, head_fields, parameter_fields, required, takes_protocol, has_protocol, protocol_of, parameters, fields_of, is_other_choice, is_bad_name, is_no_number, is_empty_sync, any_field};
 
 use crate::words::{
     bits_of, delay_of, desks_of, flag_of, is_decimal, is_empty_pattern, is_nil, is_pattern_word,
-    kind_of, max_of, order_of, per_count_of, port_of, signed_of, size_of, spells, way_of, word,
+    kind_of, max_of, order_of, per_count_of, port_of, signed_of, size_of, way_of, word,
 };
-use cts_base::Bytes;
+use cts_base::{Bytes, is_name, spells};
 use cts_def::Kind;
 
 /// The keyword of a statement.
@@ -43,7 +42,7 @@ pub enum Keyword {
 
 /// What the file name of an INTERFACE or ROUTER statement makes of it.
 #[derive(Clone, Copy, Debug, PartialEq, Eq)]
-pub enum Peer {
+pub enum Role {
     /// It connects.
     Client,
     /// It accepts a connection.
@@ -70,7 +69,7 @@ pub enum Field {
     /// A port.
     Port,
     /// A port or `nil`.
-    PeerPort,
+    PortOrNil,
     /// A number of desks.
     Desks,
     /// A decimal or `nil`.
@@ -95,57 +94,102 @@ pub enum Field {
     Termination,
 }
 
+/// A keyword and the text that names it.
+#[derive(Clone, Copy)]
+struct Spelled {
+    text: &'static [u8],
+    keyword: Keyword,
+}
+
+/// All keywords.
+const KEYWORDS: [Spelled; 12] = [
+    Spelled {
+        text: b"TITLE",
+        keyword: Keyword::Title,
+    },
+    Spelled {
+        text: b"PORT",
+        keyword: Keyword::Port,
+    },
+    Spelled {
+        text: b"DESKS",
+        keyword: Keyword::Desks,
+    },
+    Spelled {
+        text: b"INTERFACE",
+        keyword: Keyword::Interface,
+    },
+    Spelled {
+        text: b"TARGET",
+        keyword: Keyword::Target,
+    },
+    Spelled {
+        text: b"PROTOCOL",
+        keyword: Keyword::Protocol,
+    },
+    Spelled {
+        text: b"RECONNECT_DELAY",
+        keyword: Keyword::ReconnectDelay,
+    },
+    Spelled {
+        text: b"DONT_RECONNECT",
+        keyword: Keyword::DontReconnect,
+    },
+    Spelled {
+        text: b"LOG",
+        keyword: Keyword::Log,
+    },
+    Spelled {
+        text: b"DONT_LOG",
+        keyword: Keyword::DontLog,
+    },
+    Spelled {
+        text: b"ROUTER",
+        keyword: Keyword::Router,
+    },
+    Spelled {
+        text: b"ROUTE",
+        keyword: Keyword::Route,
+    },
+];
+
+// The keyword of this list that the word is.
+fn keyword_in(list: &[Spelled], word: &[u8]) -> Option<Keyword>
+    ensures { result ≡ keyword_in (map (λ s. (s.text.now, s.keyword)) list.now) word.now }
+{
+    for spelled in list {
+        if spells(word, spelled.text) {
+            return Some(spelled.keyword);
+        }
+    }
+    None
+}
+
 /// The keyword that a word is, in any case.
 pub fn keyword_of(word: &[u8]) -> Option<Keyword>
     ensures { result ≡ keyword_of word.now }
 {
-    if spells(word, b"TITLE") {
-        Some(Keyword::Title)
-    } else if spells(word, b"PORT") {
-        Some(Keyword::Port)
-    } else if spells(word, b"DESKS") {
-        Some(Keyword::Desks)
-    } else if spells(word, b"INTERFACE") {
-        Some(Keyword::Interface)
-    } else if spells(word, b"TARGET") {
-        Some(Keyword::Target)
-    } else if spells(word, b"PROTOCOL") {
-        Some(Keyword::Protocol)
-    } else if spells(word, b"RECONNECT_DELAY") {
-        Some(Keyword::ReconnectDelay)
-    } else if spells(word, b"DONT_RECONNECT") {
-        Some(Keyword::DontReconnect)
-    } else if spells(word, b"LOG") {
-        Some(Keyword::Log)
-    } else if spells(word, b"DONT_LOG") {
-        Some(Keyword::DontLog)
-    } else if spells(word, b"ROUTER") {
-        Some(Keyword::Router)
-    } else if spells(word, b"ROUTE") {
-        Some(Keyword::Route)
-    } else {
-        None
-    }
+    keyword_in(&KEYWORDS, word)
 }
 
 /// What the file name makes of a statement, where it stands in the table for its keyword.
-pub fn peer_of(keyword: Keyword, words: &[Bytes]) -> Option<Peer>
-    ensures { result ≡ peer_of keyword words.now }
+pub fn role_of(keyword: Keyword, words: &[Bytes]) -> Option<Role>
+    ensures { result ≡ role_of keyword words.now }
 {
     let file = word(words, 1);
     match keyword {
         Keyword::Interface => {
             if file == b"tcpip_client_interface.rb".as_slice() {
-                Some(Peer::Client)
+                Some(Role::Client)
             } else if file == b"tcpip_server_interface.rb".as_slice() {
-                Some(Peer::Server)
+                Some(Role::Server)
             } else {
                 None
             }
         }
         Keyword::Router => {
             if file == b"tcpip_server_interface.rb".as_slice() {
-                Some(Peer::Server)
+                Some(Role::Server)
             } else {
                 None
             }
@@ -154,25 +198,25 @@ pub fn peer_of(keyword: Keyword, words: &[Bytes]) -> Option<Peer>
     }
 }
 
-fn opening_fields(peer: Option<Peer>) -> &'static [Field]
-    ensures { result.now ≡ opening_fields peer }
+fn opening_fields(role: Option<Role>) -> &'static [Field]
+    ensures { result.now ≡ opening_fields role }
 {
-    match peer {
+    match role {
         None => &[Field::Name, Field::Text],
-        Some(Peer::Client) => &[
+        Some(Role::Client) => &[
             Field::Name,
             Field::Text,
             Field::Text,
-            Field::PeerPort,
-            Field::PeerPort,
+            Field::PortOrNil,
+            Field::PortOrNil,
             Field::Timeout,
             Field::Timeout,
         ],
-        Some(Peer::Server) => &[
+        Some(Role::Server) => &[
             Field::Name,
             Field::Text,
-            Field::PeerPort,
-            Field::PeerPort,
+            Field::PortOrNil,
+            Field::PortOrNil,
             Field::Timeout,
             Field::Timeout,
         ],
@@ -195,8 +239,8 @@ pub fn head_fields(keyword: Keyword, words: &[Bytes]) -> &'static [Field]
         Keyword::Log => &[Field::DefaultWord],
         Keyword::DontLog => &[],
         Keyword::Route => &[Field::Text],
-        Keyword::Interface => opening_fields(peer_of(Keyword::Interface, words)),
-        Keyword::Router => opening_fields(peer_of(Keyword::Router, words)),
+        Keyword::Interface => opening_fields(role_of(Keyword::Interface, words)),
+        Keyword::Router => opening_fields(role_of(Keyword::Router, words)),
     }
 }
 
@@ -253,7 +297,7 @@ fn takes_protocol(keyword: Keyword, words: &[Bytes]) -> bool
 {
     match keyword {
         Keyword::Protocol => true,
-        _ => peer_of(keyword, words).is_some(),
+        _ => role_of(keyword, words).is_some(),
     }
 }
 
@@ -296,24 +340,6 @@ fn fields_of(kind: Option<Kind>) -> &'static [Field]
     }
 }
 
-fn has_name_bytes(word: &[u8]) -> bool
-    ensures { result ≡ list_all is_name_byte word.now }
-{
-    word.iter().all(|c| is_name_byte(*c))
-}
-
-fn is_name_byte(c: u8) -> bool
-    ensures { result ≡ is_name_byte c }
-{
-    c.is_ascii_alphanumeric() || c == b'_'
-}
-
-fn is_name(word: &[u8]) -> bool
-    ensures { result ≡ is_name word.now }
-{
-    1 <= word.len() && word.len() <= 255 && has_name_bytes(word)
-}
-
 impl Field {
     /// Whether a word is a fixed word that is none of the field's choices.
     pub fn is_other_choice(self, word: &[u8]) -> bool
@@ -345,7 +371,7 @@ impl Field {
     {
         match self {
             Field::Port => port_of(word).is_none(),
-            Field::PeerPort => !is_nil(word) && port_of(word).is_none(),
+            Field::PortOrNil => !is_nil(word) && port_of(word).is_none(),
             Field::Desks => desks_of(word).is_none(),
             Field::Timeout => !is_nil(word) && !is_decimal(word),
             Field::Delay => delay_of(word).is_none(),

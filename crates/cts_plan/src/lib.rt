@@ -11,15 +11,15 @@ mod draft;
 mod fault;
 mod finishing;
 mod keyword;
-mod last;
 mod laws;
 mod line;
 mod reading;
 mod step;
+mod targets;
 mod words;
 
 pub use fault::{SiteCause, SiteFault};
-pub use laws::connections_are_of_their_lines;
+pub use laws::{connections_are_of_their_lines, first_statement_is_refused};
 pub use reading::read_site;
 
 #[cfg(test)]

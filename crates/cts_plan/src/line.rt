@@ -1,22 +1,20 @@
 // What a statement says.
-ghost use Rattle.std.specs.Prelude.{◌≡◌, ◌≤◌, ◌+◌, ◌<◌, false, length, option_to_list, option_map, unwrap_or, pos, IfOk, IsTrue};
+ghost use Rattle.std.specs.Prelude.{◌≡◌, ◌≤◌, length, option_to_list, option_map, unwrap_or, pos, IfOk, IsTrue};
 ghost use Rattle.cts_plan.specs.Chains.{are_packets_last};
 ghost use Rattle.cts_plan.specs.Words.{word, signed_of, per_count_of};
-ghost use Rattle.cts_plan.specs.Lines.{flag_or, size, name_of, begins_before_start, is_bad_place, length_offset, length_bits, length_order, is_bad_length, burst_of, fixed_of, length_of, terminated_of, preidentified_of, ready, step_of, step_in, step_at, is_router, is_server, port_at, host_of, port_or_one, opening_of, find_interface, place_at, opening_line, target_line, protocol_line, route_line, port_line, desks_line, delay_line, line_of};
-ghost use Rattle.cts_bits.specs.Places.{is_whole};
+ghost use Rattle.cts_plan.specs.Lines.{flag_or, size_or_zero, name_of, length_offset, length_bits, length_order, length_place, is_bad_length, burst_of, fixed_of, length_of, terminated_of, preidentified_of, ready, step_of, step_in, step_at, opens_router, is_server, port_at, host_of, port_or_one, opening_of, place_at, opening_line, target_line, protocol_line, route_line, port_line, desks_line, delay_line, line_of};
 ghost use Rattle.cts_def.specs.Starts.{place_data};
-ghost use Rattle.cts_plan.specs.Sound.{IsSoundLine, IsAlwaysSound};
+ghost use Rattle.cts_plan.specs.Sound.{IsSoundLine};
 
 use crate::connection::Connection;
-use crate::keyword::{Keyword, Peer, parameters, peer_of, protocol_of};
-use crate::last::{is_router_open, last};
+use crate::keyword::{Keyword, Role, parameters, protocol_of, role_of};
 use crate::step::{FixedStep, Step};
 use crate::words::{
     Way, bits_of, delay_of, desks_of, flag_of, max_of, order_of, pattern_of, per_count_of, port_of,
-    signed_of, size_of, spells, way_of, word,
+    signed_of, size_of, way_of, word,
 };
 use cts_base::{Bytes, Decimal, List, Memory, Name, NameFault};
-use cts_bits::{Order, Place};
+use cts_bits::{Order, Place, PlaceFault};
 use cts_def::{Kind, ProtoSpec, ProtoUse};
 use std::alloc::Global;
 
@@ -45,8 +43,8 @@ pub enum Detail {
     Target(Name),
     /// A further protocol.
     Step(Step),
-    /// The number of an interface that is routed, and its targets.
-    Route(u32, List<Name>),
+    /// The name of an interface that is routed to the router.
+    Route(Name),
     /// How many seconds the interface waits.
     Delay(Decimal),
     /// The interface does not connect again.
@@ -61,8 +59,8 @@ fn flag_or(default: bool, word: &[u8]) -> bool
     flag_of(word).unwrap_or(default)
 }
 
-fn size(word: &[u8]) -> u32
-    ensures value { result ≡ size word.now }
+fn size_or_zero(word: &[u8]) -> u32
+    ensures value { result ≡ size_or_zero word.now }
     ensures within { result ≤ 1048576 }
 {
     match size_of(word) {
@@ -86,7 +84,7 @@ fn burst_of(alloc: Global, way: Way, words: &[Bytes]) -> Result<Step, Memory>
 {
     Ok(Step::Ready(ProtoUse {
         spec: ProtoSpec::Burst {
-            discard: size(word(words, 0)),
+            discard: size_or_zero(word(words, 0)),
             sync: pattern_of(alloc, word(words, 1))?,
             fill: flag_or(false, word(words, 2)),
         },
@@ -100,8 +98,8 @@ fn fixed_of(alloc: Global, line: u32, way: Way, words: &[Bytes]) -> Result<Fixed
 {
     Ok(FixedStep {
         line,
-        min_id: size(word(words, 0)),
-        discard: size(word(words, 1)),
+        min_id: size_or_zero(word(words, 0)),
+        discard: size_or_zero(word(words, 1)),
         sync: pattern_of(alloc, word(words, 2))?,
         telemetry: flag_or(true, word(words, 3)),
         fill: flag_or(false, word(words, 4)),
@@ -137,57 +135,32 @@ fn length_order(words: &[Bytes]) -> Order
     order_of(word(words, 4)).unwrap_or(Order::Big)
 }
 
-fn begins_before_start(offset: u32, bits: u32, order: Order) -> bool
-    requires some { 1 ≤ bits }
-    requires few { bits ≤ 64 }
-    ensures { result ≡ begins_before_start offset bits order }
+// The place of a length field, if there is such a one.
+fn place_at(offset: u32, bits: u32, order: Order) -> Option<Place>
+    ensures { option_map place_data result ≡ place_at offset bits order }
 {
-    match order {
-        Order::Big => false,
-        Order::Little => {
-            !is_whole(offset, bits) && offset / 8 + 1 < (offset % 8 + bits - 1) / 8 + 1
-        }
+    match Place::new(offset, bits, order) {
+        Ok(place) => Some(place),
+        Err(PlaceFault::Size) => None,
+        Err(PlaceFault::BeforeStart) => None,
     }
 }
 
-fn is_whole(offset: u32, bits: u32) -> bool
-    ensures { result ≡ is_whole offset bits }
+fn length_place(words: &[Bytes]) -> Option<Place>
+    ensures { option_map place_data result ≡ length_place words.now }
 {
-    offset % 8 == 0 && (bits == 8 || bits == 16 || bits == 32 || bits == 64)
-}
-
-fn is_bad_place(offset: u32, bits: u32, order: Order) -> bool
-    requires offset { offset ≤ 8388608 }
-    requires bits { bits ≤ 8388608 }
-    ensures { result ≡ is_bad_place offset bits order }
-{
-    bits == 0 || 64 < bits || 8_388_608 < offset + bits || begins_before_start(offset, bits, order)
-}
-
-/// Whether these parameters of LENGTH have a place that no field has.
-pub fn is_bad_length(words: &[Bytes]) -> bool
-    ensures { result ≡ is_bad_length words.now }
-{
-    is_bad_place(
+    place_at(
         length_offset(words),
         length_bits(words),
         length_order(words),
     )
 }
 
-// The place of a length field, if there is such a one.
-fn place_at(offset: u32, bits: u32, order: Order) -> Option<Place>
-    requires offset { offset ≤ 8388608 }
-    requires bits { bits ≤ 8388608 }
-    ensures { option_map place_data result ≡ place_at offset bits order }
+/// Whether these parameters of LENGTH have a place that no field has.
+pub fn is_bad_length(words: &[Bytes]) -> bool
+    ensures { result ≡ is_bad_length words.now }
 {
-    if is_bad_place(offset, bits, order) {
-        return None;
-    }
-    match Place::new(offset, bits, order) {
-        Ok(place) => Some(place),
-        Err(_) => None,
-    }
+    length_place(words).is_none()
 }
 
 fn signed_or_zero(word: &[u8]) -> i32
@@ -210,11 +183,7 @@ fn per_count(word: &[u8]) -> u32
 fn length_of(alloc: Global, way: Way, words: &[Bytes]) -> Result<Option<Step>, Memory>
     ensures { IfOk result (λ s. s ≡ option_map (ready way) (length_of words.now)) }
 {
-    let Some(place) = place_at(
-        length_offset(words),
-        length_bits(words),
-        length_order(words),
-    ) else {
+    let Some(place) = length_place(words) else {
         return Ok(None);
     };
     Ok(Some(Step::Ready(ProtoUse {
@@ -222,7 +191,7 @@ fn length_of(alloc: Global, way: Way, words: &[Bytes]) -> Result<Option<Step>, M
             place,
             value_offset: signed_or_zero(word(words, 2)),
             per_count: per_count(word(words, 3)),
-            discard: size(word(words, 5)),
+            discard: size_or_zero(word(words, 5)),
             sync: pattern_of(alloc, word(words, 6))?,
             max: max_of(word(words, 7)),
             fill: flag_or(false, word(words, 8)),
@@ -244,7 +213,7 @@ fn terminated_of(alloc: Global, way: Way, words: &[Bytes]) -> Result<Option<Step
             write: pattern_of(alloc, word(words, 0))?,
             read,
             strip: flag_or(true, word(words, 2)),
-            discard: size(word(words, 3)),
+            discard: size_or_zero(word(words, 3)),
             sync: pattern_of(alloc, word(words, 4))?,
             fill: flag_or(false, word(words, 5)),
         },
@@ -300,40 +269,40 @@ fn step_at(
     }
 }
 
-fn is_server(peer: Option<Peer>) -> bool
-    ensures { result ≡ is_server peer }
+fn is_server(role: Option<Role>) -> bool
+    ensures { result ≡ is_server role }
 {
-    match peer {
-        Some(Peer::Server) => true,
-        Some(Peer::Client) => false,
+    match role {
+        Some(Role::Server) => true,
+        Some(Role::Client) => false,
         None => false,
     }
 }
 
 /// Which word is the port for writing; that for reading is the next.
-pub fn port_at(peer: Option<Peer>) -> usize
-    ensures value { result ≡ port_at peer }
+pub fn port_at(role: Option<Role>) -> usize
+    ensures value { result ≡ port_at role }
     ensures within { result ≤ 3 }
 {
-    match peer {
-        Some(Peer::Client) => 3,
-        Some(Peer::Server) => 2,
+    match role {
+        Some(Role::Client) => 3,
+        Some(Role::Server) => 2,
         None => 2,
     }
 }
 
-fn host_of(alloc: Global, peer: Option<Peer>, words: &[Bytes]) -> Result<Bytes, Memory>
-    ensures { IfOk result (λ b. b ≡ host_of peer words.now) }
+fn host_of(alloc: Global, role: Option<Role>, words: &[Bytes]) -> Result<Bytes, Memory>
+    ensures { IfOk result (λ b. b ≡ host_of role words.now) }
 {
-    match peer {
-        Some(Peer::Client) => Bytes::copy(alloc, word(words, 2)),
-        Some(Peer::Server) => Bytes::copy(alloc, b""),
+    match role {
+        Some(Role::Client) => Bytes::copy(alloc, word(words, 2)),
+        Some(Role::Server) => Bytes::copy(alloc, b""),
         None => Bytes::copy(alloc, b""),
     }
 }
 
 /// The port that a word writes, 1 where it writes none.
-pub fn port_or_one(word: &[u8]) -> u16
+fn port_or_one(word: &[u8]) -> u16
     ensures value { result ≡ port_or_one word.now }
     ensures some { 1 ≤ result }
 {
@@ -355,8 +324,8 @@ fn steps_of(alloc: Global, step: Option<Step>) -> Result<List<Step>, Memory>
     Ok(steps)
 }
 
-fn is_router(keyword: Keyword) -> bool
-    ensures { result ≡ is_router keyword }
+fn opens_router(keyword: Keyword) -> bool
+    ensures { result ≡ opens_router keyword }
 {
     match keyword {
         Keyword::Router => true,
@@ -373,15 +342,15 @@ fn opening_of(
 ) -> Result<Connection, Memory>
     ensures { IfOk result (λ c. c ≡ opening_of line keyword words.now name) }
 {
-    let peer = peer_of(keyword, words);
+    let role = role_of(keyword, words);
     let step = step_at(alloc, line, Way::ReadWrite, keyword, words)?;
     Ok(Connection {
         line,
         name,
-        is_router: is_router(keyword),
-        host: host_of(alloc, peer, words)?,
-        serves: is_server(peer),
-        port: port_or_one(word(words, port_at(peer))),
+        is_router: opens_router(keyword),
+        host: host_of(alloc, role, words)?,
+        serves: is_server(role),
+        port: port_or_one(word(words, port_at(role))),
         steps: steps_of(alloc, step)?,
         targets: List::new(alloc),
         routes: List::new(alloc),
@@ -393,39 +362,9 @@ fn opening_of(
     })
 }
 
-/// The number of the interface whose name a word is, and the interface.
-pub fn find_interface<'a>(
-    connections: &'a [Connection],
-    word: &[u8],
-) -> Option<(u32, &'a Connection)>
-    requires { length connections.now ≤ 20 }
-    ensures { option_map (λ p. (p.0, p.1.now.targets)) result ≡ find_interface 0 connections.now word.now }
-{
-    let mut number: u32 = 0;
-    for connection in connections {
-        if !connection.is_router {
-            if spells(word, connection.name.as_slice()) {
-                return Some((number, connection));
-            }
-            number += 1;
-        }
-    }
-    None
-}
-
-fn copied(alloc: Global, names: &[Name]) -> Result<List<Name>, Memory>
-    ensures { IfOk result (λ copy. copy ≡ names.now) }
-{
-    let mut copy = List::new(alloc);
-    for name in names {
-        copy.push(name.clone()?)?;
-    }
-    Ok(copy)
-}
-
 fn opening_line(alloc: Global, line: u32, keyword: Keyword, words: &[Bytes]) -> Result<Line, Memory>
     ensures value { IfOk result (λ l. l ≡ opening_line line keyword words.now) }
-    ensures sound { IfOk result (λ l. IsAlwaysSound l) }
+    ensures sound { IfOk result (λ l. IsSoundLine l) }
 {
     match name_of(alloc, word(words, 0))? {
         Some(name) => Ok(Line::Opening(opening_of(alloc, line, keyword, words, name)?)),
@@ -435,7 +374,7 @@ fn opening_line(alloc: Global, line: u32, keyword: Keyword, words: &[Bytes]) -> 
 
 fn target_line(alloc: Global, words: &[Bytes]) -> Result<Line, Memory>
     ensures value { IfOk result (λ l. l ≡ target_line words.now) }
-    ensures sound { IfOk result (λ l. IsAlwaysSound l) }
+    ensures sound { IfOk result (λ l. IsSoundLine l) }
 {
     match name_of(alloc, word(words, 0))? {
         Some(name) => Ok(Line::Detail(Detail::Target(name))),
@@ -445,7 +384,7 @@ fn target_line(alloc: Global, words: &[Bytes]) -> Result<Line, Memory>
 
 fn protocol_line(alloc: Global, line: u32, words: &[Bytes]) -> Result<Line, Memory>
     ensures value { IfOk result (λ l. l ≡ protocol_line line words.now) }
-    ensures sound { IfOk result (λ l. IsAlwaysSound l) }
+    ensures sound { IfOk result (λ l. IsSoundLine l) }
 {
     let way = way_of(word(words, 0)).unwrap_or(Way::ReadWrite);
     match step_at(alloc, line, way, Keyword::Protocol, words)? {
@@ -454,26 +393,19 @@ fn protocol_line(alloc: Global, line: u32, words: &[Bytes]) -> Result<Line, Memo
     }
 }
 
-fn route_line(alloc: Global, connections: &[Connection], words: &[Bytes]) -> Result<Line, Memory>
-    requires { length connections.now ≤ 20 }
-    ensures value { IfOk result (λ l. l ≡ route_line connections.now words.now) }
-    ensures sound { IfOk result (λ l. IsSoundLine connections.now l) }
+fn route_line(alloc: Global, words: &[Bytes]) -> Result<Line, Memory>
+    ensures value { IfOk result (λ l. l ≡ route_line words.now) }
+    ensures sound { IfOk result (λ l. IsSoundLine l) }
 {
-    if !is_router_open(last(connections)) {
-        return Ok(Line::Nothing);
-    }
-    match find_interface(connections, word(words, 0)) {
-        Some((number, interface)) => {
-            let targets = copied(alloc, interface.targets.as_slice())?;
-            Ok(Line::Detail(Detail::Route(number, targets)))
-        }
+    match name_of(alloc, word(words, 0))? {
+        Some(name) => Ok(Line::Detail(Detail::Route(name))),
         None => Ok(Line::Nothing),
     }
 }
 
 fn port_line(words: &[Bytes]) -> Line
     ensures value { result ≡ port_line words.now }
-    ensures sound { IsAlwaysSound result }
+    ensures sound { IsSoundLine result }
 {
     match port_of(word(words, 1)) {
         Some(port) => Line::ApiPort(port),
@@ -483,7 +415,7 @@ fn port_line(words: &[Bytes]) -> Line
 
 fn desks_line(words: &[Bytes]) -> Line
     ensures value { result ≡ desks_line words.now }
-    ensures sound { IsAlwaysSound result }
+    ensures sound { IsSoundLine result }
 {
     match desks_of(word(words, 0)) {
         Some(desks) => Line::Desks(desks),
@@ -493,7 +425,7 @@ fn desks_line(words: &[Bytes]) -> Line
 
 fn delay_line(words: &[Bytes]) -> Line
     ensures value { result ≡ delay_line words.now }
-    ensures sound { IsAlwaysSound result }
+    ensures sound { IsSoundLine result }
 {
     match delay_of(word(words, 0)) {
         Some(delay) => Line::Detail(Detail::Delay(delay)),
@@ -501,17 +433,10 @@ fn delay_line(words: &[Bytes]) -> Line
     }
 }
 
-/// What the words of a statement say behind the interfaces and routers that stand.
-pub fn line_of(
-    alloc: Global,
-    connections: &[Connection],
-    line: u32,
-    keyword: Keyword,
-    words: &[Bytes],
-) -> Result<Line, Memory>
-    requires { length connections.now ≤ 20 }
-    ensures value { IfOk result (λ l. l ≡ line_of connections.now line keyword words.now) }
-    ensures sound { IfOk result (λ l. IsSoundLine connections.now l) }
+/// What the words of a statement say.
+pub fn line_of(alloc: Global, line: u32, keyword: Keyword, words: &[Bytes]) -> Result<Line, Memory>
+    ensures value { IfOk result (λ l. l ≡ line_of line keyword words.now) }
+    ensures sound { IfOk result (λ l. IsSoundLine l) }
 {
     match keyword {
         Keyword::Title => Ok(Line::Nothing),
@@ -525,6 +450,6 @@ pub fn line_of(
         Keyword::DontReconnect => Ok(Line::Detail(Detail::DontReconnect)),
         Keyword::Log => Ok(Line::Detail(Detail::Logged(true))),
         Keyword::DontLog => Ok(Line::Detail(Detail::Logged(false))),
-        Keyword::Route => route_line(alloc, connections, words),
+        Keyword::Route => route_line(alloc, words),
     }
 }

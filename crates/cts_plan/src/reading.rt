@@ -1,10 +1,10 @@
 //! Statements read to a site.
 
-ghost use Rattle.std.specs.Prelude.{◌≡◌, ◌≤◌, None, Ok, IfOk, IfErr, length, option_map, if◌then◌else◌};
+ghost use Rattle.std.specs.Prelude.{◌≡◌, None, Ok, IfOk, IfErr, option_map, if◌then◌else◌};
 ghost use Rattle.cts_plan.specs.SiteFiles.{parts, opening, site_in, site_of};
 ghost use Rattle.cts_plan.specs.Completing.{due};
 ghost use Rattle.cts_plan.specs.Sound.{IsSoundLine};
-ghost use Rattle.cts_plan.specs.Placing.{Judged, Gives, Fails, AreSettled, IsSoundStanding, seen};
+ghost use Rattle.cts_plan.specs.Placing.{Judged, Gives, Fails, AreSettled, AreKnownTargets, AreReady, IsSoundStanding, seen};
 
 use crate::causes::first_cause;
 use crate::completing::due;
@@ -61,9 +61,8 @@ impl Draft {
         definitions: &Definitions,
         statement: &Statement,
     ) -> Result<Line, SiteFault>
-        requires few { length self.now.connections.items ≤ 20 }
         ensures judged { Judged definitions.now self.now.connections.items statement.now result }
-        ensures sound { IfOk result (λ l. IsSoundLine self.now.connections.items l) }
+        ensures sound { IfOk result (λ l. IsSoundLine l) }
     {
         let line = statement.line;
         let Some((keyword, words)) = parts(statement.words.as_slice()) else {
@@ -75,7 +74,7 @@ impl Draft {
         if let Some((line, cause)) = self.complete(alloc, definitions, keyword)? {
             return Err(SiteFault::Refused { line, cause });
         }
-        let said = line_of(alloc, &self.connections, line, keyword, words)?;
+        let said = line_of(alloc, line, keyword, words)?;
         match first_cause(definitions, &self.connections, keyword, words, &said) {
             Some(cause) => Err(SiteFault::Refused { line, cause }),
             None => Ok(said),
@@ -92,6 +91,8 @@ fn read_draft(
     ensures said { IfOk result (λ draft. site_of definitions.now statements.now ≡ Ok (site_in definitions.now (seen draft))) }
     ensures settled { IfOk result (λ draft. AreSettled definitions.now draft.connections.items) }
     ensures sound { IfOk result (λ draft. IsSoundStanding (seen draft)) }
+    ensures ready { IfOk result (λ draft. AreReady draft.connections.items) }
+    ensures known { IfOk result (λ draft. AreKnownTargets definitions.now draft.connections.items) }
     ensures refused { IfErr result (λ fault. Fails fault (site_of definitions.now statements.now)) }
 {
     let mut draft = Draft::new(alloc);

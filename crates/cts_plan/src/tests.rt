@@ -18,9 +18,13 @@ read|
 1 OutsideInterface|TARGET INST
 1 OutsideInterface|PROTOCOL READ BURST
 1 OutsideInterface|LOG DEFAULT
+1 OutsideInterface|DONT_LOG
+1 OutsideInterface|RECONNECT_DELAY 1
+1 OutsideInterface|ROUTE I
 2 OutsideInterface|INTERFACE I tcpip_client_interface.rb h 1 1 nil nil;ROUTE I
 2 OutsideInterface|ROUTER R tcpip_server_interface.rb 1 1 nil nil;TARGET T
 2 OutsideInterface|ROUTER R tcpip_server_interface.rb 1 1 nil nil;DONT_RECONNECT
+2 OutsideInterface|ROUTER R tcpip_server_interface.rb 1 1 nil nil;LOG DEFAULT
 1 WrongCount|TITLE
 1 WrongCount|TITLE a b
 1 WrongCount|PORT X 1
@@ -32,24 +36,46 @@ read|
 1 WrongCount|INTERFACE I tcpip_client_interface.rb h 1 1 nil nil BURST 0 nil maybe
 1 WrongCount|INTERFACE I tcpip_client_interface.rb h 1 1 nil nil BURST 0 nil true 1
 1 WrongCount|INTERFACE I tcpip_client_interface.rb h 1 1 nil nil LENGTH 0 16 0 1 BIG
+1 WrongCount|INTERFACE I tcpip_server_interface.rb 1 1 nil nil LENGTH 0 16 0 1 big_endian
+1 WrongCount|INTERFACE I tcpip_server_interface.rb 1 1 nil nil LENGTH 0 16 0 1 BIG_ENDIAN 0 nil nil true x
+1 WrongCount|INTERFACE I tcpip_server_interface.rb 1 1 nil nil TERMINATED 0x0A
+2 WrongCount|INTERFACE I tcpip_server_interface.rb 1 1 nil nil;LOG default
+2 WrongCount|INTERFACE I tcpip_server_interface.rb 1 1 nil nil;DONT_LOG x
+2 WrongCount|INTERFACE I tcpip_server_interface.rb 1 1 nil nil;DONT_RECONNECT x
+2 WrongCount|INTERFACE I tcpip_server_interface.rb 1 1 nil nil;RECONNECT_DELAY
+2 WrongCount|INTERFACE I tcpip_server_interface.rb 1 1 nil nil;PROTOCOL READ
 1 UnknownInterface|INTERFACE I x.rb
+1 UnknownInterface|INTERFACE I TCPIP_SERVER_INTERFACE.RB 1 1 nil nil
 1 UnknownInterface|INTERFACE I x.rb 1 2 3 4 5 6 7 8 9
 1 UnknownInterface|ROUTER R tcpip_client_interface.rb
 2 UnknownInterface|ROUTER R tcpip_server_interface.rb 1 1 nil nil;ROUTE I
 2 UnknownInterface|ROUTER R tcpip_server_interface.rb 1 1 nil nil;ROUTE a-b
 1 BadName|INTERFACE I-1 tcpip_server_interface.rb 1 1 nil nil
+1 BadName|ROUTER R-1 tcpip_server_interface.rb 1 1 nil nil
+2 BadName|INTERFACE I tcpip_server_interface.rb 1 1 nil nil;TARGET a-b
 1 NotNumber|PORT CTS_API 0
 1 NotNumber|PORT CTS_API 65536
 1 NotNumber|DESKS 5
 1 NotNumber|DESKS 0
 1 NotNumber|INTERFACE I tcpip_client_interface.rb h 1 x nil nil
 1 NotNumber|INTERFACE I tcpip_client_interface.rb h 1 nil nil x
+2 NotNumber|INTERFACE I tcpip_server_interface.rb 1 1 nil nil;RECONNECT_DELAY -1
+2 NotNumber|INTERFACE I tcpip_server_interface.rb 1 1 nil nil;RECONNECT_DELAY x
+2 NotNumber|INTERFACE I tcpip_server_interface.rb 1 1 nil nil;RECONNECT_DELAY nil
+2 DoubleName|ROUTER R tcpip_server_interface.rb 1 1 nil nil;ROUTER r tcpip_server_interface.rb 2 2 nil nil
 1 TwoPorts|INTERFACE I tcpip_client_interface.rb h 1 2 nil nil
 1 TwoPorts|INTERFACE I tcpip_client_interface.rb h nil nil nil nil
+1 TwoPorts|INTERFACE I tcpip_server_interface.rb 1 nil nil nil
+1 TwoPorts|INTERFACE I tcpip_server_interface.rb nil 1 nil nil
+1 TwoPorts|ROUTER R tcpip_server_interface.rb 1 2 nil nil
 2 UnknownTarget|INTERFACE I tcpip_server_interface.rb 1 1 nil nil;TARGET T
 1 ProtocolKind|INTERFACE I tcpip_server_interface.rb 1 1 nil nil CRC
 1 EmptySync|INTERFACE I tcpip_server_interface.rb 1 1 nil nil BURST 0 0x
 1 EmptySync|INTERFACE I tcpip_server_interface.rb 1 1 nil nil TERMINATED nil nil
+1 EmptySync|INTERFACE I tcpip_server_interface.rb 1 1 nil nil TERMINATED nil 0x
+1 EmptySync|INTERFACE I tcpip_server_interface.rb 1 1 nil nil FIXED 1 0 0x
+1 EmptySync|INTERFACE I tcpip_server_interface.rb 1 1 nil nil LENGTH 0 16 0 1 BIG_ENDIAN 0 0x
+1 EmptySync|INTERFACE I tcpip_server_interface.rb 1 1 nil nil PREIDENTIFIED 0x
 read|INTERFACE I tcpip_server_interface.rb 1 1 nil nil TERMINATED 0x 0x00
 1 MinIdSize|INTERFACE I tcpip_server_interface.rb 1 1 nil nil FIXED 0";
 
@@ -57,6 +83,8 @@ read|INTERFACE I tcpip_server_interface.rb 1 1 nil nil TERMINATED 0x 0x00
 const ORDER: &str = "\
 1 OutsideInterface|TARGET
 2 WrongCount|ROUTER R tcpip_server_interface.rb 1 1 nil nil;ROUTE I J
+2 WrongCount|INTERFACE I tcpip_server_interface.rb 1 1 nil nil;TARGET a-b c
+1 WrongCount|DESKS 9 9
 1 UnknownInterface|INTERFACE I-1 x.rb
 1 BadName|INTERFACE I-1 tcpip_server_interface.rb x 1 nil nil
 2 NotNumber|INTERFACE I tcpip_server_interface.rb 1 1 nil nil;INTERFACE i tcpip_server_interface.rb x 1 nil nil
@@ -69,6 +97,7 @@ const ORDER: &str = "\
 5 EmptySync|INTERFACE I tcpip_server_interface.rb 1 1 nil nil BURST;PROTOCOL READ BURST;PROTOCOL READ BURST;PROTOCOL READ BURST;PROTOCOL READ BURST 0 0x
 5 ChainTooLong|INTERFACE I tcpip_server_interface.rb 1 1 nil nil BURST;PROTOCOL READ BURST;PROTOCOL READ BURST;PROTOCOL READ PREIDENTIFIED;PROTOCOL READ BURST
 2 NotLast|INTERFACE I tcpip_server_interface.rb 1 1 nil nil PREIDENTIFIED;PROTOCOL READ BURST
+2 NotLast|INTERFACE I tcpip_server_interface.rb 1 1 nil nil FIXED 0;PROTOCOL READ BURST
 3 NotLast|INTERFACE I tcpip_server_interface.rb 1 1 nil nil;PROTOCOL READ FixedProtocol 1;PROTOCOL READ LengthProtocol
 read|INTERFACE I tcpip_server_interface.rb 1 1 nil nil;PROTOCOL READ FixedProtocol 1;PROTOCOL WRITE LengthProtocol
 4 DoubleName|INTERFACE I tcpip_server_interface.rb 1 1 nil nil;ROUTER I tcpip_server_interface.rb 1 1 nil nil;ROUTE i;ROUTE I
@@ -78,6 +107,7 @@ read|INTERFACE I tcpip_server_interface.rb 1 1 nil nil;PROTOCOL READ FixedProtoc
 const LATE: &str = "\
 1 MinIdSize|INTERFACE I tcpip_server_interface.rb 1 1 nil nil FIXED 0;INTERFACE
 1 MinIdSize|INTERFACE I tcpip_server_interface.rb 1 1 nil nil FIXED 0;ROUTER R x.rb
+1 ChainTooLong|INTERFACE I tcpip_server_interface.rb 1 1 nil nil;PROTOCOL WRITE BURST;PROTOCOL WRITE BURST;PROTOCOL WRITE BURST;PROTOCOL WRITE BURST;INTERFACE
 2 NotNumber|INTERFACE I tcpip_server_interface.rb 1 1 nil nil FIXED 0;DESKS 9;ROUTER R x.rb
 2 UnknownTarget|INTERFACE I tcpip_server_interface.rb 1 1 nil nil FIXED 0;TARGET T;INTERFACE
 2 UnknownKeyword|INTERFACE I tcpip_server_interface.rb 1 1 nil nil FIXED 0;ITEM
@@ -133,21 +163,38 @@ read|READ PREIDENTIFIED nil 5
 2 WrongCount|read_write BURST
 read|WRITE burst_PROTOCOL.RB";
 
-/// Protocols behind the words of an interface, with all their parameters as they are read.
+/// Protocols behind the words of an interface, and the chain that is read, with all parameters.
 const DEFAULTS: &str = "\
 BURST 0 [] false true false|
 BURST 0 [] false true true| BURST
 BURST 3 [10, 240] true true true| burstprotocol 3 0x0aF0 True
 FIXED 2 0 [] (true, false, false) true true| FIXED 2
 FIXED 2 1 [255] (false, true, true) true true| FixedProtocol 2 1 0xFF false true TRUE
+FIXED 1 0 [] (false, true, false) true true| FIXED 1 0 nil false true false
+FIXED 1 0 [] (true, false, true) true true| FIXED 1 0 nil true false true
 LENGTH 0 16 Big (0, 1, 0) [] None false true true| LENGTH
 LENGTH 8 12 Little (-3, 2, 4) [1] Some(99) true true true| length_protocol.rb 8 12 -3 2 LITTLE_ENDIAN 4 0x01 99 true
+LENGTH 0 32 Big (0, 1, 0) [] None false true true| LENGTH 0 32 0 1
+LENGTH 16 16 Big (0, 1, 0) [26, 207] None false true true| LENGTH 16 16 0 1 BIG_ENDIAN 0 0x1ACF
+LENGTH 0 8 Big (0, 1, 1) [] None true true true| LENGTH 0 8 0 1 BIG_ENDIAN 1 nil nil true
 TERMINATED [13] [10] true 0 [] false true true| TERMINATED 0x0D 0x0A
 TERMINATED [] [10] false 7 [2] true true true| TERMINATED nil 0x0A false 7 0x02 true
+TERMINATED [13, 10] [13, 10] true 0 [] false true true| TERMINATED 0x0D0A 0x0D0A
 PREIDENTIFIED [] None true true| PREIDENTIFIED
 PREIDENTIFIED [222, 173] Some(0) true true| PREIDENTIFIED 0xDEAD 0
 BURST 1 [] false true false|;PROTOCOL READ BURST 1
-BURST 12 [] false true true|;PROTOCOL READ_WRITE BURST 0x0C";
+BURST 12 [] false true true|;PROTOCOL READ_WRITE BURST 0x0C
+BURST 1 [] false false true;BURST 0 [] false true false|;PROTOCOL WRITE BURST 1
+LENGTH 0 16 Big (0, 1, 0) [] None false true true;BURST 2 [] false false true| LENGTH;PROTOCOL WRITE BURST 2
+TERMINATED [10] [10] true 0 [] false true false;LENGTH 0 8 Big (0, 1, 0) [] None false true false|;PROTOCOL READ TerminatedProtocol 0x0A 0x0A;PROTOCOL READ LengthProtocol 0 8 0 1";
+
+/// Further words of the statement that opens one too many, and its first cause.
+const ONE_MORE: &str = "\
+TooMany|
+TooMany| BURST 0 nil
+EmptySync| BURST 0 0x
+ProtocolKind| CRC
+NotNumber| FIXED x";
 
 const INTERFACE: &str = "INTERFACE I tcpip_server_interface.rb 1 1 nil nil";
 
@@ -247,30 +294,61 @@ fn a_pattern_has_at_most_64_bytes(rt: HostRuntime) -> Result<(), Fail> {
     Ok(())
 }
 
-#[test]
-fn interfaces_and_routers_are_few(rt: HostRuntime) -> Result<(), Fail> {
-    for (word, file, most, too_many) in [
-        ("INTERFACE", "client", 16, "17 TooMany"),
-        ("ROUTER", "server", 4, "5 TooMany"),
-    ] {
-        let host = if most == 16 { " h" } else { "" };
-        let mut text = Vec::new(rt.alloc());
-        for number in 0..most {
-            let line = format!(in rt.alloc();
-                "{word} N{number} tcpip_{file}_interface.rb{host} 1 1 nil nil\n"
-            )?;
-            text.extend_from_slice(line.as_bytes())?;
-        }
-        let found = outcome(&rt, rt.alloc(), &text, no_definitions(rt.alloc()))?;
-        assert_eq!(rt; found.as_str(), "read");
-        let line = format!(in rt.alloc();
-            "{word} M tcpip_{file}_interface.rb{host} 1 1 nil nil BURST 0 nil\n"
-        )?;
+/// As many interfaces or routers as there may be, by the words of their statements before and behind their numbers.
+fn as_many(alloc: Global, front: &str, behind: &str, most: u32) -> Result<Vec<u8>, Fail> {
+    let mut text = Vec::new(alloc);
+    for number in 0..most {
+        let line = format!(in alloc; "{front} N{number} {behind}\n")?;
         text.extend_from_slice(line.as_bytes())?;
-        let found = outcome(&rt, rt.alloc(), &text, no_definitions(rt.alloc()))?;
-        assert_eq!(rt; found.as_str(), too_many);
+    }
+    Ok(text)
+}
+
+fn compare_one_more(
+    rt: &impl Abort,
+    alloc: Global,
+    front: &str,
+    behind: &str,
+    most: u32,
+) -> Result<(), Fail> {
+    let text = as_many(alloc, front, behind, most)?;
+    let found = outcome(rt, alloc, &text, no_definitions(alloc))?;
+    assert_eq!(rt; found.as_str(), "read");
+    for row in ONE_MORE.lines() {
+        let Some((cause, words)) = row.split_once('|') else {
+            return Err(Fail::new("no row"));
+        };
+        let mut text = as_many(alloc, front, behind, most)?;
+        let line = format!(in alloc; "{front} M {behind}{words}\n")?;
+        text.extend_from_slice(line.as_bytes())?;
+        let found = outcome(rt, alloc, &text, no_definitions(alloc))?;
+        assert!(rt; most < 100);
+        let want = format!(in alloc; "{} {cause}", most + 1)?;
+        assert_eq!(rt; found.as_str(), want.as_str(), "at {row}");
     }
     Ok(())
+}
+
+#[test]
+fn interfaces_are_few(rt: HostRuntime) -> Result<(), Fail> {
+    compare_one_more(
+        &rt,
+        rt.alloc(),
+        "INTERFACE",
+        "tcpip_client_interface.rb h 1 1 nil nil",
+        16,
+    )
+}
+
+#[test]
+fn routers_are_few(rt: HostRuntime) -> Result<(), Fail> {
+    compare_one_more(
+        &rt,
+        rt.alloc(),
+        "ROUTER",
+        "tcpip_server_interface.rb 1 1 nil nil",
+        4,
+    )
 }
 
 fn burst(alloc: Global, discard: u32, sync: &Bytes, fill: bool) -> Result<String, AllocError> {
@@ -384,19 +462,26 @@ fn shown_interface(alloc: Global, interface: &Interface) -> Result<String, Alloc
     let parts = interface.delay.parts;
     let reconnect = interface.reconnect;
     let logged = interface.logged;
-    format!(in alloc; "{port} {serves} {parts} {reconnect} {logged}")
+    let host = interface.aim_host.as_slice();
+    format!(in alloc; "{host:?} {port} {serves} {parts} {reconnect} {logged}")
 }
 
-/// The first interface's only protocol, with whether it reads and writes.
-fn first_protocol(alloc: Global, site: &Site) -> Result<String, Fail> {
+/// The chain of the only interface, each protocol with whether it reads and writes, joined by `;`.
+fn shown_chain(alloc: Global, site: &Site) -> Result<String, Fail> {
     let [interface] = site.interfaces.as_slice() else {
         return Err(Fail::new("not one interface"));
     };
-    let [used] = interface.chain.as_slice() else {
-        return Err(Fail::new("not one protocol"));
-    };
-    let parameters = shown(alloc, &used.spec)?;
-    Ok(format!(in alloc; "{parameters} {} {}", used.reads, used.writes)?)
+    let mut out = String::new(alloc);
+    for used in interface.chain.as_slice() {
+        if !out.is_empty() {
+            out.push_str(";")?;
+        }
+        let parameters = shown(alloc, &used.spec)?;
+        let flags = format!(in alloc; " {} {}", used.reads, used.writes)?;
+        out.push_str(parameters.as_str())?;
+        out.push_str(flags.as_str())?;
+    }
+    Ok(out)
 }
 
 #[test]
@@ -409,7 +494,7 @@ fn parameters_that_are_left_out_have_defaults(rt: HostRuntime) -> Result<(), Fai
         let Ok(site) = read(&rt, rt.alloc(), &text, no_definitions(rt.alloc()))? else {
             return Err(Fail::new("refused"));
         };
-        let found = first_protocol(rt.alloc(), &site)?;
+        let found = shown_chain(rt.alloc(), &site)?;
         assert_eq!(rt; found.as_str(), want, "at {row}");
     }
     Ok(())
@@ -423,9 +508,9 @@ INTERFACE B tcpip_server_interface.rb 3 0x3 -1 nil;LOG DEFAULT;DONT_LOG;PORT CTS
 INTERFACE C tcpip_client_interface.rb '' 4 4 nil nil";
 
 const AS_READ: [&str; 3] = [
-    "2 false 250000000000 false true",
-    "3 true 5000000000000 true false",
-    "4 false 5000000000000 true true",
+    "[104, 101, 114, 101] 2 false 250000000000 false true",
+    "[] 3 true 5000000000000 true false",
+    "[] 4 false 5000000000000 true true",
 ];
 
 #[test]

@@ -1,13 +1,12 @@
 // What a word of a site file has to be at its place, and what it then says.
-ghost use Rattle.std.specs.Prelude.{◌≡◌, ◌≤◌, ◌==◌, ◌&&◌, ◌||◌, IfOk, IfSome, IsTrue, false, Some, length, zip, option_map};
+ghost use Rattle.std.specs.Prelude.{◌≡◌, ◌≤◌, ◌==◌, ◌&&◌, ◌||◌, IfOk, IfSome, IsTrue, false, Some, length, option_map};
 ghost use Rattle.std.specs.Int.{is_negative};
 ghost use Rattle.std.specs.List.{list_all, slice_index_or};
 ghost use Rattle.std.specs.Str.{bytes_eq};
 ghost use Rattle.hex.specs.Hex.{is_hex_digit, decode_of};
-ghost use Rattle.cts_base.specs.Names.{upper};
-ghost use Rattle.cts_plan.specs.Words.{word, spells, is_nil, flag_of, order_of, way_of, way_reads, way_writes, is_one_of, kind_of, natural, port_of, desks_of, size_of, bits_of, per_count_of, max_of, signed_of, is_decimal, delay_of, hex_digits, are_byte_digits, is_pattern_word, pattern_of, bytes_in, is_empty_pattern};
+ghost use Rattle.cts_plan.specs.Words.{word, is_nil, flag_of, order_of, way_of, way_reads, way_writes, is_one_of, kind_of, natural, port_of, desks_of, size_of, bits_of, per_count_of, max_of, signed_of, is_decimal, delay_of, hex_digits, are_byte_digits, is_pattern_word, pattern_of, bytes_in, is_empty_pattern};
 
-use cts_base::{Bytes, Decimal, Memory, read_decimal, read_whole};
+use cts_base::{Bytes, Decimal, Memory, read_decimal, read_whole, spells};
 use cts_bits::Order;
 use cts_def::Kind;
 use hex::FromHexError;
@@ -60,21 +59,6 @@ pub fn word(words: &[Bytes], at: usize) -> &[u8]
         Some(word) => word.as_slice(),
         None => b"",
     }
-}
-
-fn has_letters(word: &[u8], text: &[u8]) -> bool
-    ensures { result ≡ list_all (λ p. upper p.0 == p.1) (zip word.now text.now) }
-{
-    word.iter()
-        .zip(text)
-        .all(|(a, b)| a.to_ascii_uppercase() == *b)
-}
-
-/// Whether a word is this upper-case text, in any case.
-pub fn spells(word: &[u8], text: &[u8]) -> bool
-    ensures { result ≡ spells word.now text.now }
-{
-    word.len() == text.len() && has_letters(word, text)
 }
 
 /// Whether a word is `nil`.

@@ -1,4 +1,5 @@
-use Rattle.std.proofs.Common.{◌≡◌, ◌∙◌, ap, sym, subst, nat_eq}
+use Rattle.std.proofs.Common.{◌∙◌, ap, sym, subst}
+use Rattle.cts_def.specs.Items.{is_same}
 use Rattle.std.specs.List.{list_any, IsDistinct}
 use Rattle.cts_plan.specs.Connections.{ConnectionData}
 use Rattle.cts_plan.proofs.Lists.{distinct_snoc}
@@ -9,10 +10,11 @@ invariant_of-connection-2 c =
     let sound = c.connection.invariant in
     record {
       port = sound.port;
+      host = sound.host;
       delay = sound.delay;
       few = sound.few;
       packets_last = sound.packets_last;
-      routes = subst (IsDistinct nat_eq) (sym c.in_ok-push.ensures.pushed)
-          (distinct_snoc nat_eq c.connection.inside.routes c.args.number sound.routes
-          (ap (λ (x : ConnectionData). list_any (λ route. nat_eq route c.args.number) x.routes) c.connection.view_is ∙ c.requires.fits));
+      routes = subst (IsDistinct is_same) (sym c.in_ok-push.ensures.pushed)
+          (distinct_snoc is_same c.connection.inside.routes c.args.name sound.routes
+          (ap (λ (x : ConnectionData). list_any (λ route. is_same route c.args.name) x.routes) c.connection.view_is ∙ c.requires.fits));
     }

@@ -1,4 +1,4 @@
-use Rattle.std.proofs.Common.{◌≡◌, ◌∙◌, ◌&&◌, ap, sym, subst, List, [], ◌∷◌, length, arith}
+use Rattle.std.proofs.Common.{◌∙◌, ◌&&◌, ap, sym, subst, List, [], ◌∷◌, length, arith}
 use Rattle.std.proofs.lemmas.List.{length-append}
 use Rattle.std.specs.Prelude.{IsTrue, nat_le}
 use Rattle.std.specs.List.{list_any}
@@ -15,6 +15,7 @@ invariant_of-connection-2 c =
     let pushed = c.in_ok-push.ensures.pushed in
     record {
       port = sound.port;
+      host = sound.host;
       delay = sound.delay;
       few =
           let room = room_for (length steps) (ap (λ (x : ConnectionData). nat_le 4 (length x.steps)) c.connection.view_is ∙ c.requires.fits.0) in

@@ -11,4 +11,4 @@ invariant_of-result c =
     let made = c.in_ok-made.ensures in
     subst (λ (is : List InterfaceData). IsSoundSite (site_with c.args.definitions is c.in_ok-made.made.routers draft.api_port draft.desks)) (sym made.interfaces)
     (subst (λ (rs : List RouterData). IsSoundSite (site_with c.args.definitions (interfaces_of c.args.definitions draft.connections.items) rs draft.api_port draft.desks)) (sym made.routers)
-    (sound_site c.args.definitions (seen draft) c.requires.sound))
+    (sound_site c.args.definitions (seen draft) c.requires.sound c.requires.settled c.requires.ready c.requires.known))

@@ -1,8 +1,7 @@
-use Rattle.std.proofs.Common.{◌≡◌, ◌∷◌, ◌++◌, ◌∙◌, sym, ap, subst, length, map, List, [], None, ℕ, arith}
+use Rattle.std.proofs.Common.{◌≡◌, ◌∷◌, ◌++◌, ◌∙◌, sym, ap, length, map, [], arith}
 use Rattle.std.specs.Vec.Iter.{into_iter_items}
 use Rattle.std.proofs.lemmas.List.{append-nil}
-use Rattle.cts_plan.specs.declared.step.Step.{Step}
-use Rattle.cts_plan.specs.Completing.{step_fault, first_step_fault}
+use Rattle.cts_plan.specs.Completing.{first_step_fault}
 use Rattle.cts_plan.specs.SiteFiles.{use_of}
 use Rattle.cts_plan.proofs.Lists.{moved, nothing_left}
 use Rattle.cts_plan.proofs.Chained.{first_is_right}

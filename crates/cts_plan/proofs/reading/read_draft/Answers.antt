@@ -1,14 +1,11 @@
-use Rattle.std.proofs.Common.{◌∙◌, sym, ap}
+use Rattle.std.proofs.Common.{◌∙◌, [], sym, ap}
 use Rattle.cts_plan.specs.Completing.{due}
-use Rattle.cts_plan.specs.Placing.{seen}
-use Rattle.cts_plan.proofs.Runs.{begins, few_in_all, fits, free, next, settled_all}
+use Rattle.cts_plan.proofs.Runs.{begins, fits, free, next}
+use Rattle.cts_plan.proofs.Settled.{settled_all, settled_among}
 use Rattle.cts_plan.proofs.reading.read_draft.Goals as goal
 
 pub loop-statement-init : goal.loop-statement-init
 loop-statement-init c = begins c.args.definitions.now c.new-draft.result c.args.statements.now c.new-draft.ensures.connections c.new-draft.ensures.api_port c.new-draft.ensures.desks
-
-pub judge-requires : goal.judge-requires
-judge-requires c = record { few = few_in_all (seen c.loop-statement.draft) c.loop-statement.invariant.sound }
 
 pub add-requires : goal.add-requires
 add-requires c = record {
@@ -20,5 +17,9 @@ pub loop-statement-preserved : goal.loop-statement-preserved
 loop-statement-preserved c = next c.args.definitions.now c.loop-statement.draft c.add.new.self c.args.statements.now c.loop-statement.statement-index c.statement-item.result c.in_ok-line.line c.loop-statement-test.true c.statement-item.is c.loop-statement.invariant c.in_ok-line.ensures.judged c.in_ok-line.ensures.sound c.in_ok-add.ensures
 
 pub returns-in-None-clause-settled : goal.returns-in-None-clause-settled
-returns-in-None-clause-settled c = settled_all c.args.definitions.now c.loop-statement.draft.connections.items c.loop-statement.invariant.settled
-    (ap (due c.args.definitions.now) (sym c.deref.ensures.value) ∙ sym c.in_ok-line-2.ensures ∙ c.in-None.is)
+returns-in-None-clause-settled c =
+    let d = c.args.definitions.now in
+    let cs = c.loop-statement.draft.connections.items in
+    settled_among d cs
+    (settled_all d [] cs c.loop-statement.invariant.settled (ap (due d) (sym c.deref.ensures.value) ∙ sym c.in_ok-line-2.ensures ∙ c.in-None.is))
+    c.loop-statement.invariant.sound.routes

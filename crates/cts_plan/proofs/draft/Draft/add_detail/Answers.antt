@@ -1,4 +1,4 @@
-use Rattle.std.proofs.Common.{◌≡◌, ◌∙◌, sym, ap, subst, List, ◌++◌, ◌∷◌, [], Some}
+use Rattle.std.proofs.Common.{◌≡◌, ◌∙◌, ap, subst, ◌++◌, ◌∷◌, [], Some}
 use Rattle.cts_words.specs.Blocks.{last_of}
 use Rattle.cts_words.proofs.Blocks.{put_back, last_snoc}
 use Rattle.cts_plan.specs.Connections.{ConnectionData}
