@@ -1,7 +1,6 @@
 -- The numbers and texts that words spell, where a definition asks for one. A word that spells none reads as 0 or as the
 -- first choice, and nothing uses that: its statement is refused.
 use Rattle.std.specs.Prelude.{ℕ, ℤ, pos, neg_ℤ, ◌+◌, ◌-◌, ◌*◌, ◌^◌, Bool, ◌&&◌, ◌||◌, ◌==◌, nat_lt, nat_le, int_le, unsigned_abs, List, [], ◌∷◌, map, take, drop, codes, Option, Some, None, option_map, is_some, unwrap_or, find, Result, Ok, Err, if◌then◌else◌}
-use Rattle.cts_base.specs.Names.{upper}
 use Rattle.cts_base.specs.Wholes.{whole_of}
 use Rattle.cts_base.specs.Decimals.{decimal_of}
 use Rattle.cts_base.specs.declared.decimal.Decimal.{Decimal}
@@ -13,10 +12,6 @@ use Rattle.cts_def.specs.declared.item_kind.ItemKind.TheVariants.{Uint, Int, Str
 use Rattle.cts_def.specs.Items.{is_same}
 use Rattle.hex.specs.Hex.{decode_of}
 use Rattle.hex.specs.declared.FromHexError.{FromHexError}
-
--- the text in upper case of ASCII
-abbrev pub in_upper_case : List ℕ → List ℕ
-in_upper_case word = map upper word
 
 -- ---- numbers
 
