@@ -9,15 +9,7 @@ use crate::drafted::Drafted;
 use cts_bits::Order;
 use cts_def::Item;
 use cts_defline::{Open, PacketKind};
-
-fn last<T>(items: &[T]) -> Option<&T>
-    ensures { option_copied result ≡ last_of items.now }
-{
-    match items.split_last() {
-        Some((last, _)) => Some(last),
-        None => None,
-    }
-}
+use cts_words::last;
 
 // The items of a definition, and none where there is none.
 fn items_in(drafted: Option<&Drafted>) -> &[Item]

@@ -14,7 +14,7 @@ fn refused(rt: &impl Abort, alloc: Global, text: &[u8]) -> Result<Option<(u32, D
     match read_definitions(alloc, &found) {
         Ok(_) => Ok(None),
         Err(DefFault::Refused { line, cause }) => Ok(Some((line, cause))),
-        Err(DefFault::Memory) => Ok(Some((0, DefCause::TooMany))),
+        Err(DefFault::Memory) => Err(Fail::new("out of memory")),
     }
 }
 
