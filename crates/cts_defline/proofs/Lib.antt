@@ -1,3 +1,4 @@
 pub mod Characters
+pub mod LineRules
 pub mod NamesRead
 pub mod Within

@@ -5,3 +5,4 @@ pub mod Lines
 pub mod Numbers
 pub mod Reading
 pub mod Refusals
+pub mod Rules

@@ -9,6 +9,7 @@ pub mod Lists
 pub mod Misplaced
 pub mod More
 pub mod Names
+pub mod OfKind
 pub mod PacketRules
 pub mod Rules
 pub mod Runs

@@ -5,7 +5,7 @@ use Rattle.std.specs.List.{list_any}
 use Rattle.std.specs.Ordering.{nat_cmp}
 use Rattle.cts_base.specs.Known.{Knows, pair_cmp}
 use Rattle.cts_def.specs.declared.state_def.StateDef.{StateDef}
-use Rattle.cts_def.specs.Items.{ItemData}
+use Rattle.cts_def.specs.Items.{ItemData, is_to_the_end}
 use Rattle.cts_def.specs.Packets.{PacketData}
 use Rattle.cts_defline.specs.declared.details.Detail.{Detail}
 use Rattle.cts_defline.specs.declared.details.Detail.TheVariants as detail
@@ -13,7 +13,7 @@ use Rattle.cts_defline.specs.declared.open.PacketKind.{PacketKind}
 use Rattle.cts_defline.specs.declared.open.PacketKind.TheVariants.{Telemetry, Command}
 use Rattle.cts_defread.specs.declared.draft.Draft.{Draft}
 use Rattle.cts_defread.specs.declared.drafted.Drafted.{Drafted}
-use Rattle.cts_defread.specs.Causes.{open_items, open_item, open_end, is_open_ended, is_to_the_end, count_items}
+use Rattle.cts_defread.specs.Causes.{open_items, open_item, open_end, is_open_ended, count_items}
 use Rattle.cts_defread.specs.Sound.{AreSound}
 use Rattle.cts_defread.specs.Standing.{packets_of}
 use Rattle.cts_defread.specs.Steps.{add_set}
