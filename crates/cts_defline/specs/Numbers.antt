@@ -45,14 +45,14 @@ abbrev pub is_size : ℤ → Bool
 is_size size = int_le (pos 1) size && int_le size (pos 64)
 
 -- the least and the greatest number of this kind and size, and 0 where there is no such number
-abbrev pub least : ItemKind → ℤ → ℤ
-least Int size = if is_size size then neg_ℤ (pos (2 ^ (unsigned_abs size - 1))) else pos 0
-least _ size = pos 0
+abbrev pub least_number : ItemKind → ℤ → ℤ
+least_number Int size = if is_size size then neg_ℤ (pos (2 ^ (unsigned_abs size - 1))) else pos 0
+least_number _ size = pos 0
 
-abbrev pub greatest : ItemKind → ℤ → ℤ
-greatest Uint size = if is_size size then pos (2 ^ unsigned_abs size - 1) else pos 0
-greatest Int size = if is_size size then pos (2 ^ (unsigned_abs size - 1) - 1) else pos 0
-greatest _ size = pos 0
+abbrev pub greatest_number : ItemKind → ℤ → ℤ
+greatest_number Uint size = if is_size size then pos (2 ^ unsigned_abs size - 1) else pos 0
+greatest_number Int size = if is_size size then pos (2 ^ (unsigned_abs size - 1) - 1) else pos 0
+greatest_number _ size = pos 0
 
 -- a whole number, or a word for a bound of a type or of the item's own type and size
 abbrev pub is_bound : List ℕ → Bool
@@ -61,8 +61,8 @@ is_bound word =
 
 abbrev pub bound : ItemKind → ℤ → List ℕ → ℤ
 bound kind size word =
-    if is_same word (codes "MIN") then least kind size
-    else if is_same word (codes "MAX") then greatest kind size
+    if is_same word (codes "MIN") then least_number kind size
+    else if is_same word (codes "MAX") then greatest_number kind size
     else unwrap_or (named_bound word) (whole word)
 
 -- from 1 to 4,294,967,295

@@ -13,7 +13,7 @@ use Rattle.cts_defline.specs.declared.open.Open.{Open}
 use Rattle.cts_defline.specs.Forms.{keyword_of, is_array_keyword}
 use Rattle.cts_defline.specs.Lines.{line_in, line_of}
 use Rattle.cts_defline.specs.declared.cause.DefCause.TheVariants.{ArrayItem}
-use Rattle.cts_defline.specs.Refusals.{word_cause, cause_of as words_cause}
+use Rattle.cts_defline.specs.Refusals.{word_cause, keyword_cause}
 use Rattle.cts_defread.specs.Causes.{opened}
 use Rattle.cts_defread.specs.Definitions.{refusal, at_end, lines_of, unless_refused, cause_of_line}
 use Rattle.cts_defread.specs.Laws.{RefusesTheFirst, TakesTheOthers, StatementsSayLines, head_of, said_of, said_in, end_behind, OneForEachHead, OneForEachItem, ItemsHaveTheirOffsets}
@@ -100,7 +100,7 @@ first_none None p e = refl
 first_none (Some r) p e = absurd cc
 
 known_says : (o : Open) (k : Option Keyword) (b : Bool) (words : List (List ℕ))
-    → (if b then Some ArrayItem else words_cause o k words) ≡ None → (l : Line) × (option_map (λ (j : Keyword). line_of j words) k ≡ Some l)
+    → (if b then Some ArrayItem else keyword_cause o k words) ≡ None → (l : Line) × (option_map (λ (j : Keyword). line_of j words) k ≡ Some l)
 known_says o (Some k) b words e = (line_of k words, refl)
 known_says o None true words e = absurd cc
 known_says o None false words e = absurd cc

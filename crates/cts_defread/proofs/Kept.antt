@@ -23,7 +23,7 @@ use Rattle.cts_defline.specs.Refusals.{open_kind}
 use Rattle.cts_defline.specs.Rules.{suits}
 use Rattle.cts_defread.specs.declared.draft.Draft.{Draft}
 use Rattle.cts_defread.specs.declared.drafted.Drafted.{Drafted}
-use Rattle.cts_defread.specs.Causes.{items_in, open_items, open_item, open_end, is_open_ended, count_items, is_too_many, opened, place_cause}
+use Rattle.cts_defread.specs.Causes.{drafted_items, open_items, open_item, open_end, is_open_ended, count_items, is_too_many, opened, place_cause}
 use Rattle.cts_defread.specs.Drafts.{IsKept, names_of, item_names, state_names, state_name, taken_name}
 use Rattle.cts_defread.specs.Sound.{AreSound, keeps_its_kind}
 use Rattle.cts_defread.specs.Standing.{end_from, packets_of}
@@ -46,7 +46,7 @@ no_packets ps sets e f =
     subst P (sym e) (subst Q (sym f) none)
 
 pub none_kept : (d : Draft) → d.packets.items ≡ [] → d.set_names.items ≡ [] → IsEmpty d.telemetry → IsEmpty d.commands → IsEmpty d.items → IsEmpty d.states → IsEmpty d.sets
-    → d.telemetry_count ≡ 0 → d.command_count ≡ 0 → d.item_count ≡ 0 → d.end ≡ 0 → d.is_ended ≡ false → d.is_filled ≡ false → IsKept d
+    → d.telemetry_count ≡ 0 → d.command_count ≡ 0 → d.item_count ≡ 0 → d.end ≡ 0 → d.is_open_ended ≡ false → d.is_to_the_end ≡ false → IsKept d
 none_kept d packets set_names telemetry commands items states sets telemetry_count command_count item_count end ended filled = record {
   telemetry = subst (λ (ps : List Drafted). Knows pair_cmp d.telemetry (names_of Telemetry ps)) (sym packets) (knows_none pair_cmp d.telemetry telemetry);
   commands = subst (λ (ps : List Drafted). Knows pair_cmp d.commands (names_of Command ps)) (sym packets) (knows_none pair_cmp d.commands commands);
@@ -91,8 +91,8 @@ pub record SameDraft (new old : Draft) : Type 0 where
   pub command_count : new.command_count ≡ old.command_count
   pub item_count : new.item_count ≡ old.item_count
   pub ends : new.end ≡ old.end
-  pub ended : new.is_ended ≡ old.is_ended
-  pub filled : new.is_filled ≡ old.is_filled
+  pub ended : new.is_open_ended ≡ old.is_open_ended
+  pub filled : new.is_to_the_end ≡ old.is_to_the_end
 
 sound_kept : (ps qs : List Drafted) (sets sets' : List (List ℕ)) → SamePackets ps qs → list_all (keeps_its_kind sets') ps ≡ true → IsDistinct is_same sets' → length sets' ≤ 64 → AreSound qs sets → AreSound ps sets'
 sound_kept ps qs sets sets' same kinds distinct few h = record {
@@ -136,12 +136,12 @@ changed_kept old new h same packets states sets sound = record {
 
 -- ---- a hazardous command
 
-hazardous_items : (o : Option Drafted) → items_in (option_map make_hazardous o) ≡ items_in o
+hazardous_items : (o : Option Drafted) → drafted_items (option_map make_hazardous o) ≡ drafted_items o
 hazardous_items None = refl
 hazardous_items (Some d) = refl
 
 hazardous_open : (ps : List Drafted) → open_items (on_last make_hazardous ps) ≡ open_items ps
-hazardous_open ps = ap items_in (last_on_last make_hazardous ps) ∙ hazardous_items (last_of ps)
+hazardous_open ps = ap drafted_items (last_on_last make_hazardous ps) ∙ hazardous_items (last_of ps)
 
 same_items : (is js : List ItemData) → is ≡ js → SameItems is js
 same_items is js e = record {
@@ -192,12 +192,12 @@ unchanged_kept old new h same states sets names placed =
 
 -- ---- a detail
 
-detail_items : (d : Detail) (o : Option Drafted) → items_in (option_map (add_detail d) o) ≡ on_last (change_item d) (items_in o)
+detail_items : (d : Detail) (o : Option Drafted) → drafted_items (option_map (add_detail d) o) ≡ on_last (change_item d) (drafted_items o)
 detail_items d None = refl
 detail_items d (Some p) = refl
 
 detail_open : (d : Detail) (ps : List Drafted) → open_items (on_last (add_detail d) ps) ≡ on_last (change_item d) (open_items ps)
-detail_open d ps = ap items_in (last_on_last (add_detail d) ps) ∙ detail_items d (last_of ps)
+detail_open d ps = ap drafted_items (last_on_last (add_detail d) ps) ∙ detail_items d (last_of ps)
 
 end_on_last : (f : ItemData → ItemData) (end : ℕ) (is : List ItemData) → ((i : ItemData) → span_of (f i) ≡ span_of i) → end_from end (on_last f is) ≡ end_from end is
 end_on_last f end [] same = refl

@@ -17,7 +17,7 @@ use Rattle.cts_defline.specs.declared.open.PacketKind.{PacketKind}
 use Rattle.cts_defline.specs.declared.open.PacketKind.TheVariants.{Telemetry, Command}
 use Rattle.cts_defread.specs.declared.draft.Draft.{Draft}
 use Rattle.cts_defread.specs.declared.drafted.Drafted.{Drafted}
-use Rattle.cts_defread.specs.Causes.{items_in, open_items, is_open_ended, has_names, count_items}
+use Rattle.cts_defread.specs.Causes.{drafted_items, open_items, is_open_ended, has_names, count_items}
 use Rattle.cts_defread.specs.Drafts.{IsKept, names_of, item_names, state_names}
 use Rattle.cts_defread.specs.Sound.{AreSound, keeps_its_kind}
 use Rattle.cts_defread.specs.Standing.{end_from, are_same_kind, packets_of}
@@ -118,8 +118,8 @@ pub record IsOpened (new : Draft) : Type 0 where
   pub items : IsEmpty new.items
   pub states : IsEmpty new.states
   pub ends : new.end ≡ 0
-  pub ended : new.is_ended ≡ false
-  pub filled : new.is_filled ≡ false
+  pub ended : new.is_open_ended ≡ false
+  pub filled : new.is_to_the_end ≡ false
 
 pub packet_kept : (old new : Draft) (head : PacketLine) → IsKept old → Clean old.packets.items old.set_names.items (line.Packet head) → SameSets new old → IsOpened new
     → new.packets.items ≡ old.packets.items ++ new_packet head ∷ []
@@ -127,7 +127,7 @@ pub packet_kept : (old new : Draft) (head : PacketLine) → IsKept old → Clean
     → new.telemetry_count ≡ length (packets_of Telemetry new.packets.items) → new.command_count ≡ length (packets_of Command new.packets.items)
     → new.telemetry_count ≤ 4096 → new.command_count ≤ 4096 → IsKept new
 packet_kept old new head h clean same opened placed telemetry commands telemetry_count command_count few_telemetry few_commands =
-    let items : open_items new.packets.items ≡ [] = ap items_in (ap last_of placed ∙ last_snoc old.packets.items (new_packet head)) in
+    let items : open_items new.packets.items ≡ [] = ap drafted_items (ap last_of placed ∙ last_snoc old.packets.items (new_packet head)) in
     let total : count_items new.packets.items ≡ count_items old.packets.items = omega (arith, ap count_items placed, count_more old.packets.items (new_packet head)) in
     record {
       telemetry = telemetry;

@@ -28,7 +28,7 @@ use Rattle.cts_defread.specs.Sound.{keeps_kind, keeps_its_kind}
 use Rattle.cts_defread.specs.Standing.{are_same_kind, packets_of, set_limits}
 use Rattle.cts_defread.specs.Steps.{add_detail, add_item, add_limits, add_set, change_item, make_hazardous, new_item, new_packet, place_set}
 use Rattle.cts_defread.proofs.Lists.{all_more, all_on_last, any_more}
-use Rattle.cts_defread.proofs.More.{same_span}
+use Rattle.cts_defread.proofs.Rules.{or_right}
 use Rattle.cts_words.specs.Blocks.{last_of, on_last}
 
 -- ---- what suits the open definition suits its kind
@@ -91,13 +91,9 @@ abbrev NamesOne : Detail → List (List ℕ) → Type 0
 NamesOne (detail.Limits l) sets = list_any (is_same l.set) sets ≡ true
 NamesOne _ sets = Unit {0}
 
-or_last : (a b : Bool) → b ≡ true → a || b ≡ true
-or_last true b e = refl
-or_last false b e = e
-
 set_added : (sets : List (List ℕ)) (set : List ℕ) (b : Bool) → list_any (is_same set) sets ≡ b → list_any (is_same set) (if b then sets else sets ++ set ∷ []) ≡ true
 set_added sets set true e = e
-set_added sets set false e = any_more (is_same set) sets set ∙ or_last (list_any (is_same set) sets) (is_same set set) (nat_list_eq_equiv.refl set)
+set_added sets set false e = any_more (is_same set) sets set ∙ or_right (list_any (is_same set) sets) (is_same set set) (nat_list_eq_equiv.refl set)
 
 names_placed : (d : Detail) (sets : List (List ℕ)) → NamesOne d (place_set (line.Detail d) sets)
 names_placed (detail.State s) sets = tt

@@ -50,6 +50,10 @@ pub not_both : (a b : Bool) → a && b ≡ false → a ≡ true → b ≡ false
 not_both true b e h = e
 not_both false b e h = absurd cc
 
+pub or_right : (a b : Bool) → b ≡ true → a || b ≡ true
+or_right true b e = refl
+or_right false b e = e
+
 -- ---- states
 
 states_fit : (i : ItemData) (s : StateDef) (o : Option LimitsSetup) → has_color s && is_some o ≡ false → HasSoundLimits i o → HasSoundLimits (change_item (detail.State s) i) o

@@ -37,12 +37,12 @@ use Rattle.cts_words.specs.Blocks.{last_of}
 
 -- ---- what is open: the last definition, its items, and the last of them
 
-abbrev pub items_in : Option Drafted → List ItemData
-items_in None = []
-items_in (Some d) = d.packet.items
+abbrev pub drafted_items : Option Drafted → List ItemData
+drafted_items None = []
+drafted_items (Some d) = d.packet.items
 
 abbrev pub open_items : List Drafted → List ItemData
-open_items packets = items_in (last_of packets)
+open_items packets = drafted_items (last_of packets)
 
 abbrev pub open_item : List Drafted → Option ItemData
 open_item packets = last_of (open_items packets)

@@ -61,8 +61,8 @@ pub record IsKept (d : Draft) : Type 0 where
   pub command_count : d.command_count ≡ length (packets_of Command d.packets.items)
   pub item_count : d.item_count ≡ count_items d.packets.items
   pub ends : d.end ≡ open_end d.packets.items
-  pub ended : d.is_ended ≡ list_any is_open_ended (open_items d.packets.items)
-  pub filled : d.is_filled ≡ list_any is_to_the_end (open_items d.packets.items)
+  pub ended : d.is_open_ended ≡ list_any is_open_ended (open_items d.packets.items)
+  pub filled : d.is_to_the_end ≡ list_any is_to_the_end (open_items d.packets.items)
   pub few_telemetry : d.telemetry_count ≤ 4096
   pub few_commands : d.command_count ≤ 4096
   pub few_items : d.item_count ≤ 65536

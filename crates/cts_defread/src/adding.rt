@@ -102,8 +102,8 @@ impl Draft {
         self.items.clear();
         self.states.clear();
         self.end = 0;
-        self.is_ended = false;
-        self.is_filled = false;
+        self.is_open_ended = false;
+        self.is_to_the_end = false;
         match kind {
             PacketKind::Telemetry => know_packet(
                 &mut self.telemetry,
@@ -135,8 +135,8 @@ impl Draft {
         self.states.clear();
         self.item_count += 1;
         self.end = self.end.max(end);
-        self.is_ended = self.is_ended || is_open_ended;
-        self.is_filled = self.is_filled || is_to_the_end;
+        self.is_open_ended = self.is_open_ended || is_open_ended;
+        self.is_to_the_end = self.is_to_the_end || is_to_the_end;
         Ok(())
     }
 

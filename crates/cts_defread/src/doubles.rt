@@ -123,7 +123,7 @@ impl Draft {
     }
 
     /// Whether a limits set has this name.
-    pub(crate) fn has_set(&self, name: &Name) -> bool
+    pub(crate) fn knows_set(&self, name: &Name) -> bool
         requires { IsKept self.now }
         ensures { result ≡ list_any (is_same name.now) self.now.set_names.items }
     {

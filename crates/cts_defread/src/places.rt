@@ -105,7 +105,7 @@ impl Draft {
         requires { IsKept self.now }
         ensures { result ≡ is_none head.now.offset && list_any is_open_ended (open_items self.now.packets.items) }
     {
-        head.offset.is_none() && self.is_ended
+        head.offset.is_none() && self.is_open_ended
     }
 
     // Whether it is an id that is counted from the packet's end.
@@ -121,7 +121,7 @@ impl Draft {
         requires { IsKept self.now }
         ensures { result ≡ is_bad_in_command self.now.packets.items head.now }
     {
-        self.offset(head.offset) < 0 || head.size < 0 || self.is_filled
+        self.offset(head.offset) < 0 || head.size < 0 || self.is_to_the_end
     }
 
     /// Whether an item may not lie where the statement puts it.

@@ -53,12 +53,12 @@ returns-clause-placed c =
 
 pub returns-clause-kept : goal.returns-clause-kept
 returns-clause-kept c =
-    let ended : c.if-self.self ≡ c.args.self.now.is_ended || is_open_ended c.new_item-item.result =
+    let ended : c.if-self.self ≡ c.args.self.now.is_open_ended || is_open_ended c.new_item-item.result =
     elim c.if-self.branch [
       | then-self w ↦ w.self-is ∙ w.if-self.true ∙ sym (ap (λ (b : Bool). b || is_open_ended c.new_item-item.result) w.if-self.true)
       | else-self w ↦ w.self-is ∙ c.is_open_ended-is_open_ended.ensures ∙ sym (ap (λ (b : Bool). b || is_open_ended c.new_item-item.result) w.if-self.false)
     ] in
-    let filled : c.if-self-2.self ≡ c.args.self.now.is_filled || is_to_the_end c.new_item-item.result =
+    let filled : c.if-self-2.self ≡ c.args.self.now.is_to_the_end || is_to_the_end c.new_item-item.result =
     elim c.if-self-2.branch [
       | then-self-2 w ↦ w.self-is ∙ w.if-self-2.true ∙ sym (ap (λ (b : Bool). b || is_to_the_end c.new_item-item.result) w.if-self-2.true)
       | else-self-2 w ↦ w.self-is ∙ c.is_to_the_end-is_to_the_end.ensures ∙ sym (ap (λ (b : Bool). b || is_to_the_end c.new_item-item.result) w.if-self-2.false)
