@@ -1,14 +1,14 @@
 -- The definitions of a draft keep the rules of all definitions.
-use Rattle.std.proofs.Common.{◌≡◌, ℕ, ◌+◌, Bool, true, false, not, cond, List, [], ◌∷◌, map, length, refl, sym, ap, ◌∙◌, subst, arith}
-use Rattle.std.specs.List.{filter, list_all}
-use Rattle.cts_def.specs.Packets.{PacketData, AreSoundDefinitions, is_telemetry, items_in}
+use Rattle.std.proofs.Common.{◌≡◌, ℕ, ◌+◌, Bool, true, false, not, cond, List, [], ◌∷◌, map, length, refl, sym, subst, arith}
+use Rattle.std.specs.List.{filter}
+use Rattle.cts_def.specs.Packets.{PacketData, AreSoundDefinitions, items_in}
 use Rattle.cts_defline.specs.declared.open.PacketKind.TheVariants.{Telemetry, Command}
 use Rattle.cts_defread.specs.declared.draft.Draft.{Draft}
 use Rattle.cts_defread.specs.declared.drafted.Drafted.{Drafted}
 use Rattle.cts_defread.specs.Causes.{count_items}
 use Rattle.cts_defread.specs.Drafts.{IsKept}
 use Rattle.cts_defread.specs.Standing.{are_same_kind, packets_of, definitions_in}
-use Rattle.cts_defread.proofs.OfKind.{all_commands, all_telemetry}
+use Rattle.cts_defread.proofs.OfKind.{all_commands}
 
 count_cond : (b : Bool) (d : Drafted) (xs ys : List Drafted) (n : ℕ) → items_in (map (λ (p : Drafted). p.packet) xs) + items_in (map (λ (p : Drafted). p.packet) ys) ≡ n
     → items_in (map (λ (p : Drafted). p.packet) (cond b (d ∷ xs) xs)) + items_in (map (λ (p : Drafted). p.packet) (cond (not b) (d ∷ ys) ys)) ≡ length d.packet.items + n
@@ -40,8 +40,3 @@ made_sound d telemetry commands sets h t c s =
     let B : List PacketData → Type 0 = λ cs. AreSoundDefinitions (record { telemetry = packets_of Telemetry d.packets.items; commands = cs; set_names = sets }) in
     let C : List (List ℕ) → Type 0 = λ ss. AreSoundDefinitions (record { telemetry = packets_of Telemetry d.packets.items; commands = packets_of Command d.packets.items; set_names = ss }) in
     subst A (sym t) (subst B (sym c) (subst C (sym s) (all_sound d h)))
-
-pub made_telemetry : (d : Draft) (telemetry : List PacketData) (sets : List (List ℕ)) → IsKept d → telemetry ≡ packets_of Telemetry d.packets.items → sets ≡ d.set_names.items → list_all (is_telemetry sets) telemetry ≡ true
-made_telemetry d telemetry sets h t s =
-    ap (list_all (is_telemetry sets)) t ∙ ap (λ (ss : List (List ℕ)). list_all (is_telemetry ss) (packets_of Telemetry d.packets.items)) s
-    ∙ all_telemetry d.set_names.items d.packets.items h.sound.kinds

@@ -90,8 +90,8 @@ open_of : (ps front : List Drafted) (d : Drafted) → ps ≡ front ++ d ∷ [] �
 open_of ps front d e = ap last_of e ∙ last_snoc front d
 
 -- where the line's item lies
-lies : (ps front : List Drafted) (d : Drafted) (head : ItemLine) → ps ≡ front ++ d ∷ [] → span_in ps head ≡ span_of (new_item head d)
-lies ps front d head e =
+lies_last : (ps : List Drafted) (d : Drafted) (head : ItemLine) → last_of ps ≡ Some d → span_in ps head ≡ span_of (new_item head d)
+lies_last ps d head last =
     ap
     (λ (o : Option Drafted). record {
       kind = head.kind;
@@ -99,7 +99,10 @@ lies ps front d head e =
       offset = offset_or (end_from 0 (drafted_items o)) head.offset;
       size = head.size;
     })
-    (open_of ps front d e)
+    last
+
+lies : (ps front : List Drafted) (d : Drafted) (head : ItemLine) → ps ≡ front ++ d ∷ [] → span_in ps head ≡ span_of (new_item head d)
+lies ps front d head e = lies_last ps d head (open_of ps front d e)
 
 -- ---- what no bad place says
 
@@ -155,22 +158,19 @@ end_more : (end : ℕ) (is : List ItemData) (i : ItemData) → end_from end (is 
 end_more end [] i = refl
 end_more end (j ∷ is) i = end_more (max end (end_of (span_of j))) is i
 
-is_further : (ps front : List Drafted) (d : Drafted) (sets : List (List ℕ)) (head : ItemLine) → ps ≡ front ++ d ∷ [] → Clean ps sets (line.Item head) → are_same_kind Command d.kind ≡ true → IsFurther d head
-is_further ps front d sets head e h command =
-    let is_one : is_command_in (last_of ps) ≡ true = ap is_command_in (open_of ps front d e) ∙ command in
+pub is_further : (ps : List Drafted) (d : Drafted) (sets : List (List ℕ)) (head : ItemLine) → last_of ps ≡ Some d → Clean ps sets (line.Item head) → are_same_kind Command d.kind ≡ true → IsFurther d head
+is_further ps d sets head last h command =
+    let is_one : is_command_in (last_of ps) ≡ true = ap is_command_in last ∙ command in
     let fine : is_bad_in_command ps head ≡ false = not_both (is_command_in (last_of ps)) (is_bad_in_command ps head) (is_placed ps sets head h).command is_one in
     let parts = or_parts (is_negative (span_in ps head).offset || is_negative head.size) (list_any is_to_the_end (open_items ps)) fine in
     let sides = or_parts (is_negative (span_in ps head).offset) (is_negative head.size) parts.0 in
-    let offset : is_negative (span_of (new_item head d)).offset ≡ false = ap (λ (s : Span). is_negative s.offset) (sym (lies ps front d head e)) ∙ sides.0 in
+    let offset : is_negative (span_of (new_item head d)).offset ≡ false = ap (λ (s : Span). is_negative s.offset) (sym (lies_last ps d head last)) ∙ sides.0 in
     record {
       from_start =
           and_from (not (is_negative (span_of (new_item head d)).offset)) (not (is_negative head.size)) (not_from_false (is_negative (span_of (new_item head d)).offset) offset)
           (not_from_false (is_negative head.size) sides.1);
-      behind = ap (λ (o : Option Drafted). list_any is_to_the_end (drafted_items o)) (sym (open_of ps front d e)) ∙ parts.1;
+      behind = ap (λ (o : Option Drafted). list_any is_to_the_end (drafted_items o)) (sym last) ∙ parts.1;
     }
-
-same_some : {X : Type 0} (x y : X) → Some x ≡ Some y → x ≡ y
-same_some x y e = cc
 
 item_sound : (old new front : List Drafted) (d : Drafted) (sets : List (List ℕ)) (head : ItemLine) → old ≡ front ++ d ∷ [] → new ≡ on_last (add_item head) old → Clean old sets (line.Item head) → suits (open_kind (opened old)) (line.Item head) ≡ true → AreSound old sets → AreSound new sets
 item_sound old new front d sets head popped placed h suited sound = record {
@@ -178,11 +178,7 @@ item_sound old new front d sets head popped placed h suited sound = record {
   commands = distinct_kept Command new old (ap (names_of Command) placed ∙ names_on_last Command (add_item head) old (λ p. refl)) sound.commands;
   kinds =
       ap (λ (ps : List Drafted). list_all (keeps_its_kind sets) ps) placed
-      ∙ kinds_item sets old head suited h.whole_id
-      (λ p last kind.
-      let here : d ≡ p = same_some d p (sym (open_of old front d popped) ∙ last) in
-      subst (λ (q : Drafted). IsFurther q head) here (is_further old front d sets head popped h (ap (λ (q : Drafted). are_same_kind Command q.kind) here ∙ kind)))
-      sound.kinds;
+      ∙ kinds_item sets old head suited h.whole_id (λ p last kind. is_further old p sets head last h kind) sound.kinds;
   distinct_sets = sound.distinct_sets;
   few_sets = sound.few_sets;
 }

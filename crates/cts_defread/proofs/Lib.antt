@@ -1,3 +1,4 @@
+pub mod AllKinds
 pub mod Clean
 pub mod Finished
 pub mod InOrder

@@ -35,7 +35,7 @@ pub record IsReading (draft : Draft) (before rest all : List Statement) : Type 0
   pub kept : IsKept draft
   pub refused : Decides refusal at_end before rest all
 
-lines-more : (before : List Statement) (s : Statement) (l : Line) → line_in s.words ≡ Some l → lines_of (before ++ s ∷ []) ≡ lines_of before ++ l ∷ []
+pub lines-more : (before : List Statement) (s : Statement) (l : Line) → line_in s.words ≡ Some l → lines_of (before ++ s ∷ []) ≡ lines_of before ++ l ∷ []
 lines-more before s l e =
     let one : lines_of (s ∷ []) ≡ l ∷ [] = rw e refl in
     filter_map-append (λ (t : Statement). line_in t.words) before (s ∷ []) ∙ ap (λ (ls : List Line). lines_of before ++ ls) one

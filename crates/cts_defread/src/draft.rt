@@ -42,8 +42,7 @@ pub(crate) struct Draft {
 }
 
 impl Draft {
-    ghost use Rattle.std.specs.Prelude.{◌≡◌, [], IfOk, IsTrue};
-    ghost use Rattle.cts_def.specs.Packets.{are_telemetry};
+    ghost use Rattle.std.specs.Prelude.{◌≡◌, [], IfOk};
     ghost use Rattle.cts_defread.specs.Drafts.{IsKept};
     ghost use Rattle.cts_defread.specs.Standing.{definitions_in};
 
@@ -73,8 +72,7 @@ impl Draft {
     /// The packets and the commands, each in their order, and the names of the limits sets.
     pub(crate) fn finish(self, alloc: Global) -> Result<Definitions, Memory>
         requires kept { IsKept self }
-        ensures defined { IfOk result (λ d. d ≡ definitions_in self.packets.items self.set_names.items) }
-        ensures telemetry { IfOk result (λ d. IsTrue (are_telemetry d)) }
+        ensures { IfOk result (λ d. d ≡ definitions_in self.packets.items self.set_names.items) }
     {
         let (telemetry, commands) = split(alloc, self.packets)?;
         Ok(Definitions {

@@ -1,6 +1,5 @@
 // Statements read to definitions.
-ghost use Rattle.std.specs.Prelude.{◌≡◌, IfOk, IsTrue, None};
-ghost use Rattle.cts_def.specs.Packets.{are_telemetry};
+ghost use Rattle.std.specs.Prelude.{◌≡◌, IfOk, None};
 ghost use Rattle.cts_defline.specs.Refusals.{open_kind};
 ghost use Rattle.cts_defline.specs.Rules.{KeepsRules};
 ghost use Rattle.cts_defread.specs.Causes.{opened, place_cause};
@@ -40,8 +39,7 @@ impl Draft {
 /// statements, and the names of the limits sets. `Refused` with the line and the first cause of the first statement that
 /// has one, and `Memory` where no memory was found.
 pub fn read_definitions(alloc: Global, statements: &[Statement]) -> Result<Definitions, DefFault>
-    ensures defined { Gives result (definitions_of statements.now) }
-    ensures telemetry { IfOk result (λ d. IsTrue (are_telemetry d)) }
+    ensures { Gives result (definitions_of statements.now) }
 {
     let mut draft = Draft::new(alloc);
     for statement in statements {
