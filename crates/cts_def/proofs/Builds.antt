@@ -28,8 +28,9 @@ sound_id_item i z is placed number start spelled =
       preset = rw (is.preset, number, spelled) refl;
       numbers_alone_have_states = rw number refl;
       states = rw is.states (IsDistinct-from_apart is_same [] (λ i j d before within. absurd (omega arith)));
+      sound_states = rw is.states refl;
       few_states = rw is.states (omega arith);
-      conversion = rw is.conversion refl;
+      conversion = rw is.conversion tt;
       limits = rw is.limits tt;
       format = rw is.format refl;
     }

@@ -1,3 +1,4 @@
-pub mod Sums
 pub mod Builds
 pub mod Directives
+pub mod NoPlace
+pub mod Sums

@@ -1,10 +1,14 @@
 -- Items: what a definition says of one, and the rules that every item keeps.
-use Rattle.std.specs.Prelude.{◌≡◌, ℕ, ℤ, pos, ◌+◌, ◌*◌, ◌^◌, ◌≤◌, Bool, true, false, not, ◌&&◌, ◌||◌, ◌==◌, nat_eq, nat_le, int_lt, int_le, unsigned_abs, List, [], ◌∷◌, map, length, codes, Option, Some, None, is_some, IsTrue}
+use Rattle.std.specs.Prelude.{◌≡◌, ℕ, ℤ, pos, ◌+◌, ◌*◌, ◌^◌, ◌≤◌, Bool, true, false, not, ◌&&◌, ◌||◌, ◌==◌, nat_eq, nat_le, int_lt, int_le, unsigned_abs, List, [], ◌∷◌, map, length, codes, Option, Some, None, is_some, is_none, IsTrue, if◌then◌else◌}
 use Rattle.std.specs.Int.{is_negative}
+use Rattle.std.specs.Ordering.{int_eq}
 use Rattle.std.specs.List.{list_any, list_all, IsDistinct}
 use Rattle.std.specs.Cmp.Lexicographic.{pointwise}
 use Rattle.cts_base.specs.declared.decimal.Decimal.{Decimal}
+use Rattle.cts_base.specs.Names.{spells}
 use Rattle.cts_bits.specs.declared.order.Order.{Order}
+use Rattle.cts_def.specs.declared.color.Color.{Color}
+use Rattle.cts_def.specs.declared.color.Color.TheVariants.{StateRed, StateYellow, StateGreen}
 use Rattle.cts_def.specs.declared.item_kind.ItemKind.{ItemKind}
 use Rattle.cts_def.specs.declared.item_kind.Overflow.{Overflow}
 use Rattle.cts_def.specs.declared.item_kind.Preset.{Preset}
@@ -74,11 +78,43 @@ weight_from bits k (c ∷ cs) = unsigned_abs c.parts * 2 ^ (bits * k) + weight_f
 abbrev pub is_too_large : ℕ → List Decimal → Bool
 is_too_large bits coefficients = nat_le (2 ^ 126) (weight_from bits 0 coefficients)
 
-abbrev pub is_sound_conversion : ItemData → Conversion → Bool
-is_sound_conversion i Plain = true
-is_sound_conversion i (Poly cs) = is_number i.kind && not (is_too_large (unsigned_abs i.size) cs)
-is_sound_conversion i (Segments segments) =
-    is_number i.kind && list_all (λ (s : Segment). not (is_too_large (unsigned_abs i.size) s.coefficients)) segments
+-- a polynomial has 1 to 8 coefficients
+abbrev pub has_coefficients : List Decimal → Bool
+has_coefficients coefficients = nat_le 1 (length coefficients) && nat_le (length coefficients) 8
+
+-- the polynomial has so many coefficients, and its values are small enough for a number of this size
+abbrev pub is_polynomial_of : ℤ → List Decimal → Bool
+is_polynomial_of size coefficients = has_coefficients coefficients && not (is_too_large (unsigned_abs size) coefficients)
+
+-- what the segments of a number of this size keep
+pub record AreSoundSegments (size : ℤ) (segments : List Segment) : Type 0 where
+  pub some : 1 ≤ length segments
+  pub few : length segments ≤ 16
+  pub distinct : IsDistinct int_eq (map (λ (s : Segment). s.bound.parts) segments)
+  pub polynomials : IsTrue (list_all (λ (s : Segment). is_polynomial_of size s.coefficients) segments)
+
+-- conversions are of numbers
+abbrev pub IsSoundConversion : ItemKind → ℤ → Conversion → Type 0
+IsSoundConversion kind size Plain = Unit {0}
+IsSoundConversion kind size (Poly coefficients) = IsTrue (is_number kind && is_polynomial_of size coefficients)
+IsSoundConversion kind size (Segments segments) = IsTrue (is_number kind) × AreSoundSegments size segments
+
+-- ---- rules of states
+
+-- a colour that a state may be given
+abbrev pub is_state_color : Color → Bool
+is_state_color StateRed = true
+is_state_color StateYellow = true
+is_state_color StateGreen = true
+is_state_color _ = false
+
+abbrev pub is_sound_color : Option Color → Bool
+is_sound_color None = true
+is_sound_color (Some color) = is_state_color color
+
+-- a state has one of the colours of states, or none, and a name in upper case
+abbrev pub is_sound_state : StateDef → Bool
+is_sound_state s = is_sound_color s.color && spells s.name s.name
 
 -- ---- rules of limits
 
@@ -135,7 +171,44 @@ pub record IsSoundItem (i : ItemData) : Type 0 where
   pub preset : IsTrue (is_sound_preset i i.preset)
   pub numbers_alone_have_states : IsTrue (is_number i.kind || length i.states == 0)
   pub states : IsDistinct is_same (map (λ (s : StateDef). s.name) i.states)
+  pub sound_states : IsTrue (list_all is_sound_state i.states)
   pub few_states : length i.states ≤ 256
-  pub conversion : IsTrue (is_sound_conversion i i.conversion)
+  pub conversion : IsSoundConversion i.kind i.size i.conversion
   pub limits : HasSoundLimits i i.limits
   pub format : IsTrue (is_sound_format i.format)
+
+-- ---- what an item of a telemetry packet keeps, and a parameter of a command
+
+-- it is all bytes to the packet's end
+abbrev pub is_to_the_end : ItemData → Bool
+is_to_the_end i = int_eq i.size (pos 0)
+
+-- it is not counted from the packet's end, and has no size below 0
+abbrev pub is_from_start : ItemData → Bool
+is_from_start i = not (is_negative i.offset) && not (is_negative i.size)
+
+abbrev pub is_plain : Conversion → Bool
+is_plain Plain = true
+is_plain _ = false
+
+-- a number has a least and a greatest value, and a text or block has none
+abbrev pub has_range_of_its_kind : ItemData → Bool
+has_range_of_its_kind i = if is_number i.kind then is_some i.range else is_none i.range
+
+-- what is counted from the start alone, has no limits, conversion or colours, and a range where it is a number
+abbrev pub is_parameter : ItemData → Bool
+is_parameter i =
+    is_from_start i && is_none i.limits && is_plain i.conversion && not (list_any has_color i.states) && has_range_of_its_kind i
+
+abbrev pub sets_in : Option LimitsSetup → List (List ℕ × Limits)
+sets_in None = []
+sets_in (Some setup) = setup.sets
+
+-- each set of the item's limits is one of these
+abbrev pub has_sets_among : List (List ℕ) → ItemData → Bool
+has_sets_among names i = list_all (λ (s : List ℕ × Limits). list_any (is_same s.0) names) (sets_in i.limits)
+
+-- what no command has to give, has no range and no hazardous states, and limits in these sets alone
+abbrev pub is_telemetry_item : List (List ℕ) → ItemData → Bool
+is_telemetry_item names i =
+    is_none i.range && not i.required && not (list_any (λ (s : StateDef). s.hazardous) i.states) && has_sets_among names i

@@ -1,8 +1,7 @@
 -- Packets and definitions: what contracts see of them, and the rules that they keep.
-use Rattle.std.specs.Prelude.{◌≡◌, ℕ, ◌+◌, ◌≤◌, max, Bool, false, not, ◌&&◌, List, [], ◌∷◌, map, length, codes, IsTrue}
-use Rattle.std.specs.Int.{is_negative}
+use Rattle.std.specs.Prelude.{◌≡◌, ℕ, ◌+◌, ◌≤◌, max, Bool, true, false, not, ◌&&◌, List, [], ◌∷◌, map, length, codes, IsTrue}
 use Rattle.std.specs.List.{filter, list_any, list_all, IsDistinct}
-use Rattle.cts_def.specs.Items.{ItemData, span_of, is_same}
+use Rattle.cts_def.specs.Items.{ItemData, span_of, is_same, is_to_the_end, is_parameter, is_telemetry_item}
 use Rattle.cts_def.specs.Spans.{bytes_needed, is_variable}
 
 -- what contracts see of a packet or command: its fields
@@ -64,12 +63,23 @@ abbrev pub items_in : List PacketData → ℕ
 items_in [] = 0
 items_in (p ∷ ps) = length p.items + items_in ps
 
--- a command has no place that is counted from the end, and no size below 0
-abbrev pub is_from_start : ItemData → Bool
-is_from_start i = not (is_negative i.offset) && not (is_negative i.size)
+-- nothing stands behind an item that is all bytes to the end
+abbrev pub are_before_the_end : List ItemData → Bool
+are_before_the_end [] = true
+are_before_the_end (i ∷ []) = true
+are_before_the_end (i ∷ j ∷ items) = not (is_to_the_end i) && are_before_the_end (j ∷ items)
 
+-- what a command has are parameters, the last of which alone may go to the end
 abbrev pub is_command : PacketData → Bool
-is_command p = list_all is_from_start p.items
+is_command p = list_all is_parameter p.items && are_before_the_end p.items
+
+-- what a telemetry packet has are items with limits in these sets, and it is not hazardous
+abbrev pub is_telemetry : List (List ℕ) → PacketData → Bool
+is_telemetry sets p = not p.hazardous && list_all (is_telemetry_item sets) p.items
+
+-- the telemetry packets are such
+abbrev pub are_telemetry : DefinitionsData → Bool
+are_telemetry d = list_all (is_telemetry d.set_names) d.telemetry
 
 -- what all definitions keep
 pub record AreSoundDefinitions (d : DefinitionsData) : Type 0 where

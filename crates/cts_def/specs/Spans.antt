@@ -1,9 +1,9 @@
 -- Where an item lies in its packet: by its kind, the order of its bytes, and its offset and size in bits. An offset
 -- below 0 counts from the packet's end. A size of 0 is all bytes to the end, and one below 0 leaves that many bits
 -- before the end.
-use Rattle.std.specs.Prelude.{ℕ, ℤ, pos, ◌+◌, ◌-◌, ◌*◌, ◌/◌, ◌%◌, ◌^◌, Bool, true, false, not, ◌&&◌, ◌||◌, ◌==◌, nat_lt, nat_le, int_le, unsigned_abs, if◌then◌else◌}
+use Rattle.std.specs.Prelude.{◌≡◌, ◌⊎◌, ℕ, ℤ, pos, ◌+◌, ◌-◌, ◌*◌, ◌/◌, ◌%◌, ◌^◌, Bool, true, false, not, ◌&&◌, ◌||◌, ◌==◌, nat_lt, nat_le, int_le, unsigned_abs, if◌then◌else◌}
 use Rattle.std.specs.Int.{is_negative}
-use Rattle.cts_bits.specs.Places.{is_whole, span}
+use Rattle.cts_bits.specs.Places.{is_whole, span, IsBadSize, IsBeforeStart}
 use Rattle.cts_bits.specs.declared.order.Order.{Order}
 use Rattle.cts_bits.specs.declared.order.Order.TheVariants.{Big, Little}
 use Rattle.cts_def.specs.declared.item_kind.ItemKind.{ItemKind}
@@ -92,6 +92,12 @@ is_misplaced_by_kind s = if is_number s.kind then is_misplaced_number s else is_
 -- the place is refused for every item
 abbrev pub is_misplaced : Span → Bool
 is_misplaced s = is_far s.offset || is_far s.size || is_misplaced_by_kind s || nat_lt 8388608 (end_of s)
+
+-- a number that is counted from the start has no field there
+abbrev pub HasNoPlace : Span → Type 0
+HasNoPlace s =
+    (int_le s.size (pos 0) ≡ true) ⊎ IsBadSize (unsigned_abs s.offset) (unsigned_abs s.size)
+    ⊎ IsBeforeStart s.order (unsigned_abs s.offset) (unsigned_abs s.size)
 
 -- ---- which numbers have a spelling
 

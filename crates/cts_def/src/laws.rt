@@ -3,7 +3,7 @@ ghost use Rattle.std.specs.Prelude.{◌≡◌, ◌≤◌, ◌<◌, ◌^◌, ◌�
 ghost use Rattle.std.specs.Int.{is_negative};
 ghost use Rattle.cts_bits.specs.Bits.{HasSpelling};
 ghost use Rattle.cts_bits.specs.Places.{IsBadSize, IsBeforeStart, reach_of};
-ghost use Rattle.cts_def.specs.Spans.{bytes_needed, is_misplaced, is_number, is_spelled};
+ghost use Rattle.cts_def.specs.Spans.{HasNoPlace, bytes_needed, is_misplaced, is_number, is_spelled};
 ghost use Rattle.cts_def.specs.FormatParts.{AreFormatParts, FormatParts, written};
 ghost use Rattle.cts_def.specs.Formats.{is_format};
 
@@ -18,6 +18,14 @@ pub fn number_has_a_place(span: &Span)
     ensures size { IsBadSize (unsigned_abs span.now.offset) (unsigned_abs span.now.size) → ⊥ }
     ensures start { IsBeforeStart span.now.order (unsigned_abs span.now.offset) (unsigned_abs span.now.size) → ⊥ }
     ensures reach { reach_of span.now.order (unsigned_abs span.now.offset) (unsigned_abs span.now.size) ≤ bytes_needed span.now }
+{}
+
+/// A number that is counted from its packet's start is misplaced exactly where it has no field: its size is 0 or below, no
+/// size of a field at its offset, or its field would begin before the packet.
+pub fn misplaced_numbers_have_no_place(span: &Span)
+    requires number { IsTrue (is_number span.now.kind) }
+    requires from_start { is_negative span.now.offset ≡ false }
+    ensures { (is_misplaced span.now ≡ true) ↔ HasNoPlace span.now }
 {}
 
 /// Which numbers have a spelling: those from 0 on that are below 2 to the power of the bits for a UINT, and those that two's

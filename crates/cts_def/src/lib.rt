@@ -38,7 +38,9 @@ pub use interface::{Interface, Router};
 pub use item::Item;
 pub use item_kind::{ItemKind, Overflow, Preset};
 pub use label::Label;
-pub use laws::{formats_have_parts, number_has_a_place, spellings_of_numbers};
+pub use laws::{
+    formats_have_parts, misplaced_numbers_have_no_place, number_has_a_place, spellings_of_numbers,
+};
 pub use limits::Limits;
 pub use limits_setup::LimitsSetup;
 pub use loss::Loss;

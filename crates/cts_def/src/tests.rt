@@ -94,7 +94,10 @@ fn a_start_has_the_id_fields(rt: HostRuntime) -> Result<(), Fail> {
     )?;
     let start = packet.start(alloc)?;
     assert_eq!(rt; start.length, 3);
-    assert_eq!(rt; start.ids.as_slice().len(), 1);
+    let [(at, id, signed)] = start.ids.as_slice() else {
+        return Err(Fail::new("no id field of the packet"));
+    };
+    assert_eq!(rt; (at.offset(), at.bits(), *id, *signed), (8, 16, -2, true));
     Ok(())
 }
 
@@ -142,6 +145,24 @@ fn misplaced_spans_are_told(rt: HostRuntime) {
     }
     assert!(rt; span(ItemKind::Block, Order::Big, 8, 0).is_variable());
     assert!(rt; !span(ItemKind::Block, Order::Big, 8, 8).is_variable());
+    assert!(rt; span(ItemKind::Uint, Order::Little, 10, 12).is_little_bits());
+    assert!(rt; !span(ItemKind::Uint, Order::Little, 8, 16).is_little_bits());
+    assert!(rt; !span(ItemKind::Str, Order::Little, 8, 24).is_little_bits());
+}
+
+#[test]
+fn kinds_and_times_are_told(rt: HostRuntime) {
+    for (kind, number, signed) in [
+        (ItemKind::Uint, true, false),
+        (ItemKind::Int, true, true),
+        (ItemKind::Str, false, false),
+        (ItemKind::Block, false, false),
+    ] {
+        assert_eq!(rt; (kind.is_number(), kind.is_signed()), (number, signed));
+    }
+    for (micros, shown) in [(999_999, true), (1_000_000, false)] {
+        assert_eq!(rt; Time { seconds: 0, micros }.is_of_clock(), shown);
+    }
 }
 
 #[test]

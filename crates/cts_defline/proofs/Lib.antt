@@ -1,3 +1,5 @@
 pub mod Characters
+pub mod LineRules
 pub mod NamesRead
+pub mod Utf8
 pub mod Within

@@ -1,6 +1,7 @@
--- Words for which no cause holds have names where names have to be.
+-- Words for which no cause holds are such as their fields ask for, and have names where names have to be.
 use Rattle.std.proofs.Common.{◌≡◌, ℕ, ◌≤◌, Bool, true, false, ◌&&◌, ◌||◌, List, [], ◌∷◌, ◌++◌, length, drop, Option, Some, None, cond, refl, arith}
 use Rattle.std.specs.Prelude.{not, IsTrue, nat_le, find}
+use Rattle.std.proofs.lemmas.Bool.{or_parts}
 use Rattle.std.proofs.lemmas.Bool.Decides.{nat_tests}
 use Rattle.cts_base.specs.Names.{is_name}
 use Rattle.cts_defline.specs.declared.cause.DefCause.{DefCause}
@@ -12,23 +13,15 @@ use Rattle.cts_defline.specs.declared.keyword.Field.TheVariants as field
 use Rattle.cts_defline.specs.declared.open.Open.{Open}
 use Rattle.cts_defline.specs.declared.open.PacketKind.{PacketKind}
 use Rattle.cts_defline.specs.Fields.{is_bad_name, is_other_choice}
-use Rattle.cts_defline.specs.Forms.{word_at, wanted, more, fits, fits_in, has_text_type, item_fields, parameter_fields, last_fields, limits_wanted}
+use Rattle.cts_defline.specs.Forms.{word_at, wanted, more, fits, fits_in, kind_of_keyword, has_text_type, item_fields, parameter_fields, last_fields, limits_wanted}
 use Rattle.cts_defline.specs.Lines.{AreNames}
-use Rattle.cts_defline.specs.Refusals.{open_kind, form_kind, fields, any_word, holds, word_order}
+use Rattle.cts_defline.specs.Refusals.{open_kind, form_kind, is_of_other_kind, fields, any_word, holds, word_order}
 
 none_of : {X : Type 0} (b : Bool) (x : X) (rest : Option X) → cond b (Some x) rest ≡ None → (b ≡ false) × (rest ≡ None)
 none_of true x rest e = absurd cc
 none_of false x rest e = (refl, e)
 
-neither : (a b : Bool) → (a || b) ≡ false → (a ≡ false) × (b ≡ false)
-neither true b e = absurd cc
-neither false b e = (refl, e)
-
-both : (a b : Bool) → (a && b) ≡ true → (a ≡ true) × (b ≡ true)
-both true b e = (refl, e)
-both false b e = absurd cc
-
-so_true : (b : Bool) → not b ≡ false → b ≡ true
+pub so_true : (b : Bool) → not b ≡ false → b ≡ true
 so_true true e = refl
 so_true false e = absurd cc
 
@@ -37,14 +30,14 @@ so_true false e = absurd cc
 one_name : (fs : List Field) (words : List (List ℕ)) → 1 ≤ length words → any_word is_bad_name (field.Name ∷ fs) words ≡ false
     → IsTrue (is_name (word_at words 0))
 one_name fs [] h e = absurd (omega arith)
-one_name fs (w ∷ words) h e = so_true (is_name w) (neither (not (is_name w)) (any_word is_bad_name fs words) e).0
+one_name fs (w ∷ words) h e = so_true (is_name w) (or_parts (not (is_name w)) (any_word is_bad_name fs words) e).0
 
 two_names : (fs : List Field) (words : List (List ℕ)) → 2 ≤ length words
     → any_word is_bad_name (field.Name ∷ field.Name ∷ fs) words ≡ false
     → IsTrue (is_name (word_at words 0)) × IsTrue (is_name (word_at words 1))
 two_names fs [] h e = absurd (omega arith)
 two_names fs (w ∷ words) h e =
-    let parts = neither (not (is_name w)) (any_word is_bad_name (field.Name ∷ fs) words) e in
+    let parts = or_parts (not (is_name w)) (any_word is_bad_name (field.Name ∷ fs) words) e in
     (so_true (is_name w) parts.0, one_name fs words (omega arith) parts.1)
 
 -- enough words for the names
@@ -92,15 +85,29 @@ first_none : {X : Type 0} (test : X → Bool) (x : X) (xs : List X) → find tes
     → (test x ≡ false) × (find test xs ≡ None)
 first_none test x xs e = none_of (test x) x (find test xs) e
 
--- where no cause holds, none of the first four does
-pub names_read : (opened : Open) (k : Keyword) (words : List (List ℕ))
-    → find (λ c. holds c opened k words) word_order ≡ None → AreNames k words
-names_read opened k words e =
+-- ---- what is known where no cause holds
+
+pub record AreReadable (opened : Open) (k : Keyword) (words : List (List ℕ)) : Type 0 where
+  pub own_kind : is_of_other_kind (open_kind opened) (kind_of_keyword k) ≡ false
+  pub counted : fits (form_kind (open_kind opened)) k words ≡ true
+  pub chosen : any_word is_other_choice (fields opened k words) words ≡ false
+  pub named : any_word is_bad_name (fields opened k words) words ≡ false
+
+pub are_readable : (opened : Open) (k : Keyword) (words : List (List ℕ))
+    → find (λ c. holds c opened k words) word_order ≡ None → AreReadable opened k words
+are_readable opened k words e =
     let test : DefCause → Bool = λ c. holds c opened k words in
-    let kind : PacketKind = form_kind (open_kind opened) in
     let first = first_none test UnknownKeyword (drop 1 word_order) e in
     let second = first_none test OutsidePacket (drop 2 word_order) first.1 in
     let third = first_none test WrongCount (drop 3 word_order) second.1 in
     let fourth = first_none test BadName (drop 4 word_order) third.1 in
-    let count = neither (not (fits kind k words)) (any_word is_other_choice (fields opened k words) words) third.0 in
-    names_in kind k words (so_true (fits kind k words) count.0) fourth.0
+    let count = or_parts (not (fits (form_kind (open_kind opened)) k words)) (any_word is_other_choice (fields opened k words) words) third.0 in
+    record {
+      own_kind = first.0;
+      counted = so_true (fits (form_kind (open_kind opened)) k words) count.0;
+      chosen = count.1;
+      named = fourth.0;
+    }
+
+pub names_read : (opened : Open) (k : Keyword) (words : List (List ℕ)) → AreReadable opened k words → AreNames k words
+names_read opened k words h = names_in (form_kind (open_kind opened)) k words h.counted h.named

@@ -1,7 +1,7 @@
 -- The table of statements: the keywords, and which words follow each.
-use Rattle.std.specs.Prelude.{ℕ, ◌+◌, Bool, true, false, ◌&&◌, ◌||◌, ◌==◌, nat_le, List, [], ◌∷◌, ◌++◌, length, zip, codes, Option, Some, None, if◌then◌else◌}
-use Rattle.std.specs.List.{slice_index_or, list_all}
-use Rattle.cts_base.specs.Names.{upper}
+use Rattle.std.specs.Prelude.{ℕ, ◌+◌, Bool, true, false, ◌&&◌, ◌||◌, ◌==◌, nat_le, List, [], ◌∷◌, ◌++◌, length, take, codes, Option, Some, None, if◌then◌else◌}
+use Rattle.std.specs.List.{slice_index_or}
+use Rattle.cts_base.specs.Names.{spells}
 use Rattle.cts_def.specs.Items.{is_same}
 use Rattle.cts_defline.specs.declared.keyword.Keyword.{Keyword}
 use Rattle.cts_defline.specs.declared.keyword.Keyword.TheVariants.{Command, Telemetry, Item, Parameter, State, Limits, Poly, Segment, Units, Format, Overflow, Required, Hazardous, Meta, AllowShort}
@@ -10,13 +10,9 @@ use Rattle.cts_defline.specs.declared.keyword.Field.TheVariants as field
 use Rattle.cts_defline.specs.declared.open.PacketKind.{PacketKind}
 use Rattle.cts_defline.specs.declared.open.PacketKind.TheVariants as «kind»
 
--- the bytes of a word, in upper case, are those of a text, as far as both go
-abbrev pub agrees : List ℕ → List ℕ → Bool
-agrees word text = list_all (λ (p : ℕ × ℕ). upper p.0 == p.1) (zip word text)
-
 -- the word is this text in any case
 unfoldable pub is_keyword : List ℕ → List ℕ → Bool
-is_keyword word text = length word == length text && agrees word text
+is_keyword word text = spells word text
 
 abbrev pub keywords : List (List ℕ × Keyword)
 keywords =
@@ -41,7 +37,7 @@ keyword_of word = keyword_in keywords word
 
 -- the word begins with this text, in any case
 abbrev pub begins_with : List ℕ → List ℕ → Bool
-begins_with text word = nat_le (length text) (length word) && agrees word text
+begins_with text word = nat_le (length text) (length word) && spells (take (length text) word) text
 
 -- this text, of one byte at least, stands somewhere in the word, in any case
 abbrev pub is_within : List ℕ → List ℕ → Bool

@@ -2,7 +2,7 @@
 -- that is used.
 use Rattle.std.specs.Prelude.{ℕ, ℤ, pos, ◌+◌, Bool, true, false, List, [], ◌∷◌, map, drop, length, codes, Option, Some, None, option_map, unwrap_or, nat_le, IsTrue, if◌then◌else◌}
 use Rattle.std.specs.List.{slice_get}
-use Rattle.cts_base.specs.Names.{is_name}
+use Rattle.cts_base.specs.Names.{in_upper_case, is_name}
 use Rattle.cts_base.specs.declared.decimal.Decimal.{Decimal}
 use Rattle.cts_bits.specs.declared.order.Order.{Order}
 use Rattle.cts_bits.specs.declared.order.Order.TheVariants.{Big}
@@ -29,7 +29,7 @@ use Rattle.cts_defline.specs.declared.details.LimitsLine.{LimitsLine}
 use Rattle.cts_defline.specs.declared.open.PacketKind.{PacketKind}
 use Rattle.cts_defline.specs.declared.open.PacketKind.TheVariants as «kind»
 use Rattle.cts_defline.specs.Forms.{word_at, size_at, keyword_of}
-use Rattle.cts_defline.specs.Numbers.{in_upper_case, whole, decimal, bound, persistence, order_of, kind_of, text_bytes}
+use Rattle.cts_defline.specs.Numbers.{whole, decimal, bound, persistence, order_of, kind_of, text_bytes}
 
 -- ---- definitions and items
 

@@ -1,7 +1,6 @@
 -- The numbers and texts that words spell, where a definition asks for one. A word that spells none reads as 0 or as the
 -- first choice, and nothing uses that: its statement is refused.
 use Rattle.std.specs.Prelude.{ℕ, ℤ, pos, neg_ℤ, ◌+◌, ◌-◌, ◌*◌, ◌^◌, Bool, ◌&&◌, ◌||◌, ◌==◌, nat_lt, nat_le, int_le, unsigned_abs, List, [], ◌∷◌, map, take, drop, codes, Option, Some, None, option_map, is_some, unwrap_or, find, Result, Ok, Err, if◌then◌else◌}
-use Rattle.cts_base.specs.Names.{upper}
 use Rattle.cts_base.specs.Wholes.{whole_of}
 use Rattle.cts_base.specs.Decimals.{decimal_of}
 use Rattle.cts_base.specs.declared.decimal.Decimal.{Decimal}
@@ -13,10 +12,6 @@ use Rattle.cts_def.specs.declared.item_kind.ItemKind.TheVariants.{Uint, Int, Str
 use Rattle.cts_def.specs.Items.{is_same}
 use Rattle.hex.specs.Hex.{decode_of}
 use Rattle.hex.specs.declared.FromHexError.{FromHexError}
-
--- the text in upper case of ASCII
-abbrev pub in_upper_case : List ℕ → List ℕ
-in_upper_case word = map upper word
 
 -- ---- numbers
 
@@ -50,14 +45,14 @@ abbrev pub is_size : ℤ → Bool
 is_size size = int_le (pos 1) size && int_le size (pos 64)
 
 -- the least and the greatest number of this kind and size, and 0 where there is no such number
-abbrev pub least : ItemKind → ℤ → ℤ
-least Int size = if is_size size then neg_ℤ (pos (2 ^ (unsigned_abs size - 1))) else pos 0
-least _ size = pos 0
+abbrev pub least_number : ItemKind → ℤ → ℤ
+least_number Int size = if is_size size then neg_ℤ (pos (2 ^ (unsigned_abs size - 1))) else pos 0
+least_number _ size = pos 0
 
-abbrev pub greatest : ItemKind → ℤ → ℤ
-greatest Uint size = if is_size size then pos (2 ^ unsigned_abs size - 1) else pos 0
-greatest Int size = if is_size size then pos (2 ^ (unsigned_abs size - 1) - 1) else pos 0
-greatest _ size = pos 0
+abbrev pub greatest_number : ItemKind → ℤ → ℤ
+greatest_number Uint size = if is_size size then pos (2 ^ unsigned_abs size - 1) else pos 0
+greatest_number Int size = if is_size size then pos (2 ^ (unsigned_abs size - 1) - 1) else pos 0
+greatest_number _ size = pos 0
 
 -- a whole number, or a word for a bound of a type or of the item's own type and size
 abbrev pub is_bound : List ℕ → Bool
@@ -66,8 +61,8 @@ is_bound word =
 
 abbrev pub bound : ItemKind → ℤ → List ℕ → ℤ
 bound kind size word =
-    if is_same word (codes "MIN") then least kind size
-    else if is_same word (codes "MAX") then greatest kind size
+    if is_same word (codes "MIN") then least_number kind size
+    else if is_same word (codes "MAX") then greatest_number kind size
     else unwrap_or (named_bound word) (whole word)
 
 -- from 1 to 4,294,967,295

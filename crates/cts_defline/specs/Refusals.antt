@@ -73,11 +73,11 @@ holds _ opened k words = false
 abbrev pub word_order : List DefCause
 word_order = UnknownKeyword ∷ OutsidePacket ∷ WrongCount ∷ BadName ∷ FloatItem ∷ DerivedItem ∷ ArrayItem ∷ NotNumber ∷ []
 
-abbrev pub cause_of : Open → Option Keyword → List (List ℕ) → Option DefCause
-cause_of opened None words = Some UnknownKeyword
-cause_of opened (Some k) words = find (λ c. holds c opened k words) word_order
+abbrev pub keyword_cause : Open → Option Keyword → List (List ℕ) → Option DefCause
+keyword_cause opened None words = Some UnknownKeyword
+keyword_cause opened (Some k) words = find (λ c. holds c opened k words) word_order
 
 -- The first cause for which these words are refused, the first of them being the keyword.
 abbrev pub word_cause : Open → List (List ℕ) → Option DefCause
 word_cause opened [] = Some UnknownKeyword
-word_cause opened (word ∷ words) = if is_array_keyword word then Some ArrayItem else cause_of opened (keyword_of word) words
+word_cause opened (word ∷ words) = if is_array_keyword word then Some ArrayItem else keyword_cause opened (keyword_of word) words

@@ -4,7 +4,6 @@ ghost use Rattle.cts_defline.specs.declared.fault.LineFault.TheVariants.{Memory 
 
 use crate::DefCause;
 use cts_base::Memory;
-use std::alloc::{AllocError, AllocFailed};
 
 /// Why a statement's words were not read.
 #[derive(Clone, Copy, Debug, PartialEq, Eq)]
@@ -19,22 +18,6 @@ impl From<Memory> for LineFault {
     ghost from_gives = { λ _ e. e ≡ NoMemory };
 
     fn from(_: Memory) -> LineFault {
-        LineFault::Memory
-    }
-}
-
-impl From<AllocError> for LineFault {
-    ghost from_gives = { λ _ e. e ≡ NoMemory };
-
-    fn from(_: AllocError) -> LineFault {
-        LineFault::Memory
-    }
-}
-
-impl<T: Drop> From<AllocFailed<T>> for LineFault {
-    ghost from_gives = { λ _ e. e ≡ NoMemory };
-
-    fn from(_: AllocFailed<T>) -> LineFault {
         LineFault::Memory
     }
 }

@@ -1,14 +1,12 @@
 // Whether a word is what its field asks for.
 ghost use Rattle.std.specs.Prelude.{◌≡◌, not};
-ghost use Rattle.cts_base.specs.Names.{is_name, is_name_byte};
-ghost use Rattle.std.specs.List.{list_all};
 ghost use Rattle.cts_defline.specs.Fields.{is_type, is_enabling, is_color, is_overflow, is_other_choice, is_bad_name, is_type_of, is_no_number};
 
 use crate::Field;
 use crate::fixed::{kind_of, order_of};
 use crate::numbers::{is_bound, is_decimal, persistence_of};
 use crate::words::is_same;
-use cts_base::read_whole;
+use cts_base::{is_name, read_whole};
 
 fn is_type(word: &[u8]) -> bool
     ensures { result ≡ is_type word.now }
@@ -35,24 +33,6 @@ fn is_overflow(word: &[u8]) -> bool
     ensures { result ≡ is_overflow word.now }
 {
     is_same(word, b"ERROR") || is_same(word, b"TRUNCATE") || is_same(word, b"SATURATE")
-}
-
-fn is_name_byte(c: u8) -> bool
-    ensures { result ≡ is_name_byte c }
-{
-    c.is_ascii_alphanumeric() || c == b'_'
-}
-
-fn has_name_bytes(word: &[u8]) -> bool
-    ensures { result ≡ list_all is_name_byte word.now }
-{
-    word.iter().all(|c| is_name_byte(*c))
-}
-
-fn is_name(word: &[u8]) -> bool
-    ensures { result ≡ is_name word.now }
-{
-    1 <= word.len() && word.len() <= 255 && has_name_bytes(word)
 }
 
 impl Field {

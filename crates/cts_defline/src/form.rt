@@ -1,5 +1,5 @@
 // The words that follow each keyword.
-ghost use Rattle.std.specs.Prelude.{◌≡◌, ◌+◌, ◌≤◌, ◌++◌, length};
+ghost use Rattle.std.specs.Prelude.{◌≡◌, ◌+◌, ◌≤◌, ◌++◌, false, length, true};
 ghost use Rattle.cts_defline.specs.Fields.{is_other_choice, is_bad_name, is_type_of, is_no_number};
 ghost use Rattle.cts_defline.specs.Forms.{size_at, is_text_type, has_text_type, item_fields, number_fields, text_fields, parameter_fields, last_fields, state_wanted, state_fields, wanted, more, fits_in};
 ghost use Rattle.cts_defline.specs.Refusals.{any_word};
@@ -107,12 +107,38 @@ fn number_fields(append: bool) -> &'static [Field]
     }
 }
 
-// A parameter that is a text or block: its place and type, and its default, or two words and its id.
-fn text_fields(append: bool, id: bool) -> &'static [Field]
-    ensures { result.now ≡ text_fields append id ++ last_fields }
+// A parameter that is a text or block: its place and type, and its default.
+fn default_fields(append: bool) -> &'static [Field]
+    ensures { result.now ≡ text_fields append false ++ last_fields }
 {
-    match (append, id) {
-        (true, true) => &[
+    if append {
+        &[
+            Field::Name,
+            Field::Whole,
+            Field::Type,
+            Field::Text,
+            Field::Text,
+            Field::Order,
+        ]
+    } else {
+        &[
+            Field::Name,
+            Field::Whole,
+            Field::Whole,
+            Field::Type,
+            Field::Text,
+            Field::Text,
+            Field::Order,
+        ]
+    }
+}
+
+// The same of an id parameter: two words that are not read, and its id.
+fn text_id_fields(append: bool) -> &'static [Field]
+    ensures { result.now ≡ text_fields append true ++ last_fields }
+{
+    if append {
+        &[
             Field::Name,
             Field::Whole,
             Field::Type,
@@ -121,16 +147,9 @@ fn text_fields(append: bool, id: bool) -> &'static [Field]
             Field::Bound,
             Field::Text,
             Field::Order,
-        ],
-        (true, false) => &[
-            Field::Name,
-            Field::Whole,
-            Field::Type,
-            Field::Text,
-            Field::Text,
-            Field::Order,
-        ],
-        (false, true) => &[
+        ]
+    } else {
+        &[
             Field::Name,
             Field::Whole,
             Field::Whole,
@@ -140,26 +159,17 @@ fn text_fields(append: bool, id: bool) -> &'static [Field]
             Field::Bound,
             Field::Text,
             Field::Order,
-        ],
-        (false, false) => &[
-            Field::Name,
-            Field::Whole,
-            Field::Whole,
-            Field::Type,
-            Field::Text,
-            Field::Text,
-            Field::Order,
-        ],
+        ]
     }
 }
 
 fn parameter_fields(append: bool, id: bool, text: bool) -> &'static [Field]
     ensures { result.now ≡ parameter_fields append id text ++ last_fields }
 {
-    if text {
-        text_fields(append, id)
-    } else {
-        number_fields(append)
+    match (text, id) {
+        (false, _) => number_fields(append),
+        (true, false) => default_fields(append),
+        (true, true) => text_id_fields(append),
     }
 }
 

@@ -1,7 +1,6 @@
 // What the words of an item or parameter say.
 ghost use Rattle.std.specs.Prelude.{◌≡◌, ◌+◌, ◌≤◌, IfOk, IsTrue};
 ghost use Rattle.cts_base.specs.Names.{is_name};
-ghost use Rattle.cts_def.specs.Spans.{is_number};
 ghost use Rattle.cts_defline.specs.Forms.{word_at};
 ghost use Rattle.cts_defline.specs.Lines.{size_in, kind_in, offset_in, or_big, order_at, no_value, bound_in, telemetry_item, number_parameter, text_parameter, parameter};
 
@@ -47,17 +46,11 @@ fn order_at(at: usize, words: &[Bytes]) -> Option<Order>
     }
 }
 
-fn is_number(kind: ItemKind) -> bool
-    ensures { result ≡ is_number kind }
-{
-    matches!(kind, ItemKind::Uint | ItemKind::Int)
-}
-
 // What an item, or a parameter without a default, holds.
 fn no_value(alloc: Global, kind: ItemKind) -> Preset
     ensures { result ≡ no_value kind }
 {
-    if is_number(kind) {
+    if kind.is_number() {
         Preset::Whole(0)
     } else {
         Preset::Raw(Bytes::of(Vec::new(alloc)))
@@ -158,7 +151,7 @@ pub(crate) fn parameter(
     requires { IsTrue (is_name (word_at words.now 0)) }
     ensures { IfOk result (λ l. l ≡ parameter append id words.now) }
 {
-    if id || is_number(kind_in(append, words)) {
+    if id || kind_in(append, words).is_number() {
         number_parameter(alloc, append, id, words)
     } else {
         text_parameter(alloc, append, words)

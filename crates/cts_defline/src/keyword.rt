@@ -1,9 +1,9 @@
 // The keywords, and what the words behind each have to be.
 ghost use Rattle.std.specs.Prelude.{◌≡◌, map};
-ghost use Rattle.cts_base.specs.Names.{upper};
-ghost use Rattle.cts_defline.specs.Forms.{agrees, is_keyword, begins_with, is_within, keyword_in, keyword_of, is_array_keyword, kind_of_keyword};
+ghost use Rattle.cts_defline.specs.Forms.{begins_with, is_within, keyword_in, keyword_of, is_array_keyword, kind_of_keyword};
 
 use crate::PacketKind;
+use cts_base::spells;
 
 /// The first word of a statement.
 #[derive(Clone, Copy, Debug, PartialEq, Eq)]
@@ -13,9 +13,19 @@ pub enum Keyword {
     /// `TELEMETRY`
     Telemetry,
     /// `ITEM`, `APPEND_ITEM`, `ID_ITEM` and `APPEND_ID_ITEM`
-    Item { append: bool, id: bool },
+    Item {
+        /// It is put behind the items before it, and has no offset.
+        append: bool,
+        /// Its packet is known by its value.
+        id: bool,
+    },
     /// `PARAMETER`, `APPEND_PARAMETER`, `ID_PARAMETER` and `APPEND_ID_PARAMETER`
-    Parameter { append: bool, id: bool },
+    Parameter {
+        /// It is put behind the parameters before it, and has no offset.
+        append: bool,
+        /// Its command is known by its value.
+        id: bool,
+    },
     /// `STATE`
     State,
     /// `LIMITS`
@@ -71,7 +81,9 @@ pub enum Field {
 
 /// A keyword as it is written.
 struct Spelled {
+    /// Its letters, in upper case.
     text: &'static [u8],
+    /// The keyword.
     keyword: Keyword,
 }
 
@@ -187,30 +199,10 @@ const KEYWORDS: [Spelled; 21] = [
     },
 ];
 
-fn upper(c: u8) -> u8
-    ensures { result ≡ upper c }
-{
-    c.to_ascii_uppercase()
-}
-
-// Whether the bytes of a word, in upper case, are those of a text, as far as both go.
-fn agrees(word: &[u8], text: &[u8]) -> bool
-    ensures { result ≡ agrees word.now text.now }
-{
-    word.iter().zip(text).all(|(a, b)| upper(*a) == *b)
-}
-
-#[tactic(auto, unfolding(crate::specs::Forms::is_keyword))]
-fn is_keyword(word: &[u8], text: &[u8]) -> bool
-    ensures { result ≡ is_keyword word.now text.now }
-{
-    word.len() == text.len() && agrees(word, text)
-}
-
 fn begins_with(text: &[u8], word: &[u8]) -> bool
     ensures { result ≡ begins_with text.now word.now }
 {
-    text.len() <= word.len() && agrees(word, text)
+    text.len() <= word.len() && spells(&word[..text.len()], text)
 }
 
 // Whether the text stands somewhere in the word.
@@ -226,11 +218,12 @@ fn is_within(text: &[u8], word: &[u8]) -> bool
 }
 
 // The keyword of this list that the word is.
+#[tactic(auto, unfolding(crate::specs::Forms::is_keyword))]
 fn keyword_in(list: &[Spelled], word: &[u8]) -> Option<Keyword>
     ensures { result ≡ keyword_in (map (λ s. (s.text.now, s.keyword)) list.now) word.now }
 {
     for spelled in list {
-        if is_keyword(word, spelled.text) {
+        if spells(word, spelled.text) {
             return Some(spelled.keyword);
         }
     }

@@ -2,7 +2,7 @@
 ghost use Rattle.std.specs.Prelude.{◌≡◌, find, is_ok, option_map, not};
 ghost use Rattle.cts_base.specs.Decimals.{decimal_of};
 ghost use Rattle.cts_def.specs.Items.{is_same};
-ghost use Rattle.cts_defline.specs.Numbers.{whole, decimal, named_bound, is_size, least, greatest, is_bound, bound, is_count, count_in, persistence_of, persistence};
+ghost use Rattle.cts_defline.specs.Numbers.{whole, decimal, named_bound, is_size, least_number, greatest_number, is_bound, bound, is_count, count_in, persistence_of, persistence};
 
 use crate::words::is_same;
 use cts_base::{Decimal, read_decimal, read_whole};
@@ -126,8 +126,8 @@ fn is_size(size: i128) -> bool
 }
 
 // The least number of this kind and size, and 0 where there is no such number.
-fn least(kind: ItemKind, size: i128) -> i128
-    ensures { result ≡ least kind size }
+fn least_number(kind: ItemKind, size: i128) -> i128
+    ensures { result ≡ least_number kind size }
 {
     match kind {
         ItemKind::Int if is_size(size) => -(2u128.pow(size as u32 - 1) as i128),
@@ -136,8 +136,8 @@ fn least(kind: ItemKind, size: i128) -> i128
 }
 
 // The greatest number of this kind and size, and 0 where there is no such number.
-fn greatest(kind: ItemKind, size: i128) -> i128
-    ensures { result ≡ greatest kind size }
+fn greatest_number(kind: ItemKind, size: i128) -> i128
+    ensures { result ≡ greatest_number kind size }
 {
     if !is_size(size) {
         return 0;
@@ -165,9 +165,9 @@ pub(crate) fn bound(kind: ItemKind, size: i128, word: &[u8]) -> i128
     ensures { result ≡ bound kind size word.now }
 {
     if is_same(word, b"MIN") {
-        least(kind, size)
+        least_number(kind, size)
     } else if is_same(word, b"MAX") {
-        greatest(kind, size)
+        greatest_number(kind, size)
     } else {
         named_bound(word).unwrap_or(whole(word))
     }

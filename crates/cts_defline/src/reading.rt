@@ -1,6 +1,8 @@
 // The words of a statement read to what it says.
-ghost use Rattle.std.specs.Prelude.{◌∷◌};
+ghost use Rattle.std.specs.Prelude.{◌∷◌, IfOk};
 ghost use Rattle.cts_defline.specs.Reading.{ReadsLine};
+ghost use Rattle.cts_defline.specs.Refusals.{open_kind};
+ghost use Rattle.cts_defline.specs.Rules.{KeepsRules};
 
 use crate::keyword::{is_array_keyword, keyword_of};
 use crate::lines::line_of;
@@ -12,7 +14,8 @@ use std::alloc::Global;
 /// What the words of a statement say where this is open before it, the first of them being its keyword. `Refused` with
 /// the first cause for which they are refused, and exactly where there is one; `Memory` where no memory was found.
 pub fn read_line(alloc: Global, opened: Open, words: &[Bytes]) -> Result<Line, LineFault>
-    ensures { ReadsLine opened words.now result }
+    ensures read { ReadsLine opened words.now result }
+    ensures kept { IfOk result (λ l. KeepsRules (open_kind opened) l) }
 {
     match words {
         [keyword, rest @ ..] => read_words(alloc, opened, keyword.as_slice(), rest),
@@ -21,7 +24,8 @@ pub fn read_line(alloc: Global, opened: Open, words: &[Bytes]) -> Result<Line, L
 }
 
 fn read_words(alloc: Global, opened: Open, word: &[u8], words: &[Bytes]) -> Result<Line, LineFault>
-    ensures { ReadsLine opened (word.now ∷ words.now) result }
+    ensures read { ReadsLine opened (word.now ∷ words.now) result }
+    ensures kept { IfOk result (λ l. KeepsRules (open_kind opened) l) }
 {
     if is_array_keyword(word) {
         return Err(LineFault::Refused(DefCause::ArrayItem));

@@ -1,26 +1,12 @@
 // The bytes that texts stand for.
 ghost use Rattle.std.specs.Prelude.{◌≡◌, ◌<◌, ◌≢◌, [], IfOk, IfSome, IfNone, IsTrue, length, map, option_map};
-ghost use Rattle.cts_base.specs.Names.{is_name, upper};
-ghost use Rattle.cts_defline.specs.Numbers.{in_upper_case, before, characters, is_marked, text_bytes};
+ghost use Rattle.cts_base.specs.Names.{in_upper_case, is_name};
+ghost use Rattle.cts_defline.specs.Numbers.{before, characters, is_marked, text_bytes};
 
 use cts_base::{Bytes, Memory, Name};
 use cts_def::ItemKind;
 use hex::FromHexError;
 use std::alloc::Global;
-
-fn upper(c: u8) -> u8
-    ensures { result ≡ upper c }
-{
-    c.to_ascii_uppercase()
-}
-
-/// The text in upper case of ASCII.
-pub(crate) fn in_upper_case(alloc: Global, word: &[u8]) -> Result<Bytes, Memory>
-    ensures { IfOk result (λ b. b ≡ in_upper_case word.now) }
-{
-    let held = word.iter().map(|c| upper(*c)).collect(alloc)?;
-    Ok(Bytes::of(held))
-}
 
 /// The name that a word spells which is one.
 pub(crate) fn name(alloc: Global, word: &[u8]) -> Result<Name, Memory>

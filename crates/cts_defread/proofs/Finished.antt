@@ -7,7 +7,8 @@ use Rattle.cts_defread.specs.declared.draft.Draft.{Draft}
 use Rattle.cts_defread.specs.declared.drafted.Drafted.{Drafted}
 use Rattle.cts_defread.specs.Causes.{count_items}
 use Rattle.cts_defread.specs.Drafts.{IsKept}
-use Rattle.cts_defread.specs.Standing.{is_telemetry, are_same_kind, packets_of, definitions_in}
+use Rattle.cts_defread.specs.Standing.{are_same_kind, packets_of, definitions_in}
+use Rattle.cts_defread.proofs.OfKind.{all_commands}
 
 count_cond : (b : Bool) (d : Drafted) (xs ys : List Drafted) (n : ℕ) → items_in (map (λ (p : Drafted). p.packet) xs) + items_in (map (λ (p : Drafted). p.packet) ys) ≡ n
     → items_in (map (λ (p : Drafted). p.packet) (cond b (d ∷ xs) xs)) + items_in (map (λ (p : Drafted). p.packet) (cond (not b) (d ∷ ys) ys)) ≡ length d.packet.items + n
@@ -17,7 +18,7 @@ count_cond false d xs ys n e = omega (arith, e)
 pub count_parts : (ps : List Drafted) → items_in (packets_of Telemetry ps) + items_in (packets_of Command ps) ≡ count_items ps
 count_parts [] = refl
 count_parts (d ∷ ps) =
-    count_cond (is_telemetry d.kind) d (filter (λ (p : Drafted). are_same_kind Telemetry p.kind) ps) (filter (λ (p : Drafted). are_same_kind Command p.kind) ps) (count_items ps) (count_parts ps)
+    count_cond (are_same_kind Telemetry d.kind) d (filter (λ (p : Drafted). are_same_kind Telemetry p.kind) ps) (filter (λ (p : Drafted). are_same_kind Command p.kind) ps) (count_items ps) (count_parts ps)
 
 pub all_sound : (d : Draft) → IsKept d → AreSoundDefinitions (definitions_in d.packets.items d.set_names.items)
 all_sound d h = record {
@@ -26,7 +27,7 @@ all_sound d h = record {
   few_telemetry = omega (arith, h.telemetry_count, h.few_telemetry);
   few_commands = omega (arith, h.command_count, h.few_commands);
   few_items = omega (arith, count_parts d.packets.items, h.item_count, h.few_items);
-  from_start = h.sound.from_start;
+  from_start = all_commands d.set_names.items d.packets.items h.sound.kinds;
   sets = h.sound.distinct_sets;
   few_sets = h.sound.few_sets;
 }

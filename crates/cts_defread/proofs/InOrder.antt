@@ -1,5 +1,5 @@
 -- One definition and one item for each statement that says so, and the first refusal.
-use Rattle.std.proofs.Common.{◌≡◌, ◌⊎◌, ℕ, max, List, [], ◌∷◌, map, Option, Some, None, Err, refl, ap, ◌∙◌, inl, inr, true, false, Bool}
+use Rattle.std.proofs.Common.{◌≡◌, ◌⊎◌, ℕ, max, List, [], ◌∷◌, ◌++◌, length, map, Option, Some, None, Err, refl, ap, ◌∙◌, inl, inr, true, false, Bool, arith}
 use Rattle.std.specs.Prelude.{option_map, if◌then◌else◌}
 use Rattle.cts_bits.specs.declared.order.Order.{Order}
 use Rattle.cts_def.specs.Items.{ItemData, span_of}
@@ -13,11 +13,11 @@ use Rattle.cts_defline.specs.declared.open.Open.{Open}
 use Rattle.cts_defline.specs.Forms.{keyword_of, is_array_keyword}
 use Rattle.cts_defline.specs.Lines.{line_in, line_of}
 use Rattle.cts_defline.specs.declared.cause.DefCause.TheVariants.{ArrayItem}
-use Rattle.cts_defline.specs.Refusals.{word_cause, cause_of as words_cause}
+use Rattle.cts_defline.specs.Refusals.{word_cause, keyword_cause}
 use Rattle.cts_defread.specs.Causes.{opened}
 use Rattle.cts_defread.specs.Definitions.{refusal, at_end, lines_of, unless_refused, cause_of_line}
-use Rattle.cts_defread.specs.Laws.{RefusesTheFirst, TakesTheOthers, StatementsSayLines, head_of, OneForEachHead, OneForEachItem}
-use Rattle.cts_defread.specs.Standing.{packet_in, item_in, item_at, items_from, packet_of, standing, set_names_of}
+use Rattle.cts_defread.specs.Laws.{RefusesTheFirst, TakesTheOthers, StatementsSayLines, head_of, said_of, said_in, end_behind, OneForEachHead, OneForEachItem, ItemsHaveTheirOffsets}
+use Rattle.cts_defread.specs.Standing.{packet_in, item_in, item_at, end_from, items_from, offset_or, packet_of, standing, set_names_of}
 use Rattle.cts_words.specs.declared.statement.Statement.{Statement}
 use Rattle.cts_words.specs.Blocks.{blocks}
 use Rattle.cts_words.specs.Refusals.{Refusal, or_else, first_refusal, IsRefusedFirst, NoneRefused}
@@ -33,13 +33,45 @@ heads_of (b ∷ bs) = ap (λ hs. b.0 ∷ hs) (heads_of bs)
 pub one_for_each_head : OneForEachHead
 one_for_each_head lines = heads_of (blocks packet_in lines) ∙ heads packet_in lines
 
-names_of : (order : Order) (end : ℕ) (bs : List (ItemLine × List Line))
-    → map (λ (i : ItemData). i.name) (items_from order end bs) ≡ map (λ (i : ItemLine). i.name) (map (λ (b : ItemLine × List Line). b.0) bs)
-names_of order end [] = refl
-names_of order end (b ∷ bs) = ap (λ ns. b.0.name ∷ ns) (names_of order (max end (end_of (span_of (item_at order end b.0 b.1)))) bs)
+said_from : (order : Order) (end : ℕ) (bs : List (ItemLine × List Line)) → map said_in (items_from order end bs) ≡ map said_of (map (λ (b : ItemLine × List Line). b.0) bs)
+said_from order end [] = refl
+said_from order end (b ∷ bs) = ap (λ ns. said_of b.0 ∷ ns) (said_from order (max end (end_of (span_of (item_at order end b.0 b.1)))) bs)
 
 pub one_for_each_item : OneForEachItem
-one_for_each_item head body = names_of head.order 0 (blocks item_in body) ∙ ap (map (λ (i : ItemLine). i.name)) (heads item_in body)
+one_for_each_item head body = said_from head.order 0 (blocks item_in body) ∙ ap (map said_of) (heads item_in body)
+
+-- ---- offsets
+
+end_from_greatest : (end : ℕ) (items : List ItemData) → end_from end items ≡ max end (end_behind items)
+end_from_greatest end [] = omega arith
+end_from_greatest end (i ∷ items) =
+    let rest : end_from (max end (end_of (span_of i))) items ≡ max (max end (end_of (span_of i))) (end_behind items) = end_from_greatest (max end (end_of (span_of i))) items in
+    omega arith
+
+offset_at : (order : Order) (end : ℕ) (bs : List (ItemLine × List Line)) (front rest : List ItemData) (i : ItemData) (before after : List ItemLine) (l : ItemLine)
+    → items_from order end bs ≡ front ++ i ∷ rest → map (λ (b : ItemLine × List Line). b.0) bs ≡ before ++ l ∷ after → length front ≡ length before
+    → i.offset ≡ offset_or (end_from end front) l.offset
+offset_at order end [] [] rest i before after l items lines same = absurd cc
+offset_at order end [] (f ∷ front) rest i before after l items lines same = absurd cc
+offset_at order end (b ∷ bs) [] rest i [] after l items lines same =
+    let item : i ≡ item_at order end b.0 b.1 = cc in
+    let head : b.0 ≡ l = cc in
+    ap (λ (j : ItemData). j.offset) item ∙ ap (λ (m : ItemLine). offset_or end m.offset) head
+offset_at order end (b ∷ bs) [] rest i (k ∷ before) after l items lines same = absurd (omega arith)
+offset_at order end (b ∷ bs) (f ∷ front) rest i [] after l items lines same = absurd (omega arith)
+offset_at order end (b ∷ bs) (f ∷ front) rest i (k ∷ before) after l items lines same =
+    let item : item_at order end b.0 b.1 ≡ f = cc in
+    let others : items_from order (max end (end_of (span_of (item_at order end b.0 b.1)))) bs ≡ front ++ i ∷ rest = cc in
+    let heads_left : map (λ (c : ItemLine × List Line). c.0) bs ≡ before ++ l ∷ after = cc in
+    offset_at order (max end (end_of (span_of (item_at order end b.0 b.1)))) bs front rest i before after l others heads_left (omega arith)
+    ∙ ap (λ (j : ItemData). offset_or (end_from (max end (end_of (span_of j))) front) l.offset) item
+
+pub items_have_their_offsets : ItemsHaveTheirOffsets
+items_have_their_offsets head body front rest i before after l items lines same =
+    offset_at head.order 0 (blocks item_in body) front rest i before after l items (heads item_in body ∙ lines) same
+    ∙ ap (λ (n : ℕ). offset_or n l.offset) (end_from_greatest 0 front ∙ zero_before (end_behind front)) where
+      zero_before : (n : ℕ) → max 0 n ≡ n
+      zero_before n = omega arith
 
 -- ---- the first refusal
 
@@ -68,7 +100,7 @@ first_none None p e = refl
 first_none (Some r) p e = absurd cc
 
 known_says : (o : Open) (k : Option Keyword) (b : Bool) (words : List (List ℕ))
-    → (if b then Some ArrayItem else words_cause o k words) ≡ None → (l : Line) × (option_map (λ (j : Keyword). line_of j words) k ≡ Some l)
+    → (if b then Some ArrayItem else keyword_cause o k words) ≡ None → (l : Line) × (option_map (λ (j : Keyword). line_of j words) k ≡ Some l)
 known_says o (Some k) b words e = (line_of k words, refl)
 known_says o None true words e = absurd cc
 known_says o None false words e = absurd cc

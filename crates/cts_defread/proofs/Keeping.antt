@@ -16,10 +16,7 @@ use Rattle.cts_defread.specs.declared.drafted.Drafted.{Drafted}
 use Rattle.cts_defread.specs.Causes.{open_items, open_item, passes, has_names, has_item, has_state}
 use Rattle.cts_defread.specs.Drafts.{IsKept, names_of, item_names, state_names}
 use Rattle.cts_defread.specs.Standing.{are_same_kind, packets_of}
-
-any_map : {X Y : Type 0} (p : Y → Bool) (f : X → Y) (xs : List X) → list_any p (map f xs) ≡ list_any (λ x. p (f x)) xs
-any_map p f [] = refl
-any_map p f (x ∷ xs) = ap (λ b. p (f x) || b) (any_map p f xs)
+use Rattle.cts_defread.proofs.Lists.{any_map}
 
 any_filter_step : {X : Type 0} (p q : X → Bool) (x : X) (xs : List X) (b : Bool) → q x ≡ b → list_any p (filter q xs) ≡ list_any (λ y. q y && p y) xs
     → list_any p (filter q (x ∷ xs)) ≡ (b && p x || list_any (λ y. q y && p y) xs)

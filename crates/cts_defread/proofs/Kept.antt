@@ -1,7 +1,6 @@
 -- What the draft keeps beside the definitions stays what would be found.
 use Rattle.std.proofs.Common.{◌≡◌, ℕ, ◌≤◌, max, Bool, true, false, cond, List, [], ◌∷◌, ◌++◌, map, length, Option, Some, None, refl, sym, ap, ◌∙◌, subst, arith}
 use Rattle.std.specs.Prelude.{pos, not, ◌&&◌, nat_le, int_le, is_some, option_map}
-use Rattle.std.specs.Int.{is_negative}
 use Rattle.std.specs.BTreeSet.{BTreeSet, IsEmpty}
 use Rattle.std.specs.Cmp.Lexicographic.{slice_cmp}
 use Rattle.std.specs.List.{list_any, list_all, IsDistinct}
@@ -14,24 +13,26 @@ use Rattle.cts_base.specs.Known.{Knows, pair_cmp}
 use Rattle.cts_base.proofs.Known.{knows_none}
 use Rattle.cts_def.specs.declared.span.Span.{Span}
 use Rattle.cts_def.specs.declared.state_def.StateDef.{StateDef}
-use Rattle.cts_def.specs.Items.{ItemData, span_of, is_same}
-use Rattle.cts_def.specs.Packets.{is_from_start, is_command}
+use Rattle.cts_def.specs.Items.{ItemData, span_of, is_same, is_to_the_end}
 use Rattle.cts_def.specs.Spans.{end_of}
 use Rattle.cts_defline.specs.declared.details.Detail.{Detail}
 use Rattle.cts_defline.specs.declared.details.Detail.TheVariants as detail
 use Rattle.cts_defline.specs.declared.line.Line.TheVariants as line
 use Rattle.cts_defline.specs.declared.open.PacketKind.TheVariants.{Telemetry, Command}
+use Rattle.cts_defline.specs.Refusals.{open_kind}
+use Rattle.cts_defline.specs.Rules.{suits}
 use Rattle.cts_defread.specs.declared.draft.Draft.{Draft}
 use Rattle.cts_defread.specs.declared.drafted.Drafted.{Drafted}
-use Rattle.cts_defread.specs.Causes.{items_in, open_items, open_item, open_end, is_open_ended, is_to_the_end, count_items, is_too_many, place_cause}
+use Rattle.cts_defread.specs.Causes.{drafted_items, open_items, open_item, open_end, is_open_ended, count_items, is_too_many, opened, place_cause}
 use Rattle.cts_defread.specs.Drafts.{IsKept, names_of, item_names, state_names, state_name, taken_name}
-use Rattle.cts_defread.specs.Sound.{AreSound}
+use Rattle.cts_defread.specs.Sound.{AreSound, keeps_its_kind}
 use Rattle.cts_defread.specs.Standing.{end_from, packets_of}
 use Rattle.cts_defread.specs.Steps.{change_item, add_detail, make_hazardous, place_set}
 use Rattle.cts_defread.proofs.Clean.{clean}
-use Rattle.cts_defread.proofs.Lists.{map_on_last, any_on_last, all_same_on_last, last_on_last, length_on_last}
+use Rattle.cts_defread.proofs.Lists.{map_on_last, any_on_last, last_on_last, length_on_last}
+use Rattle.cts_defread.proofs.OfKind.{kinds_detail, kinds_hazardous}
 use Rattle.cts_defread.proofs.More.{same_name, same_span}
-use Rattle.cts_defread.proofs.Names.{names_on_last, same_count, distinct_kept, commands_on_last, count_on_last}
+use Rattle.cts_defread.proofs.Names.{names_on_last, same_count, distinct_kept, count_on_last}
 use Rattle.cts_words.specs.Blocks.{last_of, on_last}
 
 -- ---- no definitions
@@ -41,11 +42,11 @@ unfolding IsDistinct
 no_packets ps sets e f =
     let P : List Drafted → Type 0 = λ qs. AreSound qs sets in
     let Q : List (List ℕ) → Type 0 = λ ss. AreSound [] ss in
-    let none : Q [] = record { telemetry = tt; commands = tt; from_start = refl; distinct_sets = tt; few_sets = omega arith } in
+    let none : Q [] = record { telemetry = tt; commands = tt; kinds = refl; distinct_sets = tt; few_sets = omega arith } in
     subst P (sym e) (subst Q (sym f) none)
 
 pub none_kept : (d : Draft) → d.packets.items ≡ [] → d.set_names.items ≡ [] → IsEmpty d.telemetry → IsEmpty d.commands → IsEmpty d.items → IsEmpty d.states → IsEmpty d.sets
-    → d.telemetry_count ≡ 0 → d.command_count ≡ 0 → d.item_count ≡ 0 → d.end ≡ 0 → d.is_ended ≡ false → d.is_filled ≡ false → IsKept d
+    → d.telemetry_count ≡ 0 → d.command_count ≡ 0 → d.item_count ≡ 0 → d.end ≡ 0 → d.is_open_ended ≡ false → d.is_to_the_end ≡ false → IsKept d
 none_kept d packets set_names telemetry commands items states sets telemetry_count command_count item_count end ended filled = record {
   telemetry = subst (λ (ps : List Drafted). Knows pair_cmp d.telemetry (names_of Telemetry ps)) (sym packets) (knows_none pair_cmp d.telemetry telemetry);
   commands = subst (λ (ps : List Drafted). Knows pair_cmp d.commands (names_of Command ps)) (sym packets) (knows_none pair_cmp d.commands commands);
@@ -80,7 +81,6 @@ pub record SamePackets (ps qs : List Drafted) : Type 0 where
   pub commands : names_of Command ps ≡ names_of Command qs
   pub count : count_items ps ≡ count_items qs
   pub items : SameItems (open_items ps) (open_items qs)
-  pub from_start : list_all is_command (packets_of Command qs) ≡ true → list_all is_command (packets_of Command ps) ≡ true
 
 -- what the draft keeps
 pub record SameDraft (new old : Draft) : Type 0 where
@@ -91,17 +91,21 @@ pub record SameDraft (new old : Draft) : Type 0 where
   pub command_count : new.command_count ≡ old.command_count
   pub item_count : new.item_count ≡ old.item_count
   pub ends : new.end ≡ old.end
-  pub ended : new.is_ended ≡ old.is_ended
-  pub filled : new.is_filled ≡ old.is_filled
+  pub ended : new.is_open_ended ≡ old.is_open_ended
+  pub filled : new.is_to_the_end ≡ old.is_to_the_end
 
-sound_kept : (ps qs : List Drafted) (sets sets' : List (List ℕ)) → SamePackets ps qs → IsDistinct is_same sets' → length sets' ≤ 64 → AreSound qs sets → AreSound ps sets'
-sound_kept ps qs sets sets' same distinct few h = record {
+sound_kept : (ps qs : List Drafted) (sets sets' : List (List ℕ)) → SamePackets ps qs → list_all (keeps_its_kind sets') ps ≡ true → IsDistinct is_same sets' → length sets' ≤ 64 → AreSound qs sets → AreSound ps sets'
+sound_kept ps qs sets sets' same kinds distinct few h = record {
   telemetry = distinct_kept Telemetry ps qs same.telemetry h.telemetry;
   commands = distinct_kept Command ps qs same.commands h.commands;
-  from_start = same.from_start h.from_start;
+  kinds = kinds;
   distinct_sets = distinct;
   few_sets = few;
 }
+
+-- the same of equal lists
+same_kinds : (sets sets' : List (List ℕ)) (ps qs : List Drafted) → sets' ≡ sets → ps ≡ qs → list_all (keeps_its_kind sets) qs ≡ true → list_all (keeps_its_kind sets') ps ≡ true
+same_kinds sets sets' ps qs s p all = ap (λ (rs : List Drafted). list_all (keeps_its_kind sets') rs) p ∙ ap (λ (ss : List (List ℕ)). list_all (keeps_its_kind ss) qs) s ∙ all
 
 pub changed_kept : (old new : Draft) → IsKept old → SameDraft new old → SamePackets new.packets.items old.packets.items
     → Knows (slice_cmp nat_cmp) new.states (state_names (open_item new.packets.items)) → Knows (slice_cmp nat_cmp) new.sets new.set_names.items → AreSound new.packets.items new.set_names.items → IsKept new
@@ -132,12 +136,12 @@ changed_kept old new h same packets states sets sound = record {
 
 -- ---- a hazardous command
 
-hazardous_items : (o : Option Drafted) → items_in (option_map make_hazardous o) ≡ items_in o
+hazardous_items : (o : Option Drafted) → drafted_items (option_map make_hazardous o) ≡ drafted_items o
 hazardous_items None = refl
 hazardous_items (Some d) = refl
 
 hazardous_open : (ps : List Drafted) → open_items (on_last make_hazardous ps) ≡ open_items ps
-hazardous_open ps = ap items_in (last_on_last make_hazardous ps) ∙ hazardous_items (last_of ps)
+hazardous_open ps = ap drafted_items (last_on_last make_hazardous ps) ∙ hazardous_items (last_of ps)
 
 same_items : (is js : List ItemData) → is ≡ js → SameItems is js
 same_items is js e = record {
@@ -153,12 +157,11 @@ hazardous_same ps qs e = record {
   commands = ap (names_of Command) e ∙ names_on_last Command make_hazardous qs (λ d. refl);
   count = ap count_items e ∙ count_on_last make_hazardous qs (λ d. refl);
   items = same_items (open_items ps) (open_items qs) (ap open_items e ∙ hazardous_open qs);
-  from_start = λ all. ap (λ (rs : List Drafted). list_all is_command (packets_of Command rs)) e ∙ commands_on_last make_hazardous qs (λ d. refl) (λ d last kind fine. fine) all;
 }
 
-pub hazardous_kept : (old new : Draft) → IsKept old → SameDraft new old → new.states ≡ old.states → new.sets ≡ old.sets → new.set_names.items ≡ old.set_names.items
+pub hazardous_kept : (old new : Draft) → IsKept old → suits (open_kind (opened old.packets.items)) line.Hazardous ≡ true → SameDraft new old → new.states ≡ old.states → new.sets ≡ old.sets → new.set_names.items ≡ old.set_names.items
     → new.packets.items ≡ on_last make_hazardous old.packets.items → IsKept new
-hazardous_kept old new h same states sets names placed =
+hazardous_kept old new h suited same states sets names placed =
     let packets : SamePackets new.packets.items old.packets.items = hazardous_same new.packets.items old.packets.items placed in
     let open_same : open_items new.packets.items ≡ open_items old.packets.items = ap open_items placed ∙ hazardous_open old.packets.items in
     changed_kept old new h same packets
@@ -166,6 +169,7 @@ hazardous_kept old new h same states sets names placed =
     (subst (λ (is : List ItemData). Knows (slice_cmp nat_cmp) old.states (state_names (last_of is))) (sym open_same) h.states))
     (subst (λ (s : BTreeSet (List ℕ)). Knows (slice_cmp nat_cmp) s new.set_names.items) (sym sets) (subst (λ (ns : List (List ℕ)). Knows (slice_cmp nat_cmp) old.sets ns) (sym names) h.sets))
     (sound_kept new.packets.items old.packets.items old.set_names.items new.set_names.items packets
+    (same_kinds old.set_names.items new.set_names.items new.packets.items (on_last make_hazardous old.packets.items) names placed (kinds_hazardous old.set_names.items old.packets.items suited h.sound.kinds))
     (subst (λ (ns : List (List ℕ)). IsDistinct is_same ns) (sym names) h.sound.distinct_sets) (omega (arith, ap (λ (ns : List (List ℕ)). length ns) names, h.sound.few_sets)) h.sound)
 
 -- ---- nothing was changed
@@ -177,23 +181,23 @@ unchanged_kept old new h same states sets names placed =
       commands = ap (names_of Command) placed;
       count = ap count_items placed;
       items = same_items (open_items new.packets.items) (open_items old.packets.items) (ap open_items placed);
-      from_start = λ all. ap (λ (rs : List Drafted). list_all is_command (packets_of Command rs)) placed ∙ all;
     } in
     changed_kept old new h same packets
     (subst (λ (s : BTreeSet (List ℕ)). Knows (slice_cmp nat_cmp) s (state_names (open_item new.packets.items))) (sym states)
     (subst (λ (ps : List Drafted). Knows (slice_cmp nat_cmp) old.states (state_names (open_item ps))) (sym placed) h.states))
     (subst (λ (s : BTreeSet (List ℕ)). Knows (slice_cmp nat_cmp) s new.set_names.items) (sym sets) (subst (λ (ns : List (List ℕ)). Knows (slice_cmp nat_cmp) old.sets ns) (sym names) h.sets))
     (sound_kept new.packets.items old.packets.items old.set_names.items new.set_names.items packets
+    (same_kinds old.set_names.items new.set_names.items new.packets.items old.packets.items names placed h.sound.kinds)
     (subst (λ (ns : List (List ℕ)). IsDistinct is_same ns) (sym names) h.sound.distinct_sets) (omega (arith, ap (λ (ns : List (List ℕ)). length ns) names, h.sound.few_sets)) h.sound)
 
 -- ---- a detail
 
-detail_items : (d : Detail) (o : Option Drafted) → items_in (option_map (add_detail d) o) ≡ on_last (change_item d) (items_in o)
+detail_items : (d : Detail) (o : Option Drafted) → drafted_items (option_map (add_detail d) o) ≡ on_last (change_item d) (drafted_items o)
 detail_items d None = refl
 detail_items d (Some p) = refl
 
 detail_open : (d : Detail) (ps : List Drafted) → open_items (on_last (add_detail d) ps) ≡ on_last (change_item d) (open_items ps)
-detail_open d ps = ap items_in (last_on_last (add_detail d) ps) ∙ detail_items d (last_of ps)
+detail_open d ps = ap drafted_items (last_on_last (add_detail d) ps) ∙ detail_items d (last_of ps)
 
 end_on_last : (f : ItemData → ItemData) (end : ℕ) (is : List ItemData) → ((i : ItemData) → span_of (f i) ≡ span_of i) → end_from end (on_last f is) ≡ end_from end is
 end_on_last f end [] same = refl
@@ -208,19 +212,12 @@ detail_same_items d is js e = record {
   filled = ap (list_any is_to_the_end) e ∙ any_on_last is_to_the_end (change_item d) js (λ i. ap (λ (s : Span). int_eq s.size (pos 0)) (same_span d i));
 }
 
-detail_command : (d : Detail) (p : Drafted) → is_command (add_detail d p).packet ≡ is_command p.packet
-detail_command d p =
-    all_same_on_last is_from_start (change_item d) p.packet.items (λ i. ap (λ (s : Span). not (is_negative s.offset) && not (is_negative s.size)) (same_span d i))
-
 detail_same : (d : Detail) (ps qs : List Drafted) → ps ≡ on_last (add_detail d) qs → SamePackets ps qs
 detail_same d ps qs e = record {
   telemetry = ap (names_of Telemetry) e ∙ names_on_last Telemetry (add_detail d) qs (λ p. refl);
   commands = ap (names_of Command) e ∙ names_on_last Command (add_detail d) qs (λ p. refl);
   count = ap count_items e ∙ count_on_last (add_detail d) qs (λ p. length_on_last (change_item d) p.packet.items);
   items = detail_same_items d (open_items ps) (open_items qs) (ap open_items e ∙ detail_open d qs);
-  from_start = λ all.
-      ap (λ (rs : List Drafted). list_all is_command (packets_of Command rs)) e
-      ∙ commands_on_last (add_detail d) qs (λ p. refl) (λ p last kind fine. detail_command d p ∙ fine) all;
 }
 
 detail_states : (d : Detail) (o : Option ItemData) → state_names (option_map (change_item d) o) ≡ state_names o ++ taken_name (is_some o) (state_name d)
@@ -257,11 +254,11 @@ sets_placed (detail.Format text) packets sets few distinct count = (distinct, co
 sets_placed (detail.Overflow o) packets sets few distinct count = (distinct, count)
 sets_placed detail.Required packets sets few distinct count = (distinct, count)
 
-pub detail_kept : (old new : Draft) (d : Detail) → IsKept old → place_cause old.packets.items old.set_names.items (line.Detail d) ≡ None → SameDraft new old
+pub detail_kept : (old new : Draft) (d : Detail) → IsKept old → place_cause old.packets.items old.set_names.items (line.Detail d) ≡ None → suits (open_kind (opened old.packets.items)) (line.Detail d) ≡ true → SameDraft new old
     → new.packets.items ≡ on_last (add_detail d) old.packets.items
     → Knows (slice_cmp nat_cmp) new.states (state_names (open_item old.packets.items) ++ taken_name (is_some (open_item old.packets.items)) (state_name d))
     → Knows (slice_cmp nat_cmp) new.sets new.set_names.items → new.set_names.items ≡ place_set (line.Detail d) old.set_names.items → IsKept new
-detail_kept old new d h none same placed states sets names =
+detail_kept old new d h none suited same placed states sets names =
     let packets : SamePackets new.packets.items old.packets.items = detail_same d new.packets.items old.packets.items placed in
     let item : open_item new.packets.items ≡ option_map (change_item d) (open_item old.packets.items) =
     ap last_of (ap open_items placed ∙ detail_open d old.packets.items) ∙ last_on_last (change_item d) (open_items old.packets.items) in
@@ -271,4 +268,6 @@ detail_kept old new d h none same placed states sets names =
     (subst (λ (ns : List (List ℕ)). Knows (slice_cmp nat_cmp) new.states ns) (sym (ap state_names item ∙ detail_states d (open_item old.packets.items))) states)
     sets
     (sound_kept new.packets.items old.packets.items old.set_names.items new.set_names.items packets
+    (same_kinds (place_set (line.Detail d) old.set_names.items) new.set_names.items new.packets.items (on_last (add_detail d) old.packets.items) names placed
+    (kinds_detail old.set_names.items old.packets.items d suited h.sound.kinds))
     (subst (λ (ns : List (List ℕ)). IsDistinct is_same ns) (sym names) fine.0) (subst (λ (ns : List (List ℕ)). length ns ≤ 64) (sym names) fine.1) h.sound)

@@ -9,21 +9,22 @@ use Rattle.std.proofs.lemmas.Bool.{leb-false}
 use Rattle.std.proofs.lemmas.List.{append-nil, length-append}
 use Rattle.cts_base.specs.Known.{Knows, pair_cmp}
 use Rattle.cts_base.proofs.Known.{knows_none, knows_more, pairs_total}
-use Rattle.cts_def.specs.Items.{ItemData, is_same}
-use Rattle.cts_def.specs.Packets.{PacketData, is_command, unknown, have_same_names}
+use Rattle.cts_def.specs.Items.{ItemData, is_same, is_to_the_end}
+use Rattle.cts_def.specs.Packets.{PacketData, unknown, have_same_names}
 use Rattle.cts_defline.specs.declared.line.Line.TheVariants as line
 use Rattle.cts_defline.specs.declared.line.PacketLine.{PacketLine}
 use Rattle.cts_defline.specs.declared.open.PacketKind.{PacketKind}
 use Rattle.cts_defline.specs.declared.open.PacketKind.TheVariants.{Telemetry, Command}
 use Rattle.cts_defread.specs.declared.draft.Draft.{Draft}
 use Rattle.cts_defread.specs.declared.drafted.Drafted.{Drafted}
-use Rattle.cts_defread.specs.Causes.{items_in, open_items, is_open_ended, is_to_the_end, has_names, count_items}
+use Rattle.cts_defread.specs.Causes.{drafted_items, open_items, is_open_ended, has_names, count_items}
 use Rattle.cts_defread.specs.Drafts.{IsKept, names_of, item_names, state_names}
-use Rattle.cts_defread.specs.Sound.{AreSound}
+use Rattle.cts_defread.specs.Sound.{AreSound, keeps_its_kind}
 use Rattle.cts_defread.specs.Standing.{end_from, are_same_kind, packets_of}
 use Rattle.cts_defread.specs.Steps.{new_packet}
 use Rattle.cts_defread.proofs.Clean.{Clean}
-use Rattle.cts_defread.proofs.Names.{names-append, length_names, distinct_kept, distinct_more, commands_more, count_more}
+use Rattle.cts_defread.proofs.OfKind.{kinds_packet}
+use Rattle.cts_defread.proofs.Names.{names-append, length_names, distinct_kept, distinct_more, count_more}
 use Rattle.cts_defread.proofs.Rules.{left_false, right_false}
 use Rattle.cts_words.specs.Blocks.{last_of}
 use Rattle.cts_words.proofs.Blocks.{last_snoc}
@@ -101,7 +102,7 @@ packet_sound old new sets head placed h sound =
     record {
       telemetry = kind_distinct Telemetry old new head (are_same_kind Telemetry head.kind) refl placed (of_kind Telemetry) sound.telemetry;
       commands = kind_distinct Command old new head (are_same_kind Command head.kind) refl placed (of_kind Command) sound.commands;
-      from_start = ap (λ (ps : List Drafted). list_all is_command (packets_of Command ps)) placed ∙ commands_more old head sound.from_start;
+      kinds = ap (λ (ps : List Drafted). list_all (keeps_its_kind sets) ps) placed ∙ kinds_packet sets old head sound.kinds;
       distinct_sets = sound.distinct_sets;
       few_sets = sound.few_sets;
     }
@@ -117,8 +118,8 @@ pub record IsOpened (new : Draft) : Type 0 where
   pub items : IsEmpty new.items
   pub states : IsEmpty new.states
   pub ends : new.end ≡ 0
-  pub ended : new.is_ended ≡ false
-  pub filled : new.is_filled ≡ false
+  pub ended : new.is_open_ended ≡ false
+  pub filled : new.is_to_the_end ≡ false
 
 pub packet_kept : (old new : Draft) (head : PacketLine) → IsKept old → Clean old.packets.items old.set_names.items (line.Packet head) → SameSets new old → IsOpened new
     → new.packets.items ≡ old.packets.items ++ new_packet head ∷ []
@@ -126,7 +127,7 @@ pub packet_kept : (old new : Draft) (head : PacketLine) → IsKept old → Clean
     → new.telemetry_count ≡ length (packets_of Telemetry new.packets.items) → new.command_count ≡ length (packets_of Command new.packets.items)
     → new.telemetry_count ≤ 4096 → new.command_count ≤ 4096 → IsKept new
 packet_kept old new head h clean same opened placed telemetry commands telemetry_count command_count few_telemetry few_commands =
-    let items : open_items new.packets.items ≡ [] = ap items_in (ap last_of placed ∙ last_snoc old.packets.items (new_packet head)) in
+    let items : open_items new.packets.items ≡ [] = ap drafted_items (ap last_of placed ∙ last_snoc old.packets.items (new_packet head)) in
     let total : count_items new.packets.items ≡ count_items old.packets.items = omega (arith, ap count_items placed, count_more old.packets.items (new_packet head)) in
     record {
       telemetry = telemetry;

@@ -1,3 +1,4 @@
+pub mod AllKinds
 pub mod Clean
 pub mod Finished
 pub mod InOrder
@@ -9,6 +10,7 @@ pub mod Lists
 pub mod Misplaced
 pub mod More
 pub mod Names
+pub mod OfKind
 pub mod PacketRules
 pub mod Rules
 pub mod Runs

@@ -2,6 +2,7 @@
 use Rattle.std.proofs.Common.{◌≡◌, ℕ, ◌+◌, Bool, true, false, not, cond, ◌||◌, ◌&&◌, List, [], ◌∷◌, ◌++◌, map, length, Some, refl, sym, ap, ◌∙◌, subst, arith}
 use Rattle.std.specs.Cmp.{IsEquivalence}
 use Rattle.std.specs.List.{list_any, list_all, filter, IsDistinct}
+use Rattle.std.proofs.lemmas.Bool.{and_parts}
 use Rattle.std.proofs.lemmas.Cmp.{nat_list_eq_equiv}
 use Rattle.std.proofs.lemmas.List.{map-append, length-map}
 use Rattle.std.proofs.lemmas.List.Elements.{filter-append}
@@ -66,10 +67,6 @@ same_count kind ps qs e = sym (length_names kind qs) ∙ sym (ap (λ (ns : List 
 abbrev same_pair : List ℕ × List ℕ → List ℕ × List ℕ → Bool
 same_pair a b = is_same a.0 b.0 && is_same a.1 b.1
 
-and_parts : (a b : Bool) → a && b ≡ true → (a ≡ true) × (b ≡ true)
-and_parts true b e = (refl, e)
-and_parts false b e = absurd cc
-
 same_pair_equiv : IsEquivalence same_pair
 same_pair_equiv = record {
   refl = λ x. ap (λ (b : Bool). b && is_same x.1 x.1) (nat_list_eq_equiv.refl x.0) ∙ nat_list_eq_equiv.refl x.1;
@@ -102,50 +99,6 @@ distinct_more kind ps qs target name e single h =
     distinct_map_from same_pair (λ (p : PacketData). (p.target, p.name)) (packets_of kind qs)
     (subst (λ (ns : List (List ℕ × List ℕ)). IsDistinct same_pair ns) (sym e)
     (IsDistinct-push same_pair_equiv (names_of kind ps) (target, name) (distinct_map_to same_pair (λ (p : PacketData). (p.target, p.name)) (packets_of kind ps) h) apart))
-
--- ---- commands from the start alone
-
--- it is a packet, or a command from the start alone
-abbrev is_fine : Drafted → Bool
-is_fine d = not (are_same_kind Command d.kind) || is_command d.packet
-
-all_cond : (b : Bool) (d : Drafted) (xs : List Drafted) (r : Bool) → list_all is_command (map (λ (e : Drafted). e.packet) xs) ≡ r → list_all is_command (map (λ (e : Drafted). e.packet) (cond b (d ∷ xs) xs)) ≡ (not b || is_command d.packet) && r
-all_cond true d xs r e = ap (λ (c : Bool). is_command d.packet && c) e
-all_cond false d xs r e = e
-
-commands_by : (ps : List Drafted) → list_all is_command (packets_of Command ps) ≡ list_all is_fine ps
-commands_by [] = refl
-commands_by (d ∷ ps) = all_cond (are_same_kind Command d.kind) d (filter (λ (e : Drafted). are_same_kind Command e.kind) ps) (list_all is_fine ps) (commands_by ps)
-
-fine_from : (b c : Bool) → (b ≡ true → c ≡ true) → not b || c ≡ true
-fine_from true c h = h refl
-fine_from false c h = refl
-
-fine_to : (b c : Bool) → not b || c ≡ true → b ≡ true → c ≡ true
-fine_to true c h e = h
-fine_to false c h e = absurd cc
-
-pub commands_on_last : (f : Drafted → Drafted) (ps : List Drafted) → ((d : Drafted) → (f d).kind ≡ d.kind)
-    → ((d : Drafted) → last_of ps ≡ Some d → are_same_kind Command d.kind ≡ true → is_command d.packet ≡ true → is_command (f d).packet ≡ true)
-    → list_all is_command (packets_of Command ps) ≡ true → list_all is_command (packets_of Command (on_last f ps)) ≡ true
-commands_on_last f ps same step all =
-    commands_by (on_last f ps)
-    ∙ all_on_last is_fine f ps
-    (λ d last fine.
-    fine_from (are_same_kind Command (f d).kind) (is_command (f d).packet)
-    (λ command.
-    let before : are_same_kind Command d.kind ≡ true = ap (are_same_kind Command) (sym (same d)) ∙ command in
-    step d last before (fine_to (are_same_kind Command d.kind) (is_command d.packet) fine before)))
-    (sym (commands_by ps) ∙ all)
-
-or_true : (b : Bool) → b || true ≡ true
-or_true true = refl
-or_true false = refl
-
-pub commands_more : (ps : List Drafted) (head : PacketLine) → list_all is_command (packets_of Command ps) ≡ true → list_all is_command (packets_of Command (ps ++ new_packet head ∷ [])) ≡ true
-commands_more ps head all =
-    commands_by (ps ++ new_packet head ∷ []) ∙ all_more is_fine ps (new_packet head)
-    ∙ ap (λ (b : Bool). b && is_fine (new_packet head)) (sym (commands_by ps) ∙ all) ∙ or_true (not (are_same_kind Command head.kind))
 
 -- ---- the number of items
 

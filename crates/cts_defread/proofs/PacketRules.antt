@@ -11,7 +11,7 @@ use Rattle.cts_def.specs.Packets.{PacketData, IsSoundPacket, received_count, unk
 use Rattle.cts_def.specs.Spans.{bytes_needed, is_variable}
 use Rattle.cts_defline.specs.declared.details.Detail.{Detail}
 use Rattle.cts_defread.specs.declared.drafted.Drafted.{Drafted}
-use Rattle.cts_defread.specs.Causes.{has_item, items_in, open_item}
+use Rattle.cts_defread.specs.Causes.{has_item, drafted_items, open_item}
 use Rattle.cts_defread.specs.Sound.{Fits, FitsLast}
 use Rattle.cts_defread.specs.Steps.{change_item, add_detail}
 use Rattle.cts_defread.proofs.Lists.{map_on_last, any_on_last, any_more, any_map, length_on_last}
@@ -91,7 +91,7 @@ last_changed old front new i changed d popped pushed same =
     put_back (change_item d) old front new i popped (pushed ∙ ap (λ (j : ItemData). front ++ j ∷ []) same)
 
 pub open_last : (old front : List Drafted) (drafted : Drafted) → old ≡ front ++ drafted ∷ [] → open_item old ≡ last_of drafted.packet.items
-open_last old front drafted popped = ap (λ (o : Option Drafted). last_of (items_in o)) (ap last_of popped ∙ last_snoc front drafted)
+open_last old front drafted popped = ap (λ (o : Option Drafted). last_of (drafted_items o)) (ap last_of popped ∙ last_snoc front drafted)
 
 pub open_fits : (old front : List Drafted) (drafted : Drafted) (d : Detail) → old ≡ front ++ drafted ∷ [] → FitsLast (open_item old) d → FitsLast (last_of drafted.packet.items) d
 open_fits old front drafted d popped h = subst (λ (o : Option ItemData). FitsLast o d) (open_last old front drafted popped) h

@@ -1,9 +1,10 @@
 -- Details that fit an item keep its rules.
-use Rattle.std.proofs.Common.{◌≡◌, ℕ, ◌≤◌, Bool, true, false, not, ◌||◌, ◌&&◌, ◌==◌, List, [], ◌∷◌, ◌++◌, map, length, Option, Some, None, refl, sym, ap, ◌∙◌, subst, arith}
+use Rattle.std.proofs.Common.{◌≡◌, ℕ, ℤ, ◌≤◌, Bool, true, false, not, ◌||◌, ◌&&◌, ◌==◌, List, [], ◌∷◌, ◌++◌, map, length, Option, Some, None, refl, sym, ap, ◌∙◌, subst, arith}
 use Rattle.std.specs.Prelude.{codes, is_some, unsigned_abs}
 use Rattle.std.specs.List.{list_any, list_all, IsDistinct}
-use Rattle.std.proofs.lemmas.Bool.{or_parts, or_from, leb-false}
-use Rattle.std.proofs.lemmas.Cmp.{nat_list_eq_equiv}
+use Rattle.std.specs.Ordering.{int_eq}
+use Rattle.std.proofs.lemmas.Bool.{and_from, or_parts, or_from, or_left, not_from_false, not-true, leb-false}
+use Rattle.std.proofs.lemmas.Cmp.{int_eq_equiv, nat_list_eq_equiv}
 use Rattle.std.proofs.lemmas.List.{map-append, length-append}
 use Rattle.std.proofs.lemmas.Map.Keys.{IsDistinct-push}
 use Rattle.cts_base.specs.declared.decimal.Decimal.{Decimal}
@@ -14,12 +15,12 @@ use Rattle.cts_def.specs.declared.limits.Limits.{Limits}
 use Rattle.cts_def.specs.declared.limits_setup.LimitsSetup.{LimitsSetup}
 use Rattle.cts_def.specs.declared.state_def.StateDef.{StateDef}
 use Rattle.cts_def.specs.Formats.{is_format}
-use Rattle.cts_def.specs.Items.{ItemData, IsSoundItem, HasSoundLimits, may_have_limits, begins_with_default, are_in_order, is_sound_conversion, is_too_large, has_color, is_same}
+use Rattle.cts_def.specs.Items.{ItemData, IsSoundItem, HasSoundLimits, may_have_limits, IsSoundConversion, begins_with_default, are_in_order, has_coefficients, is_polynomial_of, is_sound_state, is_too_large, has_color, is_same, sets_in}
 use Rattle.cts_def.specs.Spans.{is_number}
 use Rattle.cts_defline.specs.declared.details.Detail.{Detail}
 use Rattle.cts_defline.specs.declared.details.Detail.TheVariants as detail
 use Rattle.cts_defline.specs.declared.details.LimitsLine.{LimitsLine}
-use Rattle.cts_defread.specs.Causes.{is_text, has_limits, has_state_colors, has_no_limits, sets_in, is_segmented, is_poly}
+use Rattle.cts_defread.specs.Causes.{is_text, has_limits, has_state_colors, has_no_limits, has_all_segments, has_bound, is_large, is_segmented, is_poly}
 use Rattle.cts_defread.specs.Sound.{Fits}
 use Rattle.cts_defread.specs.Standing.{set_limits}
 use Rattle.cts_defread.specs.Steps.{add_limits, add_segment, change_item}
@@ -37,11 +38,6 @@ pub from_not : (b : Bool) → not b ≡ false → b ≡ true
 from_not true e = refl
 from_not false e = absurd cc
 
-pub both : (a b : Bool) → a ≡ true → b ≡ true → a && b ≡ true
-both true true p q = refl
-both true false p q = q
-both false b p q = p
-
 pub left_true : (a b : Bool) → a && b ≡ true → a ≡ true
 left_true true b e = refl
 left_true false b e = e
@@ -54,12 +50,9 @@ pub not_both : (a b : Bool) → a && b ≡ false → a ≡ true → b ≡ false
 not_both true b e h = e
 not_both false b e h = absurd cc
 
-pub not_true : (b : Bool) → b ≡ false → not b ≡ true
-not_true b e = ap not e
-
-or_left : (a b : Bool) → a ≡ true → a || b ≡ true
-or_left true b e = refl
-or_left false b e = absurd cc
+pub or_right : (a b : Bool) → b ≡ true → a || b ≡ true
+or_right true b e = refl
+or_right false b e = e
 
 -- ---- states
 
@@ -67,19 +60,15 @@ states_fit : (i : ItemData) (s : StateDef) (o : Option LimitsSetup) → has_colo
 states_fit i s None e h = tt
 states_fit i s (Some setup) e h =
     let colorless : has_color s ≡ false = and_some (has_color s) e in
-    let none : list_any has_color i.states ≡ false = not_false (list_any has_color i.states) (right_true (is_number i.kind) (not (list_any has_color i.states)) h.0) in (
-      both (is_number i.kind) (not (list_any has_color (i.states ++ s ∷ []))) (left_true (is_number i.kind) (not (list_any has_color i.states)) h.0)
-          (not_true (list_any has_color (i.states ++ s ∷ [])) (any_more has_color i.states s ∙ or_from (list_any has_color i.states) (has_color s) none colorless)),
+    let none : list_any has_color i.states ≡ false = not-true (list_any has_color i.states) (right_true (is_number i.kind) (not (list_any has_color i.states)) h.0) in (
+      and_from (is_number i.kind) (not (list_any has_color (i.states ++ s ∷ []))) (left_true (is_number i.kind) (not (list_any has_color i.states)) h.0)
+          (not_from_false (list_any has_color (i.states ++ s ∷ [])) (any_more has_color i.states s ∙ or_from (list_any has_color i.states) (has_color s) none colorless)),
       h.1,
     )
   where
     and_some : (b : Bool) → b && true ≡ false → b ≡ false
     and_some true e = e
     and_some false e = e
-
-    not_false : (b : Bool) → not b ≡ true → b ≡ false
-    not_false true e = absurd cc
-    not_false false e = refl
 
 keeps_state : (s : StateDef) (i : ItemData) → IsSoundItem i → Fits i (detail.State s) → IsSoundItem (change_item (detail.State s) i)
 keeps_state s i h fits =
@@ -94,6 +83,7 @@ keeps_state s i h fits =
       states =
           subst (λ (ns : List (List ℕ)). IsDistinct is_same ns) (sym (map-append (λ (t : StateDef). t.name) i.states (s ∷ [])))
           (IsDistinct-push nat_list_eq_equiv names s.name h.states (any_map (is_same s.name) (λ (t : StateDef). t.name) i.states ∙ fits.single));
+      sound_states = all_more is_sound_state i.states s ∙ and_from (list_all is_sound_state i.states) (is_sound_state s) h.sound_states fits.lasting;
       few_states = omega (arith, length-append i.states (s ∷ []), few);
       conversion = h.conversion;
       limits = states_fit i s i.limits (right_false (is_text i) (has_color s && has_limits i) fits.allowed) h.limits;
@@ -114,7 +104,7 @@ limits_fit i l None may ordered default single lasting h = (
   may,
   record {
     begin = default refl;
-    ordered = both (are_in_order l.limits) true ordered refl;
+    ordered = and_from (are_in_order l.limits) true ordered refl;
     distinct = IsDistinct-push nat_list_eq_equiv [] l.set tt refl;
     some = lasting;
   },
@@ -125,7 +115,7 @@ limits_fit i l (Some setup) may ordered default single lasting h = (
     begin = begins_more setup.sets (set_limits l) h.1.begin;
     ordered =
         all_more (λ (s : List ℕ × Limits). are_in_order s.1) setup.sets (set_limits l)
-        ∙ both (list_all (λ (s : List ℕ × Limits). are_in_order s.1) setup.sets) (are_in_order l.limits) h.1.ordered ordered;
+        ∙ and_from (list_all (λ (s : List ℕ × Limits). are_in_order s.1) setup.sets) (are_in_order l.limits) h.1.ordered ordered;
     distinct =
         subst (λ (ns : List (List ℕ)). IsDistinct is_same ns) (sym (map-append (λ (s : List ℕ × Limits). s.0) setup.sets (set_limits l ∷ [])))
         (IsDistinct-push nat_list_eq_equiv (map (λ (s : List ℕ × Limits). s.0) setup.sets) l.set h.1.distinct
@@ -149,16 +139,20 @@ keeps_limits l i h fits =
       preset = h.preset;
       numbers_alone_have_states = h.numbers_alone_have_states;
       states = h.states;
+      sound_states = h.sound_states;
       few_states = h.few_states;
       conversion = h.conversion;
       limits =
-          limits_fit i l i.limits (both (is_number i.kind) (not (has_state_colors i)) number (not_true (has_state_colors i) colorless)) in_order
+          limits_fit i l i.limits (and_from (is_number i.kind) (not (has_state_colors i)) number (not_from_false (has_state_colors i) colorless)) in_order
           (λ none. from_not (is_same l.set (codes "DEFAULT")) (not_both (has_no_limits i) (not (is_same l.set (codes "DEFAULT"))) default (none_limits i none)))
           fits.single fits.lasting h.limits;
       format = h.format;
     }
 
 -- ---- conversions
+
+is_small : (i : ItemData) (coefficients : List Decimal) → is_number i.kind ≡ true → is_large coefficients i ≡ false → not (is_too_large (unsigned_abs i.size) coefficients) ≡ true
+is_small i coefficients number small = not_from_false (is_too_large (unsigned_abs i.size) coefficients) (not_both (is_number i.kind) (is_too_large (unsigned_abs i.size) coefficients) small number)
 
 keeps_poly : (coefficients : List Decimal) (i : ItemData) → IsSoundItem i → Fits i (detail.Poly coefficients) → IsSoundItem (change_item (detail.Poly coefficients) i)
 keeps_poly coefficients i h fits =
@@ -169,22 +163,43 @@ keeps_poly coefficients i h fits =
       preset = h.preset;
       numbers_alone_have_states = h.numbers_alone_have_states;
       states = h.states;
+      sound_states = h.sound_states;
       few_states = h.few_states;
-      conversion = both (is_number i.kind) (not (is_too_large (unsigned_abs i.size) coefficients)) number (not_true (is_too_large (unsigned_abs i.size) coefficients) (not_both (is_number i.kind) (is_too_large (unsigned_abs i.size) coefficients) fits.small number));
+      conversion =
+          and_from (is_number i.kind) (is_polynomial_of i.size coefficients) number
+          (and_from (has_coefficients coefficients) (not (is_too_large (unsigned_abs i.size) coefficients)) fits.lasting (is_small i coefficients number fits.small));
       limits = h.limits;
       format = h.format;
     }
 
--- a segment's values are small enough
-abbrev is_small : ItemData → Segment → Bool
-is_small i s = not (is_too_large (unsigned_abs i.size) s.coefficients)
-
-segments_fit : (i : ItemData) (s : Segment) (c : Conversion) → is_number i.kind ≡ true → is_small i s ≡ true → is_sound_conversion i c ≡ true → is_sound_conversion i (add_segment s c) ≡ true
-segments_fit i s Plain number small h = both (is_number i.kind) (is_small i s && true) number (both (is_small i s) true small refl)
-segments_fit i s (Poly coefficients) number small h = h
-segments_fit i s (Segments segments) number small h =
-    both (is_number i.kind) (list_all (is_small i) (segments ++ s ∷ [])) number
-    (all_more (is_small i) segments s ∙ both (list_all (is_small i) segments) (is_small i s) (right_true (is_number i.kind) (list_all (is_small i) segments) h) small)
+segments_fit : (i : ItemData) (s : Segment) (c : Conversion) → is_number i.kind ≡ true → is_polynomial_of i.size s.coefficients ≡ true → has_all_segments (record i { conversion = c }) ≡ false
+    → has_bound s.bound (record i { conversion = c }) ≡ false → IsSoundConversion i.kind i.size c → IsSoundConversion i.kind i.size (add_segment s c)
+unfolding IsDistinct
+segments_fit i s Plain number small few single h = (
+  number,
+  record {
+    some = omega arith;
+    few = omega arith;
+    distinct = IsDistinct-push int_eq_equiv [] s.bound.parts tt refl;
+    polynomials = and_from (is_polynomial_of i.size s.coefficients) true small refl;
+  },
+)
+segments_fit i s (Poly coefficients) number small few single h = h
+segments_fit i s (Segments segments) number small few single h =
+    let parts : List ℤ = map (λ (t : Segment). t.bound.parts) segments in
+    let count : length segments ≤ 15 = omega (arith, leb-false 16 (length segments) few) in (
+      number,
+      record {
+        some = omega (arith, length-append segments (s ∷ []));
+        few = omega (arith, length-append segments (s ∷ []), count);
+        distinct =
+            subst (λ (zs : List ℤ). IsDistinct int_eq zs) (sym (map-append (λ (t : Segment). t.bound.parts) segments (s ∷ [])))
+            (IsDistinct-push int_eq_equiv parts s.bound.parts h.1.distinct (any_map (int_eq s.bound.parts) (λ (t : Segment). t.bound.parts) segments ∙ single));
+        polynomials =
+            all_more (λ (t : Segment). is_polynomial_of i.size t.coefficients) segments s
+            ∙ and_from (list_all (λ (t : Segment). is_polynomial_of i.size t.coefficients) segments) (is_polynomial_of i.size s.coefficients) h.1.polynomials small;
+      },
+    )
 
 keeps_segment : (s : Segment) (i : ItemData) → IsSoundItem i → Fits i (detail.Segment s) → IsSoundItem (change_item (detail.Segment s) i)
 keeps_segment s i h fits =
@@ -195,8 +210,12 @@ keeps_segment s i h fits =
       preset = h.preset;
       numbers_alone_have_states = h.numbers_alone_have_states;
       states = h.states;
+      sound_states = h.sound_states;
       few_states = h.few_states;
-      conversion = segments_fit i s i.conversion number (not_true (is_too_large (unsigned_abs i.size) s.coefficients) (not_both (is_number i.kind) (is_too_large (unsigned_abs i.size) s.coefficients) fits.small number)) h.conversion;
+      conversion =
+          segments_fit i s i.conversion number
+          (and_from (has_coefficients s.coefficients) (not (is_too_large (unsigned_abs i.size) s.coefficients)) fits.lasting (is_small i s.coefficients number fits.small))
+          fits.few fits.single h.conversion;
       limits = h.limits;
       format = h.format;
     }
@@ -214,6 +233,7 @@ keeps_rules (detail.Units full short) i h fits = record {
   preset = h.preset;
   numbers_alone_have_states = h.numbers_alone_have_states;
   states = h.states;
+  sound_states = h.sound_states;
   few_states = h.few_states;
   conversion = h.conversion;
   limits = h.limits;
@@ -225,6 +245,7 @@ keeps_rules (detail.Format text) i h fits = record {
   preset = h.preset;
   numbers_alone_have_states = h.numbers_alone_have_states;
   states = h.states;
+  sound_states = h.sound_states;
   few_states = h.few_states;
   conversion = h.conversion;
   limits = h.limits;
@@ -236,6 +257,7 @@ keeps_rules (detail.Overflow o) i h fits = record {
   preset = h.preset;
   numbers_alone_have_states = h.numbers_alone_have_states;
   states = h.states;
+  sound_states = h.sound_states;
   few_states = h.few_states;
   conversion = h.conversion;
   limits = h.limits;
@@ -247,6 +269,7 @@ keeps_rules detail.Required i h fits = record {
   preset = h.preset;
   numbers_alone_have_states = h.numbers_alone_have_states;
   states = h.states;
+  sound_states = h.sound_states;
   few_states = h.few_states;
   conversion = h.conversion;
   limits = h.limits;

@@ -21,44 +21,10 @@ use Rattle.cts_defread.specs.declared.fault.DefFault.{DefFault}
 use Rattle.cts_defread.specs.declared.fault.DefFault.TheVariants as fault
 use Rattle.cts_defread.specs.Definitions.{cause_of, lines_of, cause, at_line, at_end, refusal, unless_refused, definitions_of}
 use Rattle.cts_defread.specs.Drafts.{IsKept}
-use Rattle.cts_defread.specs.Sound.{IsSoundLine}
 use Rattle.cts_defread.specs.Standing.{standing, set_names_of, definitions_in}
 use Rattle.cts_defread.specs.Steps.{place, place_set, Fails, Judged}
 use Rattle.cts_defread.proofs.More.{standing-more}
 use Rattle.cts_defread.proofs.Sets.{set_names-more}
-
--- ---- what a line that was read keeps
-
-some_samples : (o : Option ℤ) → 1 ≤ unwrap_or (count_in o) 1
-some_samples None = omega arith
-some_samples (Some (pos n)) = grind (arith, nat_tests)
-some_samples (Some (negsuc n)) = omega arith
-
-keyword_keeps : (k : Keyword) (words : List (List ℕ)) → IsSoundLine (line_of k words)
-keyword_keeps keyword.Command words = tt
-keyword_keeps keyword.Telemetry words = tt
-keyword_keeps (keyword.Item append id) words = tt
-keyword_keeps (keyword.Parameter append id) words = tt
-keyword_keeps keyword.State words = tt
-keyword_keeps keyword.Limits words = some_samples (whole_of (word_at words 1))
-keyword_keeps keyword.Poly words = tt
-keyword_keeps keyword.Segment words = tt
-keyword_keeps keyword.Units words = tt
-keyword_keeps keyword.Format words = tt
-keyword_keeps keyword.Overflow words = tt
-keyword_keeps keyword.Required words = tt
-keyword_keeps keyword.Hazardous words = tt
-keyword_keeps keyword.Meta words = tt
-keyword_keeps keyword.AllowShort words = tt
-
-known_keeps : (o : Option Keyword) (words : List (List ℕ)) (l : Line) → option_map (λ (k : Keyword). line_of k words) o ≡ Some l → IsSoundLine l
-known_keeps None words l e = absurd cc
-known_keeps (Some k) words l e = let same : line_of k words ≡ l = cc in subst IsSoundLine same (keyword_keeps k words)
-
--- What words say keeps what they see to.
-pub line_keeps : (words : List (List ℕ)) (l : Line) → line_in words ≡ Some l → IsSoundLine l
-line_keeps [] l e = absurd cc
-line_keeps (word ∷ words) l e = known_keeps (keyword_of word) words l e
 
 -- ---- the loop
 
@@ -69,7 +35,7 @@ pub record IsReading (draft : Draft) (before rest all : List Statement) : Type 0
   pub kept : IsKept draft
   pub refused : Decides refusal at_end before rest all
 
-lines-more : (before : List Statement) (s : Statement) (l : Line) → line_in s.words ≡ Some l → lines_of (before ++ s ∷ []) ≡ lines_of before ++ l ∷ []
+pub lines-more : (before : List Statement) (s : Statement) (l : Line) → line_in s.words ≡ Some l → lines_of (before ++ s ∷ []) ≡ lines_of before ++ l ∷ []
 lines-more before s l e =
     let one : lines_of (s ∷ []) ≡ l ∷ [] = rw e refl in
     filter_map-append (λ (t : Statement). line_in t.words) before (s ∷ []) ∙ ap (λ (ls : List Line). lines_of before ++ ls) one

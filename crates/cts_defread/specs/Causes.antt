@@ -14,11 +14,10 @@ use Rattle.cts_def.specs.declared.item_kind.ItemKind.{ItemKind}
 use Rattle.cts_def.specs.declared.item_kind.Preset.{Preset}
 use Rattle.cts_def.specs.declared.item_kind.Preset.TheVariants.{Whole, Raw}
 use Rattle.cts_def.specs.declared.limits.Limits.{Limits}
-use Rattle.cts_def.specs.declared.limits_setup.LimitsSetup.{LimitsSetup}
 use Rattle.cts_def.specs.declared.span.Span.{Span}
 use Rattle.cts_def.specs.declared.state_def.StateDef.{StateDef}
 use Rattle.cts_def.specs.Formats.{is_format}
-use Rattle.cts_def.specs.Items.{ItemData, is_same, has_room, has_color, is_too_large, are_in_order}
+use Rattle.cts_def.specs.Items.{ItemData, is_same, has_room, has_color, is_too_large, is_to_the_end, are_in_order, sets_in}
 use Rattle.cts_def.specs.Packets.{received_count, unknown}
 use Rattle.cts_def.specs.Spans.{is_number, is_little, is_misplaced, is_spelled}
 use Rattle.cts_defline.specs.declared.cause.DefCause.{DefCause}
@@ -38,12 +37,12 @@ use Rattle.cts_words.specs.Blocks.{last_of}
 
 -- ---- what is open: the last definition, its items, and the last of them
 
-abbrev pub items_in : Option Drafted → List ItemData
-items_in None = []
-items_in (Some d) = d.packet.items
+abbrev pub drafted_items : Option Drafted → List ItemData
+drafted_items None = []
+drafted_items (Some d) = d.packet.items
 
 abbrev pub open_items : List Drafted → List ItemData
-open_items packets = items_in (last_of packets)
+open_items packets = drafted_items (last_of packets)
 
 abbrev pub open_item : List Drafted → Option ItemData
 open_item packets = last_of (open_items packets)
@@ -115,10 +114,6 @@ has_item items name = list_any (λ (i : ItemData). is_same name i.name) items
 abbrev pub has_state : List ℕ → ItemData → Bool
 has_state name i = list_any (λ (s : StateDef). is_same name s.name) i.states
 
-abbrev pub sets_in : Option LimitsSetup → List (List ℕ × Limits)
-sets_in None = []
-sets_in (Some setup) = setup.sets
-
 abbrev pub has_set : List ℕ → ItemData → Bool
 has_set name i = list_any (λ (s : List ℕ × Limits). is_same name s.0) (sets_in i.limits)
 
@@ -164,10 +159,6 @@ is_little_append packets _ = false
 -- the item has no length of its own: it goes to the packet's end, or up to some bits before it
 abbrev pub is_open_ended : ItemData → Bool
 is_open_ended i = int_le i.size (pos 0)
-
--- the item is all bytes to the packet's end
-abbrev pub is_to_the_end : ItemData → Bool
-is_to_the_end i = int_eq i.size (pos 0)
 
 -- a command has no place that is counted from the end, and nothing behind an item that goes to the end
 abbrev pub is_bad_in_command : List Drafted → ItemLine → Bool

@@ -5,7 +5,7 @@ use Rattle.std.specs.List.{list_any}
 use Rattle.std.specs.Ordering.{nat_cmp}
 use Rattle.cts_base.specs.Known.{Knows, pair_cmp}
 use Rattle.cts_def.specs.declared.state_def.StateDef.{StateDef}
-use Rattle.cts_def.specs.Items.{ItemData}
+use Rattle.cts_def.specs.Items.{ItemData, is_to_the_end}
 use Rattle.cts_def.specs.Packets.{PacketData}
 use Rattle.cts_defline.specs.declared.details.Detail.{Detail}
 use Rattle.cts_defline.specs.declared.details.Detail.TheVariants as detail
@@ -13,7 +13,7 @@ use Rattle.cts_defline.specs.declared.open.PacketKind.{PacketKind}
 use Rattle.cts_defline.specs.declared.open.PacketKind.TheVariants.{Telemetry, Command}
 use Rattle.cts_defread.specs.declared.draft.Draft.{Draft}
 use Rattle.cts_defread.specs.declared.drafted.Drafted.{Drafted}
-use Rattle.cts_defread.specs.Causes.{open_items, open_item, open_end, is_open_ended, is_to_the_end, count_items}
+use Rattle.cts_defread.specs.Causes.{open_items, open_item, open_end, is_open_ended, count_items}
 use Rattle.cts_defread.specs.Sound.{AreSound}
 use Rattle.cts_defread.specs.Standing.{packets_of}
 use Rattle.cts_defread.specs.Steps.{add_set}
@@ -61,8 +61,8 @@ pub record IsKept (d : Draft) : Type 0 where
   pub command_count : d.command_count ≡ length (packets_of Command d.packets.items)
   pub item_count : d.item_count ≡ count_items d.packets.items
   pub ends : d.end ≡ open_end d.packets.items
-  pub ended : d.is_ended ≡ list_any is_open_ended (open_items d.packets.items)
-  pub filled : d.is_filled ≡ list_any is_to_the_end (open_items d.packets.items)
+  pub ended : d.is_open_ended ≡ list_any is_open_ended (open_items d.packets.items)
+  pub filled : d.is_to_the_end ≡ list_any is_to_the_end (open_items d.packets.items)
   pub few_telemetry : d.telemetry_count ≤ 4096
   pub few_commands : d.command_count ≤ 4096
   pub few_items : d.item_count ≤ 65536

@@ -2,27 +2,31 @@
 use Rattle.std.specs.Prelude.{◌≡◌, ℕ, ◌≤◌, Bool, false, List, length, Option, Some, None, IsTrue}
 use Rattle.std.specs.List.{list_all, IsDistinct}
 use Rattle.cts_def.specs.Items.{ItemData, is_same}
-use Rattle.cts_def.specs.Packets.{have_same_names, is_command}
+use Rattle.cts_def.specs.Packets.{PacketData, have_same_names, is_command, is_telemetry}
 use Rattle.cts_defline.specs.declared.details.Detail.{Detail}
 use Rattle.cts_defline.specs.declared.details.Detail.TheVariants as detail
-use Rattle.cts_defline.specs.declared.line.Line.{Line}
 use Rattle.cts_defline.specs.declared.line.Line.TheVariants as line
+use Rattle.cts_defline.specs.declared.open.PacketKind.{PacketKind}
 use Rattle.cts_defline.specs.declared.open.PacketKind.TheVariants.{Telemetry, Command}
+use Rattle.cts_defline.specs.Rules.{IsSoundLine}
 use Rattle.cts_defread.specs.declared.drafted.Drafted.{Drafted}
 use Rattle.cts_defread.specs.Causes.{has_state, has_set, has_bound, has_all_states, has_all_segments, is_wrong_kind, is_too_large_in, is_bad_order, is_bad_format}
 use Rattle.cts_defread.specs.Standing.{packets_of}
 
+-- what a packet or a command keeps, with limits in these sets
+abbrev pub keeps_kind : List (List ℕ) → PacketKind → PacketData → Bool
+keeps_kind sets Telemetry p = is_telemetry sets p
+keeps_kind sets Command p = is_command p
+
+abbrev pub keeps_its_kind : List (List ℕ) → Drafted → Bool
+keeps_its_kind sets d = keeps_kind sets d.kind d.packet
+
 pub record AreSound (packets : List Drafted) (sets : List (List ℕ)) : Type 0 where
   pub telemetry : IsDistinct have_same_names (packets_of Telemetry packets)
   pub commands : IsDistinct have_same_names (packets_of Command packets)
-  pub from_start : IsTrue (list_all is_command (packets_of Command packets))
+  pub kinds : IsTrue (list_all (keeps_its_kind sets) packets)
   pub distinct_sets : IsDistinct is_same sets
   pub few_sets : length sets ≤ 64
-
--- What the words of a line see to: limits change after one sample or more.
-abbrev pub IsSoundLine : Line → Type 0
-IsSoundLine (line.Detail (detail.Limits l)) = 1 ≤ l.persistence
-IsSoundLine _ = Unit {0}
 
 -- ---- details that an item may have
 

@@ -1,13 +1,14 @@
 // What one more statement adds to the draft.
-ghost use Rattle.std.specs.Prelude.{◌≡◌, ◌+◌, ◌≤◌, ◌++◌, ℕ, true, List as Items, None as NoCause, IfOk, OnOk};
+ghost use Rattle.std.specs.Prelude.{◌≡◌, ◌+◌, ◌≤◌, ◌++◌, ℕ, true, IsTrue, List as Items, None as NoCause, IfOk, OnOk};
 ghost use Rattle.std.specs.BTreeSet.{Updates};
 ghost use Rattle.std.specs.Cmp.Lexicographic.{slice_cmp};
 ghost use Rattle.std.specs.Ordering.{nat_cmp};
 ghost use Rattle.cts_base.specs.Known.{Knows, pair_cmp};
 ghost use Rattle.cts_defline.specs.declared.line.Line.TheVariants as line_;
-ghost use Rattle.cts_defread.specs.Causes.{place_cause};
+ghost use Rattle.cts_defline.specs.Refusals.{open_kind};
+ghost use Rattle.cts_defline.specs.Rules.{KeepsRules, suits};
+ghost use Rattle.cts_defread.specs.Causes.{opened, place_cause};
 ghost use Rattle.cts_defread.specs.Drafts.{IsKept, state_name, set_name, taken_name, add_name};
-ghost use Rattle.cts_defread.specs.Sound.{IsSoundLine};
 ghost use Rattle.cts_defread.specs.Steps.{place, place_set};
 
 use crate::draft::Draft;
@@ -101,8 +102,8 @@ impl Draft {
         self.items.clear();
         self.states.clear();
         self.end = 0;
-        self.is_ended = false;
-        self.is_filled = false;
+        self.is_open_ended = false;
+        self.is_to_the_end = false;
         match kind {
             PacketKind::Telemetry => know_packet(
                 &mut self.telemetry,
@@ -116,6 +117,7 @@ impl Draft {
     fn add_item(&mut self, alloc: Global, head: ItemLine) -> Result<(), Memory>
         requires kept { IsKept self.old }
         requires clean { place_cause self.old.packets.items self.old.set_names.items (line_.Item head) ≡ NoCause }
+        requires suited { IsTrue (suits (open_kind (opened self.old.packets.items)) (line_.Item head)) }
         ensures placed { OnOk result (self.new.packets.items ≡ place (line_.Item head) self.old.packets.items) }
         ensures set_names { OnOk result (self.new.set_names.items ≡ self.old.set_names.items) }
         ensures kept { OnOk result (IsKept self.new) }
@@ -133,15 +135,15 @@ impl Draft {
         self.states.clear();
         self.item_count += 1;
         self.end = self.end.max(end);
-        self.is_ended = self.is_ended || is_open_ended;
-        self.is_filled = self.is_filled || is_to_the_end;
+        self.is_open_ended = self.is_open_ended || is_open_ended;
+        self.is_to_the_end = self.is_to_the_end || is_to_the_end;
         Ok(())
     }
 
     fn add_detail(&mut self, alloc: Global, detail: Detail) -> Result<(), Memory>
         requires kept { IsKept self.old }
         requires clean { place_cause self.old.packets.items self.old.set_names.items (line_.Detail detail) ≡ NoCause }
-        requires sound { IsSoundLine (line_.Detail detail) }
+        requires rules { KeepsRules (open_kind (opened self.old.packets.items)) (line_.Detail detail) }
         ensures placed { OnOk result (self.new.packets.items ≡ place (line_.Detail detail) self.old.packets.items) }
         ensures set_names { OnOk result (self.new.set_names.items ≡ place_set (line_.Detail detail) self.old.set_names.items) }
         ensures kept { OnOk result (IsKept self.new) }
@@ -155,6 +157,7 @@ impl Draft {
 
     fn make_hazardous(&mut self) -> Result<(), Memory>
         requires kept { IsKept self.old }
+        requires suited { IsTrue (suits (open_kind (opened self.old.packets.items)) line_.Hazardous) }
         ensures placed { OnOk result (self.new.packets.items ≡ place line_.Hazardous self.old.packets.items) }
         ensures set_names { OnOk result (self.new.set_names.items ≡ self.old.set_names.items) }
         ensures kept { OnOk result (IsKept self.new) }
@@ -169,7 +172,7 @@ impl Draft {
     pub(crate) fn add(&mut self, alloc: Global, line: Line) -> Result<(), Memory>
         requires kept { IsKept self.old }
         requires clean { place_cause self.old.packets.items self.old.set_names.items line ≡ NoCause }
-        requires sound { IsSoundLine line }
+        requires rules { KeepsRules (open_kind (opened self.old.packets.items)) line }
         ensures placed { OnOk result (self.new.packets.items ≡ place line self.old.packets.items) }
         ensures set_names { OnOk result (self.new.set_names.items ≡ place_set line self.old.set_names.items) }
         ensures kept { OnOk result (IsKept self.new) }

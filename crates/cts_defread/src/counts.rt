@@ -51,7 +51,7 @@ impl Draft {
         requires { IsKept self.now }
         ensures { result ≡ is_set_too_many self.now.set_names.items set.now }
     {
-        self.set_names.len() >= 64 && !self.has_set(set)
+        self.set_names.len() >= 64 && !self.knows_set(set)
     }
 
     /// Whether the statement adds one more than the server can hold.

@@ -3,9 +3,9 @@ ghost use Rattle.std.specs.Prelude.{◌≡◌, ◌||◌, IfOk, codes};
 ghost use Rattle.std.specs.Option.{option_copied};
 ghost use Rattle.std.specs.Ordering.{int_eq};
 ghost use Rattle.std.specs.List.{list_any};
-ghost use Rattle.cts_def.specs.Items.{is_same};
+ghost use Rattle.cts_def.specs.Items.{is_same, sets_in};
 ghost use Rattle.cts_def.specs.Packets.{unknown, received_count};
-ghost use Rattle.cts_defread.specs.Causes.{passes, open_items, open_item, has_names, has_item, has_state, has_set, sets_in, segments_in, has_bound, is_double};
+ghost use Rattle.cts_defread.specs.Causes.{passes, open_items, open_item, has_names, has_item, has_state, has_set, segments_in, has_bound, is_double};
 ghost use Rattle.cts_defread.specs.Drafts.{IsKept};
 
 use crate::draft::Draft;
@@ -123,7 +123,7 @@ impl Draft {
     }
 
     /// Whether a limits set has this name.
-    pub(crate) fn has_set(&self, name: &Name) -> bool
+    pub(crate) fn knows_set(&self, name: &Name) -> bool
         requires { IsKept self.now }
         ensures { result ≡ list_any (is_same name.now) self.now.set_names.items }
     {

@@ -36,9 +36,9 @@ pub(crate) struct Draft {
     /// Where the next appended item begins, in bits.
     pub end: u32,
     /// Whether the open definition has an item of size 0 or below, behind which nothing is appended.
-    pub is_ended: bool,
+    pub is_open_ended: bool,
     /// Whether the open definition has an item of size 0.
-    pub is_filled: bool,
+    pub is_to_the_end: bool,
 }
 
 impl Draft {
@@ -64,8 +64,8 @@ impl Draft {
             command_count: 0,
             item_count: 0,
             end: 0,
-            is_ended: false,
-            is_filled: false,
+            is_open_ended: false,
+            is_to_the_end: false,
         }
     }
 

@@ -1,8 +1,8 @@
 // Items as their statements give them: a new one, and what details change of one.
 ghost use Rattle.std.specs.Prelude.{◌≡◌, ◌≤◌, [], unsigned_abs, IfOk, Some as SomeOf};
-ghost use Rattle.cts_def.specs.Items.{IsSoundItem};
+ghost use Rattle.cts_def.specs.Items.{IsSoundItem, is_to_the_end};
 ghost use Rattle.cts_defline.specs.declared.details.Detail.TheVariants as detail_;
-ghost use Rattle.cts_defread.specs.Causes.{is_open_ended, is_to_the_end};
+ghost use Rattle.cts_defread.specs.Causes.{is_open_ended};
 ghost use Rattle.cts_defread.specs.Sound.{Fits};
 ghost use Rattle.cts_defread.specs.Standing.{item_at, offset_or, preset_or};
 ghost use Rattle.cts_defread.specs.Steps.{add_limits, add_segment, change_item};

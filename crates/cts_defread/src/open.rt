@@ -1,7 +1,7 @@
 // What is open before a statement: the last definition, its items, and the last of them.
 ghost use Rattle.std.specs.Prelude.{◌≡◌};
 ghost use Rattle.std.specs.Option.{option_copied};
-ghost use Rattle.cts_defread.specs.Causes.{items_in, open_items, open_item, opened, opened_in, is_command_in, order_in, opened_with};
+ghost use Rattle.cts_defread.specs.Causes.{drafted_items, open_items, open_item, opened, opened_in, is_command_in, order_in, opened_with};
 ghost use Rattle.cts_words.specs.Blocks.{last_of};
 
 use crate::draft::Draft;
@@ -9,19 +9,11 @@ use crate::drafted::Drafted;
 use cts_bits::Order;
 use cts_def::Item;
 use cts_defline::{Open, PacketKind};
-
-fn last<T>(items: &[T]) -> Option<&T>
-    ensures { option_copied result ≡ last_of items.now }
-{
-    match items.split_last() {
-        Some((last, _)) => Some(last),
-        None => None,
-    }
-}
+use cts_words::last;
 
 // The items of a definition, and none where there is none.
-fn items_in(drafted: Option<&Drafted>) -> &[Item]
-    ensures { result.now ≡ items_in (option_copied drafted.entry) }
+fn drafted_items(drafted: Option<&Drafted>) -> &[Item]
+    ensures { result.now ≡ drafted_items (option_copied drafted.entry) }
 {
     match drafted {
         Some(drafted) => items_of(drafted),
@@ -85,7 +77,7 @@ impl Draft {
     pub(crate) fn open_items(&self) -> &[Item]
         ensures { result.now ≡ open_items self.now.packets.items }
     {
-        items_in(self.last())
+        drafted_items(self.last())
     }
 
     /// The last item of the open definition.

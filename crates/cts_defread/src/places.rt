@@ -4,8 +4,9 @@ ghost use Rattle.std.specs.Int.{is_negative};
 ghost use Rattle.cts_defline.specs.declared.line.Line.TheVariants as line;
 ghost use Rattle.std.specs.List.{list_any};
 ghost use Rattle.cts_bits.specs.Places.{is_whole};
+ghost use Rattle.cts_def.specs.Items.{is_to_the_end};
 ghost use Rattle.cts_def.specs.Spans.{is_far, is_misplaced};
-ghost use Rattle.cts_defread.specs.Causes.{open_items, open_end, order_in, span_in, is_little_append, is_to_the_end, is_open_ended, is_bad_in_command, is_bad_place};
+ghost use Rattle.cts_defread.specs.Causes.{open_items, open_end, order_in, span_in, is_little_append, is_open_ended, is_bad_in_command, is_bad_place};
 ghost use Rattle.cts_defread.specs.Standing.{offset_or};
 ghost use Rattle.cts_defread.specs.Drafts.{IsKept};
 ghost use Rattle.cts_words.specs.Blocks.{last_of};
@@ -104,7 +105,7 @@ impl Draft {
         requires { IsKept self.now }
         ensures { result ≡ is_none head.now.offset && list_any is_open_ended (open_items self.now.packets.items) }
     {
-        head.offset.is_none() && self.is_ended
+        head.offset.is_none() && self.is_open_ended
     }
 
     // Whether it is an id that is counted from the packet's end.
@@ -120,7 +121,7 @@ impl Draft {
         requires { IsKept self.now }
         ensures { result ≡ is_bad_in_command self.now.packets.items head.now }
     {
-        self.offset(head.offset) < 0 || head.size < 0 || self.is_filled
+        self.offset(head.offset) < 0 || head.size < 0 || self.is_to_the_end
     }
 
     /// Whether an item may not lie where the statement puts it.

@@ -1,9 +1,10 @@
 // Statements read to definitions.
 ghost use Rattle.std.specs.Prelude.{◌≡◌, IfOk, None};
-ghost use Rattle.cts_defread.specs.Causes.{place_cause};
+ghost use Rattle.cts_defline.specs.Refusals.{open_kind};
+ghost use Rattle.cts_defline.specs.Rules.{KeepsRules};
+ghost use Rattle.cts_defread.specs.Causes.{opened, place_cause};
 ghost use Rattle.cts_defread.specs.Definitions.{definitions_of};
 ghost use Rattle.cts_defread.specs.Drafts.{IsKept};
-ghost use Rattle.cts_defread.specs.Sound.{IsSoundLine};
 ghost use Rattle.cts_defread.specs.Steps.{Judged, Gives};
 
 use crate::DefFault;
@@ -19,7 +20,7 @@ impl Draft {
         requires { IsKept self.now }
         ensures judged { Judged self.now.packets.items self.now.set_names.items statement.now result }
         ensures clean { IfOk result (λ l. place_cause self.now.packets.items self.now.set_names.items l ≡ None) }
-        ensures sound { IfOk result (λ l. IsSoundLine l) }
+        ensures rules { IfOk result (λ l. KeepsRules (open_kind (opened self.now.packets.items)) l) }
     {
         let line = statement.line;
         let said = match read_line(alloc, self.opened(), statement.words.as_slice()) {

@@ -14,7 +14,7 @@ fn refused(rt: &impl Abort, alloc: Global, text: &[u8]) -> Result<Option<(u32, D
     match read_definitions(alloc, &found) {
         Ok(_) => Ok(None),
         Err(DefFault::Refused { line, cause }) => Ok(Some((line, cause))),
-        Err(DefFault::Memory) => Ok(Some((0, DefCause::TooMany))),
+        Err(DefFault::Memory) => Err(Fail::new("out of memory")),
     }
 }
 
@@ -219,7 +219,7 @@ fn names_of_others_are_free(rt: HostRuntime) -> Result<(), Fail> {
 
 #[test]
 fn places_are_refused(rt: HostRuntime) -> Result<(), Fail> {
-    let rows: [(&[u8], u32, DefCause); 21] = [
+    let rows: [(&[u8], u32, DefCause); 22] = [
         (
             b"APPEND_ITEM A 12 UINT '' LITTLE_ENDIAN",
             2,
@@ -285,18 +285,28 @@ fn places_are_refused(rt: HostRuntime) -> Result<(), Fail> {
             DefCause::BadPlace,
         ),
         (b"ID_ITEM A -8 8 UINT 256", 2, DefCause::BadPlace),
+        (
+            b"ITEM A 0 0 STRING\nAPPEND_ITEM B 8 UINT",
+            3,
+            DefCause::BadPlace,
+        ),
     ];
     check_rows(&rt, rt.alloc(), TELEMETRY, &rows)
 }
 
 #[test]
 fn places_in_commands_are_refused(rt: HostRuntime) -> Result<(), Fail> {
-    let rows: [(&[u8], u32, DefCause); 5] = [
+    let rows: [(&[u8], u32, DefCause); 6] = [
         (b"PARAMETER A -8 8 UINT 0 1 0", 2, DefCause::BadPlace),
         (b"PARAMETER A 0 -8 STRING ''", 2, DefCause::BadPlace),
         (
             b"PARAMETER A 0 0 STRING ''\nPARAMETER B 0 8 UINT 0 1 0",
             3,
+            DefCause::BadPlace,
+        ),
+        (
+            b"PARAMETER A 0 0 STRING ''\nUNITS a b\nPARAMETER B 0 8 UINT 0 1 0",
+            4,
             DefCause::BadPlace,
         ),
         (b"PARAMETER A 0 0 UINT 0 1 256", 2, DefCause::BadPlace),

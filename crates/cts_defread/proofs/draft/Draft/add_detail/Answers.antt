@@ -7,13 +7,13 @@ use Rattle.cts_defread.proofs.Taken.{both_ok, states_taken, set_placed}
 use Rattle.cts_defread.proofs.draft.Draft.add_detail.Goals as goal
 
 pub change_last_item-requires : goal.change_last_item-requires
-change_last_item-requires c = fits c.args.self.now.packets.items c.args.self.now.set_names.items c.args.detail c.requires.clean c.requires.sound
+change_last_item-requires c = fits c.args.self.now.packets.items c.args.self.now.set_names.items c.args.detail c.requires.clean c.requires.rules.sound
 
 pub returns-clause-kept : goal.returns-clause-kept
 returns-clause-kept c =
     both_ok c.know_set.result
     (λ known added.
-    detail_kept c.args.self.now _ c.args.detail c.requires.kept c.requires.clean
+    detail_kept c.args.self.now _ c.args.detail c.requires.kept c.requires.clean c.requires.rules.suited
     (record { telemetry = refl; commands = refl; items = refl; telemetry_count = refl; command_count = refl; item_count = refl; ends = refl; ended = refl; filled = refl })
     c.in_ok-taken.ensures.changed
     (states_taken c.know_state.new.states (state_names (open_item c.args.self.now.packets.items)) _ _ _ _ c.in_ok-taken.ensures.taken c.in_ok-state.ensures

@@ -5,11 +5,11 @@ use Rattle.std.proofs.lemmas.Cmp.{nat_list_cmp_total}
 use Rattle.std.proofs.lemmas.List.{append-nil}
 use Rattle.cts_base.specs.Known.{Knows}
 use Rattle.cts_base.proofs.Known.{knows_more}
-use Rattle.cts_def.specs.Items.{ItemData, is_same}
+use Rattle.cts_def.specs.Items.{ItemData, is_same, is_to_the_end}
 use Rattle.cts_def.specs.Packets.{received_count}
 use Rattle.cts_def.specs.Spans.{end_of}
 use Rattle.cts_defline.specs.declared.line.Line.TheVariants as line
-use Rattle.cts_defread.specs.Causes.{open_items, has_item, is_open_ended, is_to_the_end}
+use Rattle.cts_defread.specs.Causes.{open_items, has_item, is_open_ended}
 use Rattle.cts_defread.specs.Drafts.{item_names}
 use Rattle.cts_defread.proofs.Clean.{clean}
 use Rattle.cts_defread.proofs.Kept.{unchanged_kept}
@@ -53,18 +53,18 @@ returns-clause-placed c =
 
 pub returns-clause-kept : goal.returns-clause-kept
 returns-clause-kept c =
-    let ended : c.if-self.self ≡ c.args.self.now.is_ended || is_open_ended c.new_item-item.result =
+    let ended : c.if-self.self ≡ c.args.self.now.is_open_ended || is_open_ended c.new_item-item.result =
     elim c.if-self.branch [
       | then-self w ↦ w.self-is ∙ w.if-self.true ∙ sym (ap (λ (b : Bool). b || is_open_ended c.new_item-item.result) w.if-self.true)
       | else-self w ↦ w.self-is ∙ c.is_open_ended-is_open_ended.ensures ∙ sym (ap (λ (b : Bool). b || is_open_ended c.new_item-item.result) w.if-self.false)
     ] in
-    let filled : c.if-self-2.self ≡ c.args.self.now.is_filled || is_to_the_end c.new_item-item.result =
+    let filled : c.if-self-2.self ≡ c.args.self.now.is_to_the_end || is_to_the_end c.new_item-item.result =
     elim c.if-self-2.branch [
       | then-self-2 w ↦ w.self-is ∙ w.if-self-2.true ∙ sym (ap (λ (b : Bool). b || is_to_the_end c.new_item-item.result) w.if-self-2.true)
       | else-self-2 w ↦ w.self-is ∙ c.is_to_the_end-is_to_the_end.ensures ∙ sym (ap (λ (b : Bool). b || is_to_the_end c.new_item-item.result) w.if-self-2.false)
     ] in
     item_kept c.args.self.now _ c.pop.new.self.items c.in-Some.drafted c.new_item-item.result c.args.head c.requires.kept
-    (clean c.args.self.now.packets.items c.args.self.now.set_names.items (line.Item c.args.head) c.requires.clean)
+    (clean c.args.self.now.packets.items c.args.self.now.set_names.items (line.Item c.args.head) c.requires.clean) c.requires.suited
     (record { telemetry = refl; commands = refl; sets = refl; set_names = refl; telemetry_count = refl; command_count = refl })
     c.in-Some.ensures.items c.new_item-item.ensures
     (item_placed c.args.self.now.packets.items c.pop.new.self.items c.push.new.self.items c.in-Some.drafted c.in_ok-with_item.field-0 c.new_item-item.result c.args.head c.args.self.now.end

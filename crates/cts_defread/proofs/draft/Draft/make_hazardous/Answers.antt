@@ -13,7 +13,7 @@ returns-in_ok-push-clause-placed c =
 
 pub returns-in_ok-push-clause-kept : goal.returns-in_ok-push-clause-kept
 returns-in_ok-push-clause-kept c =
-    hazardous_kept c.args.self.now _ c.requires.kept
+    hazardous_kept c.args.self.now _ c.requires.kept c.requires.suited
     (record { telemetry = refl; commands = refl; items = refl; telemetry_count = refl; command_count = refl; item_count = refl; ends = refl; ended = refl; filled = refl })
     refl refl refl
     (put_back make_hazardous c.args.self.now.packets.items c.pop.new.self.items c.push.new.self.items c.in-Some.drafted c.in-Some.ensures.items
