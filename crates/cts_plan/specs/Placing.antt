@@ -123,3 +123,9 @@ abbrev pub Judged : DefinitionsData → List ConnectionData → Statement → Re
 Judged d cs s (Ok l) = (refusal_in d cs s ≡ None) × (line_of_statement s ≡ Some l)
 Judged d cs s (Err fault.Memory) = Unit {0}
 Judged d cs s (Err (fault.Refused n c)) = refusal_in d cs s ≡ Some (n, c)
+
+-- What was judged has no such fault, or is refused for it.
+abbrev pub Settles : {X : Type 0} → Result X SiteFault → Option Refused → Type 0
+Settles (Ok x) found = found ≡ None
+Settles (Err fault.Memory) found = Unit {0}
+Settles (Err (fault.Refused n c)) found = found ≡ Some (n, c)
