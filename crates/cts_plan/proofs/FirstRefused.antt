@@ -1,5 +1,5 @@
 -- Statements are refused at the first one that is refused, or at their end.
-use Rattle.std.proofs.Common.{◌≡◌, ℕ, cond, List, [], Option, Some, None, Result, Ok, Err, refl, ap, ◌∙◌}
+use Rattle.std.proofs.Common.{◌≡◌, ℕ, cond, List, [], Option, Some, None, Err, refl, ap}
 use Rattle.cts_def.specs.Packets.{DefinitionsData}
 use Rattle.cts_words.specs.declared.statement.Statement.{Statement}
 use Rattle.cts_words.specs.Refusals.{or_else, first_refusal}

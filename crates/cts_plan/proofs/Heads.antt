@@ -1,6 +1,5 @@
 -- Interfaces and routers by their own lines and those that belong to them.
-use Rattle.std.proofs.Common.{◌≡◌, ℕ, Bool, List, [], ◌∷◌, ◌++◌, map, Option, Some, None, refl, sym, ap, subst, ◌∙◌}
-use Rattle.std.specs.List.{filter_map}
+use Rattle.std.proofs.Common.{◌≡◌, List, [], ◌∷◌, map, Option, Some, None, refl, ap, ◌∙◌}
 use Rattle.std.proofs.lemmas.List.{map-append}
 use Rattle.cts_words.specs.Blocks.{begin_block, cut_at_heads, blocks, HasNoHead}
 use Rattle.cts_words.proofs.Blocks.{heads, bodies}
@@ -8,7 +7,7 @@ use Rattle.cts_plan.specs.declared.line.Line.{Line}
 use Rattle.cts_plan.specs.declared.line.Line.TheVariants as line
 use Rattle.cts_plan.specs.Connections.{ConnectionData}
 use Rattle.cts_plan.specs.Standing.{opening_in, connection_of}
-use Rattle.cts_plan.specs.Laws.{head_of, ConnectionsAreOfTheirLines, HasItsLines, ConnectionsHaveTheirLines, NoneStandsBefore}
+use Rattle.cts_plan.specs.Laws.{head_of, ConnectionsAreOfTheirLines, ConnectionsHaveTheirLines, NoneStandsBefore}
 
 block_heads : (bs : List (ConnectionData × List Line)) → map head_of (map connection_of bs) ≡ map head_of (map (λ b. b.0) bs)
 block_heads [] = refl

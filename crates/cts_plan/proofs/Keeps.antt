@@ -1,10 +1,10 @@
 -- A line without a cause keeps what is true of all that stands.
-use Rattle.std.proofs.Common.{◌≡◌, ℕ, suc, ◌+◌, ◌<◌, ◌≤◌, Bool, true, false, cond, not, ◌&&◌, ◌||◌, List, [], ◌∷◌, ◌++◌, length, map, Option, Some, None, refl, sym, ap, subst, ◌∙◌, append_assoc, nat_lt, nat_eq, arith}
-use Rattle.std.specs.Prelude.{IsTrue, nat_le}
+use Rattle.std.proofs.Common.{◌≡◌, ℕ, suc, ◌+◌, ◌≤◌, Bool, true, false, cond, not, ◌&&◌, ◌||◌, List, [], ◌∷◌, ◌++◌, length, Option, Some, None, refl, sym, ap, subst, ◌∙◌, append_assoc, arith}
+use Rattle.std.specs.Prelude.{nat_le}
 use Rattle.std.specs.List.{filter, flat_map, list_any, list_all, IsDistinct}
 use Rattle.std.proofs.lemmas.List.{append-nil, length-append}
 use Rattle.std.proofs.lemmas.Grind.{flat_map-append}
-use Rattle.std.proofs.lemmas.List.Folds.{list_any-append, list_all-append}
+use Rattle.std.proofs.lemmas.List.Folds.{list_any-append}
 use Rattle.cts_words.specs.Blocks.{last_of, on_last}
 use Rattle.cts_def.specs.Items.{is_same}
 use Rattle.cts_def.specs.Packets.{DefinitionsData}
@@ -20,7 +20,7 @@ use Rattle.cts_plan.specs.Causes.{is_same_kind, has_name_of, is_double, maps, is
 use Rattle.cts_plan.specs.Completing.{is_named}
 use Rattle.cts_plan.specs.Sound.{interface_name, router_name, interface_targets, router_routes, interface_names, router_names, IsSoundLine}
 use Rattle.cts_plan.specs.Placing.{change_connection, place, targets_of, AreRoutedBehind, AreKnownTargets, AreReady, IsSoundStanding}
-use Rattle.cts_plan.proofs.Lists.{both, and_true, neither, any_snoc, all_append, distinct_snoc, not_false}
+use Rattle.cts_plan.proofs.Lists.{both, and_true, any_snoc, all_append, distinct_snoc, not_false}
 
 -- ---- what each connection adds to a list
 

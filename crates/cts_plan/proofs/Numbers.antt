@@ -1,5 +1,5 @@
 -- The numbers of interfaces by their names.
-use Rattle.std.proofs.Common.{◌≡◌, ℕ, zero, suc, ◌+◌, ◌<◌, Bool, true, false, cond, not, ◌&&◌, ◌||◌, List, [], ◌∷◌, ◌++◌, length, map, Option, Some, None, refl, sym, ap, ◌∙◌, nat_lt, nat_eq, arith}
+use Rattle.std.proofs.Common.{◌≡◌, ℕ, zero, suc, ◌+◌, Bool, true, false, cond, not, ◌&&◌, ◌||◌, List, [], ◌∷◌, ◌++◌, length, map, Option, Some, None, refl, sym, ap, ◌∙◌, nat_lt, nat_eq, arith}
 use Rattle.std.specs.Prelude.{find}
 use Rattle.std.specs.List.{list_any, list_all, flat_map, slice_get, AllByRecursion, IsDistinct}
 use Rattle.std.proofs.lemmas.Cmp.{nat_list_eq_equiv}
@@ -11,7 +11,7 @@ use Rattle.cts_plan.specs.Connections.{ConnectionData}
 use Rattle.cts_plan.specs.Causes.{interfaces_in}
 use Rattle.cts_plan.specs.Completing.{is_named, targets_in, targets_named, targets_for}
 use Rattle.cts_plan.specs.SiteFiles.{interface_of, interfaces_of, number_of}
-use Rattle.cts_plan.specs.Placing.{are_known, are_routed_behind, targets_with}
+use Rattle.cts_plan.specs.Placing.{are_known, targets_with}
 use Rattle.cts_plan.proofs.Lists.{both, and_true}
 
 abbrev has_name : List ℕ → InterfaceData → Bool

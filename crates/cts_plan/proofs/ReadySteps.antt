@@ -1,5 +1,5 @@
 -- The steps of statements are FIXED without its packets, or need nothing more.
-use Rattle.std.proofs.Common.{◌≡◌, ℕ, Bool, true, false, cond, ◌&&◌, List, [], ◌∷◌, length, Option, Some, None, refl, ap, nat_eq}
+use Rattle.std.proofs.Common.{◌≡◌, ℕ, Bool, true, false, cond, List, length, Option, Some, None, refl, nat_eq}
 use Rattle.std.specs.Prelude.{option_map, option_to_list}
 use Rattle.std.specs.List.{list_all}
 use Rattle.cts_def.specs.Protocols as spec
@@ -13,7 +13,7 @@ use Rattle.cts_plan.specs.declared.step.Step.{Step}
 use Rattle.cts_plan.specs.Chains.{is_ready}
 use Rattle.cts_plan.specs.Words.{word, pattern_of}
 use Rattle.cts_plan.specs.Forms.{protocol_of, parameters}
-use Rattle.cts_plan.specs.Lines.{length_place, length_with, terminated_of, ready, step_of, step_in, step_at}
+use Rattle.cts_plan.specs.Lines.{length_place, length_with, ready, step_of, step_in, step_at}
 
 abbrev steps_are_ready : Option Step → Type 0
 steps_are_ready o = list_all is_ready (option_to_list o) ≡ true

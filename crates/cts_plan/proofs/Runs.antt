@@ -1,17 +1,15 @@
 -- Statements read one by one are refused, or say a site, as the definition says.
-use Rattle.std.proofs.Common.{◌≡◌, ℕ, suc, ◌+◌, ◌<◌, ◌≤◌, Bool, true, false, not, cond, ◌&&◌, List, [], ◌∷◌, ◌++◌, length, get_or, take, drop, Option, Some, None, Result, Ok, Err, refl, sym, ap, ◌∙◌, subst, add-one, arith, nat_eq, nat_lt}
-use Rattle.std.specs.Prelude.{find, nat_le, unwrap_or}
-use Rattle.std.specs.Int.{is_negative}
-use Rattle.std.specs.List.{AllByRecursion, IsDistinct, list_any, list_all}
+use Rattle.std.proofs.Common.{◌≡◌, ℕ, ◌+◌, ◌<◌, ◌≤◌, Bool, true, false, not, cond, List, [], ◌∷◌, ◌++◌, length, get_or, take, drop, Option, Some, None, Ok, Err, refl, sym, ap, ◌∙◌, subst, add-one, arith}
+use Rattle.std.specs.Prelude.{find, unwrap_or}
+use Rattle.std.specs.List.{IsDistinct, list_any}
 use Rattle.std.proofs.lemmas.List.{take_more}
 use Rattle.std.proofs.Math.Seq.{drop-cons}
 use Rattle.cts_base.specs.Names.{is_name, in_upper_case}
 use Rattle.cts_def.specs.Items.{is_same}
 use Rattle.cts_def.specs.Packets.{DefinitionsData}
-use Rattle.cts_def.specs.Sites.{SiteData}
 use Rattle.cts_words.specs.declared.statement.Statement.{Statement}
 use Rattle.cts_words.specs.Refusals.{or_else, first_refusal}
-use Rattle.cts_words.specs.Blocks.{last_of, on_last}
+use Rattle.cts_words.specs.Blocks.{last_of}
 use Rattle.cts_words.proofs.Refused as refused
 use Rattle.cts_words.proofs.Refused.{Decides}
 use Rattle.cts_words.proofs.Finds.{none_passes}
@@ -32,9 +30,9 @@ use Rattle.cts_plan.specs.Standing.{StandingData, route_in}
 use Rattle.cts_plan.specs.Lines.{line_of, name_of, step_at, said_or_nothing, opening_of}
 use Rattle.cts_plan.specs.Causes.{holds, order, is_spelled, is_unknown_interface, is_double, is_unknown_target, is_target_twice, is_chain_too_long, is_not_last, is_too_many}
 use Rattle.cts_plan.specs.Completing.{is_named, due}
-use Rattle.cts_plan.specs.Sound.{IsSoundLine, interface_name, router_name, interface_names, router_names}
-use Rattle.cts_plan.specs.SiteFiles.{Refused, parts, opening, opens, line_in, line_of_statement, cause_in, at_line, after, refusal_in, refusal, at_end, site_in, site_or, site_of}
-use Rattle.cts_plan.specs.Placing.{change_connection, place, targets_of, seen, Fits, FitsLast, FitsIn, AreRoutedBehind, AreKnownTargets, AreReady, IsSoundStanding, Fails, Judged}
+use Rattle.cts_plan.specs.Sound.{IsSoundLine, interface_names, router_names}
+use Rattle.cts_plan.specs.SiteFiles.{Refused, parts, opening, opens, line_in, cause_in, at_line, after, refusal_in, refusal, at_end, site_in, site_or, site_of}
+use Rattle.cts_plan.specs.Placing.{change_connection, place, targets_of, seen, FitsLast, FitsIn, AreRoutedBehind, AreKnownTargets, AreReady, IsSoundStanding, Fails, Judged}
 use Rattle.cts_plan.proofs.Keeps.{keeps, keeps_known, keeps_ready, no_two, IsRouted}
 use Rattle.cts_plan.proofs.Lists.{not_false, but_last, but_last_snoc, but_last_kept}
 use Rattle.cts_plan.proofs.Settled.{AreSettledBehind, settled_all}

@@ -1,5 +1,5 @@
 -- The targets of routed interfaces stay the same behind further statements.
-use Rattle.std.proofs.Common.{◌≡◌, ℕ, Bool, true, false, cond, ◌&&◌, ◌||◌, List, [], ◌∷◌, ◌++◌, Option, Some, None, refl, sym, ap, subst, ◌∙◌, append_assoc}
+use Rattle.std.proofs.Common.{◌≡◌, ℕ, Bool, true, false, cond, ◌||◌, List, [], ◌∷◌, ◌++◌, Option, Some, None, refl, sym, ap, subst, ◌∙◌, append_assoc}
 use Rattle.std.specs.Prelude.{find}
 use Rattle.std.specs.List.{list_any, list_all, flat_map, AllByRecursion}
 use Rattle.std.proofs.lemmas.List.{append-nil}
@@ -7,7 +7,6 @@ use Rattle.cts_words.specs.Blocks.{last_of}
 use Rattle.cts_def.specs.Packets.{DefinitionsData}
 use Rattle.cts_plan.specs.Connections.{ConnectionData}
 use Rattle.cts_plan.specs.Completing.{fault_of, is_named, targets_in, targets_named, targets_for, fault_in}
-use Rattle.cts_plan.specs.Sound.{router_routes}
 use Rattle.cts_plan.specs.Placing.{are_routed_behind, AreRoutedBehind, AreSettled}
 use Rattle.cts_plan.proofs.Lists.{both, but_last}
 

@@ -1,5 +1,5 @@
 -- The protocols of a connection so far.
-use Rattle.std.specs.Prelude.{ℕ, Bool, true, false, not, ◌&&◌, nat_lt, List, [], ◌∷◌, ◌++◌, length, if◌then◌else◌}
+use Rattle.std.specs.Prelude.{Bool, true, false, not, ◌&&◌, List, [], ◌∷◌, ◌++◌, if◌then◌else◌}
 use Rattle.std.specs.List.{list_any}
 use Rattle.cts_def.specs.Protocols as spec
 use Rattle.cts_def.specs.Protocols.{UseData, SpecData, Burst, reads_packets}

@@ -1,7 +1,6 @@
 -- What a statement says, read from its words. Of words that are not what their fields ask for, the reading says nothing
 -- that is used: a missing parameter and one that is no such number read as the default.
-use Rattle.std.specs.Prelude.{ℕ, ℤ, pos, ◌+◌, ◌*◌, ◌^◌, ◌/◌, ◌%◌, Bool, true, false, not, ◌&&◌, ◌||◌, ◌==◌, nat_eq, nat_lt, nat_le, List, [], ◌∷◌, ◌++◌, length, map, option_to_list, Option, Some, None, unwrap_or, option_map, is_none, if◌then◌else◌}
-use Rattle.cts_base.specs.declared.decimal.Decimal.{Decimal}
+use Rattle.std.specs.Prelude.{ℕ, pos, ◌+◌, ◌/◌, Bool, true, false, not, ◌&&◌, ◌||◌, ◌==◌, nat_eq, nat_lt, List, [], length, option_to_list, Option, Some, None, unwrap_or, option_map, is_none, if◌then◌else◌}
 use Rattle.cts_base.specs.Names.{is_name, in_upper_case}
 use Rattle.cts_bits.specs.Places.{is_whole, span}
 use Rattle.cts_bits.specs.declared.order.Order.{Order}
@@ -20,12 +19,11 @@ use Rattle.cts_plan.specs.declared.step.Step.{Step}
 use Rattle.cts_plan.specs.declared.step.Step.TheVariants as step
 use Rattle.cts_plan.specs.declared.line.Line.{Line}
 use Rattle.cts_plan.specs.declared.line.Line.TheVariants as line
-use Rattle.cts_plan.specs.declared.line.Detail.{Detail}
 use Rattle.cts_plan.specs.declared.line.Detail.TheVariants as detail
 use Rattle.cts_plan.specs.Connections.{ConnectionData}
 use Rattle.cts_plan.specs.Steps.{FixedStepData}
 use Rattle.cts_plan.specs.Words.{word, flag_of, order_of, way_of, way_reads, way_writes, port_of, desks_of, size_of, bits_of, per_count_of, max_of, signed_of, delay_of, pattern_of}
-use Rattle.cts_plan.specs.Forms.{role_of, head_fields, protocol_of, parameters}
+use Rattle.cts_plan.specs.Forms.{role_of, protocol_of, parameters}
 
 abbrev pub flag_or : Bool → List ℕ → Bool
 flag_or default word = unwrap_or (flag_of word) default

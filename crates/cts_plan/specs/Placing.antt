@@ -1,7 +1,7 @@
 -- What one more line changes, and what functions answer. Functions of the crate cite this, and the definitions do not.
-use Rattle.std.specs.Prelude.{◌≡◌, ℕ, pos, ◌≤◌, Bool, false, ◌&&◌, int_le, nat_le, nat_lt, nat_eq, List, [], ◌∷◌, ◌++◌, map, length, if◌then◌else◌, option_to_list, Some, None, Option, Result, Ok, Err, IsTrue}
+use Rattle.std.specs.Prelude.{◌≡◌, ℕ, ◌≤◌, Bool, false, ◌&&◌, nat_le, List, [], ◌∷◌, ◌++◌, map, length, if◌then◌else◌, Some, None, Option, Result, Ok, Err, IsTrue}
 use Rattle.std.specs.Int.{is_negative}
-use Rattle.std.specs.List.{filter, list_any, flat_map, list_all, IsDistinct, AllByRecursion}
+use Rattle.std.specs.List.{list_any, flat_map, list_all, IsDistinct, AllByRecursion}
 use Rattle.cts_def.specs.Items.{is_same}
 use Rattle.cts_def.specs.Packets.{DefinitionsData}
 use Rattle.cts_def.specs.Sites.{InterfaceData, is_known_target, routed_targets}
@@ -16,8 +16,8 @@ use Rattle.cts_plan.specs.declared.fault.SiteFault.TheVariants as fault
 use Rattle.cts_plan.specs.declared.draft.Draft.{Draft}
 use Rattle.cts_plan.specs.Chains.{step_reads, step_reads_packets, is_ready}
 use Rattle.cts_plan.specs.Connections.{ConnectionData}
-use Rattle.cts_plan.specs.Standing.{StandingData, standing}
-use Rattle.cts_plan.specs.Sound.{interface_name, router_name, interface_targets, router_routes, interface_names, router_names}
+use Rattle.cts_plan.specs.Standing.{StandingData}
+use Rattle.cts_plan.specs.Sound.{interface_targets, router_routes, interface_names, router_names}
 use Rattle.cts_plan.specs.Completing.{fault_of, is_named, targets_for}
 use Rattle.cts_plan.specs.SiteFiles.{Refused, number_of, line_of_statement, refusal_in}
 
@@ -123,3 +123,9 @@ abbrev pub Judged : DefinitionsData → List ConnectionData → Statement → Re
 Judged d cs s (Ok l) = (refusal_in d cs s ≡ None) × (line_of_statement s ≡ Some l)
 Judged d cs s (Err fault.Memory) = Unit {0}
 Judged d cs s (Err (fault.Refused n c)) = refusal_in d cs s ≡ Some (n, c)
+
+-- What was judged has no such fault, or is refused for it.
+abbrev pub Settles : {X : Type 0} → Result X SiteFault → Option Refused → Type 0
+Settles (Ok x) found = found ≡ None
+Settles (Err fault.Memory) found = Unit {0}
+Settles (Err (fault.Refused n c)) found = found ≡ Some (n, c)

@@ -1,5 +1,5 @@
 -- What stands after some lines: the interfaces and routers, and the settings of the desks.
-use Rattle.std.specs.Prelude.{ℕ, Bool, true, false, not, ◌&&◌, List, [], ◌∷◌, ◌++◌, map, Option, Some, None, unwrap_or}
+use Rattle.std.specs.Prelude.{ℕ, Bool, true, false, not, ◌&&◌, List, ◌++◌, map, Option, Some, None, unwrap_or}
 use Rattle.std.specs.List.{filter_map, list_any}
 use Rattle.cts_base.specs.declared.decimal.Decimal.{Decimal}
 use Rattle.cts_words.specs.Blocks.{blocks, last_of}

@@ -1,7 +1,6 @@
 -- The protocols of a connection that is not complete. FIXED is judged and given its packets when all targets are known.
-use Rattle.std.specs.Prelude.{ℕ, ◌+◌, Bool, true, false, not, ◌&&◌, ◌||◌, ◌==◌, nat_le, nat_lt, List, [], ◌∷◌, length, Option, IsTrue}
-use Rattle.std.specs.List.{list_any}
-use Rattle.cts_def.specs.Protocols.{UseData, reads_packets, is_pattern, is_within_frame}
+use Rattle.std.specs.Prelude.{ℕ, Bool, ◌||◌, List, IsTrue}
+use Rattle.cts_def.specs.Protocols.{is_pattern, is_within_frame}
 
 -- what contracts see of a FIXED protocol whose packets are not known yet: its fields
 pub record FixedStepData : Type 0 where

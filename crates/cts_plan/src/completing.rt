@@ -6,11 +6,12 @@ ghost use Rattle.cts_def.specs.Protocols.{is_id_within, is_start_within};
 ghost use Rattle.cts_def.specs.Sites.{packets_of};
 ghost use Rattle.cts_def.specs.Starts.{id_field_data, id_fields};
 ghost use Rattle.cts_plan.specs.Chains.{step_reads, whole_chain};
-ghost use Rattle.cts_plan.specs.Completing.{starts_of, is_bad_min_id, is_of, have_variable, cause_of_fixed, at_number, step_fault, first_step_fault, fault_of, is_named, targets_named, targets_for, due};
+ghost use Rattle.cts_plan.specs.Placing.{Settles};
+ghost use Rattle.cts_plan.specs.Completing.{starts_of, is_bad_min_id, is_of, have_variable, cause_of_fixed, step_fault, first_step_fault, fault_of, is_named, targets_named, targets_for, due};
 
 use crate::causes::step_reads;
 use crate::connection::Connection;
-use crate::fault::SiteCause;
+use crate::fault::{SiteCause, SiteFault};
 use crate::step::{FixedStep, Step};
 use crate::targets::Targets;
 use cts_base::{List, Memory, Name};
@@ -107,40 +108,41 @@ fn cause_of_fixed(
     Ok(None)
 }
 
-fn step_fault(
+fn judge_step(
     alloc: Global,
     definitions: &Definitions,
     targets: &Targets,
     step: &Step,
-) -> Result<Option<(u32, SiteCause)>, Memory>
-    ensures { IfOk result (λ fault. fault ≡ step_fault definitions.now targets.now step.now) }
+) -> Result<(), SiteFault>
+    ensures { Settles result (step_fault definitions.now targets.now step.now) }
 {
     match step {
-        Step::Ready(_) => Ok(None),
+        Step::Ready(_) => Ok(()),
         Step::Fixed(fixed) => {
             let packets = packets_of(definitions, fixed.telemetry);
             match cause_of_fixed(alloc, targets, packets, fixed)? {
-                Some(cause) => Ok(Some((fixed.line, cause))),
-                None => Ok(None),
+                Some(cause) => Err(SiteFault::Refused {
+                    line: fixed.line,
+                    cause,
+                }),
+                None => Ok(()),
             }
         }
     }
 }
 
-fn first_step_fault(
+fn judge_steps(
     alloc: Global,
     definitions: &Definitions,
     targets: &Targets,
     steps: &[Step],
-) -> Result<Option<(u32, SiteCause)>, Memory>
-    ensures { IfOk result (λ fault. fault ≡ first_step_fault definitions.now targets.now steps.now) }
+) -> Result<(), SiteFault>
+    ensures { Settles result (first_step_fault definitions.now targets.now steps.now) }
 {
     for step in steps {
-        if let Some(fault) = step_fault(alloc, definitions, targets, step)? {
-            return Ok(Some(fault));
-        }
+        judge_step(alloc, definitions, targets, step)?;
     }
-    Ok(None)
+    Ok(())
 }
 
 /// Whether one of these protocols cuts what is read.
@@ -162,19 +164,22 @@ fn whole_length(steps: &[Step]) -> usize
     }
 }
 
-fn fault_of(
+fn judge_with(
     alloc: Global,
     definitions: &Definitions,
     targets: &Targets,
     connection: &Connection,
-) -> Result<Option<(u32, SiteCause)>, Memory>
-    ensures { IfOk result (λ fault. fault ≡ fault_of definitions.now targets.now connection.now) }
+) -> Result<(), SiteFault>
+    ensures { Settles result (fault_of definitions.now targets.now connection.now) }
 {
     let steps = connection.steps.as_slice();
     if 4 < whole_length(steps) {
-        return Ok(Some((connection.line, SiteCause::ChainTooLong)));
+        return Err(SiteFault::Refused {
+            line: connection.line,
+            cause: SiteCause::ChainTooLong,
+        });
     }
-    first_step_fault(alloc, definitions, targets, steps)
+    judge_steps(alloc, definitions, targets, steps)
 }
 
 fn is_named(name: &Name, connection: &Connection) -> bool
@@ -240,28 +245,28 @@ fn targets_for(
     }
 }
 
-fn fault_in(
+fn judge_among(
     alloc: Global,
     definitions: &Definitions,
     connections: &[Connection],
     connection: &Connection,
-) -> Result<Option<(u32, SiteCause)>, Memory>
-    ensures { IfOk result (λ fault. fault ≡ fault_of definitions.now (targets_for connections.now connection.now) connection.now) }
+) -> Result<(), SiteFault>
+    ensures { Settles result (fault_of definitions.now (targets_for connections.now connection.now) connection.now) }
 {
     let targets = targets_for(alloc, connections, connection)?;
-    fault_of(alloc, definitions, &targets, connection)
+    judge_with(alloc, definitions, &targets, connection)
 }
 
-/// What is wrong with the last interface or router, which is complete now.
-pub fn due(
+/// Judges the last interface or router, which is complete now.
+pub fn judge_last(
     alloc: Global,
     definitions: &Definitions,
     connections: &[Connection],
-) -> Result<Option<(u32, SiteCause)>, Memory>
-    ensures { IfOk result (λ fault. fault ≡ due definitions.now connections.now) }
+) -> Result<(), SiteFault>
+    ensures { Settles result (due definitions.now connections.now) }
 {
     match last(connections) {
-        Some(connection) => fault_in(alloc, definitions, connections, connection),
-        None => Ok(None),
+        Some(connection) => judge_among(alloc, definitions, connections, connection),
+        None => Ok(()),
     }
 }

@@ -4,16 +4,16 @@ ghost use Rattle.std.specs.Prelude.{◌≡◌, None, Ok, IfOk, IfErr, option_map
 ghost use Rattle.cts_plan.specs.SiteFiles.{parts, opening, site_in, site_of};
 ghost use Rattle.cts_plan.specs.Completing.{due};
 ghost use Rattle.cts_plan.specs.Sound.{IsSoundLine};
-ghost use Rattle.cts_plan.specs.Placing.{Judged, Gives, Fails, AreSettled, AreKnownTargets, AreReady, IsSoundStanding, seen};
+ghost use Rattle.cts_plan.specs.Placing.{Judged, Gives, Fails, AreSettled, AreKnownTargets, AreReady, IsSoundStanding, Settles, seen};
 
 use crate::causes::first_cause;
-use crate::completing::due;
+use crate::completing::judge_last;
 use crate::draft::Draft;
 use crate::fault::{SiteCause, SiteFault};
 use crate::finishing::site_of;
 use crate::keyword::{Keyword, keyword_of};
 use crate::line::{Line, line_of};
-use cts_base::{Bytes, Memory};
+use cts_base::Bytes;
 use cts_def::{Definitions, Site};
 use cts_words::Statement;
 use std::alloc::Global;
@@ -44,13 +44,13 @@ impl Draft {
         alloc: Global,
         definitions: &Definitions,
         keyword: Keyword,
-    ) -> Result<Option<(u32, SiteCause)>, Memory>
-        ensures { IfOk result (λ fault. fault ≡ (if opening keyword then due definitions.now self.now.connections.items else None)) }
+    ) -> Result<(), SiteFault>
+        ensures { Settles result (if opening keyword then due definitions.now self.now.connections.items else None) }
     {
         if opens(keyword) {
-            due(alloc, definitions, &self.connections)
+            judge_last(alloc, definitions, &self.connections)
         } else {
-            Ok(None)
+            Ok(())
         }
     }
 
@@ -71,9 +71,7 @@ impl Draft {
                 cause: SiteCause::UnknownKeyword,
             });
         };
-        if let Some((line, cause)) = self.complete(alloc, definitions, keyword)? {
-            return Err(SiteFault::Refused { line, cause });
-        }
+        self.complete(alloc, definitions, keyword)?;
         let said = line_of(alloc, line, keyword, words)?;
         match first_cause(definitions, &self.connections, keyword, words, &said) {
             Some(cause) => Err(SiteFault::Refused { line, cause }),
@@ -100,10 +98,8 @@ fn read_draft(
         let line = draft.judge(alloc, definitions, statement)?;
         draft.add(line)?;
     }
-    match due(alloc, definitions, &draft.connections)? {
-        Some((line, cause)) => Err(SiteFault::Refused { line, cause }),
-        None => Ok(draft),
-    }
+    judge_last(alloc, definitions, &draft.connections)?;
+    Ok(draft)
 }
 
 /// The site that the statements say with these definitions.

@@ -1,4 +1,4 @@
-use Rattle.std.proofs.Common.{◌≡◌, ◌∙◌, sym, ap, subst, List, length, map, nat_lt, nat_eq}
+use Rattle.std.proofs.Common.{◌∙◌, sym, ap, subst, List, length, map, nat_lt, nat_eq}
 use Rattle.std.specs.List.{IsDistinct}
 use Rattle.cts_def.specs.Sites.{routed_targets}
 use Rattle.cts_plan.specs.SiteFiles.{number_of}

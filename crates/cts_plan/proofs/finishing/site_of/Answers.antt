@@ -1,7 +1,7 @@
-use Rattle.std.proofs.Common.{sym, ap, subst, List}
+use Rattle.std.proofs.Common.{sym, subst, List}
 use Rattle.cts_def.specs.Sites.{IsSoundSite, InterfaceData, RouterData}
 use Rattle.cts_plan.specs.Placing.{seen}
-use Rattle.cts_plan.specs.SiteFiles.{interfaces_of, routers_of}
+use Rattle.cts_plan.specs.SiteFiles.{interfaces_of}
 use Rattle.cts_plan.proofs.Finished.{sound_site, site_with}
 use Rattle.cts_plan.proofs.finishing.site_of.Goals as goal
 

@@ -1,4 +1,4 @@
-use Rattle.std.proofs.Common.{◌∙◌, sym, ap, arith}
+use Rattle.std.proofs.Common.{◌∙◌, sym, ap}
 use Rattle.std.proofs.lemmas.Option.{slice_get-get_or, slice_get_past}
 use Rattle.cts_def.specs.Sites.{InterfaceData}
 use Rattle.cts_plan.proofs.Numbers.{found_targets, targets_of_found}

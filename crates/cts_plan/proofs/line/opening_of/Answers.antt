@@ -1,5 +1,5 @@
-use Rattle.std.proofs.Common.{ℕ, Bool, not, ◌||◌, ◌==◌, List, [], length, Option, None, Some, refl, sym, subst, ap, ◌∙◌, arith}
-use Rattle.std.specs.Prelude.{IsTrue, option_to_list}
+use Rattle.std.proofs.Common.{ℕ, not, ◌||◌, ◌==◌, List, length, Option, None, Some, refl, sym, subst, arith}
+use Rattle.std.specs.Prelude.{IsTrue}
 use Rattle.cts_plan.specs.declared.keyword.Role.{Role}
 use Rattle.cts_plan.specs.declared.keyword.Role.TheVariants.{Client, Server}
 use Rattle.cts_plan.specs.Lines.{is_server, host_of}

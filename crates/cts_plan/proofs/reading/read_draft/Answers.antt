@@ -16,10 +16,10 @@ add-requires c = record {
 pub loop-statement-preserved : goal.loop-statement-preserved
 loop-statement-preserved c = next c.args.definitions.now c.loop-statement.draft c.add.new.self c.args.statements.now c.loop-statement.statement-index c.statement-item.result c.in_ok-line.line c.loop-statement-test.true c.statement-item.is c.loop-statement.invariant c.in_ok-line.ensures.judged c.in_ok-line.ensures.sound c.in_ok-add.ensures
 
-pub returns-in-None-clause-settled : goal.returns-in-None-clause-settled
-returns-in-None-clause-settled c =
+pub returns-clause-settled : goal.returns-clause-settled
+returns-clause-settled c =
     let d = c.args.definitions.now in
     let cs = c.loop-statement.draft.connections.items in
     settled_among d cs
-    (settled_all d [] cs c.loop-statement.invariant.settled (ap (due d) (sym c.deref.ensures.value) ∙ sym c.in_ok-line-2.ensures ∙ c.in-None.is))
+    (settled_all d [] cs c.loop-statement.invariant.settled (ap (due d) (sym c.deref.ensures.value) ∙ c.in_ok-judge_last.ensures))
     c.loop-statement.invariant.sound.routes

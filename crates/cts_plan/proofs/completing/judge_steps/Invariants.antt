@@ -1,6 +1,6 @@
 use Rattle.std.proofs.Common.{◌≡◌, drop}
 use Rattle.cts_plan.specs.Completing.{first_step_fault}
-use Rattle.cts_plan.proofs.completing.first_step_fault.Given as goal
+use Rattle.cts_plan.proofs.completing.judge_steps.Given as goal
 
 abbrev pub invariant-loop-step : goal.invariant-loop-step
 invariant-loop-step l =
