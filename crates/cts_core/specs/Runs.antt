@@ -2,6 +2,7 @@
 use Rattle.std.specs.Prelude.{◌≡◌, ℕ, true, false, List, [], ◌∷◌, ◌++◌, map, Option, Some, None, ◌⊎◌}
 use Rattle.cts_def.specs.declared.time.Time.{Time}
 use Rattle.cts_entry.specs.declared.entry.Entry.{Entry}
+use Rattle.cts_entry.specs.Makers.{server}
 use Rattle.cts_entry.specs.declared.what.What.TheVariants.{Opened, Packet, Closed, Stop as StopEntry}
 use Rattle.cts_entry.specs.declared.why.Why.{Why}
 use Rattle.cts_entry.specs.declared.why.Why.TheVariants.{BadFrame}
@@ -60,7 +61,7 @@ Appends g s (Write by count) entries = ⊥
 Appends g s (Call desk body) entries = ⊥
 Appends g s (DrainLog count) entries = ⊥
 Appends g s (DrainSlot by count) entries = ⊥
-Appends g s Stop entries = entries ≡ record { by = 31; time = s.time; what = StopEntry } ∷ []
+Appends g s Stop entries = entries ≡ record { by = server; time = s.time; what = StopEntry } ∷ []
 
 -- what an event did: the entries that it appended, and what it gave besides
 pub record Did : Type 0 where

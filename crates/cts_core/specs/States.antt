@@ -42,11 +42,15 @@ may_close history Stopped = is_stopped history
 may_close history NoMemory = false
 may_close history Full = false
 
+-- a piece has 1 to 65,536 bytes
+abbrev pub is_piece : List ℕ → Bool
+is_piece bytes = nat_le 1 (length bytes) && nat_le (length bytes) 65536
+
 -- The events that are enabled. Write, Call and the drains are not, until the parts are there of which they speak.
 abbrev pub is_enabled : Ground → State → Event → Bool
 is_enabled g s (SetTime time) = nat_lt time.micros 1000000
 is_enabled g s (Opens by) = g.is_line by && (not (is_connected by s.history) && not (is_stopped s.history))
-is_enabled g s (Piece by piece) = g.is_line by && (is_connected by s.history && (nat_le 1 (length piece) && nat_le (length piece) 65536))
+is_enabled g s (Piece by piece) = g.is_line by && (is_connected by s.history && is_piece piece)
 is_enabled g s (Finish by why) = g.is_line by && (is_connected by s.history && may_close s.history why)
 is_enabled g s (Write by count) = false
 is_enabled g s (Call desk body) = false

@@ -1,15 +1,12 @@
 // An entry of the history.
 
-use crate::{What, Why};
+use crate::{SERVER, What, Why};
 use cts_def::{Loss, Time};
-
-const SERVER: u32 = 31;
 
 /// One entry of the server's history: who appended it, when, and what it says.
 #[derive(Debug, Drop)]
 pub struct Entry {
-    /// The maker's number: interface k is k (0 to 15), slot s of router r is 16 + 2r + s, desk d is
-    /// 24 + d, the scribe is 28 and the server itself is 31.
+    /// The number of its maker: an interface, a router's slot, a desk, the scribe or the server itself.
     pub by: u32,
     /// The moment at which the entry was made, or the one that a packet brought along.
     pub time: Time,
@@ -20,6 +17,7 @@ pub struct Entry {
 impl Entry {
     ghost use Rattle.std.specs.Prelude.{◌≡◌};
     ghost use Rattle.cts_entry.specs.declared.what.What.TheVariants.{Opened, Closed, Stop};
+    ghost use Rattle.cts_entry.specs.Makers.{server};
 
     /// A connection of this maker is opened.
     pub fn opened(by: u32, time: Time) -> Entry
@@ -51,7 +49,7 @@ impl Entry {
 
     /// The server is to stop, by its own entry.
     pub fn stop(time: Time) -> Entry
-        ensures { result ≡ record { by = 31; time = time; what = Stop } }
+        ensures { result ≡ record { by = server; time = time; what = Stop } }
     {
         Entry {
             by: SERVER,

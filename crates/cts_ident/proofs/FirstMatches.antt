@@ -8,12 +8,13 @@ use Rattle.std.proofs.lemmas.Option.{get_or_from_slice_get, slice_get-get_or, sl
 use Rattle.std.proofs.lemmas.List.Quantifiers.{position-Some}
 use Rattle.std.proofs.lemmas.List.Sums.{fails_before_first, position_or_len_is}
 use Rattle.std.specs.List.{IsDistinct, position, position_or_len}
-use Rattle.cts_base.specs.Names.{upper}
+use Rattle.cts_base.specs.Names.{in_upper_case, spells}
 use Rattle.cts_def.specs.Items.{is_same}
 use Rattle.cts_def.specs.Packets.{DefinitionsData, PacketData, have_same_names}
 use Rattle.cts_def.specs.Sites.{SiteData, targets_at}
 use Rattle.cts_def.specs.declared.ident.Ident.{Ident}
 use Rattle.cts_def.specs.declared.ident.Ident.TheVariants.{Known, Unknown}
+use Rattle.cts_entry.specs.Makers.{first_slot}
 use Rattle.cts_ident.specs.Identification.{IsFirstMatch, IsMatch, first_of, is_named, is_of, router_of, router_targets, worker_packets, worker_targets}
 use Rattle.cts_ident.specs.Matches.{at_place}
 use Rattle.cts_ident.proofs.Firsts.{first_is_place, passes}
@@ -112,15 +113,17 @@ unknown_of targets packets test i e = let both = unknown_is_none targets packets
 
 -- ---- names
 
--- two texts that are the same as a third one are the same
-same_as_third : (a b t : List ℕ) → is_same a t ≡ true → is_same b t ≡ true → is_same a b ≡ true
-same_as_third a b t h k = nat_list_eq_equiv.congr a t b h ∙ nat_list_eq_equiv.symm t b ∙ k
+-- two names that one text spells are the same
+same_spelled : (text a b : List ℕ) → spells text a ≡ true → spells text b ≡ true → is_same a b ≡ true
+same_spelled text a b h k =
+    let t = in_upper_case text in
+    nat_list_eq_equiv.congr a t b (nat_list_eq_equiv.symm a t ∙ h) ∙ k
 
 names_of_both : (target name : List ℕ) (p q : PacketData) → is_named target name p ≡ true → is_named target name q ≡ true → have_same_names p q ≡ true
 names_of_both target name p q h k =
-    let of_p = both (is_same p.target (map upper target)) (is_same p.name (map upper name)) h in
-    let of_q = both (is_same q.target (map upper target)) (is_same q.name (map upper name)) k in
-    rw (same_as_third p.target q.target (map upper target) of_p.0 of_q.0, same_as_third p.name q.name (map upper name) of_p.1 of_q.1) refl
+    let of_p = both (spells target p.target) (spells name p.name) h in
+    let of_q = both (spells target q.target) (spells name q.name) k in
+    rw (same_spelled target p.target q.target of_p.0 of_q.0, same_spelled name p.name q.name of_p.1 of_q.1) refl
 
 first_if_named : (targets : List (List ℕ)) (packets : List PacketData) (target name : List ℕ) (n : ℕ) → IsDistinct have_same_names packets
     → IsMatch targets packets (is_named target name) n → IsFirstMatch targets packets (is_named target name) n
@@ -142,17 +145,17 @@ named_of targets packets target name n i distinct e =
 
 -- ---- workers
 
-pub interface_targets : (s : SiteData) (worker : ℕ) → worker < 16 → worker_targets s worker ≡ targets_at s.interfaces worker
-interface_targets s worker h = let t : nat_lt worker 16 ≡ true = grind (arith, nat_tests) in rw t refl
+pub interface_targets : (s : SiteData) (worker : ℕ) → worker < first_slot → worker_targets s worker ≡ targets_at s.interfaces worker
+interface_targets s worker h = let t : nat_lt worker first_slot ≡ true = grind (arith, nat_tests) in rw t refl
 
-pub interface_packets : (d : DefinitionsData) (worker : ℕ) → worker < 16 → worker_packets d worker ≡ d.telemetry
-interface_packets d worker h = let t : nat_lt worker 16 ≡ true = grind (arith, nat_tests) in rw t refl
+pub interface_packets : (d : DefinitionsData) (worker : ℕ) → worker < first_slot → worker_packets d worker ≡ d.telemetry
+interface_packets d worker h = let t : nat_lt worker first_slot ≡ true = grind (arith, nat_tests) in rw t refl
 
-pub slot_targets : (s : SiteData) (worker : ℕ) → 16 ≤ worker → worker_targets s worker ≡ router_targets s (router_of worker)
-slot_targets s worker h = let t : nat_lt worker 16 ≡ false = grind (arith, nat_tests) in rw t refl
+pub slot_targets : (s : SiteData) (worker : ℕ) → first_slot ≤ worker → worker_targets s worker ≡ router_targets s (router_of worker)
+slot_targets s worker h = let t : nat_lt worker first_slot ≡ false = grind (arith, nat_tests) in rw t refl
 
-pub slot_packets : (d : DefinitionsData) (worker : ℕ) → 16 ≤ worker → worker_packets d worker ≡ d.commands
-slot_packets d worker h = let t : nat_lt worker 16 ≡ false = grind (arith, nat_tests) in rw t refl
+pub slot_packets : (d : DefinitionsData) (worker : ℕ) → first_slot ≤ worker → worker_packets d worker ≡ d.commands
+slot_packets d worker h = let t : nat_lt worker first_slot ≡ false = grind (arith, nat_tests) in rw t refl
 
 pub named_known : (ts targets : List (List ℕ)) (ps packets : List PacketData) (target name : List ℕ) (n : ℕ) (i : Ident) → targets ≡ ts → packets ≡ ps
     → IsDistinct have_same_names ps → i ≡ first_of ts ps (is_named target name) → (i ≡ Known n) ↔ IsMatch targets packets (is_named target name) n

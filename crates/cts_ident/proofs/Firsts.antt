@@ -1,6 +1,6 @@
 -- The first candidate is the packet at the first place that passes.
 use Rattle.std.proofs.Common.{◌≡◌, ℕ, zero, suc, ◌+◌, ◌<◌, ◌≤◌, Bool, true, false, ◌&&◌, ◌||◌, cond, List, [], ◌∷◌, Option, Some, None, length, get_or, refl, sym, ap, ◌∙◌, arith}
-use Rattle.std.proofs.lemmas.List.{append-nil}
+use Rattle.std.proofs.lemmas.List.{append-nil, get_or-map}
 use Rattle.std.proofs.lemmas.List.Folds.{list_any-append}
 use Rattle.std.proofs.lemmas.Iterator.Adapters.{position_from-zero}
 use Rattle.std.specs.List.{cons_option, filter, find, flat_map, list_all, list_any, filter_map, position, position_from}
@@ -53,9 +53,7 @@ targets_nowhere (j ∷ interfaces) zero past = absurd (omega arith)
 targets_nowhere (j ∷ interfaces) (suc n) past = targets_nowhere interfaces n (omega arith)
 
 pub routes_there : (routers : List RouterData) (n : ℕ) (r : RouterData) → n < length routers → r ≡ get_or routers n r → routes_at routers n ≡ r.routes
-routes_there [] n r within is = absurd (omega arith)
-routes_there (j ∷ routers) zero r within is = ap (λ (x : RouterData). x.routes) (sym is)
-routes_there (j ∷ routers) (suc n) r within is = routes_there routers n r (omega arith) is
+routes_there routers n r within is = get_or-map (λ (x : RouterData). x.routes) routers n r [] within ∙ ap (λ (x : RouterData). x.routes) (sym is)
 
 -- ---- ids
 

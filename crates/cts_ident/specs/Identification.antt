@@ -1,13 +1,15 @@
 -- Which packet or command some bytes, or some names, are: the first that fits, in order of definition, among those of
 -- the targets that a connection reaches.
-use Rattle.std.specs.Prelude.{ℕ, zero, suc, ◌≡◌, ◌+◌, ◌-◌, ◌/◌, ◌<◌, Bool, ◌&&◌, nat_lt, List, [], ◌∷◌, map, length, Option, Some, None, IsTrue, slice_get, if◌then◌else◌}
+use Rattle.std.specs.Prelude.{ℕ, ◌≡◌, ◌+◌, ◌-◌, ◌/◌, ◌<◌, Bool, ◌&&◌, nat_lt, List, [], ◌∷◌, map, length, Option, Some, None, IsTrue, slice_get, slice_index_or, if◌then◌else◌}
 use Rattle.std.specs.List.{filter, find, list_any}
-use Rattle.cts_base.specs.Names.{upper}
+use Rattle.cts_base.specs.Names.{spells}
 use Rattle.cts_def.specs.Beginnings.{begins_with, start_of}
 use Rattle.cts_def.specs.Items.{is_same}
 use Rattle.cts_def.specs.Packets.{DefinitionsData, PacketData}
 use Rattle.cts_def.specs.Sites.{RouterData, SiteData, routed_targets, targets_at}
 use Rattle.cts_def.specs.declared.ident.Ident.{Ident}
+use Rattle.cts_entry.specs.Makers.{first_slot}
+use Rattle.cts_proto.specs.Framing.{Heading, Output}
 use Rattle.cts_def.specs.declared.ident.Ident.TheVariants.{Known, Unknown}
 
 -- ---- candidates
@@ -41,15 +43,13 @@ fits bytes p = begins_with (start_of p) bytes
 
 -- the packet's target and name are these in any case
 abbrev pub is_named : List ℕ → List ℕ → PacketData → Bool
-is_named target name p = is_same p.target (map upper target) && is_same p.name (map upper name)
+is_named target name p = spells target p.target && spells name p.name
 
 -- ---- connections
 
 -- the numbers of the interfaces that the router of this number routes, and none where there is none
 abbrev pub routes_at : List RouterData → ℕ → List ℕ
-routes_at [] n = []
-routes_at (r ∷ routers) zero = r.routes
-routes_at (r ∷ routers) (suc n) = routes_at routers n
+routes_at routers n = slice_index_or (map (λ (r : RouterData). r.routes) routers) n []
 
 -- the targets of the interfaces that the router routes
 abbrev pub router_targets : SiteData → ℕ → List (List ℕ)
@@ -63,12 +63,12 @@ identified s interface bytes = first_of (targets_at s.interfaces interface) s.de
 abbrev pub identified_command : SiteData → ℕ → List ℕ → Ident
 identified_command s router bytes = first_of (router_targets s router) s.definitions.commands (fits bytes)
 
--- worker k below 16 is interface k, and worker 16 + 2r + s is slot s of router r
+-- a worker below the first slot is the interface of this number, and each router has two slots
 abbrev pub is_interface : ℕ → Bool
-is_interface worker = nat_lt worker 16
+is_interface worker = nat_lt worker first_slot
 
 abbrev pub router_of : ℕ → ℕ
-router_of worker = (worker - 16) / 2
+router_of worker = (worker - first_slot) / 2
 
 abbrev pub is_worker : SiteData → ℕ → Bool
 is_worker s worker =
@@ -86,6 +86,14 @@ worker_packets d worker = if is_interface worker then d.telemetry else d.command
 abbrev pub named : SiteData → ℕ → List ℕ → List ℕ → Ident
 named s worker target name =
     first_of (worker_targets s worker) (worker_packets s.definitions worker) (is_named target name)
+
+-- what an output of an interface's chain is: by the names that it brings along, and by its id fields where it has none
+abbrev pub ident_by : SiteData → ℕ → List ℕ → Option Heading → Ident
+ident_by s interface bytes None = identified s interface bytes
+ident_by s interface bytes (Some heading) = named s interface heading.target heading.packet
+
+abbrev pub ident_of : SiteData → ℕ → Output → Ident
+ident_of s interface out = ident_by s interface out.bytes out.heading
 
 -- ---- laws
 

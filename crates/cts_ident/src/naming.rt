@@ -18,14 +18,12 @@ ghost use Rattle.cts_ident.specs.Identification.{
 use crate::connection::{commands, routes, telemetry};
 use crate::search::first_named;
 use cts_def::{Ident, Site};
-
-/// The number of the first worker that is a router's slot.
-const FIRST_SLOT: u32 = 16;
+use cts_entry::FIRST_SLOT;
 
 /// The packet of these names, compared in any case, among those of the targets that a worker reaches: a telemetry packet for
 /// an interface, a command for a router's slot. `Unknown` where there is none.
 ///
-/// Worker k below 16 is interface k, and worker 16 + 2r + s is slot s, 0 or 1, of router r.
+/// Workers have the numbers of makers of entries: an interface's own, and two for each router from the first slot on.
 pub fn named(site: &Site, by: u32, target: &[u8], packet: &[u8]) -> Ident
     requires { IsTrue (is_worker site.now by) }
     ensures value { result ≡ named site.now by target.now packet.now }

@@ -12,6 +12,7 @@ use Rattle.cts_def.specs.declared.limits.Limits.{Limits}
 use Rattle.cts_def.specs.declared.loss.Loss.{Loss}
 use Rattle.cts_def.specs.declared.time.Time.{Time}
 use Rattle.cts_entry.specs.declared.entry.Entry.{Entry}
+use Rattle.cts_entry.specs.Makers.{first_slot, first_desk, scribe}
 use Rattle.cts_entry.specs.declared.what.NotSent.{NotSent}
 use Rattle.cts_entry.specs.declared.what.NotSent.TheVariants.{Unknown as NoCommand, NotConnected}
 use Rattle.cts_entry.specs.declared.what.What.{What}
@@ -50,13 +51,13 @@ time_text time = decimal time.seconds ++ (46 ∷ micros_text time.micros)
 abbrev pub slot_text : Names → ℕ → List ℕ
 slot_text names slot = names.router (slot / 2) ++ (47 ∷ decimal (slot % 2))
 
--- interface k is k, slot s of router r is 16 + 2r + s, desk d is 24 + d, and the scribe is 28
+-- who made an entry, by its number
 abbrev pub maker_text : Names → ℕ → List ℕ
 maker_text names by =
-    if nat_lt by 16 then names.interface by
-    else if nat_lt by 24 then slot_text names (by - 16)
-    else if nat_lt by 28 then codes "DESK/" ++ decimal (by - 24)
-    else if by == 28 then codes "SCRIBE"
+    if nat_lt by first_slot then names.interface by
+    else if nat_lt by first_desk then slot_text names (by - first_slot)
+    else if nat_lt by scribe then codes "DESK/" ++ decimal (by - first_desk)
+    else if by == scribe then codes "SCRIBE"
     else codes "SERVER"
 
 -- bytes in hexadecimal, and a dash for none

@@ -9,7 +9,7 @@ use cts_base::{Decimal, Memory, print_decimal};
 use cts_def::Limits;
 use std::alloc::Global;
 
-// A space, a set's name, the persistence, and whether the limits are watched.
+/// A space, a set's name, the persistence, and whether the limits are watched.
 pub fn put_watch_words(
     out: &mut Vec<u8>,
     set: &[u8],
@@ -30,7 +30,7 @@ fn state(enabled: bool) -> &'static [u8]
     if enabled { b"ENABLED" } else { b"DISABLED" }
 }
 
-// A space and the limits.
+/// A space and the limits.
 pub fn put_limits_words(alloc: Global, out: &mut Vec<u8>, limits: &Limits) -> Result<(), Memory>
     ensures { OnOk result (out.new.items ≡ out.old.items ++ 32 ∷ limits_text limits.now) }
 {

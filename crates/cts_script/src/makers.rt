@@ -5,25 +5,19 @@ ghost use Rattle.cts_script.specs.Lines.{maker_text, slot_text};
 use crate::Naming;
 use crate::texts::{put_number, put_text, put_word};
 use cts_base::Memory;
+use cts_entry::{FIRST_DESK, FIRST_SLOT, SCRIBE};
 
-// The numbers at which the makers of the next kind begin.
-const SLOTS: u32 = 16;
-
-const DESKS: u32 = 24;
-
-const SCRIBE: u32 = 28;
-
-// A space and the maker.
+/// A space and the maker.
 pub fn put_maker_word<N: Naming>(out: &mut Vec<u8>, naming: &N, by: u32) -> Result<(), Memory>
     ensures { OnOk result (out.new.items ≡ out.old.items ++ 32 ∷ maker_text (N.names naming.now) by) }
 {
-    if by < SLOTS {
+    if by < FIRST_SLOT {
         put_word(out, naming.interface(by))
-    } else if by < DESKS {
-        put_slot_word(out, naming, by - SLOTS)
+    } else if by < FIRST_DESK {
+        put_slot_word(out, naming, by - FIRST_SLOT)
     } else if by < SCRIBE {
         put_word(out, b"DESK/")?;
-        put_number(out, u64::from(by - DESKS))
+        put_number(out, u64::from(by - FIRST_DESK))
     } else if by == SCRIBE {
         put_word(out, b"SCRIBE")
     } else {

@@ -7,7 +7,7 @@ ghost use Rattle.cts_script.specs.Lines.{hex_or_dash};
 use cts_base::Memory;
 use itoa::Buffer;
 
-// The text as it is.
+/// The text as it is.
 pub fn put_text(out: &mut Vec<u8>, text: &[u8]) -> Result<(), Memory>
     ensures { OnOk result (out.new.items ≡ out.old.items ++ text.now) }
 {
@@ -15,7 +15,7 @@ pub fn put_text(out: &mut Vec<u8>, text: &[u8]) -> Result<(), Memory>
     Ok(())
 }
 
-// A space and the text.
+/// A space and the text.
 pub fn put_word(out: &mut Vec<u8>, text: &[u8]) -> Result<(), Memory>
     ensures { OnOk result (out.new.items ≡ out.old.items ++ 32 ∷ text.now) }
 {
@@ -23,7 +23,7 @@ pub fn put_word(out: &mut Vec<u8>, text: &[u8]) -> Result<(), Memory>
     put_text(out, text)
 }
 
-// The number without leading zeros.
+/// The number without leading zeros.
 pub fn put_number(out: &mut Vec<u8>, number: u64) -> Result<(), Memory>
     ensures { OnOk result (out.new.items ≡ out.old.items ++ decimal number) }
 {
@@ -31,7 +31,7 @@ pub fn put_number(out: &mut Vec<u8>, number: u64) -> Result<(), Memory>
     put_text(out, buffer.format(number).as_bytes())
 }
 
-// A space and the number.
+/// A space and the number.
 pub fn put_number_word(out: &mut Vec<u8>, number: u64) -> Result<(), Memory>
     ensures { OnOk result (out.new.items ≡ out.old.items ++ 32 ∷ decimal number) }
 {
@@ -39,7 +39,7 @@ pub fn put_number_word(out: &mut Vec<u8>, number: u64) -> Result<(), Memory>
     put_number(out, number)
 }
 
-// A space and the number, with its sign where it is negative.
+/// A space and the number, with its sign where it is negative.
 pub fn put_signed_word(out: &mut Vec<u8>, number: i128) -> Result<(), Memory>
     ensures { OnOk result (out.new.items ≡ out.old.items ++ 32 ∷ signed_decimal number) }
 {
@@ -47,7 +47,7 @@ pub fn put_signed_word(out: &mut Vec<u8>, number: i128) -> Result<(), Memory>
     put_word(out, buffer.format(number).as_bytes())
 }
 
-// A space and the bytes in hexadecimal, or a dash for none.
+/// A space and the bytes in hexadecimal, or a dash for none.
 pub fn put_hex_word(out: &mut Vec<u8>, bytes: &[u8]) -> Result<(), Memory>
     ensures { OnOk result (out.new.items ≡ out.old.items ++ 32 ∷ hex_or_dash bytes.now) }
 {

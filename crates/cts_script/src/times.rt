@@ -7,7 +7,7 @@ use cts_base::Memory;
 use cts_def::Time;
 use itoa::Buffer;
 
-// A space, the seconds, a point and the micros.
+/// A space, the seconds, a point and the micros.
 pub fn put_time_word(out: &mut Vec<u8>, time: Time) -> Result<(), Memory>
     ensures { OnOk result (out.new.items ≡ out.old.items ++ 32 ∷ time_text time) }
 {

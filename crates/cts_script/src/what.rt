@@ -1,6 +1,6 @@
 // The text of what an entry says.
-ghost use Rattle.std.specs.Prelude.{◌≡◌, ◌++◌, ◌∷◌, [], OnOk};
-ghost use Rattle.cts_script.specs.Lines.{bytes_text, ident_names, item_text, not_sent_text, switch_text, what_text, spaced};
+ghost use Rattle.std.specs.Prelude.{◌≡◌, ◌++◌, ◌∷◌, [], codes, OnOk};
+ghost use Rattle.cts_script.specs.Lines.{bytes_text, hex_or_dash, ident_names, item_text, not_sent_text, switch_text, what_text, spaced};
 
 use crate::Naming;
 use crate::limits::{put_limits_words, put_watch_words};
@@ -11,7 +11,7 @@ use cts_def::Ident;
 use cts_entry::{NotSent, What};
 use std::alloc::Global;
 
-// A space and what an entry says.
+/// A space and what an entry says.
 pub fn put_what_words<N: Naming>(
     alloc: Global,
     out: &mut Vec<u8>,
@@ -56,10 +56,7 @@ pub fn put_what_words<N: Naming>(
         What::Injected { packet, bytes } => {
             put_bytes_words(out, b"INJECTED", naming.packet(*packet), bytes.as_slice())
         }
-        What::Unrouted { why, bytes } => {
-            put_pair_words(out, b"UNROUTED", not_sent(*why))?;
-            put_hex_word(out, bytes.as_slice())
-        }
+        What::Unrouted { why, bytes } => put_unrouted_words(out, *why, bytes.as_slice()),
         What::Stop => put_word(out, b"STOP"),
         What::Ended => put_word(out, b"ENDED"),
     }
@@ -98,6 +95,15 @@ fn put_bytes_words(
     let (target, name) = names;
     put_pair_words(out, word, target)?;
     put_word(out, name)?;
+    put_hex_word(out, bytes)
+}
+
+// A space, why a command's bytes were not sent, and the bytes.
+fn put_unrouted_words(out: &mut Vec<u8>, why: NotSent, bytes: &[u8]) -> Result<(), Memory>
+    ensures { OnOk result (out.new.items ≡ out.old.items
+        ++ 32 ∷ spaced (codes "UNROUTED" ∷ not_sent_text why ∷ hex_or_dash bytes.now ∷ [])) }
+{
+    put_pair_words(out, b"UNROUTED", not_sent(why))?;
     put_hex_word(out, bytes)
 }
 

@@ -1,14 +1,13 @@
 -- What a command answers and puts, from its parts.
 use Rattle.std.proofs.Common.{◌≡◌, ◌≢◌, ℕ, List, [], ◌++◌, Option, Some, None, IfSome, MatchOption, Result, Ok, Err, refl, sym, ◌∙◌, ap, subst, arith, ◌⊎◌, inl, inr}
-use Rattle.std.proofs.lemmas.List.{append-nil}
 use Rattle.cts_entry.specs.declared.event.Event.{Event}
 use Rattle.cts_def.specs.Sites.{SiteData}
 use Rattle.cts_core.specs.States.{opening}
 use Rattle.cts_core.proofs.OneRun.{has_run}
 use Rattle.cts_outside.specs.Causes.{Rose, Steady}
-use Rattle.cts_outside.specs.Contents.{appended, IsPartPut}
+use Rattle.cts_outside.specs.Contents.{appended}
 use Rattle.cts_serve.specs.Grounds.{site_ground}
-use Rattle.cts_serve.specs.Texts.{usage_line, counts_line}
+use Rattle.cts_serve.specs.Texts.{usage_line}
 use Rattle.cts_serve.specs.Judging.{Outcome, refusal, judge_script, events_in}
 use Rattle.cts_serve.specs.Outcomes.{RequestData, first_refusal, script_refusal, site_asked, events_asked, events_of, replay_outcome, check_outcome, IsReplay, IsDone, IsOutcome}
 use Rattle.cts_serve.specs.Printing.{Puts, Printed, PutsFor, Answers, Completes}
@@ -80,7 +79,7 @@ is_done files r script x asked e h =
 
 counts_puts : (files : List ℕ → Option (List ℕ)) (r : Option RequestData) (site : SiteData) (result : Status) (p : Puts) → PutsCounts site result p → PutsFor files r (check_outcome site) result p
 counts_puts files r site Fine p h = (refl, h.1)
-counts_puts files r site WriteFault p h = subst (λ (t : List ℕ). IsPartPut p.old p.new t) (sym (append-nil (counts_line site))) h.1
+counts_puts files r site WriteFault p h = h
 counts_puts files r site Memory p h = (0, h)
 counts_puts files r site Usage p h = absurd h
 counts_puts files r site ReadFault p h = absurd h
@@ -119,7 +118,7 @@ script_refuses (Some all) r site script refused result p asked s h puts = refuse
 replay_puts : (files : List ℕ → Option (List ℕ)) (r : Option RequestData) (o : Outcome) (result : Status) (p : Puts) → ReplayPuts o result p → PutsFor files r o result p
 replay_puts files r o Fine p h = (h.0, h.2)
 replay_puts files r o Memory p h = h
-replay_puts files r o WriteFault p h = h.1
+replay_puts files r o WriteFault p h = h
 replay_puts files r o ScriptRefused p h = h
 replay_puts files r o HistoryFull p h = h
 replay_puts files r o Usage p h = absurd h

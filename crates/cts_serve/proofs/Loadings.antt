@@ -10,7 +10,7 @@ use Rattle.cts_plan.specs.declared.fault.SiteCause.{SiteCause}
 use Rattle.cts_plan.specs.SiteFiles.{site_of}
 use Rattle.cts_plan.specs.Causes.{name_of_cause}
 use Rattle.cts_entry.specs.declared.event.Event.{Event}
-use Rattle.cts_entry.specs.Histories.{or_earlier}
+use Rattle.std.specs.Option.{option_or}
 use Rattle.cts_words.specs.declared.statement.Statement.{Statement}
 use Rattle.cts_serve.specs.Forms.{are_built_definitions, is_built_site, has_events}
 use Rattle.cts_serve.specs.Judging.{Outcome, refusal, judge, judge_definitions, judge_site, judge_script, verdict, unless_built, with_text, definitions_read, definitions_in, site_read, site_in, events_in}
@@ -33,13 +33,13 @@ Begins (Some bytes) held = (length held ≤ length bytes) × (take (length held)
 
 -- ---- which file refuses first
 
-first_is : (a b c : Option Outcome) (o : Outcome) → a ≡ Some o → or_earlier a (or_earlier b c) ≡ Some o
+first_is : (a b c : Option Outcome) (o : Outcome) → a ≡ Some o → option_or a (option_or b c) ≡ Some o
 first_is a b c o e = rw e refl
 
-second_is : (a b c : Option Outcome) (o : Outcome) → a ≡ None → b ≡ Some o → or_earlier a (or_earlier b c) ≡ Some o
+second_is : (a b c : Option Outcome) (o : Outcome) → a ≡ None → b ≡ Some o → option_or a (option_or b c) ≡ Some o
 second_is a b c o e f = rw (e, f) refl
 
-third_is : (a b c o : Option Outcome) → a ≡ None → b ≡ None → c ≡ o → or_earlier a (or_earlier b c) ≡ o
+third_is : (a b c o : Option Outcome) → a ≡ None → b ≡ None → c ≡ o → option_or a (option_or b c) ≡ o
 third_is a b c o e f g = rw (e, f) g
 
 pub first_refusal_is : (all : List ℕ → Option (List ℕ)) (r : RequestData) (site : SiteData) (o : Option Outcome)

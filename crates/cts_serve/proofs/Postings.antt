@@ -16,8 +16,8 @@ use Rattle.cts_core.specs.States.{State, has_room}
 use Rattle.cts_core.specs.Runs.{packet_entries, time_in}
 use Rattle.cts_entry.specs.declared.what.What.TheVariants.{Packet}
 use Rattle.cts_def.specs.Sites.{SiteData}
-use Rattle.cts_ident.specs.Identification.{identified}
-use Rattle.cts_serve.specs.Grounds.{site_ground}
+use Rattle.cts_ident.specs.Identification.{ident_of}
+use Rattle.cts_serve.specs.Grounds.{site_ground, entries_limit, bytes_limit}
 
 or_false : (b : Bool) → (b || false) ≡ b
 or_false true = refl
@@ -49,13 +49,13 @@ pub tells_no_other : (k : ℕ) (e : Entry) → k ≢ e.by → connects_maker k e
 tells_no_other k e other = ap (λ (b : Bool). if b then connects e.what else None) (ne_eqb e.by k (λ same. other (sym same)))
 
 -- the limits are kept
-pub room_holds : (site : SiteData) (s : State) (entries : List Entry) (n m : ℕ) → entries_in entries ≡ n → bytes_in entries ≡ m → entries_in s.history + n ≤ 4000000 → bytes_in s.history + m ≤ 1073741824 → has_room (site_ground site) s entries ≡ true
-room_holds site s entries n m h k a b = both_within (entries_in (s.history ++ entries)) (bytes_in (s.history ++ entries)) 4000000 1073741824 (omega (arith, entries_grow s.history entries n h, a)) (omega (arith, bytes_grow s.history entries m k, b))
+pub room_holds : (site : SiteData) (s : State) (entries : List Entry) (n m : ℕ) → entries_in entries ≡ n → bytes_in entries ≡ m → entries_in s.history + n ≤ entries_limit → bytes_in s.history + m ≤ bytes_limit → has_room (site_ground site) s entries ≡ true
+room_holds site s entries n m h k a b = both_within (entries_in (s.history ++ entries)) (bytes_in (s.history ++ entries)) entries_limit bytes_limit (omega (arith, entries_grow s.history entries n h, a)) (omega (arith, bytes_grow s.history entries m k, b))
 
 -- packets alone
 
 abbrev packet_entry : SiteData → ℕ → Time → Output → Entry
-packet_entry site by now o = record { by = by; time = time_in o.heading now; what = Packet (identified site by o.bytes) o.bytes }
+packet_entry site by now o = record { by = by; time = time_in o.heading now; what = Packet (ident_of site by o) o.bytes }
 
 either_way : (b : Bool) (o : Option Bool) → (if b then o else o) ≡ o
 either_way true o = refl

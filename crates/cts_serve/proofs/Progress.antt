@@ -1,5 +1,5 @@
 -- How far a replay has come, and what it has put when it ends.
-use Rattle.std.proofs.Common.{◌≡◌, ℕ, ◌+◌, List, [], ◌∷◌, ◌++◌, length, take, Option, Err, refl, sym, ◌∙◌, ap, subst, arith, append_assoc, length-append, inl, inr, codes, false, replicate}
+use Rattle.std.proofs.Common.{◌≡◌, ◌≢◌, ℕ, ◌+◌, List, [], ◌∷◌, ◌++◌, length, take, Option, Err, refl, sym, ◌∙◌, ap, subst, arith, append_assoc, length-append, inl, inr, codes, false, replicate}
 use Rattle.std.proofs.lemmas.List.{append-nil, take_at}
 use Rattle.cts_entry.specs.declared.entry.Entry.{Entry}
 use Rattle.cts_entry.specs.declared.event.Event.{Event}
@@ -19,7 +19,7 @@ use Rattle.cts_serve.specs.Worlds.{Held, Stands, shut}
 use Rattle.cts_serve.proofs.WorldSteps.{stands_first}
 use Rattle.cts_serve.specs.Texts.{memory_line, refused_line, full_line, end_line}
 use Rattle.cts_serve.specs.Outcomes.{events_of, all_entries, transcript, next_line, replay_outcome, IsReplay}
-use Rattle.cts_serve.specs.Printing.{Puts, Printed}
+use Rattle.cts_serve.specs.Printing.{Puts, Printed, FailsWithin}
 use Rattle.cts_serve.specs.Replays.{DoesEvent, StopPuts, SaysOrWants, EndPuts, ReplayPuts, Replays}
 use Rattle.cts_serve.specs.declared.refusal.Refusal.TheVariants.{NotEnabled as RefusedEvent, HistoryFull as FullHistory, Memory as NoMemory}
 use Rattle.cts_serve.specs.declared.stop.Stop.{Stop}
@@ -142,29 +142,41 @@ pub wants_first : (site : SiteData) (script : List ℕ) (events : List (ℕ × E
 wants_first site script events old new before now status e h =
     wants site script events events (first_held site) [] (begun site events (first_held site) (stands_first site (first_held site) refl refl refl refl refl refl)) old new before now status e h
 
-regroup : (a b c d e : List ℕ) → ((a ++ (b ++ c)) ++ d) ++ e ≡ (a ++ b) ++ (c ++ (d ++ e))
-regroup a b c d e = simp append_assoc
+regroup : (a b c d : List ℕ) → (a ++ (b ++ c)) ++ d ≡ (a ++ b) ++ (c ++ d)
+regroup a b c d = simp append_assoc
+
+-- a text that ends, or begins, with one that is not empty
+ends_so : (a b : List ℕ) → b ≢ [] → a ++ b ≢ []
+ends_so [] b h = h
+ends_so (x ∷ a) b h = λ e. absurd (cc)
+
+begins_so : (a b : List ℕ) → a ≢ [] → a ++ b ≢ []
+begins_so [] b h = λ e. h refl
+begins_so (x ∷ a) b h = λ e. absurd (cc)
 
 -- a put failed within the lines of an event that was done
 faulted : (site : SiteData) (script : List ℕ) (events rest : List (ℕ × Event)) (x : ℕ × Event) (w : Held) (text : List ℕ) (p : IsProgress site events (x ∷ rest) w text) (did : Did) → Does (site_ground site) p.state x.1 did
-    → (old mid new : Option (List ℕ)) (before now : ℕ) (status : Status) → status ≡ WriteFault → mid ≡ appended old text → Rose before now → IsPartPut mid new (entry_lines (site_names site) (length p.state.history) did.entries)
+    → (old mid new : Option (List ℕ)) (before now : ℕ) (status : Status) → status ≡ WriteFault → mid ≡ appended old text → FailsWithin (record { old = mid; new = new; before = before; now = now }) (entry_lines (site_names site) (length p.state.history) did.entries)
     → Replays site script events status (record { old = old; new = new; before = before; now = now })
-faulted site script events rest x w text p did d old mid new before now status e m rose part =
+faulted site script events rest x w text p did d old mid new before now status e m fails =
     let r = has_run (site_ground site) (after p.state x.1 did) (events_of rest) (site_sound site) in
     let dids = p.prior ++ did ∷ r.0 in
     let o = replay_outcome site script events dids r.1 in
     let lines = entry_lines (site_names site) (length p.state.history) did.entries in
-    let more = transcript site (length p.state.history + length did.entries) r.0 ++ (body_tail script events dids r.1 ++ o.last) in
-    let text_begins : o.body ++ o.last ≡ (text ++ lines) ++ more =
-    ap (λ (t : List ℕ). t ++ o.last) (body_is site script events dids r.1 ∙ ap (λ (t : List ℕ). t ++ body_tail script events dids r.1) (transcript_more site p.prior r.0 p.state did p.history))
-    ∙ (ap (λ (t : List ℕ). ((t ++ (lines ++ transcript site (length p.state.history + length did.entries) r.0)) ++ body_tail script events dids r.1) ++ o.last) (sym p.text_is)
-    ∙ regroup text lines (transcript site (length p.state.history + length did.entries) r.0) (body_tail script events dids r.1) o.last) in
+    let more = transcript site (length p.state.history + length did.entries) r.0 ++ body_tail script events dids r.1 in
+    let text_begins : o.body ≡ (text ++ lines) ++ more =
+    body_is site script events dids r.1 ∙ ap (λ (t : List ℕ). t ++ body_tail script events dids r.1) (transcript_more site p.prior r.0 p.state did p.history)
+    ∙ (ap (λ (t : List ℕ). (t ++ (lines ++ transcript site (length p.state.history + length did.entries) r.0)) ++ body_tail script events dids r.1) (sym p.text_is)
+    ∙ regroup text lines (transcript site (length p.state.history + length did.entries) r.0) (body_tail script events dids r.1)) in
     let puts : Puts = record { old = old; new = new; before = before; now = now } in
     record {
       outcome = o;
       is = record { dids = dids; ending = r.1; runs = p.runs (did ∷ r.0) r.1 (inr (did, r.0, refl, d, r.2)); outcome = refl };
-      puts = subst (λ (st : Status). ReplayPuts o st puts) (sym e)
-          (rose, subst (IsPartPut old new) (sym text_begins) (part_first old new (text ++ lines) more (part_then old mid new text lines m part)));
+      puts = subst (λ (st : Status). ReplayPuts o st puts) (sym e) (
+        fails.0,
+        subst (λ (t : List ℕ). t ≢ []) (sym text_begins) (begins_so (text ++ lines) more (ends_so text lines fails.1)),
+        subst (IsPartPut old new) (sym text_begins) (part_first old new (text ++ lines) more (part_then old mid new text lines m fails.2)),
+      );
     }
 
 -- a replay that stops at an event which is refused so
@@ -216,7 +228,9 @@ pub stops : (site : SiteData) (script : List ℕ) (events rest : List (ℕ × Ev
     → StopPuts script x.0 stop stopped status (record { old = mid'; new = new; before = between; now = now })
     → Replays site script events status (record { old = old; new = new; before = before; now = now })
 stops site script events rest x w stopped text p old mid mid' new before between now PutFault status m d s =
-    faulted site script events rest x w text p d.0 d.1 old mid new before now status s.0 m (subst (Rose before) (sym s.1.0) d.2) (subst (λ (t : Option (List ℕ)). IsPartPut mid t (entry_lines (site_names site) (length p.state.history) d.0.entries)) (sym s.1.1) d.3)
+    let lines = entry_lines (site_names site) (length p.state.history) d.0.entries in
+    faulted site script events rest x w text p d.0 d.1 old mid new before now status s.0 m
+    (subst (Rose before) (sym s.1.0) d.2.0, d.2.1, subst (λ (t : Option (List ℕ)). IsPartPut mid t lines) (sym s.1.1) d.2.2)
 stops site script events rest x w stopped text p old mid mid' new before between now (Refused NoMemory) status m d s =
     wants site script events (x ∷ rest) w text p old new before now status s.0
     (subst (λ (b : ℕ). Printed old new b now text memory_line) d.0 (printed_then old mid' new between now text memory_line (d.1 ∙ m) s.1))
@@ -250,7 +264,11 @@ ends site script events w text p old mid new before now Fine m e = record {
 ends site script events w text p old mid new before now WriteFault m e = record {
   outcome = replay_outcome site script events (p.prior ++ []) Finished;
   is = finished site script events w text p;
-  puts = (e.0, subst (IsPartPut old new) (sym (append-nil (replay_outcome site script events (p.prior ++ []) Finished).body ∙ whole_body site script events w text p)) (part_then old mid new text (end_line (length w.history)) m e.1));
+  puts = (
+    e.0,
+    subst (λ (t : List ℕ). t ≢ []) (sym (whole_body site script events w text p)) (ends_so text (end_line (length w.history)) e.1),
+    subst (IsPartPut old new) (sym (whole_body site script events w text p)) (part_then old mid new text (end_line (length w.history)) m e.2),
+  );
 }
 ends site script events w text p old mid new before now Memory m e = wants site script events [] w text p old new before now Memory refl (printed_then old mid new before now text memory_line m e)
 ends site script events w text p old mid new before now Usage m e = absurd e

@@ -7,6 +7,7 @@ use Rattle.std.proofs.lemmas.Bool.Decides.{nat_tests}
 use Rattle.cts_def.specs.Sites.{SiteData}
 use Rattle.cts_def.specs.declared.time.Time.{Time}
 use Rattle.cts_entry.specs.declared.entry.Entry.{Entry}
+use Rattle.cts_entry.specs.Makers.{server}
 use Rattle.cts_entry.specs.declared.what.What.TheVariants.{Opened, Closed, Stop as StopEntry}
 use Rattle.cts_entry.specs.declared.why.Why.{Why}
 use Rattle.cts_entry.specs.declared.why.Why.TheVariants.{BadFrame}
@@ -27,9 +28,9 @@ use Rattle.cts_proto.specs.LengthRow.{length_framing}
 use Rattle.cts_proto.proofs.Framings.{taken_none, ends_nil}
 use Rattle.cts_proto.proofs.LengthSound.{length_is_sound}
 use Rattle.cts_proto.proofs.Stagings.{plain_bytes, joined_append}
-use Rattle.cts_core.specs.States.{State, is_enabled, has_room, may_close, with_pieces, opening}
+use Rattle.cts_core.specs.States.{State, is_piece, is_enabled, has_room, may_close, with_pieces, opening}
 use Rattle.cts_core.specs.Runs.{Did, Does, Refuses, HistoryFull, Receives, after, closed_entry, packet_entries, closing}
-use Rattle.cts_serve.specs.Grounds.{site_ground}
+use Rattle.cts_serve.specs.Grounds.{site_ground, entries_limit, bytes_limit}
 use Rattle.cts_serve.specs.Worlds.{Held, HeldConnection, Stands, IsLine, IsRest, line_at, shut, lost, opened, closed, extended, posted, settled}
 use Rattle.cts_serve.proofs.Postings.{stopped_kept, connected_kept, tells_maker, tells_no_other, entries_grow, bytes_grow, room_holds, packets_connect_none, packets_stop_none, packets_count, packets_bytes, frames_count}
 
@@ -60,10 +61,10 @@ may_finish_is site w s by why h =
     ap (λ (c : Bool). c && may_close s.history why) (h.lines by (ltb-true by (length site.interfaces) t)).connected)
 
 pub may_receive_is : (site : SiteData) (w : Held) (s : State) (by : ℕ) (piece : List ℕ) → Stands site w s
-    → (nat_lt by (length site.interfaces) && ((line_at w.lines by).connected && (nat_le 1 (length piece) && nat_le (length piece) 65536))) ≡ is_enabled (site_ground site) s (Piece by piece)
+    → (nat_lt by (length site.interfaces) && ((line_at w.lines by).connected && is_piece piece)) ≡ is_enabled (site_ground site) s (Piece by piece)
 may_receive_is site w s by piece h =
-    and_same (nat_lt by (length site.interfaces)) ((line_at w.lines by).connected && (nat_le 1 (length piece) && nat_le (length piece) 65536)) (is_connected by s.history && (nat_le 1 (length piece) && nat_le (length piece) 65536)) (λ t.
-    ap (λ (c : Bool). c && (nat_le 1 (length piece) && nat_le (length piece) 65536)) (h.lines by (ltb-true by (length site.interfaces) t)).connected)
+    and_same (nat_lt by (length site.interfaces)) ((line_at w.lines by).connected && is_piece piece) (is_connected by s.history && is_piece piece) (λ t.
+    ap (λ (c : Bool). c && is_piece piece) (h.lines by (ltb-true by (length site.interfaces) t)).connected)
 
 -- ---- the connections after an event
 
@@ -113,7 +114,7 @@ stands_first site w time history stopped entries bytes lines = record {
 
 -- ---- the clock and the Stop
 
-pub time_set : (site : SiteData) (w : Held) (s : State) (time : Time) → time.micros < 1000000 → w.entries ≤ 4000000 → w.bytes ≤ 1073741824 → Stands site w s
+pub time_set : (site : SiteData) (w : Held) (s : State) (time : Time) → time.micros < 1000000 → w.entries ≤ entries_limit → w.bytes ≤ bytes_limit → Stands site w s
     → (did : Did) × Does (site_ground site) s (SetTime time) did × Stands site (record w { time = time }) (after s (SetTime time) did)
 time_set site w s time m e b h =
     let did : Did = record { entries = []; effect = Posted } in
@@ -139,11 +140,11 @@ stop_tells_none : (k : ℕ) (b : Bool) → (if b then connects StopEntry else No
 stop_tells_none k true = refl
 stop_tells_none k false = refl
 
-pub stopped : (site : SiteData) (w : Held) (s : State) (history : List Entry) → w.stopped ≡ false → w.entries ≤ 4000000 → w.bytes ≤ 1073741824
-    → history ≡ w.history ++ record { by = 31; time = w.time; what = StopEntry } ∷ [] → Stands site w s
+pub stopped : (site : SiteData) (w : Held) (s : State) (history : List Entry) → w.stopped ≡ false → w.entries ≤ entries_limit → w.bytes ≤ bytes_limit
+    → history ≡ w.history ++ record { by = server; time = w.time; what = StopEntry } ∷ [] → Stands site w s
     → (did : Did) × Does (site_ground site) s Stop did × Stands site (record w { history = history; stopped = true }) (after s Stop did)
 stopped site w s history t e b hist h =
-    let entry : Entry = record { by = 31; time = s.time; what = StopEntry } in
+    let entry : Entry = record { by = server; time = s.time; what = StopEntry } in
     let did : Did = record { entries = entry ∷ []; effect = Posted } in (
       did,
       record {
@@ -153,7 +154,7 @@ stopped site w s history t e b hist h =
         effect = refl;
       },
       record {
-        history = hist ∙ (ap (λ (l : List Entry). l ++ record { by = 31; time = w.time; what = StopEntry } ∷ []) h.history ∙ ap (λ (now : Time). s.history ++ record { by = 31; time = now; what = StopEntry } ∷ []) h.time);
+        history = hist ∙ (ap (λ (l : List Entry). l ++ record { by = server; time = w.time; what = StopEntry } ∷ []) h.history ∙ ap (λ (now : Time). s.history ++ record { by = server; time = now; what = StopEntry } ∷ []) h.time);
         time = h.time;
         stopped = sym (stopped-append s.history (entry ∷ []) ∙ or_true (is_stopped s.history));
         entries = omega (arith, h.entries, entries_grow s.history (entry ∷ []) 0 refl);
@@ -173,7 +174,7 @@ others_kept by s entry e k other = connected_kept k s.history (entry ∷ []) (te
 maker_told : (by : ℕ) (s : State) (entry : Entry) (on : Bool) → entry.by ≡ by → connects entry.what ≡ Some on → on ≡ is_connected by (s.history ++ entry ∷ [])
 maker_told by s entry on e t = sym (connected-append by s.history (entry ∷ []) ∙ ap (λ (o : Option Bool). unwrap_or (or_earlier o (latest (connects_maker by) s.history)) false) (tells_maker by entry e ∙ t))
 
-pub opens : (site : SiteData) (w new : Held) (s : State) (by : ℕ) → new ≡ opened by w → is_enabled (site_ground site) s (Opens by) ≡ true → w.entries < 4000000 → w.bytes ≤ 1073741824 → Stands site w s
+pub opens : (site : SiteData) (w new : Held) (s : State) (by : ℕ) → new ≡ opened by w → is_enabled (site_ground site) s (Opens by) ≡ true → w.entries < entries_limit → w.bytes ≤ bytes_limit → Stands site w s
     → (did : Did) × Does (site_ground site) s (Opens by) did × Stands site new (after s (Opens by) did)
 opens site w new s by n t e b h =
     let m : by < length site.interfaces = ltb-true by (length site.interfaces) (and_tells (nat_lt by (length site.interfaces)) _ t).0 in
@@ -205,12 +206,12 @@ opens site w new s by n t e b h =
     )
 
 -- the limit of entries leaves no room for an Opened
-pub open_full : (site : SiteData) (w : Held) (s : State) (by : ℕ) → is_enabled (site_ground site) s (Opens by) ≡ true → 4000000 ≤ w.entries → Stands site w s
+pub open_full : (site : SiteData) (w : Held) (s : State) (by : ℕ) → is_enabled (site_ground site) s (Opens by) ≡ true → entries_limit ≤ w.entries → Stands site w s
     → Refuses (site_ground site) s (Opens by) HistoryFull × (w.entries ≡ entries_in s.history) × (w.bytes ≡ bytes_in s.history)
 open_full site w s by t full h =
     let entry : Entry = record { by = by; time = s.time; what = Opened } in
-    let many : 4000000 < entries_in (s.history ++ entry ∷ []) = omega (arith, h.entries, full, entries_grow s.history (entry ∷ []) 1 refl) in
-    ((t, (entry ∷ [], refl, and_left (nat_le (entries_in (s.history ++ entry ∷ [])) 4000000) (nat_le (bytes_in (s.history ++ entry ∷ [])) 1073741824) (lt-leb (entries_in (s.history ++ entry ∷ [])) 4000000 many))), h.entries, h.bytes)
+    let many : entries_limit < entries_in (s.history ++ entry ∷ []) = omega (arith, h.entries, full, entries_grow s.history (entry ∷ []) 1 refl) in
+    ((t, (entry ∷ [], refl, and_left (nat_le (entries_in (s.history ++ entry ∷ [])) entries_limit) (nat_le (bytes_in (s.history ++ entry ∷ [])) bytes_limit) (lt-leb (entries_in (s.history ++ entry ∷ [])) entries_limit many))), h.entries, h.bytes)
 
 -- ---- packets of a chain of one framing
 
@@ -241,7 +242,7 @@ shut_line : (by : ℕ) (t : State) → false ≡ is_connected by t.history → I
 shut_line by t off = record { connected = off; rest = λ on. absurd (cc) }
 
 pub finished : (site : SiteData) (w new : Held) (s : State) (by : ℕ) (why : Why) → new ≡ closed by w why → is_enabled (site_ground site) s (Finish by why) ≡ true
-    → w.entries ≤ 4000000 → w.bytes ≤ 1073741824 → length (line_at w.lines by).rest < 2 ^ 64 → Stands site w s
+    → w.entries ≤ entries_limit → w.bytes ≤ bytes_limit → length (line_at w.lines by).rest < 2 ^ 64 → Stands site w s
     → (did : Did) × Does (site_ground site) s (Finish by why) did × Stands site new (after s (Finish by why) did)
 finished site w new s by why n t e b small h =
     let parts = and_tells (nat_lt by (length site.interfaces)) _ t in
@@ -339,12 +340,12 @@ posts_size site by now bytes c i =
 
 -- the room for the entries of a piece is what the world counts
 room_is : (site : SiteData) (by : ℕ) (w : Held) (s : State) (bytes : List ℕ) (c : Cutting) → IsCutting bytes c → Stands site w s
-    → (nat_le (w.entries + length c.frames) 4000000 && nat_le (w.bytes + c.rest) 1073741824) ≡ has_room (site_ground site) s (posts site by s.time bytes c)
+    → (nat_le (w.entries + length c.frames) entries_limit && nat_le (w.bytes + c.rest) bytes_limit) ≡ has_room (site_ground site) s (posts site by s.time bytes c)
 room_is site by w s bytes c i h =
     let entries = posts site by s.time bytes c in
     let count : w.entries + length c.frames ≡ entries_in (s.history ++ entries) = omega (arith, h.entries, entries_grow s.history entries (length c.frames) (posts_count site by s.time bytes c)) in
     let size : w.bytes + c.rest ≡ bytes_in (s.history ++ entries) = omega (arith, h.bytes, bytes_grow s.history entries c.rest (posts_size site by s.time bytes c i)) in
-    ap (λ (n : ℕ). nat_le n 4000000 && nat_le (w.bytes + c.rest) 1073741824) count ∙ ap (λ (n : ℕ). nat_le (entries_in (s.history ++ entries)) 4000000 && nat_le n 1073741824) size
+    ap (λ (n : ℕ). nat_le n entries_limit && nat_le (w.bytes + c.rest) bytes_limit) count ∙ ap (λ (n : ℕ). nat_le (entries_in (s.history ++ entries)) entries_limit && nat_le n bytes_limit) size
 
 -- what is known of the connection that receives a piece
 record IsReceiver (site : SiteData) (w : Held) (s : State) (by : ℕ) : Type 0 where
@@ -361,7 +362,7 @@ receiver site w s by piece t h =
     record { there = m; on = on; rest = line.rest on }
 
 pub piece_full : (site : SiteData) (w : Held) (s : State) (by : ℕ) (piece : List ℕ) (c : Cutting) → is_enabled (site_ground site) s (Piece by piece) ≡ true
-    → IsCutting ((line_at w.lines by).rest ++ piece) c → (nat_le (w.entries + length c.frames) 4000000 && nat_le (w.bytes + c.rest) 1073741824) ≡ false → Stands site w s
+    → IsCutting ((line_at w.lines by).rest ++ piece) c → (nat_le (w.entries + length c.frames) entries_limit && nat_le (w.bytes + c.rest) bytes_limit) ≡ false → Stands site w s
     → Refuses (site_ground site) s (Piece by piece) HistoryFull × (w.entries ≡ entries_in s.history) × (w.bytes ≡ bytes_in s.history)
 piece_full site w s by piece c t i full h =
     let rest = (line_at w.lines by).rest in
@@ -515,7 +516,7 @@ stands_posted site by w s piece c i r h did d (Some stated) e small =
     subst (λ (x : Held). Stands site x (after s (Piece by piece) did)) (sym (closed_piece_is site by w piece c stated (omega (arith, h.count, r.there)))) (stands_bad site by w s piece c i r h did d stated e small)
 
 pub received : (site : SiteData) (w new : Held) (s : State) (by : ℕ) (piece : List ℕ) (c : Cutting) → is_enabled (site_ground site) s (Piece by piece) ≡ true
-    → IsCutting ((line_at w.lines by).rest ++ piece) c → (nat_le (w.entries + length c.frames) 4000000 && nat_le (w.bytes + c.rest) 1073741824) ≡ true → length ((line_at w.lines by).rest ++ piece) < 2 ^ 64
+    → IsCutting ((line_at w.lines by).rest ++ piece) c → (nat_le (w.entries + length c.frames) entries_limit && nat_le (w.bytes + c.rest) bytes_limit) ≡ true → length ((line_at w.lines by).rest ++ piece) < 2 ^ 64
     → new ≡ settled by (posted site by (extended by w piece) c) c.short → Stands site w s
     → (did : Did) × Does (site_ground site) s (Piece by piece) did × Stands site new (after s (Piece by piece) did)
 received site w new s by piece c t i room small n h =

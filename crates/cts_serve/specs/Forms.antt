@@ -1,11 +1,12 @@
 -- What can be replayed so far: definitions without limits and state colours, interfaces whose frames state their length,
 -- and a script that opens them, brings them bytes and closes them.
-use Rattle.std.specs.Prelude.{ℕ, ◌==◌, ◌&&◌, ◌||◌, not, nat_le, Bool, true, false, List, [], ◌∷◌, length, codes, Option, Some, None, Result, Ok, Err, is_some, is_none, zip, pos, if◌then◌else◌}
+use Rattle.std.specs.Prelude.{ℕ, ◌==◌, ◌&&◌, ◌||◌, not, Bool, true, false, List, [], ◌∷◌, length, codes, Option, Some, None, is_some, is_none, option_map, option_and_then, pos, if◌then◌else◌}
 use Rattle.std.specs.Ordering.{int_eq}
-use Rattle.std.specs.List.{list_any, list_all, position}
+use Rattle.std.specs.List.{filter_map, list_any, list_all, position}
+use Rattle.std.specs.Result.{result_ok}
 use Rattle.hex.specs.Hex.{decode_of}
-use Rattle.hex.specs.declared.FromHexError.{FromHexError}
-use Rattle.cts_base.specs.Names.{upper}
+use Rattle.cts_base.specs.Names.{spells}
+use Rattle.cts_core.specs.States.{is_piece}
 use Rattle.cts_def.specs.Items.{ItemData, is_same, has_color}
 use Rattle.cts_def.specs.Packets.{PacketData, DefinitionsData}
 use Rattle.cts_def.specs.Protocols.{SpecData, Burst, Fixed, Length, Terminated, Preidentified, LengthData, UseData}
@@ -66,10 +67,6 @@ is_built_site site = length site.routers == 0 && list_all is_built_interface sit
 
 -- ---- scripts
 
--- the word is this upper-case text, in any case
-abbrev pub spells : List ℕ → List ℕ → Bool
-spells word text = length word == length text && list_all (λ p. upper p.0 == p.1) (zip word text)
-
 -- the number of the first of these interfaces with this name, in any case
 abbrev pub maker_in : List InterfaceData → List ℕ → Option ℕ
 maker_in interfaces name = position (λ (i : InterfaceData). spells name i.name) interfaces
@@ -77,39 +74,31 @@ maker_in interfaces name = position (λ (i : InterfaceData). spells name i.name)
 abbrev pub maker_named : SiteData → List ℕ → Option ℕ
 maker_named site name = maker_in site.interfaces name
 
--- a piece of 1 to 65,536 bytes
-abbrev pub piece_of : ℕ → Result (List ℕ) FromHexError → Option Event
-piece_of by (Ok bytes) = if nat_le 1 (length bytes) && nat_le (length bytes) 65536 then Some (Piece by bytes) else None
-piece_of by (Err fault) = None
-
--- the event of three words, for the maker that the second one names
-abbrev pub third_event : List ℕ → Option ℕ → List ℕ → Option Event
-third_event keyword None word = None
-third_event keyword (Some by) word =
-    if spells keyword (codes "BYTES") then piece_of by (decode_of word)
-    else if spells keyword (codes "CLOSE") && is_same word (codes "PEER") then Some (Finish by PeerEnded)
-    else None
-
-abbrev pub second_event : List ℕ → Option ℕ → Option Event
-second_event keyword None = None
-second_event keyword (Some by) = if spells keyword (codes "OPEN") then Some (Opens by) else None
+-- the piece that these digits write, for a maker
+abbrev pub piece_of : List ℕ → ℕ → Option Event
+piece_of digits by = option_and_then (λ bytes. if is_piece bytes then Some (Piece by bytes) else None) (result_ok (decode_of digits))
 
 -- the event of a statement's words; keywords and names are read in any case
 abbrev pub words_event : SiteData → List (List ℕ) → Option Event
-words_event site (keyword ∷ who ∷ []) = second_event keyword (maker_named site who)
-words_event site (keyword ∷ who ∷ word ∷ []) = third_event keyword (maker_named site who) word
+words_event site (keyword ∷ who ∷ []) =
+    if spells keyword (codes "OPEN") then option_map Opens (maker_named site who) else None
+words_event site (keyword ∷ who ∷ word ∷ []) =
+    if spells keyword (codes "BYTES") then option_and_then (piece_of word) (maker_named site who)
+    else if spells keyword (codes "CLOSE") && is_same word (codes "PEER") then option_map (λ by. Finish by PeerEnded) (maker_named site who)
+    else None
 words_event site _ = None
 
--- an event with the number of its line, before others
-abbrev pub and_events : ℕ → Option Event → Option (List (ℕ × Event)) → Option (List (ℕ × Event))
-and_events line (Some event) (Some events) = Some ((line, event) ∷ events)
-and_events line (Some event) None = None
-and_events line None events = None
+abbrev pub has_event : SiteData → Statement → Bool
+has_event site s = is_some (words_event site s.words)
 
--- the events of statements, if each of them has one
-abbrev pub script_events : SiteData → List Statement → Option (List (ℕ × Event))
-script_events site [] = Some []
-script_events site (s ∷ ss) = and_events s.line (words_event site s.words) (script_events site ss)
-
+-- each of these statements has an event
 abbrev pub has_events : SiteData → List Statement → Bool
-has_events site statements = is_some (script_events site statements)
+has_events site statements = list_all (has_event site) statements
+
+-- the event of a statement, with the number of its line
+abbrev pub event_of : SiteData → Statement → Option (ℕ × Event)
+event_of site s = option_map (λ event. (s.line, event)) (words_event site s.words)
+
+-- the events of statements
+abbrev pub script_events : SiteData → List Statement → List (ℕ × Event)
+script_events site statements = filter_map (event_of site) statements

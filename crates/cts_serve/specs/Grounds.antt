@@ -1,34 +1,36 @@
 -- What a site gives to events: the ground on which they stand, and the names that are printed.
-use Rattle.std.specs.Prelude.{ℕ, zero, suc, nat_lt, List, [], ◌∷◌, length}
+use Rattle.std.specs.Prelude.{ℕ, nat_lt, List, [], ◌∷◌, length, map, slice_index_or}
 use Rattle.cts_core.specs.States.{Ground}
 use Rattle.cts_def.specs.Packets.{PacketData}
 use Rattle.cts_def.specs.Sites.{InterfaceData, SiteData}
-use Rattle.cts_ident.specs.Identification.{identified}
-use Rattle.cts_proto.specs.Framing.{Output}
+use Rattle.cts_ident.specs.Identification.{ident_of}
 use Rattle.cts_proto.specs.LengthRow.{length_framing}
 use Rattle.cts_script.specs.Lines.{Names}
+
+-- the most entries of a history, and the most bytes
+abbrev pub entries_limit : ℕ
+entries_limit = 4000000
+
+abbrev pub bytes_limit : ℕ
+bytes_limit = 1073741824
 
 -- The ground of a site whose interfaces cut frames that state their length.
 abbrev pub site_ground : SiteData → Ground
 site_ground site = record {
   is_line = λ by. nat_lt by (length site.interfaces);
   chain = λ by. length_framing ∷ [];
-  ident = λ by (out : Output). identified site by out.bytes;
-  most_entries = 4000000;
-  most_bytes = 1073741824;
+  ident = ident_of site;
+  most_entries = entries_limit;
+  most_bytes = bytes_limit;
 }
 
 -- the name of the interface of this number
 abbrev pub interface_name : List InterfaceData → ℕ → List ℕ
-interface_name [] number = []
-interface_name (i ∷ interfaces) zero = i.name
-interface_name (i ∷ interfaces) (suc number) = interface_name interfaces number
+interface_name interfaces number = slice_index_or (map (λ (i : InterfaceData). i.name) interfaces) number []
 
 -- the target and the name of the packet of this number
 abbrev pub packet_name : List PacketData → ℕ → List ℕ × List ℕ
-packet_name [] number = ([], [])
-packet_name (p ∷ packets) zero = (p.target, p.name)
-packet_name (p ∷ packets) (suc number) = packet_name packets number
+packet_name packets number = slice_index_or (map (λ (p : PacketData). (p.target, p.name)) packets) number ([], [])
 
 -- The names of a site's interfaces and packets. Nothing is printed yet that has another name.
 abbrev pub site_names : SiteData → Names

@@ -1,5 +1,5 @@
 -- How a file is refused by its bytes, and what one says that is not refused.
-use Rattle.std.specs.Prelude.{ℕ, nat_lt, Bool, List, [], length, codes, Option, Some, None, unwrap_or, Result, Ok, Err, if◌then◌else◌}
+use Rattle.std.specs.Prelude.{ℕ, nat_lt, Bool, List, [], length, codes, Option, Some, None, Result, Ok, Err, if◌then◌else◌}
 use Rattle.std.specs.Result.{result_unwrap_or}
 use Rattle.cts_words.specs.declared.fault.WordFault.{WordFault}
 use Rattle.cts_words.specs.declared.fault.WordFault.TheVariants.{OpenQuote, DanglingJoin, NotText, Memory as NoMemory}
@@ -114,4 +114,4 @@ abbrev pub site_in : DefinitionsData → List ℕ → SiteData
 site_in definitions bytes = result_unwrap_or (site_read definitions (statements_in bytes)) no_site
 
 abbrev pub events_in : SiteData → List ℕ → List (ℕ × Event)
-events_in site bytes = unwrap_or (script_events site (statements_in bytes)) []
+events_in site bytes = script_events site (statements_in bytes)

@@ -2,11 +2,11 @@
 use Rattle.std.specs.Prelude.{◌≡◌, ℕ, List, [], Option, Some, None, Result, Ok, Err}
 use Rattle.cts_def.specs.Sites.{SiteData}
 use Rattle.cts_outside.specs.Causes.{Rose}
-use Rattle.cts_outside.specs.Contents.{appended, IsPartPut}
+use Rattle.cts_outside.specs.Contents.{appended}
 use Rattle.cts_serve.specs.Texts.{memory_line, read_fault_line, counts_line}
 use Rattle.cts_serve.specs.Judging.{refusal}
 use Rattle.cts_serve.specs.Outcomes.{RequestData, first_refusal, definitions_refusal, site_refusal, site_asked}
-use Rattle.cts_serve.specs.Printing.{IsRead, Puts, Printed}
+use Rattle.cts_serve.specs.Printing.{IsRead, Puts, Printed, FailsWithin}
 use Rattle.cts_serve.specs.declared.refused.Refused.{Refused}
 use Rattle.cts_serve.specs.declared.refused.Refused.TheVariants.{Said, Memory as NoMemory}
 use Rattle.cts_serve.specs.declared.status.Status.{Status}
@@ -61,7 +61,7 @@ RefusedPuts NoMemory result p = (result ≡ Memory) × Printed p.old p.new p.bef
 -- the counts of a site were put, or a prefix of their line where the put failed
 abbrev pub PutsCounts : SiteData → Status → Puts → Type 0
 PutsCounts site Fine p = (p.now ≡ p.before) × (p.new ≡ appended p.old (counts_line site))
-PutsCounts site WriteFault p = Rose p.before p.now × IsPartPut p.old p.new (counts_line site)
+PutsCounts site WriteFault p = FailsWithin p (counts_line site)
 PutsCounts site Memory p = Printed p.old p.new p.before p.now [] memory_line
 PutsCounts site Usage p = ⊥
 PutsCounts site ReadFault p = ⊥

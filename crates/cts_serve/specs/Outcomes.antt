@@ -3,7 +3,8 @@ use Rattle.std.specs.Prelude.{◌≡◌, ℕ, ◌+◌, nat_eq, List, [], ◌∷�
 use Rattle.std.specs.Cmp.Lexicographic.{pointwise}
 use Rattle.cts_entry.specs.declared.entry.Entry.{Entry}
 use Rattle.cts_entry.specs.declared.event.Event.{Event}
-use Rattle.cts_entry.specs.Histories.{or_earlier, entries_in, bytes_in}
+use Rattle.std.specs.Option.{option_or}
+use Rattle.cts_entry.specs.Histories.{entries_in, bytes_in}
 use Rattle.cts_core.specs.States.{opening}
 use Rattle.cts_core.specs.Runs.{Did, Ending, Finished, NotEnabled, HistoryFull, Runs}
 use Rattle.cts_script.specs.Lines.{entry_lines}
@@ -69,7 +70,7 @@ script_refusal files r (Some script) = file_refusal (judge_script (site_asked fi
 -- the refusal of the first of the files that is not taken
 abbrev pub first_refusal : (List ℕ → Option (List ℕ)) → RequestData → Option Outcome
 first_refusal files r =
-    or_earlier (definitions_refusal files r) (or_earlier (site_refusal files r) (script_refusal files r r.script))
+    option_or (definitions_refusal files r) (option_or (site_refusal files r) (script_refusal files r r.script))
 
 abbrev pub events_of : List (ℕ × Event) → List Event
 events_of events = map (λ e. e.1) events

@@ -1,6 +1,6 @@
 -- What stands in the sink at each status, and the outcome for which it stands.
-use Rattle.std.specs.Prelude.{◌≡◌, ℕ, ◌≤◌, List, [], ◌++◌, take, Option, Some, None, ◌⊎◌}
-use Rattle.cts_outside.specs.Causes.{Steady}
+use Rattle.std.specs.Prelude.{◌≡◌, ◌≢◌, ℕ, ◌≤◌, List, [], ◌++◌, take, Option, Some, None, ◌⊎◌}
+use Rattle.cts_outside.specs.Causes.{Rose, Steady}
 use Rattle.cts_outside.specs.Contents.{appended, IsPartPut}
 use Rattle.cts_serve.specs.Texts.{memory_line, read_fault_line}
 use Rattle.cts_serve.specs.Judging.{Outcome}
@@ -30,13 +30,18 @@ pub record Puts : Type 0 where
   pub before : ℕ
   pub now : ℕ
 
+-- A put failed within this text, which is not empty.
+abbrev pub FailsWithin : Puts → List ℕ → Type 0
+FailsWithin p text = Rose p.before p.now × (text ≢ []) × IsPartPut p.old p.new text
+
 -- What was put where the outcome is this and the status that. Want of memory and faults may come in place of the
--- outcome's own status: then what was put is a prefix of its body, and at a fault of the sink of all its text.
+-- outcome's own status: then what was put is a prefix of its body. A fault of the sink comes only where there is a body to
+-- be put: where a last line can't be put, the outcome's status stays.
 abbrev pub PutsFor : (List ℕ → Option (List ℕ)) → Option RequestData → Outcome → Status → Puts → Type 0
 PutsFor files r o Fine p = (o.status ≡ Fine) × (p.new ≡ appended p.old o.body)
 PutsFor files r o Memory p = (n : ℕ) × Printed p.old p.new p.before p.now (take n o.body) memory_line
 PutsFor files r o ReadFault p = (name : List ℕ) × IsRead files r name × Printed p.old p.new p.before p.now [] (read_fault_line name)
-PutsFor files r o WriteFault p = IsPartPut p.old p.new (o.body ++ o.last)
+PutsFor files r o WriteFault p = FailsWithin p o.body
 PutsFor files r o Usage p = (o.status ≡ Usage) × Printed p.old p.new p.before p.now o.body o.last
 PutsFor files r o Absent p = (o.status ≡ Absent) × Printed p.old p.new p.before p.now o.body o.last
 PutsFor files r o ConfigRefused p = (o.status ≡ ConfigRefused) × Printed p.old p.new p.before p.now o.body o.last

@@ -5,8 +5,7 @@ use Rattle.cts_entry.specs.declared.event.Event.{Event}
 use Rattle.cts_core.specs.States.{State}
 use Rattle.cts_core.specs.Runs.{Did, Does, after, Refuses, NotEnabled, HistoryFull}
 use Rattle.cts_entry.specs.Histories.{entries_in, bytes_in}
-use Rattle.cts_outside.specs.Causes.{Rose}
-use Rattle.cts_outside.specs.Contents.{appended, IsPartPut}
+use Rattle.cts_outside.specs.Contents.{appended}
 use Rattle.cts_script.specs.Lines.{entry_lines}
 use Rattle.cts_def.specs.Sites.{SiteData}
 use Rattle.cts_serve.specs.Grounds.{site_ground, site_names}
@@ -14,7 +13,7 @@ use Rattle.cts_serve.specs.Worlds.{Held, Stands}
 use Rattle.cts_serve.specs.Texts.{memory_line, refused_line, full_line, end_line}
 use Rattle.cts_serve.specs.Judging.{Outcome}
 use Rattle.cts_serve.specs.Outcomes.{IsReplay}
-use Rattle.cts_serve.specs.Printing.{Puts, Printed}
+use Rattle.cts_serve.specs.Printing.{Puts, Printed, FailsWithin}
 use Rattle.cts_serve.specs.declared.refusal.Refusal.TheVariants.{NotEnabled as RefusedEvent, HistoryFull as FullHistory, Memory as NoMemory}
 use Rattle.cts_serve.specs.declared.stop.Stop.{Stop}
 use Rattle.cts_serve.specs.declared.stop.Stop.TheVariants.{Refused, WriteFault as PutFault}
@@ -28,7 +27,7 @@ IsUntouched p = (p.now ≡ p.before) × (p.new ≡ p.old)
 -- the lines of entries were put, of which the first has number n
 abbrev pub PutsEntries : SiteData → ℕ → List Entry → Result (Unit {0}) Stop → Puts → Type 0
 PutsEntries site n entries (Ok done) p = (p.now ≡ p.before) × (p.new ≡ appended p.old (entry_lines (site_names site) n entries))
-PutsEntries site n entries (Err PutFault) p = Rose p.before p.now × IsPartPut p.old p.new (entry_lines (site_names site) n entries)
+PutsEntries site n entries (Err PutFault) p = FailsWithin p (entry_lines (site_names site) n entries)
 PutsEntries site n entries (Err (Refused NoMemory)) p = IsUntouched p
 PutsEntries site n entries (Err (Refused RefusedEvent)) p = ⊥
 PutsEntries site n entries (Err (Refused FullHistory)) p = ⊥
@@ -38,7 +37,7 @@ abbrev pub DoesEvent : SiteData → State → Event → Result (Unit {0}) Stop �
 DoesEvent site s event (Ok done) w p =
     (did : Did) × Does (site_ground site) s event did × Stands site w (after s event did) × (p.now ≡ p.before) × (p.new ≡ appended p.old (entry_lines (site_names site) (length s.history) did.entries))
 DoesEvent site s event (Err PutFault) w p =
-    (did : Did) × Does (site_ground site) s event did × Rose p.before p.now × IsPartPut p.old p.new (entry_lines (site_names site) (length s.history) did.entries)
+    (did : Did) × Does (site_ground site) s event did × FailsWithin p (entry_lines (site_names site) (length s.history) did.entries)
 DoesEvent site s event (Err (Refused RefusedEvent)) w p = Refuses (site_ground site) s event NotEnabled × IsUntouched p
 DoesEvent site s event (Err (Refused FullHistory)) w p =
     Refuses (site_ground site) s event HistoryFull × (w.entries ≡ entries_in s.history) × (w.bytes ≡ bytes_in s.history) × IsUntouched p
@@ -48,7 +47,7 @@ DoesEvent site s event (Err (Refused NoMemory)) w p = IsUntouched p
 abbrev pub ReplayPuts : Outcome → Status → Puts → Type 0
 ReplayPuts o Fine p = (o.status ≡ Fine) × (p.now ≡ p.before) × (p.new ≡ appended p.old o.body)
 ReplayPuts o Memory p = (n : ℕ) × Printed p.old p.new p.before p.now (take n o.body) memory_line
-ReplayPuts o WriteFault p = Rose p.before p.now × IsPartPut p.old p.new (o.body ++ o.last)
+ReplayPuts o WriteFault p = FailsWithin p o.body
 ReplayPuts o ScriptRefused p = (o.status ≡ ScriptRefused) × Printed p.old p.new p.before p.now o.body o.last
 ReplayPuts o FullStatus p = (o.status ≡ FullStatus) × Printed p.old p.new p.before p.now o.body o.last
 ReplayPuts o Usage p = ⊥
@@ -78,7 +77,7 @@ StopPuts script line (Refused FullHistory) w result p = SaysOrWants FullStatus (
 -- what is put after the last event
 abbrev pub EndPuts : ℕ → Status → Puts → Type 0
 EndPuts entries Fine p = (p.now ≡ p.before) × (p.new ≡ appended p.old (end_line entries))
-EndPuts entries WriteFault p = Rose p.before p.now × IsPartPut p.old p.new (end_line entries)
+EndPuts entries WriteFault p = FailsWithin p (end_line entries)
 EndPuts entries Memory p = Printed p.old p.new p.before p.now [] memory_line
 EndPuts entries Usage p = ⊥
 EndPuts entries ReadFault p = ⊥

@@ -108,10 +108,10 @@ abbrev pub settled : ℕ → Held → Option ℤ → Held
 settled by w None = w
 settled by w (Some stated) = closed by w (BadFrame 1 (Short stated))
 
--- What a step answers, and the states for which the world stands then: the one after the event, where it was done. After
--- want of memory nothing is said.
+-- What a step answers, and the states for which the world stands then: the one after the event, where it was done, and
+-- the same ones as before, where the event is not enabled. After want of memory nothing is said.
 abbrev pub Steps : SiteData → State → Event → Result (Unit {0}) Refusal → Held → Type 0
 Steps site s event (Ok done) new = (did : Did) × Does (site_ground site) s event did × Stands site new (after s event did)
-Steps site s event (Err RefusedEvent) new = Refuses (site_ground site) s event NotEnabled
+Steps site s event (Err RefusedEvent) new = Refuses (site_ground site) s event NotEnabled × Stands site new s
 Steps site s event (Err FullHistory) new = Refuses (site_ground site) s event HistoryFull × (new.entries ≡ entries_in s.history) × (new.bytes ≡ bytes_in s.history)
 Steps site s event (Err Memory) new = Unit {0}

@@ -1,10 +1,11 @@
 // The top call.
-ghost use Rattle.std.specs.Prelude.{◌≡◌, ◌≢◌, ◌↔◌, map, IfSome, None, Some};
+ghost use Rattle.std.specs.Prelude.{◌≡◌, ◌≢◌, ◌≤◌, ◌↔◌, [], map, IfSome, None, Some};
 ghost use Rattle.cts_outside.specs.Causes.{Rose, Steady};
 ghost use Rattle.cts_serve.specs.Causing.{IsCaused};
 ghost use Rattle.cts_serve.specs.Loading.{RefusedPuts, PutsCounts, LoadsSite};
 ghost use Rattle.cts_serve.specs.Outcomes.{asked};
-ghost use Rattle.cts_serve.specs.Printing.{Answers, Completes};
+ghost use Rattle.cts_serve.specs.Printing.{Answers, Completes, Printed};
+ghost use Rattle.cts_serve.specs.Texts.{usage_line};
 
 use crate::last::{put_last, put_memory};
 use crate::loading::{load_script, load_site};
@@ -34,6 +35,12 @@ pub fn run<F: Files, O: Sink>(alloc: Global, words: &[&str], files: &mut F, out:
     ensures write { result ≡ Status.WriteFault → Rose (O.faults out.old) (O.faults out.new) }
     // Only where nothing failed.
     ensures fine { result ≡ Status.Ok → (F.faults files.new ≡ F.faults files.old) × (F.absences files.new ≡ F.absences files.old) × (O.faults out.new ≡ O.faults out.old) }
+    // No count falls.
+    ensures later { (F.faults files.old ≤ F.faults files.new) × (F.absences files.old ≤ F.absences files.new) × (O.faults out.old ≤ O.faults out.new) }
+    // The files stay.
+    ensures stays { F.told files.new ≡ F.told files.old }
+    // Where the words fit no command, the line that says which ones do, whatever the files are.
+    ensures misused { asked (map (λ w. w.now) words.now) ≡ None → Printed (O.told out.old) (O.told out.new) (O.faults out.old) (O.faults out.new) [] usage_line }
     // The outcome that the content of the files has, and what was put for it.
     ensures transcript { IfSome (F.told files.old) (λ all. Answers all (asked (map (λ w. w.now) words.now)) result
         (record { old = O.told out.old; new = O.told out.new; before = O.faults out.old; now = O.faults out.new })) }
@@ -74,6 +81,7 @@ fn do_request<F: Files, O: Sink>(
     out: &mut O,
 ) -> Status
     ensures usage { result ≢ Status.Usage }
+    ensures stays { F.told files.new ≡ F.told files.old }
     ensures caused { IsCaused result (record { faults = F.faults files.old; faults_now = F.faults files.new; absences = F.absences files.old; absences_now = F.absences files.new; put_faults = O.faults out.old; put_faults_now = O.faults out.new }) }
     ensures transcript { IfSome (F.told files.old) (λ all. Answers all (Some request.now) result
         (record { old = O.told out.old; new = O.told out.new; before = O.faults out.old; now = O.faults out.new })) }
@@ -99,6 +107,7 @@ fn replay_script<F: Files, O: Sink>(
     requires asked { request.now.script ≡ Some script.now }
     requires taken { IfSome (F.told files.old) (λ all. LoadsSite all request.now (Ok site.now)) }
     ensures usage { result ≢ Status.Usage }
+    ensures stays { F.told files.new ≡ F.told files.old }
     ensures caused { IsCaused result (record { faults = F.faults files.old; faults_now = F.faults files.new; absences = F.absences files.old; absences_now = F.absences files.new; put_faults = O.faults out.old; put_faults_now = O.faults out.new }) }
     ensures transcript { IfSome (F.told files.old) (λ all. Answers all (Some request.now) result
         (record { old = O.told out.old; new = O.told out.new; before = O.faults out.old; now = O.faults out.new })) }

@@ -4,6 +4,7 @@ ghost use Rattle.cts_ident.specs.Identification.{is_worker};
 
 use crate::site_tests::site_of;
 use cts_def::{Ident, Site};
+use cts_entry::FIRST_SLOT;
 use cts_ident::{identify, identify_command, named};
 use std::alloc::{AllocError, Global};
 use std::test::Fail;
@@ -92,10 +93,10 @@ fn identified_command(site: &Site, router: u32, bytes: &[u8]) -> Option<Ident> {
 fn is_worker(site: &Site, by: u32) -> bool
     ensures { result ≡ is_worker site.now by }
 {
-    if by < 16 {
+    if by < FIRST_SLOT {
         (by as usize) < site.interfaces.as_slice().len()
     } else {
-        ((by - 16) / 2) < site.routers.as_slice().len() as u32
+        ((by - FIRST_SLOT) / 2) < site.routers.as_slice().len() as u32
     }
 }
 

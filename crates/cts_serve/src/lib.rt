@@ -34,3 +34,5 @@ mod loading_tests;
 mod site_tests;
 #[cfg(test)]
 mod tests;
+#[cfg(test)]
+mod world_tests;

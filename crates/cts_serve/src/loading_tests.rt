@@ -2,6 +2,7 @@
 use crate::loading::{load_script, load_site};
 use crate::refused::Refused;
 use crate::request::Request;
+use crate::site_tests::lines;
 use cts_base::Bytes;
 use cts_entry::{Event, Why};
 use cts_outside::MemFiles;
@@ -11,28 +12,8 @@ use std::test::Fail;
 const SITE: &[u8] =
     b"INTERFACE I tcpip_client_interface.rb localhost 8080 8080 10.0 nil LENGTH 0 16 0 1";
 
-const SITE_SPACED: &[u8] =
-    b"# one interface\n INTERFACE I tcpip_client_interface.rb localhost 8080 &\r\n\t8080 10.0 'nil' LENGTH 0 16 0 1\n\n";
-
 const TWO: &[u8] =
     b"INTERFACE I tcpip_client_interface.rb localhost 8080 8080 10.0 nil LENGTH 0 16 0 1\nINTERFACE j tcpip_client_interface.rb localhost 8081 8081 10.0 nil LENGTH 0 16 0 1\n";
-
-const ROUTED: &[u8] =
-    b"INTERFACE I tcpip_client_interface.rb localhost 8080 8080 10.0 nil LENGTH 0 16 0 1\nROUTER R tcpip_server_interface.rb 2950 2950 10.0 nil BURST\n";
-
-const LINES: &[u8] =
-    b"INTERFACE I tcpip_client_interface.rb localhost 8080 8080 10.0 nil TERMINATED 0x0A 0x0A\n";
-
-const STATED_AFTER: &[u8] =
-    b"INTERFACE I tcpip_client_interface.rb localhost 8080 8080 10.0 nil LENGTH 0 16 2 1\n";
-
-const READ_ONLY: &[u8] =
-    b"INTERFACE I tcpip_client_interface.rb localhost 8080 8080 10.0 nil\nPROTOCOL READ LENGTH 0 16 0 1\n";
-
-const LIMITED: &[u8] =
-    b"TELEMETRY T A BIG_ENDIAN\nAPPEND_ITEM X 8 UINT\nLIMITS DEFAULT 1 ENABLED 1 2 3 4\n";
-
-const COLORED: &[u8] = b"TELEMETRY T A BIG_ENDIAN\nAPPEND_ITEM X 8 UINT\nSTATE ON 1 GREEN\n";
 
 // The files `d`, `s` and `p`, where they are given.
 pub(crate) fn files(
@@ -107,73 +88,83 @@ fn shown_events(alloc: Global, events: &[(u32, Event)]) -> Result<Vec<u8>, Alloc
     Ok(text)
 }
 
+/// The files `d`, `s` and `p`, and what is said of them, with bars between. Lines end with `;`, and a dash is no file.
+const REFUSALS: &str = "\
+-|-|-|Absent absent: d
+A 'b|-|-|ConfigRefused refused: d line 1: OpenQuote
+;A &|-|-|ConfigRefused refused: d line 2: DanglingJoin
+x|-|-|ConfigRefused refused: d line 1: UnknownKeyword
+TELEMETRY T A BIG_ENDIAN;ITEM A 0 12 UINT \"\" LITTLE_ENDIAN|-|-|ConfigRefused refused: d line 2: BadPlace
+TELEMETRY T A BIG_ENDIAN;APPEND_ITEM X 8 UINT;LIMITS DEFAULT 1 ENABLED 1 2 3 4;|-|-|NotBuilt not built: d
+TELEMETRY T A BIG_ENDIAN;APPEND_ITEM X 8 UINT;STATE ON 1 GREEN;|x|-|NotBuilt not built: d
+; # no statement;|-|-|Absent absent: s
+|\"|-|ConfigRefused refused: s line 1: OpenQuote
+|;x|-|ConfigRefused refused: s line 2: UnknownKeyword
+|INTERFACE I tcpip_client_interface.rb h 1 1 nil nil LENGTH 0 16 0 1;ROUTER R tcpip_server_interface.rb 2 2 nil nil BURST;|-|NotBuilt not built: s
+|INTERFACE I tcpip_client_interface.rb h 1 1 nil nil TERMINATED 0x0A 0x0A;|-|NotBuilt not built: s
+|INTERFACE I tcpip_client_interface.rb h 1 1 nil nil LENGTH 0 16 2 1;|-|NotBuilt not built: s
+|INTERFACE I tcpip_client_interface.rb h 1 1 nil nil;PROTOCOL READ LENGTH 0 16 0 1;|-|NotBuilt not built: s
+||-|Absent absent: p
+|INTERFACE I tcpip_client_interface.rb h 1 1 nil nil LENGTH 0 16 0 1|-|Absent absent: p
+|# one; INTERFACE I tcpip_client_interface.rb h 1 &\r;\t1 nil 'nil' LENGTH 0 16 0 1;;|OPEN I;x ';|ScriptRefused refused: p line 2: WrongCount
+|INTERFACE I tcpip_client_interface.rb h 1 1 nil nil LENGTH 0 16 0 1|x|NotBuilt not built: p
+||OPEN I|NotBuilt not built: p
+|INTERFACE I tcpip_client_interface.rb h 1 1 nil nil LENGTH 0 16 0 1|OPEN I|1 opens 0";
+
+// A file of such a row.
+fn given(alloc: Global, text: &str) -> Result<Option<Vec<u8>>, AllocError> {
+    if text == "-" {
+        return Ok(None);
+    }
+    Ok(Some(lines(alloc, "", text)?))
+}
+
+// What is said of the three files of a row.
+fn said_of_row(
+    alloc: Global,
+    definitions: &str,
+    site: &str,
+    script: &str,
+) -> Result<Vec<u8>, AllocError> {
+    let definitions = given(alloc, definitions)?;
+    let site = given(alloc, site)?;
+    let script = given(alloc, script)?;
+    let contents = [definitions.as_deref(), site.as_deref(), script.as_deref()];
+    let mut files = files(alloc, contents, Vec::new(alloc))?;
+    shown(alloc, load_all(alloc, &mut files))
+}
+
 #[test]
 fn each_file_has_its_refusals_before_the_next(rt: HostRuntime) -> Result<(), Fail> {
+    for row in REFUSALS.lines() {
+        let Some((definitions, rest)) = row.split_once('|') else {
+            return Err(Fail::new("no row"));
+        };
+        let Some((site, rest)) = rest.split_once('|') else {
+            return Err(Fail::new("no row"));
+        };
+        let Some((script, want)) = rest.split_once('|') else {
+            return Err(Fail::new("no row"));
+        };
+        let found = said_of_row(rt.alloc(), definitions, site, script)?;
+        let want = format!(in rt.alloc(); "{want}\n")?;
+        assert_eq!(rt; found.as_slice(), want.as_bytes(), "at {row}");
+    }
+    Ok(())
+}
+
+#[test]
+fn a_file_that_is_no_text_is_refused_as_a_whole(rt: HostRuntime) -> Result<(), Fail> {
     let alloc = rt.alloc();
-    let rows: [([Option<&[u8]>; 3], &[u8]); 21] = [
-        ([None, None, None], b"Absent absent: d\n"),
-        (
-            [Some(b"A 'b"), None, None],
-            b"ConfigRefused refused: d line 1: OpenQuote\n",
-        ),
-        (
-            [Some(b"\nA &"), None, None],
-            b"ConfigRefused refused: d line 2: DanglingJoin\n",
-        ),
+    let rows: [([Option<&[u8]>; 3], &[u8]); 2] = [
         (
             [Some(b"A\n\xff '"), None, None],
             b"ConfigRefused refused: d line 0: NotText\n",
         ),
         (
-            [Some(b"x"), None, None],
-            b"ConfigRefused refused: d line 1: UnknownKeyword\n",
-        ),
-        ([Some(LIMITED), None, None], b"NotBuilt not built: d\n"),
-        (
-            [Some(COLORED), Some(b"x"), None],
-            b"NotBuilt not built: d\n",
-        ),
-        (
-            [Some(b"\n # no statement\n"), None, None],
-            b"Absent absent: s\n",
-        ),
-        (
-            [Some(b""), Some(b"\""), None],
-            b"ConfigRefused refused: s line 1: OpenQuote\n",
-        ),
-        (
-            [Some(b""), Some(b"\nx"), None],
-            b"ConfigRefused refused: s line 2: UnknownKeyword\n",
-        ),
-        ([Some(b""), Some(ROUTED), None], b"NotBuilt not built: s\n"),
-        ([Some(b""), Some(LINES), None], b"NotBuilt not built: s\n"),
-        (
-            [Some(b""), Some(STATED_AFTER), None],
-            b"NotBuilt not built: s\n",
-        ),
-        (
-            [Some(b""), Some(READ_ONLY), None],
-            b"NotBuilt not built: s\n",
-        ),
-        ([Some(b""), Some(b""), None], b"Absent absent: p\n"),
-        ([Some(b""), Some(SITE), None], b"Absent absent: p\n"),
-        (
-            [Some(b""), Some(SITE_SPACED), Some(b"OPEN I\nx '\n")],
-            b"ScriptRefused refused: p line 2: WrongCount\n",
-        ),
-        (
             [Some(b""), Some(SITE), Some(b"OPEN I\n\x80")],
             b"ScriptRefused refused: p line 0: WrongCount\n",
         ),
-        (
-            [Some(b""), Some(SITE), Some(b"x")],
-            b"NotBuilt not built: p\n",
-        ),
-        (
-            [Some(b""), Some(b""), Some(b"OPEN I")],
-            b"NotBuilt not built: p\n",
-        ),
-        ([Some(b""), Some(SITE), Some(b"OPEN I")], b"1 opens 0\n"),
     ];
     for (contents, expected) in rows {
         let mut files = files(alloc, contents, Vec::new(alloc))?;

@@ -9,6 +9,7 @@ use cts_script::Naming;
 /// printed yet that has another name.
 #[derive(Clone, Copy, Debug)]
 pub struct SiteNames<'a> {
+    /// The site whose names these are.
     pub site: &'a Site,
 }
 

@@ -53,8 +53,8 @@ fn replay_from<O: Sink>(
     put_end(alloc, world.history.len(), out)
 }
 
-// Puts the last line of a replay that stops at the event of this line.
-fn put_stop<O: Sink>(
+/// Puts the last line of a replay that stops at the event of this line.
+pub(crate) fn put_stop<O: Sink>(
     alloc: Global,
     script: &str,
     line: u32,

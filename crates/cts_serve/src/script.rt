@@ -1,11 +1,8 @@
 // The events of a script.
-ghost use Rattle.std.specs.Prelude.{◌≡◌, ◌==◌, ◌<◌, ◌≤◌, length, zip, option_map, IfOk, IfSome};
-ghost use Rattle.std.specs.List.{list_all};
-ghost use Rattle.hex.specs.Hex.{decode_of};
-ghost use Rattle.cts_base.specs.Names.{upper};
-ghost use Rattle.cts_serve.specs.Forms.{spells, maker_in, maker_named, piece_of, third_event, second_event, words_event, script_events};
+ghost use Rattle.std.specs.Prelude.{◌≡◌, ◌<◌, ◌≤◌, ◌∷◌, [], is_some, length, option_and_then, IfOk, IfSome};
+ghost use Rattle.cts_serve.specs.Forms.{has_events, maker_in, maker_named, piece_of, script_events, words_event};
 
-use cts_base::{Bytes, Memory};
+use cts_base::{Bytes, Memory, spells};
 use cts_core::is_piece;
 use cts_def::{Interface, Site};
 use cts_entry::{Event, Why};
@@ -19,7 +16,8 @@ pub fn script_events(
     site: &Site,
     statements: &[Statement],
 ) -> Result<Option<Vec<(u32, Event)>>, Memory>
-    ensures { IfOk result (λ events. option_map (λ v. v.items) events ≡ script_events site.now statements.now) }
+    ensures whether { IfOk result (λ events. is_some events ≡ has_events site.now statements.now) }
+    ensures events { IfOk result (λ events. IfSome events (λ v. v.items ≡ script_events site.now statements.now)) }
 {
     let mut events = Vec::new(alloc);
     let mut left = statements;
@@ -38,52 +36,56 @@ fn words_event(alloc: Global, site: &Site, words: &[Bytes]) -> Result<Option<Eve
     ensures { IfOk result (λ event. event ≡ words_event site.now words.now) }
 {
     match words {
-        [keyword, who] => Ok(second_event(keyword.as_slice(), maker_named(site, who.as_slice()))),
-        [keyword, who, word] => third_event(
+        [keyword, who] => Ok(event_of_two(site, keyword.as_slice(), who.as_slice())),
+        [keyword, who, word] => event_of_three(
             alloc,
+            site,
             keyword.as_slice(),
-            maker_named(site, who.as_slice()),
+            who.as_slice(),
             word.as_slice(),
         ),
         _ => Ok(None),
     }
 }
 
-fn second_event(keyword: &[u8], maker: Option<u32>) -> Option<Event>
-    ensures { result ≡ second_event keyword.now maker }
+fn event_of_two(site: &Site, keyword: &[u8], who: &[u8]) -> Option<Event>
+    ensures { result ≡ words_event site.now (keyword.now ∷ who.now ∷ []) }
 {
-    let by = maker?;
-    if spells(keyword, b"OPEN") {
-        Some(Event::Opens(by))
-    } else {
-        None
+    if !spells(keyword, b"OPEN") {
+        return None;
+    }
+    let by = maker_named(site, who)?;
+    Some(Event::Opens(by))
+}
+
+fn event_of_three(
+    alloc: Global,
+    site: &Site,
+    keyword: &[u8],
+    who: &[u8],
+    word: &[u8],
+) -> Result<Option<Event>, Memory>
+    ensures { IfOk result (λ event. event ≡ words_event site.now (keyword.now ∷ who.now ∷ word.now ∷ [])) }
+{
+    if spells(keyword, b"BYTES") {
+        return piece(alloc, maker_named(site, who), word);
+    }
+    if !(spells(keyword, b"CLOSE") && word == b"PEER".as_slice()) {
+        return Ok(None);
+    }
+    match maker_named(site, who) {
+        Some(by) => Ok(Some(Event::Finish(by, Why::PeerEnded))),
+        None => Ok(None),
     }
 }
 
-fn third_event(
-    alloc: Global,
-    keyword: &[u8],
-    maker: Option<u32>,
-    word: &[u8],
-) -> Result<Option<Event>, Memory>
-    ensures { IfOk result (λ event. event ≡ third_event keyword.now maker word.now) }
+// The piece that these digits write, for a maker.
+fn piece(alloc: Global, maker: Option<u32>, digits: &[u8]) -> Result<Option<Event>, Memory>
+    ensures { IfOk result (λ event. event ≡ option_and_then (piece_of digits.now) maker) }
 {
     let Some(by) = maker else {
         return Ok(None);
     };
-    if spells(keyword, b"BYTES") {
-        piece(alloc, by, word)
-    } else if spells(keyword, b"CLOSE") && word == b"PEER".as_slice() {
-        Ok(Some(Event::Finish(by, Why::PeerEnded)))
-    } else {
-        Ok(None)
-    }
-}
-
-// The piece of bytes that these digits write.
-fn piece(alloc: Global, by: u32, digits: &[u8]) -> Result<Option<Event>, Memory>
-    ensures { IfOk result (λ event. event ≡ piece_of by (decode_of digits.now)) }
-{
     match hex::decode(alloc, digits) {
         Ok(bytes) => {
             if is_piece(&bytes) {
@@ -121,19 +123,4 @@ fn place_of(interfaces: &[Interface], name: &[u8]) -> Option<usize>
     interfaces
         .iter()
         .position(|interface| spells(name, interface.name.as_slice()))
-}
-
-// Whether a word is this upper-case text, in any case.
-fn spells(word: &[u8], text: &[u8]) -> bool
-    ensures { result ≡ spells word.now text.now }
-{
-    word.len() == text.len() && has_letters(word, text)
-}
-
-fn has_letters(word: &[u8], text: &[u8]) -> bool
-    ensures { result ≡ list_all (λ p. upper p.0 == p.1) (zip word.now text.now) }
-{
-    word.iter()
-        .zip(text)
-        .all(|(a, b)| a.to_ascii_uppercase() == *b)
 }

@@ -3,7 +3,7 @@ use crate::loading::load_site;
 use crate::loading_tests::files;
 use crate::refused::Refused;
 use crate::request::Request;
-use cts_def::{ProtoSpec, ProtoUse, Site, Start};
+use cts_def::{Interface, ProtoSpec, ProtoUse, Router, Site, Start};
 use std::alloc::{AllocError, Global};
 use std::test::Fail;
 
@@ -47,7 +47,7 @@ refused: s line 3: VariableLength| BURST;TARGET AUX;ROUTER R tcpip_server_interf
 read| BURST;TARGET AUX;ROUTER R tcpip_server_interface.rb 2 2 nil nil FIXED 1";
 
 /// A text whose lines end with line feeds, of one whose lines end with `;`.
-fn lines(alloc: Global, front: &str, text: &str) -> Result<Vec<u8>, AllocError> {
+pub(crate) fn lines(alloc: Global, front: &str, text: &str) -> Result<Vec<u8>, AllocError> {
     let mut out = front.as_bytes().to_vec(alloc)?;
     for c in text.as_bytes() {
         out.push(if *c == b';' { b'\n' } else { *c })?;
@@ -55,7 +55,11 @@ fn lines(alloc: Global, front: &str, text: &str) -> Result<Vec<u8>, AllocError> 
     Ok(out)
 }
 
-fn loaded(alloc: Global, definitions: &[u8], site: &[u8]) -> Result<Result<Site, Refused>, Fail> {
+fn loaded<'a>(
+    alloc: Global,
+    definitions: &'a [u8],
+    site: &'a [u8],
+) -> Result<Result<Site, Refused>, Fail> {
     let contents = [Some(definitions), Some(site), None];
     let mut files = files(alloc, contents, Vec::new(alloc))?;
     let request = Request {
@@ -158,25 +162,23 @@ ROUTER R tcpip_server_interface.rb 2 2 nil nil FIXED 4 0 nil false;ROUTE I",
     Ok(())
 }
 
-/// The names of all interfaces with their ports and the number of their targets, and of all routers with their routes.
-fn shown_site(alloc: Global, site: &Site) -> Result<String, AllocError> {
+/// The names of interfaces with their ports and the number of their targets.
+fn shown_interfaces(alloc: Global, interfaces: &[Interface]) -> Result<String, AllocError> {
     let mut text = String::new(alloc);
-    for interface in site.interfaces.as_slice() {
-        let line = format!(in alloc;
-            "{:?} {} {};",
-            interface.name.as_slice(),
-            interface.port,
-            interface.targets.len()
-        )?;
+    for interface in interfaces {
+        let name = String::from_utf8_lossy(alloc, interface.name.as_slice())?;
+        let line = format!(in alloc; "{name} {} {};", interface.port, interface.targets.len())?;
         text.push_str(line.as_str())?;
     }
-    for router in site.routers.as_slice() {
-        let line = format!(in alloc;
-            "{:?} {} {:?}",
-            router.name.as_slice(),
-            router.port,
-            router.routes.as_slice()
-        )?;
+    Ok(text)
+}
+
+/// The names of routers with their ports and the interfaces that they route.
+fn shown_routers(alloc: Global, routers: &[Router]) -> Result<String, AllocError> {
+    let mut text = String::new(alloc);
+    for router in routers {
+        let name = String::from_utf8_lossy(alloc, router.name.as_slice())?;
+        let line = format!(in alloc; "{name} {} {:?};", router.port, router.routes.as_slice())?;
         text.push_str(line.as_str())?;
     }
     Ok(text)
@@ -196,8 +198,12 @@ ROUTER R tcpip_server_interface.rb 2950 2950 10.0 nil PREIDENTIFIED;\
   ROUTE B;  ROUTE A",
     )?;
     assert_eq!(rt;
-        shown_site(rt.alloc(), &site)?.as_str(),
-        "[65] 8080 2;[66] 8081 1;[82] 2950 [1, 0]"
+        shown_interfaces(rt.alloc(), site.interfaces.as_slice())?.as_str(),
+        "A 8080 2;B 8081 1;"
+    );
+    assert_eq!(rt;
+        shown_routers(rt.alloc(), site.routers.as_slice())?.as_str(),
+        "R 2950 [1, 0];"
     );
     assert_eq!(rt; site.definitions.telemetry.len(), 4);
     assert_eq!(rt; site.definitions.commands.len(), 2);

@@ -198,7 +198,7 @@ const LIMITED: &[u8] =
 const ROUTED: &[u8] =
     b"INTERFACE I tcpip_client_interface.rb localhost 8080 8080 10.0 nil LENGTH 0 16 0 1\nROUTER R tcpip_server_interface.rb 2950 2950 10.0 nil BURST\n";
 
-const COMMANDS: [Row; 23] = [
+const COMMANDS: [Row; 26] = [
     Row {
         words: &[],
         definitions: b"",
@@ -241,6 +241,30 @@ const COMMANDS: [Row; 23] = [
     },
     Row {
         words: &["CHECK", "d", "s"],
+        definitions: b"",
+        site: SITE,
+        script: b"",
+        status: Status::Usage,
+        printed: USAGE,
+    },
+    Row {
+        words: &["rehearse", "5"],
+        definitions: b"",
+        site: SITE,
+        script: b"",
+        status: Status::Usage,
+        printed: USAGE,
+    },
+    Row {
+        words: &["dump", "x"],
+        definitions: b"",
+        site: SITE,
+        script: b"",
+        status: Status::Usage,
+        printed: USAGE,
+    },
+    Row {
+        words: &["serve", "d", "s"],
         definitions: b"",
         site: SITE,
         script: b"",

@@ -1,5 +1,6 @@
 // The core that runs events: the interfaces of a site, whose frames state their length.
 ghost use Rattle.std.specs.Prelude.{◌≡◌, ◌≤◌, length, nat_lt};
+ghost use Rattle.cts_serve.specs.Grounds.{bytes_limit, entries_limit};
 
 use crate::connection::Connection;
 use crate::posting::{drop_front, packets};
@@ -11,34 +12,38 @@ use cts_entry::{Entry, Event, Why};
 use cts_proto::{Cutting, cut_length};
 use std::alloc::Global;
 
-const MOST_ENTRIES: u64 = 4_000_000;
+pub(crate) const MOST_ENTRIES: u64 = 4_000_000;
 
 const MOST_BYTES: u64 = 1_073_741_824;
 
 /// The server's history, and of the connections that stand the bytes that no packet has yet.
 #[derive(Debug, Drop)]
 pub struct World {
+    /// What the clock shows.
     pub time: Time,
+    /// All entries so far, in order.
     pub history: Vec<Entry>,
     /// The connections of the interfaces, in order of the site.
     pub connections: Vec<Connection>,
+    /// Whether a Stop stands.
     pub stopped: bool,
     /// How many entries count against the limit.
     pub entries: u64,
     /// How many bytes count against the limit.
     pub bytes: u64,
-    ghost entries_within: { entries ≤ 4000000 },
-    ghost bytes_within: { bytes ≤ 1073741824 },
+    ghost entries_within: { entries ≤ entries_limit },
+    ghost bytes_within: { bytes ≤ bytes_limit },
 }
 
 impl World {
     ghost use Rattle.std.specs.Prelude.{◌≡◌, ◌&&◌, ◌<◌, ◌≤◌, ◌+◌, ◌++◌, ◌^◌, nat_le, nat_lt, not, length, List, true, vec_len, IfOk, OnOk};
-    ghost use Rattle.cts_core.specs.States.{State, opening, may_close};
+    ghost use Rattle.cts_core.specs.States.{State, is_piece, may_close, opening};
     ghost use Rattle.cts_def.specs.Sites.{SiteData};
     ghost use Rattle.cts_entry.specs.declared.entry.Entry.{Entry};
     ghost use Rattle.cts_entry.specs.declared.event.Event.TheVariants as event;
     ghost use Rattle.cts_entry.specs.Histories.{is_stopped};
     ghost use Rattle.cts_proto.specs.Cuttings.{Tiles, IsCutting};
+    ghost use Rattle.cts_serve.specs.Grounds.{bytes_limit, entries_limit};
     ghost use Rattle.cts_serve.specs.Worlds.{Steps, Stands, held_in, line_at, opened, extended, posted, closed, settled};
 
     /// A world of a site in which nothing has happened.
@@ -104,7 +109,7 @@ impl World {
     // Appends the Opened of a connection, which stands then.
     fn begin(&mut self, by: u32) -> Result<(), Memory>
         requires there { by < vec_len self.old.connections }
-        requires room { self.old.entries < 4000000 }
+        requires room { self.old.entries < entries_limit }
         ensures { OnOk result (held_in self.new ≡ opened by (held_in self.old)) }
     {
         self.history.push(Entry::opened(by, self.time))?;
@@ -176,8 +181,8 @@ impl World {
         requires interface { by < length site.now.interfaces }
         requires tiles { Tiles 0 cutting.now.frames cutting.now.rest }
         requires within { cutting.now.rest ≤ length (line_at (held_in self.old).lines by).rest }
-        requires entries { self.old.entries + length cutting.now.frames ≤ 4000000 }
-        requires bytes { self.old.bytes + cutting.now.rest ≤ 1073741824 }
+        requires entries { self.old.entries + length cutting.now.frames ≤ entries_limit }
+        requires bytes { self.old.bytes + cutting.now.rest ≤ bytes_limit }
         ensures posted { OnOk result (held_in self.new ≡ posted site.now by (held_in self.old) cutting.now) }
         ensures count { vec_len self.new.connections ≡ vec_len self.old.connections }
     {
@@ -243,14 +248,14 @@ impl World {
     }
 
     fn may_receive(&self, site: &Site, by: u32, piece: &[u8]) -> bool
-        ensures { result ≡ (nat_lt by (length site.now.interfaces) && ((line_at (held_in self.now).lines by).connected && (nat_le 1 (length piece.now) && nat_le (length piece.now) 65536))) }
+        ensures { result ≡ (nat_lt by (length site.now.interfaces) && ((line_at (held_in self.now).lines by).connected && is_piece piece.now)) }
     {
         is_interface(site, by) && (self.is_connected(by) && is_piece(piece))
     }
 
     // The packets of a cutting would pass no limit.
     fn has_room(&self, cutting: &Cutting) -> bool
-        ensures { result ≡ (nat_le (self.now.entries + length cutting.now.frames) 4000000 && nat_le (self.now.bytes + cutting.now.rest) 1073741824) }
+        ensures { result ≡ (nat_le (self.now.entries + length cutting.now.frames) entries_limit && nat_le (self.now.bytes + cutting.now.rest) bytes_limit) }
     {
         let entries = cutting.frames.as_slice().len() as u64;
         entries <= MOST_ENTRIES - self.entries && cutting.rest as u64 <= MOST_BYTES - self.bytes

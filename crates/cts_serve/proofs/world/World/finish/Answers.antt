@@ -6,7 +6,7 @@ use Rattle.cts_serve.proofs.world.World.finish.Goals as goal
 pub returns-then-not-may_finish : goal.returns-then-not-may_finish
 returns-then-not-may_finish c =
     let off : c.may_finish.result ≡ false = search rules in
-    λ s h. sym (may_finish_is c.args.site.now (held_in c.args.self.now) s c.args.by c.args.why h) ∙ (sym (c.may_finish.ensures.test s.history (sym h.stopped)) ∙ off)
+    λ s h. (sym (may_finish_is c.args.site.now (held_in c.args.self.now) s c.args.by c.args.why h) ∙ (sym (c.may_finish.ensures.test s.history (sym h.stopped)) ∙ off), h)
 
 pub returns : goal.returns
 returns c =

@@ -6,7 +6,7 @@ use Rattle.cts_serve.proofs.world.World.open.Goals as goal
 pub returns-then-not-may_open : goal.returns-then-not-may_open
 returns-then-not-may_open c =
     let off : c.may_open.result ≡ false = search rules in
-    λ s h. sym (may_open_is c.args.site.now (held_in c.args.self.now) s c.args.by h) ∙ (sym c.may_open.ensures ∙ off)
+    λ s h. (sym (may_open_is c.args.site.now (held_in c.args.self.now) s c.args.by h) ∙ (sym c.may_open.ensures ∙ off), h)
 
 pub returns-then-self-ge-MOST_ENTRIES : goal.returns-then-self-ge-MOST_ENTRIES
 returns-then-self-ge-MOST_ENTRIES c =

@@ -1,0 +1,67 @@
+// Events that no script can ask for yet, and a history that is full.
+ghost use Rattle.std.specs.Prelude.{◌≡◌, length, vec_len, IfOk};
+
+use crate::Status;
+use crate::events::do_event;
+use crate::refusal::Refusal;
+use crate::replay::{put_stop, replay};
+use crate::site_tests::site_of;
+use crate::stop::Stop;
+use crate::world::{MOST_ENTRIES, World};
+use cts_def::{Site, Time};
+use cts_entry::Event;
+use cts_outside::MemSink;
+use std::alloc::Global;
+use std::test::Fail;
+
+const SITE: &str = "INTERFACE I tcpip_client_interface.rb h 1 1 nil nil LENGTH 0 16 0 1";
+
+fn world_of(alloc: Global, site: &Site) -> Result<World, Fail>
+    ensures { IfOk result (λ w. vec_len w.connections ≡ length site.now.interfaces) }
+{
+    match World::new(alloc, site) {
+        Ok(world) => Ok(world),
+        Err(_) => Err(Fail::new("out of memory")),
+    }
+}
+
+#[test]
+fn a_history_of_the_most_entries_is_full(rt: HostRuntime) -> Result<(), Fail> {
+    let alloc = rt.alloc();
+    let site = site_of(alloc, "", SITE)?;
+    let mut world = world_of(alloc, &site)?;
+    world.entries = MOST_ENTRIES;
+    let mut sink = MemSink::new(alloc, Vec::new(alloc));
+    let full = Stop::Refused(Refusal::HistoryFull);
+    let done = do_event(alloc, &site, &mut world, &Event::Opens(0), &mut sink);
+    assert_eq!(rt; done, Err(full));
+    let status = put_stop(alloc, "p", 1, full, &world, &mut sink);
+    assert_eq!(rt; status, Status::HistoryFull);
+    let line = b"history full: 4000000 entries, 0 bytes\n".as_slice();
+    assert_eq!(rt; sink.bytes(), line);
+    Ok(())
+}
+
+const TIME: Time = Time {
+    seconds: 5,
+    micros: 7,
+};
+
+#[test]
+fn the_clock_is_set_and_nothing_opens_after_a_stop(rt: HostRuntime) -> Result<(), Fail> {
+    let alloc = rt.alloc();
+    let site = site_of(alloc, "", SITE)?;
+    let events = [
+        (1u32, Event::SetTime(TIME)),
+        (2, Event::Opens(0)),
+        (3, Event::Stop),
+        (5, Event::Opens(0)),
+    ];
+    let mut sink = MemSink::new(alloc, Vec::new(alloc));
+    let status = replay(alloc, &site, "p", &events, &mut sink);
+    assert_eq!(rt; status, Status::ScriptRefused);
+    let printed =
+        b"0 5.000007 I OPENED\n1 5.000007 SERVER STOP\nrefused: p line 5: NotEnabled\n".as_slice();
+    assert_eq!(rt; sink.bytes(), printed);
+    Ok(())
+}
