@@ -17,6 +17,7 @@ mod laws;
 mod limits;
 mod limits_setup;
 mod loss;
+mod makers;
 mod packet;
 mod proto_spec;
 mod proto_use;
@@ -44,6 +45,7 @@ pub use laws::{
 pub use limits::Limits;
 pub use limits_setup::LimitsSetup;
 pub use loss::Loss;
+pub use makers::{FIRST_DESK, FIRST_SLOT, SCRIBE, SERVER};
 pub use packet::Packet;
 pub use proto_spec::{Kind, ProtoSpec};
 pub use proto_use::ProtoUse;

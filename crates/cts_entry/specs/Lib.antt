@@ -1,2 +1,1 @@
-pub mod Makers
 pub mod Histories

@@ -3,12 +3,10 @@
 
 mod entry;
 mod event;
-mod makers;
 mod what;
 mod why;
 
 pub use entry::Entry;
 pub use event::{Effect, Event};
-pub use makers::{FIRST_DESK, FIRST_SLOT, SCRIBE, SERVER};
 pub use what::{NotSent, What};
 pub use why::Why;

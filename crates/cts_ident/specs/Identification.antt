@@ -8,8 +8,7 @@ use Rattle.cts_def.specs.Items.{is_same}
 use Rattle.cts_def.specs.Packets.{DefinitionsData, PacketData}
 use Rattle.cts_def.specs.Sites.{RouterData, SiteData, routed_targets, targets_at}
 use Rattle.cts_def.specs.declared.ident.Ident.{Ident}
-use Rattle.cts_entry.specs.Makers.{first_slot}
-use Rattle.cts_proto.specs.Framing.{Heading, Output}
+use Rattle.cts_def.specs.Makers.{first_slot}
 use Rattle.cts_def.specs.declared.ident.Ident.TheVariants.{Known, Unknown}
 
 -- ---- candidates
@@ -86,14 +85,6 @@ worker_packets d worker = if is_interface worker then d.telemetry else d.command
 abbrev pub named : SiteData → ℕ → List ℕ → List ℕ → Ident
 named s worker target name =
     first_of (worker_targets s worker) (worker_packets s.definitions worker) (is_named target name)
-
--- what an output of an interface's chain is: by the names that it brings along, and by its id fields where it has none
-abbrev pub ident_by : SiteData → ℕ → List ℕ → Option Heading → Ident
-ident_by s interface bytes None = identified s interface bytes
-ident_by s interface bytes (Some heading) = named s interface heading.target heading.packet
-
-abbrev pub ident_of : SiteData → ℕ → Output → Ident
-ident_of s interface out = ident_by s interface out.bytes out.heading
 
 -- ---- laws
 

@@ -17,8 +17,7 @@ ghost use Rattle.cts_ident.specs.Identification.{
 
 use crate::connection::{commands, routes, telemetry};
 use crate::search::first_named;
-use cts_def::{Ident, Site};
-use cts_entry::FIRST_SLOT;
+use cts_def::{FIRST_SLOT, Ident, Site};
 
 /// The packet of these names, compared in any case, among those of the targets that a worker reaches: a telemetry packet for
 /// an interface, a command for a router's slot. `Unknown` where there is none.

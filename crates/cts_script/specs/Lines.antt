@@ -12,7 +12,7 @@ use Rattle.cts_def.specs.declared.limits.Limits.{Limits}
 use Rattle.cts_def.specs.declared.loss.Loss.{Loss}
 use Rattle.cts_def.specs.declared.time.Time.{Time}
 use Rattle.cts_entry.specs.declared.entry.Entry.{Entry}
-use Rattle.cts_entry.specs.Makers.{first_slot, first_desk, scribe}
+use Rattle.cts_def.specs.Makers.{first_slot, first_desk, scribe}
 use Rattle.cts_entry.specs.declared.what.NotSent.{NotSent}
 use Rattle.cts_entry.specs.declared.what.NotSent.TheVariants.{Unknown as NoCommand, NotConnected}
 use Rattle.cts_entry.specs.declared.what.What.{What}

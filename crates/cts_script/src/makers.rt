@@ -5,7 +5,7 @@ ghost use Rattle.cts_script.specs.Lines.{maker_text, slot_text};
 use crate::Naming;
 use crate::texts::{put_number, put_text, put_word};
 use cts_base::Memory;
-use cts_entry::{FIRST_DESK, FIRST_SLOT, SCRIBE};
+use cts_def::{FIRST_DESK, FIRST_SLOT, SCRIBE};
 
 /// A space and the maker.
 pub fn put_maker_word<N: Naming>(out: &mut Vec<u8>, naming: &N, by: u32) -> Result<(), Memory>

@@ -16,8 +16,7 @@ use Rattle.cts_core.specs.States.{State, has_room}
 use Rattle.cts_core.specs.Runs.{packet_entries, time_in}
 use Rattle.cts_entry.specs.declared.what.What.TheVariants.{Packet}
 use Rattle.cts_def.specs.Sites.{SiteData}
-use Rattle.cts_ident.specs.Identification.{ident_of}
-use Rattle.cts_serve.specs.Grounds.{site_ground, entries_limit, bytes_limit}
+use Rattle.cts_serve.specs.Grounds.{ident_of, site_ground, entries_limit, bytes_limit}
 
 or_false : (b : Bool) → (b || false) ≡ b
 or_false true = refl

@@ -4,7 +4,6 @@ ghost use Rattle.cts_ident.specs.Identification.{is_worker};
 
 use crate::site_tests::site_of;
 use cts_def::{Ident, Site};
-use cts_entry::FIRST_SLOT;
 use cts_ident::{identify, identify_command, named};
 use std::alloc::{AllocError, Global};
 use std::test::Fail;
