@@ -1,11 +1,10 @@
 -- What a command answers and puts, from its parts.
-use Rattle.std.proofs.Common.{◌≡◌, ◌≢◌, ℕ, List, [], ◌++◌, Option, Some, None, IfSome, MatchOption, Result, Ok, Err, refl, sym, ◌∙◌, ap, subst, arith, ◌⊎◌, inl, inr}
+use Rattle.std.proofs.Common.{◌≡◌, ◌≢◌, ℕ, List, [], Option, Some, None, IfSome, MatchOption, Result, Ok, Err, refl, sym, ◌∙◌, ap, subst, arith, ◌⊎◌, inl, inr}
 use Rattle.cts_entry.specs.declared.event.Event.{Event}
 use Rattle.cts_def.specs.Sites.{SiteData}
 use Rattle.cts_core.specs.States.{opening}
 use Rattle.cts_core.proofs.OneRun.{has_run}
 use Rattle.cts_outside.specs.Causes.{Rose, Steady}
-use Rattle.cts_outside.specs.Contents.{appended}
 use Rattle.cts_serve.specs.Grounds.{site_ground}
 use Rattle.cts_serve.specs.Texts.{usage_line}
 use Rattle.cts_serve.specs.Judging.{Outcome, refusal, judge_script, events_in}

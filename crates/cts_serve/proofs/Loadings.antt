@@ -1,5 +1,5 @@
 -- What is read of the files, and what it means for the command.
-use Rattle.std.proofs.Common.{◌≡◌, ℕ, ◌≤◌, ◌<◌, Bool, true, false, List, [], length, take, Option, Some, None, Result, Ok, Err, IfSome, IsSomeAnd, Vec, unwrap_or, nat_lt, refl, sym, ◌∙◌, ap, subst, inl, inr, arith, if◌then◌else◌}
+use Rattle.std.proofs.Common.{◌≡◌, ℕ, ◌≤◌, Bool, List, [], length, take, Option, Some, None, Result, Ok, Err, IfSome, refl, sym, ◌∙◌, ap, subst, inl, inr}
 use Rattle.std.specs.Result.{IsErrAnd}
 use Rattle.cts_def.specs.Packets.{DefinitionsData}
 use Rattle.cts_def.specs.Sites.{SiteData}
@@ -14,7 +14,7 @@ use Rattle.std.specs.Option.{option_or}
 use Rattle.cts_words.specs.declared.statement.Statement.{Statement}
 use Rattle.cts_serve.specs.Forms.{are_built_definitions, is_built_site, has_events}
 use Rattle.cts_serve.specs.Judging.{Outcome, refusal, judge, judge_definitions, judge_site, judge_script, verdict, unless_built, with_text, definitions_read, definitions_in, site_read, site_in, events_in}
-use Rattle.cts_serve.specs.Outcomes.{RequestData, file_refusal, first_refusal, definitions_refusal, site_refusal, script_refusal, is_taken, bytes_of, definitions_asked, site_asked, events_asked}
+use Rattle.cts_serve.specs.Outcomes.{RequestData, file_refusal, first_refusal, definitions_refusal, site_refusal, script_refusal, is_taken, definitions_asked, site_asked}
 use Rattle.cts_serve.specs.Printing.{IsRead}
 use Rattle.cts_serve.specs.Loading.{Says, RefusesFor, LoadsSite}
 use Rattle.cts_serve.specs.Texts.{refused_line}

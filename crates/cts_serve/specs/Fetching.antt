@@ -1,5 +1,5 @@
 -- Reading a whole file, up to a limit, and what a command says of a file that it does not take.
-use Rattle.std.specs.Prelude.{◌≡◌, ℕ, ◌<◌, ◌≤◌, Bool, List, length, Option, Some, None, Result, Ok, Err, IsSomeAnd, codes}
+use Rattle.std.specs.Prelude.{◌≡◌, ℕ, ◌<◌, ◌≤◌, List, length, Option, Some, None, Result, Ok, Err, IsSomeAnd, codes}
 use Rattle.std.specs.Result.{IsErrAnd}
 use Rattle.cts_outside.specs.Causes.{Rose}
 use Rattle.cts_words.specs.declared.statement.Statement.{Statement}

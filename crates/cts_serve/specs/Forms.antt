@@ -1,6 +1,6 @@
 -- What can be replayed so far: definitions without limits and state colours, interfaces whose frames state their length,
 -- and a script that opens them, brings them bytes and closes them.
-use Rattle.std.specs.Prelude.{ℕ, ◌==◌, ◌&&◌, ◌||◌, not, Bool, true, false, List, [], ◌∷◌, length, codes, Option, Some, None, is_some, is_none, option_map, option_and_then, pos, if◌then◌else◌}
+use Rattle.std.specs.Prelude.{ℕ, ◌==◌, ◌&&◌, ◌||◌, not, Bool, false, List, [], ◌∷◌, length, codes, Option, Some, None, is_some, is_none, option_map, option_and_then, pos, if◌then◌else◌}
 use Rattle.std.specs.Ordering.{int_eq}
 use Rattle.std.specs.List.{filter_map, list_any, list_all, position}
 use Rattle.std.specs.Result.{result_ok}

@@ -1,6 +1,3 @@
-use Rattle.std.proofs.Common.{ℕ, List, subst}
-use Rattle.cts_entry.specs.declared.event.Event.{Event}
-use Rattle.cts_serve.specs.Replays.{Replays}
 use Rattle.cts_serve.proofs.Commands.{script_refuses, replay_answers}
 use Rattle.cts_serve.proofs.command.replay_script.Goals as goal
 
