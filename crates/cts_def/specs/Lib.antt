@@ -2,6 +2,7 @@ pub mod Beginnings
 pub mod FormatParts
 pub mod Formats
 pub mod Items
+pub mod Most
 pub mod Packets
 pub mod Protocols
 pub mod Sites

@@ -17,6 +17,7 @@ mod laws;
 mod limits;
 mod limits_setup;
 mod loss;
+mod most;
 mod packet;
 mod proto_spec;
 mod proto_use;
@@ -44,6 +45,9 @@ pub use laws::{
 pub use limits::Limits;
 pub use limits_setup::LimitsSetup;
 pub use loss::Loss;
+pub use most::{
+    MOST_ITEMS, MOST_ITEMS_IN_ALL, MOST_PACKETS, MOST_SEGMENTS, MOST_SETS, MOST_STATES,
+};
 pub use packet::Packet;
 pub use proto_spec::{Kind, ProtoSpec};
 pub use proto_use::ProtoUse;
