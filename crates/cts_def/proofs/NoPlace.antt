@@ -1,12 +1,12 @@
 -- Numbers that are counted from the start are misplaced exactly where they have no field.
-use Rattle.std.proofs.Common.{◌≡◌, ◌⊎◌, ℕ, ℤ, pos, negsuc, ◌+◌, ◌*◌, ◌/◌, ◌≤◌, ◌<◌, Bool, true, false, not, ◌&&◌, ◌||◌, inl, inr, unsigned_abs, refl, ap, ◌∙◌, arith}
+use Rattle.std.proofs.Common.{◌≡◌, ℕ, ℤ, pos, negsuc, ◌+◌, ◌/◌, ◌≤◌, ◌<◌, Bool, true, false, not, ◌&&◌, ◌||◌, inl, inr, unsigned_abs, refl, ap, ◌∙◌, arith}
 use Rattle.std.specs.Prelude.{int_le, nat_lt, if◌then◌else◌}
 use Rattle.std.specs.Int.{is_negative}
 use Rattle.std.proofs.lemmas.Bool.{and_from, and_parts, not_from_false, not-true, or_from, or_left}
 use Rattle.std.proofs.lemmas.Bool.Decides.{nat_tests}
 use Rattle.cts_bits.specs.declared.order.Order.{Order}
 use Rattle.cts_bits.specs.declared.order.Order.TheVariants.{Big, Little}
-use Rattle.cts_bits.specs.Places.{is_whole, span, IsBadSize, IsBeforeStart}
+use Rattle.cts_bits.specs.Places.{is_whole, span, IsBeforeStart}
 use Rattle.cts_def.specs.declared.item_kind.ItemKind.{ItemKind}
 use Rattle.cts_def.specs.declared.span.Span.{Span}
 use Rattle.cts_def.specs.Spans.{HasNoPlace, begins_before_start, end_of, is_bad_from_end, is_bad_from_its_side, is_bad_from_start, is_far, is_little, is_little_bits, is_misplaced, is_misplaced_by_kind, is_misplaced_number, is_misplaced_text, is_number}

@@ -1,5 +1,5 @@
 -- What a line keeps whose words were not refused.
-use Rattle.std.specs.Prelude.{ℕ, ◌≤◌, Bool, true, false, not, ◌||◌, Option, Some, None, is_some, is_none, IsTrue, if◌then◌else◌}
+use Rattle.std.specs.Prelude.{◌≤◌, Bool, true, false, not, ◌||◌, Option, Some, None, is_some, is_none, IsTrue, if◌then◌else◌}
 use Rattle.cts_def.specs.Items.{has_coefficients, has_color, is_sound_state}
 use Rattle.cts_def.specs.Spans.{is_number}
 use Rattle.cts_defline.specs.declared.details.Detail.TheVariants as detail

@@ -6,7 +6,7 @@ use Rattle.std.specs.Cmp.Lexicographic.{slice_cmp}
 use Rattle.std.specs.Int.{is_negative}
 use Rattle.std.specs.List.{list_any, list_all, IsDistinct}
 use Rattle.std.specs.Ordering.{nat_cmp}
-use Rattle.std.proofs.lemmas.Bool.{leb-false, ltb-false, and_parts, and_from, or_parts, not_from_false}
+use Rattle.std.proofs.lemmas.Bool.{leb-false, ltb-false, and_from, or_parts, not_from_false}
 use Rattle.std.proofs.lemmas.List.{map-append, length-append}
 use Rattle.cts_base.specs.Known.{Knows, pair_cmp}
 use Rattle.cts_base.proofs.Known.{knows_none}
@@ -29,7 +29,7 @@ use Rattle.cts_defread.specs.declared.drafted.Drafted.{Drafted}
 use Rattle.cts_defread.specs.Causes.{drafted_items, open_items, open_end, order_in, span_in, is_open_ended, opened, is_command_in, is_bad_in_command, is_unfit_id, is_unfit_preset, fits, has_item, count_items}
 use Rattle.cts_defread.specs.Drafts.{IsKept, names_of, item_names, state_names}
 use Rattle.cts_defread.specs.Sound.{AreSound, keeps_its_kind}
-use Rattle.cts_defread.specs.Standing.{item_at, end_from, offset_or, preset_or, are_same_kind, packets_of}
+use Rattle.cts_defread.specs.Standing.{item_at, end_from, offset_or, preset_or, are_same_kind}
 use Rattle.cts_defread.specs.Steps.{add_item, new_item, with_items}
 use Rattle.cts_defread.proofs.Clean.{Clean}
 use Rattle.cts_defread.proofs.OfKind.{IsFurther, kinds_item}

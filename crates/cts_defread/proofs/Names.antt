@@ -1,24 +1,21 @@
 -- The names and the number of packets and commands, and what all definitions keep.
-use Rattle.std.proofs.Common.{◌≡◌, ℕ, ◌+◌, Bool, true, false, not, cond, ◌||◌, ◌&&◌, List, [], ◌∷◌, ◌++◌, map, length, Some, refl, sym, ap, ◌∙◌, subst, arith}
+use Rattle.std.proofs.Common.{◌≡◌, ℕ, ◌+◌, Bool, true, false, cond, ◌||◌, ◌&&◌, List, [], ◌∷◌, ◌++◌, map, length, refl, sym, ap, ◌∙◌, subst, arith}
 use Rattle.std.specs.Cmp.{IsEquivalence}
-use Rattle.std.specs.List.{list_any, list_all, filter, IsDistinct}
+use Rattle.std.specs.List.{list_any, filter, IsDistinct}
 use Rattle.std.proofs.lemmas.Bool.{and_parts}
 use Rattle.std.proofs.lemmas.Cmp.{nat_list_eq_equiv}
 use Rattle.std.proofs.lemmas.List.{map-append, length-map}
 use Rattle.std.proofs.lemmas.List.Elements.{filter-append}
 use Rattle.std.proofs.lemmas.Map.Keys.{IsDistinct-push}
 use Rattle.cts_def.specs.Items.{is_same}
-use Rattle.cts_def.specs.Packets.{PacketData, have_same_names, is_command}
-use Rattle.cts_defline.specs.declared.line.PacketLine.{PacketLine}
+use Rattle.cts_def.specs.Packets.{PacketData, have_same_names}
 use Rattle.cts_defline.specs.declared.open.PacketKind.{PacketKind}
-use Rattle.cts_defline.specs.declared.open.PacketKind.TheVariants.{Command}
 use Rattle.cts_defread.specs.declared.drafted.Drafted.{Drafted}
 use Rattle.cts_defread.specs.Causes.{has_names, count_items}
 use Rattle.cts_defread.specs.Drafts.{names_of}
 use Rattle.cts_defread.specs.Standing.{are_same_kind, packets_of}
-use Rattle.cts_defread.specs.Steps.{new_packet}
-use Rattle.cts_defread.proofs.Lists.{map_on_last, all_on_last, all_more, distinct_map_to, distinct_map_from}
-use Rattle.cts_words.specs.Blocks.{last_of, on_last}
+use Rattle.cts_defread.proofs.Lists.{map_on_last, distinct_map_to, distinct_map_from}
+use Rattle.cts_words.specs.Blocks.{on_last}
 
 -- ---- packets by their kind
 

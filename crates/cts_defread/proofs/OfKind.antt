@@ -1,14 +1,13 @@
 -- Each line keeps what packets and commands are by their kind.
-use Rattle.std.proofs.Common.{◌≡◌, ℕ, Bool, true, false, not, ◌||◌, ◌&&◌, cond, map, List, [], ◌∷◌, ◌++◌, Option, Some, None, refl, sym, ap, ◌∙◌, subst}
+use Rattle.std.proofs.Common.{◌≡◌, ℕ, Bool, true, false, not, ◌||◌, ◌&&◌, cond, map, List, [], ◌∷◌, ◌++◌, Option, Some, None, refl, ap, ◌∙◌, subst}
 use Rattle.std.specs.Prelude.{is_none, is_some, if◌then◌else◌}
-use Rattle.std.specs.Int.{is_negative}
 use Rattle.std.specs.List.{list_any, list_all, filter}
 use Rattle.std.proofs.lemmas.Bool.{and_parts, and_from, or_parts, or_from, or_left, not_from_false, not-true}
 use Rattle.std.proofs.lemmas.Cmp.{nat_list_eq_equiv}
 use Rattle.cts_def.specs.declared.limits.Limits.{Limits}
 use Rattle.cts_def.specs.declared.limits_setup.LimitsSetup.{LimitsSetup}
 use Rattle.cts_def.specs.declared.state_def.StateDef.{StateDef}
-use Rattle.cts_def.specs.Items.{ItemData, is_same, has_color, has_range_of_its_kind, has_sets_among, is_from_start, is_parameter, is_plain, is_telemetry_item, is_to_the_end, sets_in, span_of}
+use Rattle.cts_def.specs.Items.{ItemData, is_same, has_color, has_range_of_its_kind, has_sets_among, is_from_start, is_parameter, is_plain, is_telemetry_item, is_to_the_end, sets_in}
 use Rattle.cts_def.specs.Packets.{PacketData, are_before_the_end, is_command, is_telemetry}
 use Rattle.cts_def.specs.Spans.{is_number}
 use Rattle.cts_defline.specs.declared.details.Detail.{Detail}
@@ -21,12 +20,12 @@ use Rattle.cts_defline.specs.declared.line.PacketLine.{PacketLine}
 use Rattle.cts_defline.specs.declared.open.PacketKind.{PacketKind}
 use Rattle.cts_defline.specs.declared.open.PacketKind.TheVariants.{Telemetry, Command}
 use Rattle.cts_defline.specs.Refusals.{open_kind}
-use Rattle.cts_defline.specs.Rules.{has_wanted_range, is_of_kind, suits}
+use Rattle.cts_defline.specs.Rules.{is_of_kind, suits}
 use Rattle.cts_defread.specs.declared.drafted.Drafted.{Drafted}
 use Rattle.cts_defread.specs.Causes.{is_text_id, opened_in, opened_with}
 use Rattle.cts_defread.specs.Sound.{keeps_kind, keeps_its_kind}
 use Rattle.cts_defread.specs.Standing.{are_same_kind, packets_of, set_limits}
-use Rattle.cts_defread.specs.Steps.{add_detail, add_item, add_limits, add_set, change_item, make_hazardous, new_item, new_packet, place_set}
+use Rattle.cts_defread.specs.Steps.{add_detail, add_item, add_limits, change_item, make_hazardous, new_item, new_packet, place_set}
 use Rattle.cts_defread.proofs.Lists.{all_more, all_on_last, any_more}
 use Rattle.cts_defread.proofs.Rules.{or_right}
 use Rattle.cts_words.specs.Blocks.{last_of, on_last}

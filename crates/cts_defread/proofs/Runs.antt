@@ -1,17 +1,10 @@
 -- Statements read one by one are refused, or define, as the definition says.
-use Rattle.std.proofs.Common.{◌≡◌, ℕ, ℤ, pos, negsuc, ◌+◌, ◌<◌, ◌≤◌, List, [], ◌∷◌, ◌++◌, length, get_or, take, drop, Option, Some, None, Ok, Err, refl, sym, ap, ◌∙◌, subst, add-one, arith}
-use Rattle.std.specs.Prelude.{option_map, unwrap_or}
-use Rattle.std.proofs.lemmas.Bool.Decides.{nat_tests}
+use Rattle.std.proofs.Common.{◌≡◌, ℕ, ◌+◌, ◌<◌, List, [], ◌∷◌, ◌++◌, length, get_or, take, drop, Some, None, Ok, Err, refl, sym, ap, ◌∙◌, subst, add-one}
 use Rattle.std.proofs.lemmas.List.Elements.{filter_map-append}
 use Rattle.std.proofs.lemmas.List.{take_more}
 use Rattle.std.proofs.Math.Seq.{drop-cons}
-use Rattle.cts_defline.specs.declared.keyword.Keyword.{Keyword}
-use Rattle.cts_defline.specs.declared.keyword.Keyword.TheVariants as keyword
 use Rattle.cts_defline.specs.declared.line.Line.{Line}
-use Rattle.cts_defline.specs.Forms.{word_at, keyword_of}
-use Rattle.cts_defline.specs.Lines.{line_in, line_of}
-use Rattle.cts_defline.specs.Numbers.{count_in}
-use Rattle.cts_base.specs.Wholes.{whole_of}
+use Rattle.cts_defline.specs.Lines.{line_in}
 use Rattle.cts_words.specs.declared.statement.Statement.{Statement}
 use Rattle.cts_words.proofs.Refused as refused
 use Rattle.cts_words.proofs.Refused.{Decides}
