@@ -21,6 +21,7 @@ use Rattle.cts_def.specs.declared.limits.Limits.{Limits}
 use Rattle.cts_def.specs.declared.limits_setup.LimitsSetup.{LimitsSetup}
 use Rattle.cts_def.specs.declared.span.Span.{Span}
 use Rattle.cts_def.specs.Formats.{is_format}
+use Rattle.cts_def.specs.Most.{most_coefficients, most_segments, most_states}
 use Rattle.cts_def.specs.Spans.{is_number, is_misplaced, is_spelled}
 
 -- what contracts see of an item: its fields
@@ -80,7 +81,7 @@ is_too_large bits coefficients = nat_le (2 ^ 126) (weight_from bits 0 coefficien
 
 -- a polynomial has 1 to 8 coefficients
 abbrev pub has_coefficients : List Decimal → Bool
-has_coefficients coefficients = nat_le 1 (length coefficients) && nat_le (length coefficients) 8
+has_coefficients coefficients = nat_le 1 (length coefficients) && nat_le (length coefficients) most_coefficients
 
 -- the polynomial has so many coefficients, and its values are small enough for a number of this size
 abbrev pub is_polynomial_of : ℤ → List Decimal → Bool
@@ -89,7 +90,7 @@ is_polynomial_of size coefficients = has_coefficients coefficients && not (is_to
 -- what the segments of a number of this size keep
 pub record AreSoundSegments (size : ℤ) (segments : List Segment) : Type 0 where
   pub some : 1 ≤ length segments
-  pub few : length segments ≤ 16
+  pub few : length segments ≤ most_segments
   pub distinct : IsDistinct int_eq (map (λ (s : Segment). s.bound.parts) segments)
   pub polynomials : IsTrue (list_all (λ (s : Segment). is_polynomial_of size s.coefficients) segments)
 
@@ -172,7 +173,7 @@ pub record IsSoundItem (i : ItemData) : Type 0 where
   pub numbers_alone_have_states : IsTrue (is_number i.kind || length i.states == 0)
   pub states : IsDistinct is_same (map (λ (s : StateDef). s.name) i.states)
   pub sound_states : IsTrue (list_all is_sound_state i.states)
-  pub few_states : length i.states ≤ 256
+  pub few_states : length i.states ≤ most_states
   pub conversion : IsSoundConversion i.kind i.size i.conversion
   pub limits : HasSoundLimits i i.limits
   pub format : IsTrue (is_sound_format i.format)

@@ -3,6 +3,7 @@ pub mod FormatParts
 pub mod Formats
 pub mod Items
 pub mod Makers
+pub mod Most
 pub mod Packets
 pub mod Protocols
 pub mod Sites

@@ -2,6 +2,7 @@
 use Rattle.std.specs.Prelude.{◌≡◌, ℕ, ◌+◌, ◌≤◌, max, Bool, true, false, not, ◌&&◌, List, [], ◌∷◌, map, length, codes, IsTrue}
 use Rattle.std.specs.List.{filter, list_any, list_all, IsDistinct}
 use Rattle.cts_def.specs.Items.{ItemData, span_of, is_same, is_to_the_end, is_parameter, is_telemetry_item}
+use Rattle.cts_def.specs.Most.{most_items, most_items_in_all, most_packets, most_sets}
 use Rattle.cts_def.specs.Spans.{bytes_needed, is_variable}
 
 -- what contracts see of a packet or command: its fields
@@ -38,7 +39,7 @@ unknown = codes "UNKNOWN"
 pub record IsSoundPacket (p : PacketData) : Type 0 where
   pub least : p.length ≡ length_of p.items
   pub varies : p.variable ≡ are_variable p.items
-  pub few : length p.items ≤ 4096
+  pub few : length p.items ≤ most_items
   pub distinct : IsDistinct is_same (map (λ (i : ItemData). i.name) p.items)
   pub known_target : is_same p.target unknown ≡ false
   pub no_counts : list_any (λ (i : ItemData). is_same i.name received_count) p.items ≡ false
@@ -54,9 +55,13 @@ pub record DefinitionsData : Type 0 where
 abbrev pub have_same_names : PacketData → PacketData → Bool
 have_same_names p q = is_same p.target q.target && is_same p.name q.name
 
+-- the packet's target is one of these
+abbrev pub is_of : List (List ℕ) → PacketData → Bool
+is_of targets p = list_any (is_same p.target) targets
+
 -- those of these packets that the targets send or take, in order
 abbrev pub of_targets : List (List ℕ) → List PacketData → List PacketData
-of_targets targets packets = filter (λ (p : PacketData). list_any (is_same p.target) targets) packets
+of_targets targets packets = filter (λ (p : PacketData). is_of targets p) packets
 
 -- how many items these packets have
 abbrev pub items_in : List PacketData → ℕ
@@ -85,9 +90,10 @@ are_telemetry d = list_all (is_telemetry d.set_names) d.telemetry
 pub record AreSoundDefinitions (d : DefinitionsData) : Type 0 where
   pub telemetry : IsDistinct have_same_names d.telemetry
   pub commands : IsDistinct have_same_names d.commands
-  pub few_telemetry : length d.telemetry ≤ 4096
-  pub few_commands : length d.commands ≤ 4096
-  pub few_items : items_in d.telemetry + items_in d.commands ≤ 65536
-  pub from_start : IsTrue (list_all is_command d.commands)
+  pub few_telemetry : length d.telemetry ≤ most_packets
+  pub few_commands : length d.commands ≤ most_packets
+  pub few_items : items_in d.telemetry + items_in d.commands ≤ most_items_in_all
+  pub telemetry_packets : IsTrue (are_telemetry d)
+  pub command_packets : IsTrue (list_all is_command d.commands)
   pub sets : IsDistinct is_same d.set_names
-  pub few_sets : length d.set_names ≤ 64
+  pub few_sets : length d.set_names ≤ most_sets

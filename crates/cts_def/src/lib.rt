@@ -18,6 +18,7 @@ mod limits;
 mod limits_setup;
 mod loss;
 mod makers;
+mod most;
 mod packet;
 mod proto_spec;
 mod proto_use;
@@ -46,6 +47,9 @@ pub use limits::Limits;
 pub use limits_setup::LimitsSetup;
 pub use loss::Loss;
 pub use makers::{FIRST_DESK, FIRST_SLOT, SCRIBE, SERVER};
+pub use most::{
+    MOST_ITEMS, MOST_ITEMS_IN_ALL, MOST_PACKETS, MOST_SEGMENTS, MOST_SETS, MOST_STATES,
+};
 pub use packet::Packet;
 pub use proto_spec::{Kind, ProtoSpec};
 pub use proto_use::ProtoUse;

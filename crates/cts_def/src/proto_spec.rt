@@ -33,7 +33,7 @@ pub enum ProtoSpec {
         fill: bool,
     },
     /// Packets of known length. `min_id` is how many bytes identify one, `telemetry` whether they are telemetry packets
-    /// or commands, `raise` whether an unknown start is an error.
+    /// or commands, `raise` whether an unknown start is an error, and `starts` how each of the packets begins.
     Fixed {
         min_id: u32,
         discard: u32,

@@ -40,7 +40,7 @@ impl Open {
         matches!(self, Open::Item(_))
     }
 
-    // The kind by which words are judged, where it matters.
+    /// The kind by which words are judged, where it matters.
     pub(crate) fn form_kind(self) -> PacketKind
         ensures { result ≡ form_kind (open_kind self) }
     {

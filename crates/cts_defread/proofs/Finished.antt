@@ -8,7 +8,7 @@ use Rattle.cts_defread.specs.declared.drafted.Drafted.{Drafted}
 use Rattle.cts_defread.specs.Causes.{count_items}
 use Rattle.cts_defread.specs.Drafts.{IsKept}
 use Rattle.cts_defread.specs.Standing.{are_same_kind, packets_of, definitions_in}
-use Rattle.cts_defread.proofs.OfKind.{all_commands}
+use Rattle.cts_defread.proofs.OfKind.{all_commands, all_telemetry}
 
 count_cond : (b : Bool) (d : Drafted) (xs ys : List Drafted) (n : ℕ) → items_in (map (λ (p : Drafted). p.packet) xs) + items_in (map (λ (p : Drafted). p.packet) ys) ≡ n
     → items_in (map (λ (p : Drafted). p.packet) (cond b (d ∷ xs) xs)) + items_in (map (λ (p : Drafted). p.packet) (cond (not b) (d ∷ ys) ys)) ≡ length d.packet.items + n
@@ -27,7 +27,8 @@ all_sound d h = record {
   few_telemetry = omega (arith, h.telemetry_count, h.few_telemetry);
   few_commands = omega (arith, h.command_count, h.few_commands);
   few_items = omega (arith, count_parts d.packets.items, h.item_count, h.few_items);
-  from_start = all_commands d.set_names.items d.packets.items h.sound.kinds;
+  telemetry_packets = all_telemetry d.set_names.items d.packets.items h.sound.kinds;
+  command_packets = all_commands d.set_names.items d.packets.items h.sound.kinds;
   sets = h.sound.distinct_sets;
   few_sets = h.sound.few_sets;
 }

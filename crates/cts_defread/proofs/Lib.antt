@@ -1,4 +1,3 @@
-pub mod AllKinds
 pub mod Clean
 pub mod Finished
 pub mod InOrder

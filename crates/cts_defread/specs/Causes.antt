@@ -18,6 +18,7 @@ use Rattle.cts_def.specs.declared.span.Span.{Span}
 use Rattle.cts_def.specs.declared.state_def.StateDef.{StateDef}
 use Rattle.cts_def.specs.Formats.{is_format}
 use Rattle.cts_def.specs.Items.{ItemData, is_same, has_room, has_color, is_too_large, is_to_the_end, are_in_order, sets_in}
+use Rattle.cts_def.specs.Most.{most_items, most_items_in_all, most_packets, most_segments, most_sets, most_states}
 use Rattle.cts_def.specs.Packets.{received_count, unknown}
 use Rattle.cts_def.specs.Spans.{is_number, is_little, is_misplaced, is_spelled}
 use Rattle.cts_defline.specs.declared.cause.DefCause.{DefCause}
@@ -231,18 +232,18 @@ count_items [] = 0
 count_items (d ∷ packets) = length d.packet.items + count_items packets
 
 abbrev pub has_all_states : ItemData → Bool
-has_all_states i = nat_le 256 (length i.states)
+has_all_states i = nat_le most_states (length i.states)
 
 abbrev pub has_all_segments : ItemData → Bool
-has_all_segments i = nat_le 16 (length (segments_in i.conversion))
+has_all_segments i = nat_le most_segments (length (segments_in i.conversion))
 
 -- a limits set that is not known yet, where no further one may be
 abbrev pub is_set_too_many : List (List ℕ) → List ℕ → Bool
-is_set_too_many sets set = nat_le 64 (length sets) && not (list_any (is_same set) sets)
+is_set_too_many sets set = nat_le most_sets (length sets) && not (list_any (is_same set) sets)
 
 abbrev pub is_too_many : List Drafted → List (List ℕ) → Line → Bool
-is_too_many packets sets (line.Packet head) = nat_le 4096 (length (packets_of head.kind packets))
-is_too_many packets sets (line.Item head) = nat_le 4096 (length (open_items packets)) || nat_le 65536 (count_items packets)
+is_too_many packets sets (line.Packet head) = nat_le most_packets (length (packets_of head.kind packets))
+is_too_many packets sets (line.Item head) = nat_le most_items (length (open_items packets)) || nat_le most_items_in_all (count_items packets)
 is_too_many packets sets (line.Detail (detail.State s)) = passes has_all_states (open_item packets)
 is_too_many packets sets (line.Detail (detail.Limits l)) = is_set_too_many sets l.set
 is_too_many packets sets (line.Detail (detail.Segment s)) = passes has_all_segments (open_item packets)

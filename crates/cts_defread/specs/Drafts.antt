@@ -6,6 +6,7 @@ use Rattle.std.specs.Ordering.{nat_cmp}
 use Rattle.cts_base.specs.Known.{Knows, pair_cmp}
 use Rattle.cts_def.specs.declared.state_def.StateDef.{StateDef}
 use Rattle.cts_def.specs.Items.{ItemData, is_to_the_end}
+use Rattle.cts_def.specs.Most.{most_items_in_all, most_packets}
 use Rattle.cts_def.specs.Packets.{PacketData}
 use Rattle.cts_defline.specs.declared.details.Detail.{Detail}
 use Rattle.cts_defline.specs.declared.details.Detail.TheVariants as detail
@@ -63,8 +64,8 @@ pub record IsKept (d : Draft) : Type 0 where
   pub ends : d.end ≡ open_end d.packets.items
   pub ended : d.is_open_ended ≡ list_any is_open_ended (open_items d.packets.items)
   pub filled : d.is_to_the_end ≡ list_any is_to_the_end (open_items d.packets.items)
-  pub few_telemetry : d.telemetry_count ≤ 4096
-  pub few_commands : d.command_count ≤ 4096
-  pub few_items : d.item_count ≤ 65536
+  pub few_telemetry : d.telemetry_count ≤ most_packets
+  pub few_commands : d.command_count ≤ most_packets
+  pub few_items : d.item_count ≤ most_items_in_all
   pub room : d.end ≤ 8388608
   pub sound : AreSound d.packets.items d.set_names.items

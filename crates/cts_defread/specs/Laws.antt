@@ -1,9 +1,9 @@
 -- The definitions of statements, said of the whole.
-use Rattle.std.specs.Prelude.{◌≡◌, ◌↔◌, ℕ, ℤ, List, ◌∷◌, ◌++◌, length, map, Option, Some, None, Ok, Err, IsTrue}
+use Rattle.std.specs.Prelude.{◌≡◌, ◌↔◌, ℕ, ℤ, List, ◌∷◌, ◌++◌, length, map, Option, Some, None, Ok, Err}
 use Rattle.std.specs.List.{filter_map}
 use Rattle.cts_def.specs.declared.item_kind.ItemKind.{ItemKind}
 use Rattle.cts_def.specs.Items.{ItemData, span_of}
-use Rattle.cts_def.specs.Packets.{DefinitionsData, are_telemetry, greatest}
+use Rattle.cts_def.specs.Packets.{greatest}
 use Rattle.cts_def.specs.Spans.{end_of}
 use Rattle.cts_defline.specs.declared.cause.DefCause.{DefCause}
 use Rattle.cts_defline.specs.declared.line.ItemLine.{ItemLine}
@@ -27,10 +27,6 @@ TakesTheOthers = (all : List Statement) → NoneRefused refusal all → definiti
 -- A statement without a cause says a line.
 abbrev pub StatementsSayLines : Type 0
 StatementsSayLines = (before : List Statement) (s : Statement) → cause before s ≡ None → (l : Line) × (line_in s.words ≡ Some l)
-
--- Of the definitions of statements the telemetry packets are such.
-abbrev pub TelemetryIsSuch : Type 0
-TelemetryIsSuch = (all : List Statement) (d : DefinitionsData) → definitions_of all ≡ Ok d → IsTrue (are_telemetry d)
 
 -- the statement that opened a definition
 abbrev pub head_of : Drafted → PacketLine

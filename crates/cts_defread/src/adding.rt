@@ -5,6 +5,7 @@ ghost use Rattle.std.specs.Cmp.Lexicographic.{slice_cmp};
 ghost use Rattle.std.specs.Ordering.{nat_cmp};
 ghost use Rattle.cts_base.specs.Known.{Knows, pair_cmp};
 ghost use Rattle.cts_defline.specs.declared.line.Line.TheVariants as line_;
+ghost use Rattle.cts_def.specs.Most.{most_packets};
 ghost use Rattle.cts_defline.specs.Refusals.{open_kind};
 ghost use Rattle.cts_defline.specs.Rules.{KeepsRules, suits};
 ghost use Rattle.cts_defread.specs.Causes.{opened, place_cause};
@@ -26,7 +27,7 @@ fn know_packet(
     count: &mut u32,
     names: (Name, Name),
 ) -> Result<(), Memory>
-    requires { count.old ≤ 4096 }
+    requires { count.old ≤ most_packets }
     ensures known { OnOk result (Updates pair_cmp known.old known.new names true) }
     ensures counted { OnOk result (count.new ≡ count.old + 1) }
 {

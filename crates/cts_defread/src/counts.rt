@@ -1,6 +1,7 @@
 // More than the server can hold.
 ghost use Rattle.std.specs.Prelude.{◌≡◌, ◌||◌, ◌&&◌, not, nat_le, length};
 ghost use Rattle.std.specs.Option.{option_copied};
+ghost use Rattle.cts_def.specs.Most.{most_items, most_items_in_all, most_packets};
 ghost use Rattle.cts_defread.specs.Causes.{passes, open_items, count_items, has_all_states, has_all_segments, is_set_too_many, is_too_many};
 ghost use Rattle.cts_defread.specs.Drafts.{IsKept};
 ghost use Rattle.cts_defread.specs.Standing.{packets_of};
@@ -8,14 +9,16 @@ ghost use Rattle.cts_defread.specs.Standing.{packets_of};
 use crate::doubles::segments_in;
 use crate::draft::Draft;
 use cts_base::Name;
-use cts_def::Item;
+use cts_def::{
+    Item, MOST_ITEMS, MOST_ITEMS_IN_ALL, MOST_PACKETS, MOST_SEGMENTS, MOST_SETS, MOST_STATES,
+};
 use cts_defline::{Detail, Line, PacketKind};
 
 fn has_all_states(item: Option<&Item>) -> bool
     ensures { result ≡ passes has_all_states (option_copied item.entry) }
 {
     match item {
-        Some(item) => item.states.len() >= 256,
+        Some(item) => item.states.len() >= MOST_STATES,
         None => false,
     }
 }
@@ -24,7 +27,7 @@ fn has_all_segments(item: Option<&Item>) -> bool
     ensures { result ≡ passes has_all_segments (option_copied item.entry) }
 {
     match item {
-        Some(item) => segments_in(&item.conversion).len() >= 16,
+        Some(item) => segments_in(&item.conversion).len() >= MOST_SEGMENTS,
         None => false,
     }
 }
@@ -32,26 +35,26 @@ fn has_all_segments(item: Option<&Item>) -> bool
 impl Draft {
     fn has_all_packets(&self, kind: PacketKind) -> bool
         requires { IsKept self.now }
-        ensures { result ≡ nat_le 4096 (length (packets_of kind self.now.packets.items)) }
+        ensures { result ≡ nat_le most_packets (length (packets_of kind self.now.packets.items)) }
     {
         match kind {
-            PacketKind::Telemetry => self.telemetry_count >= 4096,
-            PacketKind::Command => self.command_count >= 4096,
+            PacketKind::Telemetry => self.telemetry_count >= MOST_PACKETS,
+            PacketKind::Command => self.command_count >= MOST_PACKETS,
         }
     }
 
     fn has_all_items(&self) -> bool
         requires { IsKept self.now }
-        ensures { result ≡ nat_le 4096 (length (open_items self.now.packets.items)) || nat_le 65536 (count_items self.now.packets.items) }
+        ensures { result ≡ nat_le most_items (length (open_items self.now.packets.items)) || nat_le most_items_in_all (count_items self.now.packets.items) }
     {
-        self.open_items().len() >= 4096 || self.item_count >= 65_536
+        self.open_items().len() >= MOST_ITEMS || self.item_count >= MOST_ITEMS_IN_ALL
     }
 
     fn is_set_too_many(&self, set: &Name) -> bool
         requires { IsKept self.now }
         ensures { result ≡ is_set_too_many self.now.set_names.items set.now }
     {
-        self.set_names.len() >= 64 && !self.knows_set(set)
+        self.set_names.len() >= MOST_SETS && !self.knows_set(set)
     }
 
     /// Whether the statement adds one more than the server can hold.

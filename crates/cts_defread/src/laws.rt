@@ -1,5 +1,5 @@
 // What holds of the definitions that the contract cites.
-ghost use Rattle.cts_defread.specs.Laws.{RefusesTheFirst, TakesTheOthers, StatementsSayLines, OneForEachHead, OneForEachItem, ItemsHaveTheirOffsets, TelemetryIsSuch};
+ghost use Rattle.cts_defread.specs.Laws.{RefusesTheFirst, TakesTheOthers, StatementsSayLines, OneForEachHead, OneForEachItem, ItemsHaveTheirOffsets};
 
 /// Statements are refused at the first one with a cause behind those before it, by its first cause. Where there is none,
 /// each statement says one line.
@@ -16,10 +16,4 @@ pub fn definitions_are_in_order()
     ensures packets { OneForEachHead }
     ensures items { OneForEachItem }
     ensures offsets { ItemsHaveTheirOffsets }
-{}
-
-/// The telemetry packets that statements define are such: none is hazardous, none of their items is required, has a range or
-/// a hazardous state, and the limits of each are in sets that the definitions name.
-pub fn telemetry_packets_are_such()
-    ensures { TelemetryIsSuch }
 {}

@@ -23,7 +23,7 @@ mod values;
 
 pub use cts_defline::DefCause;
 pub use fault::DefFault;
-pub use laws::{definitions_are_in_order, first_statement_is_refused, telemetry_packets_are_such};
+pub use laws::{definitions_are_in_order, first_statement_is_refused};
 pub use reading::read_definitions;
 
 #[cfg(test)]

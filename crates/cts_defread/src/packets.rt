@@ -1,6 +1,7 @@
 // Definitions as their statements give them: a new one, and what further statements change of one.
 ghost use Rattle.std.specs.Prelude.{◌≡◌, ◌||◌, ◌++◌, ◌∷◌, [], max, length, nat_le, false, is_some, IfOk, OnOk};
 ghost use Rattle.cts_def.specs.Items.{is_same, span_of};
+ghost use Rattle.cts_def.specs.Most.{most_items};
 ghost use Rattle.cts_def.specs.Packets.{received_count, unknown};
 ghost use Rattle.cts_def.specs.Spans.{bytes_needed, is_variable};
 ghost use Rattle.cts_defread.specs.Causes.{has_item, open_item};
@@ -35,7 +36,7 @@ pub(crate) fn new_packet(alloc: Global, head: PacketLine) -> Drafted
 }
 
 fn push_item(mut packet: Packet, item: Item) -> Result<Packet, Memory>
-    requires few { nat_le 4096 (length packet.items) ≡ false }
+    requires few { nat_le most_items (length packet.items) ≡ false }
     requires other { is_same item.name received_count ≡ false }
     requires single { has_item packet.items item.name ≡ false }
     ensures { IfOk result (λ p. p ≡ record packet { items = packet.items ++ item ∷ []; length = max packet.length (bytes_needed (span_of item)); variable = packet.variable || is_variable (span_of item) }) }
@@ -49,7 +50,7 @@ fn push_item(mut packet: Packet, item: Item) -> Result<Packet, Memory>
 
 /// The definition with one more item.
 pub(crate) fn with_item(drafted: Drafted, item: Item) -> Result<Drafted, Memory>
-    requires few { nat_le 4096 (length drafted.packet.items) ≡ false }
+    requires few { nat_le most_items (length drafted.packet.items) ≡ false }
     requires other { is_same item.name received_count ≡ false }
     requires single { has_item drafted.packet.items item.name ≡ false }
     ensures { IfOk result (λ d. d ≡ with_items drafted (drafted.packet.items ++ item ∷ []) (max drafted.packet.length (bytes_needed (span_of item))) (drafted.packet.variable || is_variable (span_of item))) }

@@ -6,10 +6,10 @@ use Rattle.std.proofs.lemmas.Iterator.Adapters.{position_from-zero}
 use Rattle.std.specs.List.{cons_option, filter, find, flat_map, list_all, list_any, filter_map, position, position_from}
 use Rattle.cts_def.specs.Beginnings.{has_id, id_field_of}
 use Rattle.cts_def.specs.Items.{ItemData}
-use Rattle.cts_def.specs.Packets.{PacketData}
+use Rattle.cts_def.specs.Packets.{PacketData, is_of}
 use Rattle.cts_def.specs.Sites.{InterfaceData, RouterData, routed_targets, targets_at}
 use Rattle.cts_def.specs.Starts.{IdField}
-use Rattle.cts_ident.specs.Identification.{first_of, is_of, number_of, numbered, routes_at}
+use Rattle.cts_ident.specs.Identification.{first_of, number_of, numbered, routes_at}
 use Rattle.cts_ident.specs.Matches.{at_place, has_its_id, has_own_id}
 
 abbrev pub passes : List (List ℕ) → (PacketData → Bool) → PacketData → Bool

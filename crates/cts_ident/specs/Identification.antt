@@ -1,11 +1,10 @@
 -- Which packet or command some bytes, or some names, are: the first that fits, in order of definition, among those of
 -- the targets that a connection reaches.
 use Rattle.std.specs.Prelude.{ℕ, ◌≡◌, ◌+◌, ◌-◌, ◌/◌, ◌<◌, Bool, ◌&&◌, nat_lt, List, [], ◌∷◌, map, length, Option, Some, None, IsTrue, slice_get, slice_index_or, if◌then◌else◌}
-use Rattle.std.specs.List.{filter, find, list_any}
+use Rattle.std.specs.List.{filter, find}
 use Rattle.cts_base.specs.Names.{spells}
 use Rattle.cts_def.specs.Beginnings.{begins_with, start_of}
-use Rattle.cts_def.specs.Items.{is_same}
-use Rattle.cts_def.specs.Packets.{DefinitionsData, PacketData}
+use Rattle.cts_def.specs.Packets.{DefinitionsData, PacketData, is_of}
 use Rattle.cts_def.specs.Sites.{RouterData, SiteData, routed_targets, targets_at}
 use Rattle.cts_def.specs.declared.ident.Ident.{Ident}
 use Rattle.cts_def.specs.Makers.{first_slot}
@@ -17,10 +16,6 @@ use Rattle.cts_def.specs.declared.ident.Ident.TheVariants.{Known, Unknown}
 abbrev pub numbered : ℕ → List PacketData → List (ℕ × PacketData)
 numbered n [] = []
 numbered n (p ∷ ps) = (n, p) ∷ numbered (n + 1) ps
-
--- the packet's target is one of these
-abbrev pub is_of : List (List ℕ) → PacketData → Bool
-is_of targets p = list_any (is_same p.target) targets
 
 -- those of these packets that the targets send or take, in order, with their numbers among all
 abbrev pub candidates : List (List ℕ) → List PacketData → List (ℕ × PacketData)

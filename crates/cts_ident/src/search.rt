@@ -1,7 +1,7 @@
 // Identification.
 ghost use Rattle.std.specs.Prelude.{◌≡◌, ◌<◌, ◌≤◌, ◌↔◌, ◌&&◌, ℕ, length, IsTrue, IfSome};
 ghost use Rattle.std.specs.List.{position};
-ghost use Rattle.cts_def.specs.Packets.{PacketData};
+ghost use Rattle.cts_def.specs.Packets.{PacketData, is_of};
 ghost use Rattle.cts_def.specs.Sites.{routed_targets, targets_at};
 ghost use Rattle.cts_def.specs.declared.ident.Ident.{Ident};
 ghost use Rattle.cts_ident.specs.Identification.{
@@ -12,7 +12,6 @@ ghost use Rattle.cts_ident.specs.Identification.{
   first_of,
   fits,
   is_named,
-  is_of,
   router_targets,
 };
 ghost use Rattle.cts_ident.specs.Matches.{at_place};

@@ -5,7 +5,7 @@ use Rattle.std.proofs.lemmas.List.{map-append, length-map}
 use Rattle.std.proofs.lemmas.List.Elements.{filter-append}
 use Rattle.cts_words.specs.Refusals.{Refusal}
 use Rattle.cts_def.specs.Items.{is_same}
-use Rattle.cts_def.specs.Packets.{PacketData, DefinitionsData}
+use Rattle.cts_def.specs.Packets.{PacketData, DefinitionsData, is_of}
 use Rattle.cts_def.specs.Protocols as spec
 use Rattle.cts_def.specs.Protocols.{SpecData}
 use Rattle.cts_def.specs.Sites as sites
@@ -18,7 +18,7 @@ use Rattle.cts_plan.specs.Chains.{step_reads, is_ready_spec, is_ready, added, wh
 use Rattle.cts_plan.specs.Connections.{ConnectionData}
 use Rattle.cts_plan.specs.Standing.{StandingData}
 use Rattle.cts_plan.specs.Causes.{is_interface, is_router, interfaces_in, routers_in}
-use Rattle.cts_plan.specs.Completing.{starts_of, is_bad_min_id, is_of, have_variable, at_number, step_fault, first_step_fault, fault_of, targets_named, targets_for}
+use Rattle.cts_plan.specs.Completing.{starts_of, is_bad_min_id, have_variable, at_number, step_fault, first_step_fault, fault_of, targets_named, targets_for}
 use Rattle.cts_plan.specs.SiteFiles.{use_of, chain_of, interface_of, interfaces_of, number_of, router_of, routers_of, site_in}
 use Rattle.cts_plan.specs.Sound.{interface_name, router_name, interface_targets, router_routes, interface_names, router_names}
 use Rattle.cts_plan.specs.Placing.{are_routed_behind, AreRoutedBehind, are_known, targets_with, IsRight, AreSettled, AreKnownTargets, AreReady, IsSoundStanding, targets_of}

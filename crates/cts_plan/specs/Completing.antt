@@ -3,7 +3,7 @@ use Rattle.std.specs.Prelude.{ℕ, ◌+◌, Bool, not, ◌&&◌, ◌||◌, ◌==
 use Rattle.std.specs.List.{list_any, list_all, flat_map}
 use Rattle.cts_def.specs.Items.{is_same}
 use Rattle.cts_def.specs.Beginnings.{start_of}
-use Rattle.cts_def.specs.Packets.{PacketData, DefinitionsData, of_targets}
+use Rattle.cts_def.specs.Packets.{PacketData, DefinitionsData, is_of, of_targets}
 use Rattle.cts_def.specs.Protocols.{is_start_within}
 use Rattle.cts_def.specs.Sites.{packets_of}
 use Rattle.cts_def.specs.Starts.{StartData}
@@ -25,9 +25,6 @@ starts_of targets packets = map start_of (of_targets targets packets)
 abbrev pub is_bad_min_id : FixedStepData → List StartData → Bool
 is_bad_min_id f starts =
     f.min_id == 0 || nat_lt (f.discard + f.min_id) (length f.sync) || not (list_all (is_start_within f.min_id) starts)
-
-abbrev pub is_of : List (List ℕ) → PacketData → Bool
-is_of targets p = list_any (is_same p.target) targets
 
 -- a packet of these targets whose length is not known
 abbrev pub have_variable : List (List ℕ) → List PacketData → Bool

@@ -95,8 +95,6 @@ pub record IsRight (d : DefinitionsData) (interfaces : List InterfaceData) (c : 
   pub known : IsTrue (are_known interfaces (router_routes c))
   pub right : fault_of d (targets_with interfaces c) c ≡ None
 
--- ---- answers
-
 -- each target of an interface is that of a packet or command
 abbrev pub AreKnownTargets : DefinitionsData → List ConnectionData → Type 0
 AreKnownTargets d cs = IsTrue (list_all (is_known_target d) (targets_of cs))
@@ -108,6 +106,8 @@ AreReady cs = IsTrue (list_all (λ (c : ConnectionData). list_all is_ready c.ste
 -- nothing is wrong with any of these
 abbrev pub AreSettled : DefinitionsData → List ConnectionData → Type 0
 AreSettled d cs = AllByRecursion (λ c. fault_of d (targets_for cs c) c ≡ None) cs
+
+-- ---- answers
 
 -- what a function returned is what the definition says, unless memory ran out
 abbrev pub Fails : {Y : Type 0} → SiteFault → Result Y Refused → Type 0

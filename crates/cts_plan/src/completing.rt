@@ -5,9 +5,10 @@ ghost use Rattle.std.specs.Option.{option_copied};
 ghost use Rattle.cts_def.specs.Protocols.{is_id_within, is_start_within};
 ghost use Rattle.cts_def.specs.Sites.{packets_of};
 ghost use Rattle.cts_def.specs.Starts.{id_field_data, id_fields};
+ghost use Rattle.cts_def.specs.Packets.{is_of};
 ghost use Rattle.cts_plan.specs.Chains.{step_reads, whole_chain};
 ghost use Rattle.cts_plan.specs.Placing.{Settles};
-ghost use Rattle.cts_plan.specs.Completing.{starts_of, is_bad_min_id, is_of, have_variable, cause_of_fixed, step_fault, first_step_fault, fault_of, is_named, targets_named, targets_for, due};
+ghost use Rattle.cts_plan.specs.Completing.{starts_of, is_bad_min_id, have_variable, cause_of_fixed, step_fault, first_step_fault, fault_of, is_named, targets_named, targets_for, due};
 
 use crate::causes::step_reads;
 use crate::connection::Connection;
