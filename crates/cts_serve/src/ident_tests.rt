@@ -3,7 +3,7 @@ ghost use Rattle.std.specs.Prelude.{◌≡◌};
 ghost use Rattle.cts_ident.specs.Identification.{is_worker};
 
 use crate::site_tests::site_of;
-use cts_def::{Ident, Site};
+use cts_def::{FIRST_SLOT, Ident, Site};
 use cts_ident::{identify, identify_command, named};
 use std::alloc::{AllocError, Global};
 use std::test::Fail;
