@@ -6,3 +6,4 @@ pub mod Joined
 pub mod Refused
 pub mod Blocks
 pub mod Finds
+pub mod FaultPlacing

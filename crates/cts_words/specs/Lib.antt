@@ -6,3 +6,4 @@ pub mod Seen
 pub mod Joining
 pub mod Refusals
 pub mod Blocks
+pub mod FaultPlaces

@@ -1,6 +1,7 @@
 //! Laws of the definitions: what they give byte by byte and line by line, said of the whole.
 
 ghost use Rattle.cts_words.specs.Spelling.{LinesEndAtFeeds, LastLineEndsTheText, WordsAreSpelled, OpenQuotesAreLeft, JoinedLinesAreStatements, JoinWordEndsTheLine};
+ghost use Rattle.cts_words.specs.FaultPlaces.{FirstOpenQuoteIsTold, ClosedQuotesAreNotTold, JoinToNothingIsTold};
 ghost use Rattle.cts_words.specs.Refusals.{FirstOneIsRefused};
 ghost use Rattle.cts_words.specs.Blocks.{BlocksAreOfTheHeads, BlocksHaveTheirLines};
 
@@ -21,6 +22,15 @@ pub fn words_are_spelled()
 pub fn lines_are_joined()
     ensures statements { JoinedLinesAreStatements }
     ensures join_word { JoinWordEndsTheLine }
+{}
+
+/// Each fault is a condition on the lines of the whole text. The first open quote is that of the first line on which a
+/// quoted word does not end, and there is none exactly where every quoted word ends; a join dangles exactly where the last
+/// word of the last line is the unquoted word `&`, and then that line is named.
+pub fn faults_are_of_their_lines()
+    ensures left_open { FirstOpenQuoteIsTold }
+    ensures closed { ClosedQuotesAreNotTold }
+    ensures dangling { JoinToNothingIsTold }
 {}
 
 /// Statements are refused at the first one that is refused behind those before it, and at their end where none is.
