@@ -3,5 +3,16 @@ pub mod OneCut
 pub mod SomeCut
 pub mod Takings
 pub mod Stagings
-pub mod LengthFrames
+pub mod Fronts
+pub mod Steady
+pub mod HeadFronts
+pub mod LengthSteady
+pub mod TerminatedSteady
+pub mod FixedSteady
+pub mod PreidentifiedSteady
+pub mod BurstSound
+pub mod Sound
 pub mod LengthSound
+pub mod LengthFrames
+pub mod LengthFinds
+pub mod Chainings

@@ -2,5 +2,11 @@ pub mod Framing
 pub mod Cuts
 pub mod Packets
 pub mod Laws
+pub mod Patterns
+pub mod Stating
+pub mod Heads
+pub mod Rows
+pub mod Chains
+pub mod RowLaws
 pub mod LengthRow
 pub mod Cuttings

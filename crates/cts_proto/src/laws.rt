@@ -1,7 +1,6 @@
 // Laws of the definitions. Each function does nothing: its contract is the law.
-ghost use Rattle.cts_proto.specs.Framing.{IsSound};
-ghost use Rattle.cts_proto.specs.LengthRow.{length_framing};
 ghost use Rattle.cts_proto.specs.Laws.{HasCut, HasOneCut, HasPackets, HasOnePackets, PacketsGrow, HoweverCut};
+ghost use Rattle.cts_proto.specs.RowLaws.{AreSound, ChainsAreSound};
 
 /// Under a sound framing each list of bytes has exactly one cut.
 pub fn cuts()
@@ -19,7 +18,9 @@ pub fn packets()
     ensures however_cut { HoweverCut }
 {}
 
-/// Frames that state their length are a sound framing, so the laws hold of them.
-pub fn length_frames()
-    ensures { IsSound length_framing }
+/// Each protocol, with any parameters, is a sound framing, and so is each of the chains of a site:
+/// the laws of cuts and packets hold of them.
+pub fn rows()
+    ensures sound { AreSound }
+    ensures chains { ChainsAreSound }
 {}

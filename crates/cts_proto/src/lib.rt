@@ -6,7 +6,7 @@ mod found;
 mod laws;
 
 pub use cutting::{Cutting, cut_length};
-pub use laws::{cuts, length_frames, packets};
+pub use laws::{cuts, packets, rows};
 
 #[cfg(test)]
 mod tests;
