@@ -16,3 +16,5 @@ pub mod LengthSound
 pub mod LengthFrames
 pub mod LengthFinds
 pub mod Chainings
+pub mod SyncPattern
+pub mod SoFarLaws

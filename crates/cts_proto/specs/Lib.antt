@@ -2,6 +2,8 @@ pub mod Framing
 pub mod Cuts
 pub mod Packets
 pub mod Laws
+pub mod SyncPatterns
+pub mod SoFar
 pub mod Patterns
 pub mod Stating
 pub mod Heads
