@@ -1,7 +1,7 @@
 -- Where a sync pattern occurs in bytes, and what is kept where it does not.
-use Rattle.std.specs.Prelude.{◌≡◌, ◌≤◌, ◌<◌, ℕ, ◌+◌, List, [], ◌∷◌, ◌++◌, length}
+use Rattle.std.specs.Prelude.{◌≡◌, ◌≤◌, ◌<◌, ◌↔◌, ℕ, ◌+◌, true, List, [], ◌∷◌, ◌++◌, length}
 use Rattle.cts_proto.specs.Framing.{Framing, BeginsWith, IsSound}
-use Rattle.cts_proto.specs.Cuts.{Part, gaps, Pieces, IsCut}
+use Rattle.cts_proto.specs.Cuts.{Part, outputs, empties, gaps, Pieces, IsCut}
 
 -- the pattern s occurs in b behind these bytes
 abbrev pub OccursBehind : List ℕ → List ℕ → List ℕ → Type 0
@@ -29,18 +29,27 @@ pub record EndsByPattern (s b gap rest : List ℕ) : Type 0 where
   pub found : (before : List ℕ) → OccursBehind s b before → IsLeftmost s b gap
   pub kept : ((before : List ℕ) → OccursBehind s b before → ⊥) → IsLongestKept s b gap rest
 
--- each frame begins at the leftmost occurrence of the pattern behind the frame before it
-abbrev pub FollowsPattern : List ℕ → List Part → List ℕ → List ℕ → List ℕ → Type 0
-FollowsPattern s [] b gap rest = EndsByPattern s b gap rest
-FollowsPattern s (p ∷ ps) b gap rest =
-    (x : List ℕ) × (b ≡ p.gap ++ (p.frame ++ x)) × BeginsWith s p.frame × IsLeftmost s b p.gap × FollowsPattern s ps x gap rest
+-- Each frame is whole and begins with the pattern, at its leftmost occurrence behind the frame before.
+abbrev pub FollowPattern : Framing → List Part → List ℕ → List ℕ → List ℕ → Type 0
+FollowPattern f [] b gap rest = EndsByPattern f.sync b gap rest
+FollowPattern f (p ∷ ps) b gap rest =
+    (x : List ℕ) × (b ≡ p.gap ++ (p.frame ++ x)) × (f.whole p.frame x ≡ true) × BeginsWith f.sync p.frame × IsLeftmost f.sync b p.gap × FollowPattern f ps x gap rest
 
--- A cut follows the sync pattern, and what lies before frames and before the rest is all that is skipped: with the empty
--- pattern nothing.
-pub record IsBySyncPattern (f : Framing) (b : List ℕ) (c : Pieces) (h : IsCut f b c) : Type 0 where
-  pub frames : FollowsPattern f.sync h.taken.parts b h.taken.gap c.rest
-  pub skipped : c.skipped ≡ gaps h.taken.parts + length h.taken.gap
-  pub nothing : f.sync ≡ [] → c.skipped ≡ 0
+-- The cut of b, said by the occurrences of the sync pattern. What lies before frames and before the rest is what is skipped.
+pub record IsCutByPattern (f : Framing) (b : List ℕ) (c : Pieces) : Type 0 where
+  pub parts : List Part
+  pub gap : List ℕ
+  pub frames : FollowPattern f parts b gap c.rest
+  pub no_frame : (w x : List ℕ) → c.rest ≡ w ++ x → f.whole w x ≡ true → ⊥
+  pub error : f.error c.rest ≡ c.bad
+  pub outs : c.outs ≡ outputs f parts
+  pub skipped : c.skipped ≡ gaps parts + length gap
+  pub empty : c.empty ≡ empties f parts
 
-abbrev pub CutsFollowTheSyncPattern : Type 0
-CutsFollowTheSyncPattern = (f : Framing) (b : List ℕ) (c : Pieces) → IsSound f → (h : IsCut f b c) → IsBySyncPattern f b c h
+-- that is the cut
+abbrev pub CutsFollowThePattern : Type 0
+CutsFollowThePattern = (f : Framing) (b : List ℕ) (c : Pieces) → IsSound f → IsCut f b c ↔ IsCutByPattern f b c
+
+-- without a pattern nothing is skipped
+abbrev pub NothingIsSkipped : Type 0
+NothingIsSkipped = (f : Framing) (b : List ℕ) (c : Pieces) → f.sync ≡ [] → IsCut f b c → c.skipped ≡ 0

@@ -2,7 +2,7 @@
 ghost use Rattle.cts_proto.specs.Laws.{HasCut, HasOneCut, HasPackets, HasOnePackets, PacketsGrow, HoweverCut};
 ghost use Rattle.cts_proto.specs.RowLaws.{AreSound, ChainsAreSound};
 ghost use Rattle.cts_proto.specs.SoFar.{NothingSoFar, MoreIsTaken, PieceComes, AllIsTaken};
-ghost use Rattle.cts_proto.specs.SyncPatterns.{CutsFollowTheSyncPattern};
+ghost use Rattle.cts_proto.specs.SyncPatterns.{CutsFollowThePattern, NothingIsSkipped};
 
 /// Under a sound framing each list of bytes has exactly one cut.
 pub fn cuts()
@@ -10,13 +10,14 @@ pub fn cuts()
     ensures one { HasOneCut }
 {}
 
-/// Under a sound framing each frame begins at the leftmost occurrence of the sync pattern behind the
-/// frame before it. Where the pattern occurs in what is left behind the last frame, the rest begins
-/// at its leftmost occurrence, and where it does not, the rest is the longest suffix that may become
-/// the pattern. What lies before frames and before the rest is skipped: nothing where the pattern is
-/// empty.
+/// Under a sound framing the cut is said by the occurrences of the sync pattern alone: each frame
+/// begins at the leftmost occurrence behind the frame before it. Where the pattern occurs in what is
+/// left behind the last frame, the rest begins at its leftmost occurrence, and where it does not, the
+/// rest is the longest suffix that may become the pattern. What lies before frames and before the
+/// rest is skipped: nothing where the pattern is empty.
 pub fn cuts_follow_the_sync_pattern()
-    ensures { CutsFollowTheSyncPattern }
+    ensures rules { CutsFollowThePattern }
+    ensures nothing { NothingIsSkipped }
 {}
 
 /// What a stage has given so far of its pieces: of no pieces it is nothing, what is taken of the
