@@ -102,7 +102,7 @@ first_fits t (x ∷ u) k h = elim (first_by (begins t (x ∷ u)) (first_place t 
   | inr b ↦ omega (arith, first_fits t u b.1.0 b.1.1, b.1.2)
 ]
 
-first_zero : (t u : List ℕ) → begins t u ≡ true → first_place t u ≡ Some 0
+pub first_zero : (t u : List ℕ) → begins t u ≡ true → first_place t u ≡ Some 0
 first_zero t [] h = rw h refl
 first_zero t (x ∷ u) h = rw h refl
 

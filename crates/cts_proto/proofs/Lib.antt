@@ -18,3 +18,8 @@ pub mod LengthFinds
 pub mod Chainings
 pub mod SyncPattern
 pub mod SoFarLaws
+pub mod Leftmost
+pub mod HeadAgain
+pub mod HeadWhole
+pub mod Starts
+pub mod RowsExact

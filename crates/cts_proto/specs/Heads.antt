@@ -16,6 +16,9 @@ abbrev pub head_bytes : HeadData → List ℕ
 head_bytes h =
     big_bytes 4 h.time.seconds ++ (big_bytes 4 h.time.micros ++ (length h.target ∷ (h.target ++ (length h.packet ∷ (h.packet ++ big_bytes 4 h.count)))))
 
+abbrev pub AreBytes : List ℕ → Type 0
+AreBytes bytes = (i : ℕ) → slice_index bytes i < 256
+
 -- what has a spelling as a head
 pub record FitsHead (h : HeadData) : Type 0 where
   pub seconds : h.time.seconds < 2 ^ 32

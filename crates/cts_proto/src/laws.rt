@@ -1,6 +1,6 @@
 // Laws of the definitions. Each function does nothing: its contract is the law.
 ghost use Rattle.cts_proto.specs.Laws.{HasCut, HasOneCut, HasPackets, HasOnePackets, PacketsGrow, HoweverCut};
-ghost use Rattle.cts_proto.specs.RowLaws.{AreSound, ChainsAreSound};
+ghost use Rattle.cts_proto.specs.RowLaws.{AreSound, ChainsAreSound, FramesAreExact, HeadsAreExact};
 ghost use Rattle.cts_proto.specs.SoFar.{NothingSoFar, MoreIsTaken, PieceComes, AllIsTaken};
 ghost use Rattle.cts_proto.specs.SyncPatterns.{CutsFollowThePattern, NothingIsSkipped};
 
@@ -41,9 +41,16 @@ pub fn packets()
     ensures however_cut { HoweverCut }
 {}
 
-/// Each protocol, with any parameters, is a sound framing, and so is each of the chains of a site:
-/// the laws of cuts and packets hold of them.
+/// Each protocol, with any parameters, is a sound framing, and so is each one of the chains of a
+/// site: the laws of cuts and packets hold of them. With parameters that a site may give, the test
+/// of a protocol passes exactly the frames that all conditions of its description hold of.
 pub fn rows()
     ensures sound { AreSound }
     ensures chains { ChainsAreSound }
+    ensures frames { FramesAreExact }
+{}
+
+/// Bytes hold a whole head exactly where they begin with the bytes of one.
+pub fn heads()
+    ensures { HeadsAreExact }
 {}
