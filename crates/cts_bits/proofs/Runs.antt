@@ -1,6 +1,8 @@
 -- The bytes that a field touches, and its run of bits among them.
 use Rattle.std.proofs.Common.{ℕ, ◌≡◌, ◌+◌, ◌-◌, ◌*◌, ◌/◌, ◌%◌, ◌^◌, ◌<◌, ◌≤◌, true, List, length, take, drop, get_or, refl, sym, ap, ◌∙◌, arith, inl, inr}
 use Rattle.std.proofs.lemmas.Bool.{cases_Bool, cases_lt, and_parts, or_cases, eqb-true}
+use Rattle.std.proofs.lemmas.Bool.Decides.{nat_tests}
+use Rattle.std.specs.Prelude.{nat_lt}
 use Rattle.std.proofs.lemmas.List.{drop-drop, drop-take, length-drop, length-take, length-take-le, take-take}
 use Rattle.std.proofs.lemmas.Int.Digits.{number_lt}
 use Rattle.std.proofs.Math.Nat.{pow-le-pow_right}
@@ -31,6 +33,9 @@ span_le offset bits most = omega arith
 whole_bytes : (offset bits : ℕ) → is_whole offset bits ≡ true → (offset % 8 ≡ 0) × (span offset bits ≡ bits / 8)
 whole_bytes offset bits e = grind (arith, and_parts, or_cases, eqb-true)
 
+ltb-is : (m n : ℕ) → m < n → nat_lt m n ≡ true
+ltb-is m n h = grind (arith, nat_tests)
+
 -- the field begins in the buffer
 pub span_le_reach : (o : Order) (offset bits : ℕ) → 1 ≤ bits → (IsBeforeStart o offset bits → ⊥) → span offset bits ≤ reach_of o offset bits
 span_le_reach Big offset bits some ok = omega arith
@@ -40,7 +45,7 @@ span_le_reach Little offset bits some ok = elim (cases_Bool (is_whole offset bit
       rw e (omega arith)
   | inr e ↦
       elim (cases_lt (offset / 8 + 1) (span offset bits)) [
-        | inl before ↦ absurd (ok (e, before))
+        | inl before ↦ absurd (ok (rw e (ltb-is (offset / 8 + 1) (span offset bits) before)))
         | inr fine ↦ rw e fine
       ]
 ]

@@ -1,10 +1,20 @@
 // What holds of the definitions that the contracts cite.
-ghost use Rattle.std.specs.Prelude.{◌≡◌, ◌≤◌, ◌+◌, length};
+ghost use Rattle.std.specs.Prelude.{◌≡◌, ◌≤◌, ◌+◌, false, length};
 ghost use Rattle.cts_bits.specs.Bits.{number_of_bits};
 ghost use Rattle.cts_bits.specs.Fields.{IsApart, KeepsOtherBits, field, field_bits, offset_of, order_of, reach, size_of};
-ghost use Rattle.cts_bits.specs.Places.{span};
+ghost use Rattle.cts_bits.specs.Places.{is_refused, last_place, span};
 
-use crate::{Order, Place};
+use crate::{LAST_PLACE, Order, Place};
+
+/// A place is none that is refused.
+pub fn places_are_not_refused(place: &Place)
+    ensures { is_refused (order_of place.now) (offset_of place.now) (size_of place.now) ≡ false }
+{}
+
+/// The constant is the last place of the definitions.
+pub fn the_last_place_is_its_word()
+    ensures { LAST_PLACE ≡ last_place }
+{}
 
 /// A field is the number that its bits spell, each taken from where it stands in the buffer. So the
 /// places of its bits alone say which fields share a bit.

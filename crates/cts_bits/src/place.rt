@@ -1,13 +1,13 @@
 // Where a field lies.
-ghost use Rattle.std.specs.Prelude.{◌≡◌, ◌≤◌, ◌<◌, ◌+◌, ◌*◌, ◌↔◌, IfOk, IsTrue, ℕ};
-ghost use Rattle.cts_bits.specs.Places.{IsBadSize, IsBeforeStart, is_whole, span};
+ghost use Rattle.std.specs.Prelude.{◌≡◌, ◌≤◌, ◌<◌, ◌+◌, ◌*◌, ◌↔◌, IfOk, IsTrue, is_err, ℕ};
+ghost use Rattle.cts_bits.specs.Places.{IsBadSize, IsBeforeStart, is_bad_size, is_before_start, is_refused, is_whole, last_place, span};
 
 use crate::Order;
 use std::error::Error;
 use std::fmt;
 
-/// The first bit that no field may reach, 1,048,576 bytes from the start.
-const LIMIT: u32 = 8_388_608;
+/// The first bit that no field reaches, 1,048,576 bytes from the start.
+pub const LAST_PLACE: u32 = 8_388_608;
 
 /// Where a field lies in a buffer: its offset and its size in bits, and the order of its bytes.
 ///
@@ -23,7 +23,7 @@ pub struct Place {
     order: Order,
     pub ghost some_bits: { 1 ≤ bits },
     pub ghost at_most_64: { bits ≤ 64 },
-    pub ghost within_limit: { offset + bits ≤ 8388608 },
+    pub ghost within_limit: { offset + bits ≤ last_place },
     pub ghost after_start: { IsBeforeStart order offset bits → ⊥ },
 }
 
@@ -62,14 +62,15 @@ impl Place {
         ensures offset { IfOk result (λ p. offset_of p ≡ offset) }
         ensures bits { IfOk result (λ p. size_of p ≡ bits) }
         ensures order { IfOk result (λ p. order_of p ≡ order) }
+        ensures refused { is_err result ≡ is_refused order offset bits }
         ensures size { (result ≡ Err PlaceFault.Size) ↔ IsBadSize offset bits }
         ensures before_start { (result ≡ Err PlaceFault.BeforeStart)
             ↔ ((IsBadSize offset bits → ⊥) × IsBeforeStart order offset bits) }
     {
-        if bits == 0 || bits > 64 || offset > LIMIT - bits {
+        if is_bad_size(offset, bits) {
             return Err(PlaceFault::Size);
         }
-        if begins_before_start(offset, bits, order) {
+        if is_before_start(offset, bits, order) {
             return Err(PlaceFault::BeforeStart);
         }
         Ok(Place {
@@ -154,11 +155,18 @@ fn span(offset: u32, bits: u32) -> u32
     (offset % 8 + bits - 1) / 8 + 1
 }
 
+/// Whether no field has so many bits there: none or more than 64, or past the last place.
+fn is_bad_size(offset: u32, bits: u32) -> bool
+    ensures { result ≡ is_bad_size offset bits }
+{
+    bits == 0 || bits > 64 || offset > LAST_PLACE - bits
+}
+
 /// Whether the field would begin before byte 0.
-fn begins_before_start(offset: u32, bits: u32, order: Order) -> bool
+fn is_before_start(offset: u32, bits: u32, order: Order) -> bool
     requires some { 1 ≤ bits }
     requires at_most_64 { bits ≤ 64 }
-    ensures { IsTrue result ↔ IsBeforeStart order offset bits }
+    ensures { result ≡ is_before_start order offset bits }
 {
     match order {
         Order::Big => false,

@@ -7,6 +7,7 @@ use Rattle.std.specs.Int.{is_negative}
 use Rattle.cts_def.specs.Items.{ItemData, IsSoundItem, is_same, span_of}
 use Rattle.cts_def.specs.Packets.{IsSoundPacket, PacketData, received_count, unknown}
 use Rattle.cts_def.specs.Spans.{bytes_needed, is_misplaced, is_number, is_spelled, is_variable}
+use Rattle.cts_def.proofs.Needs.{few_bytes}
 use Rattle.cts_def.specs.declared.conversion.Conversion.TheVariants.{Plain}
 use Rattle.cts_def.specs.declared.item_kind.Preset.TheVariants.{Whole}
 
@@ -36,11 +37,12 @@ sound_id_item i z is placed number start spelled =
     }
 
 pub sound_packet : (p : PacketData) (i : ItemData) → p.items ≡ i ∷ [] → p.length ≡ bytes_needed (span_of i) → p.variable ≡ is_variable (span_of i)
-    → is_same p.target unknown ≡ false → is_same i.name received_count ≡ false → IsSoundPacket p
-sound_packet p i items least varies target name =
+    → is_misplaced (span_of i) ≡ false → is_same p.target unknown ≡ false → is_same i.name received_count ≡ false → IsSoundPacket p
+sound_packet p i items least varies placed target name =
     record {
       least = rw items (least ∙ sym (max-zero (bytes_needed (span_of i))));
       varies = rw items (varies ∙ sym (or-false (is_variable (span_of i))));
+      short = rw least (few_bytes (span_of i) placed);
       few = rw items (omega arith);
       distinct = rw items (IsDistinct-from_apart is_same (i.name ∷ []) (λ j k d before within. absurd (omega arith)));
       known_target = target;

@@ -1,4 +1,5 @@
 pub mod Builds
 pub mod Directives
+pub mod Needs
 pub mod NoPlace
 pub mod Sums

@@ -196,10 +196,22 @@ is_plain _ = false
 abbrev pub has_range_of_its_kind : ItemData → Bool
 has_range_of_its_kind i = if is_number i.kind then is_some i.range else is_none i.range
 
--- what is counted from the start alone, has no limits, conversion or colours, and a range where it is a number
+-- the default is this number
+abbrev pub is_preset_to : ℤ → Preset → Bool
+is_preset_to z (Whole number) = int_eq number z
+is_preset_to z (Raw bytes) = false
+
+-- the default of an id parameter is its id
+abbrev pub has_default_of : Option ℤ → Preset → Bool
+has_default_of None preset = true
+has_default_of (Some id) preset = is_preset_to id preset
+
+-- what is counted from the start alone, has no limits, conversion or colours, a range where it is a number, and its id as
+-- its default where it has one
 abbrev pub is_parameter : ItemData → Bool
 is_parameter i =
     is_from_start i && is_none i.limits && is_plain i.conversion && not (list_any has_color i.states) && has_range_of_its_kind i
+    && has_default_of i.id i.preset
 
 abbrev pub sets_in : Option LimitsSetup → List (List ℕ × Limits)
 sets_in None = []

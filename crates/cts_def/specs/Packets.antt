@@ -2,7 +2,7 @@
 use Rattle.std.specs.Prelude.{◌≡◌, ℕ, ◌+◌, ◌≤◌, max, Bool, true, false, not, ◌&&◌, List, [], ◌∷◌, map, length, codes, IsTrue}
 use Rattle.std.specs.List.{filter, list_any, list_all, IsDistinct}
 use Rattle.cts_def.specs.Items.{ItemData, span_of, is_same, is_to_the_end, is_parameter, is_telemetry_item}
-use Rattle.cts_def.specs.Most.{most_items, most_items_in_all, most_packets, most_sets}
+use Rattle.cts_def.specs.Most.{most_bytes, most_items, most_items_in_all, most_packets, most_sets}
 use Rattle.cts_def.specs.Spans.{bytes_needed, is_variable}
 
 -- what contracts see of a packet or command: its fields
@@ -39,6 +39,7 @@ unknown = codes "UNKNOWN"
 pub record IsSoundPacket (p : PacketData) : Type 0 where
   pub least : p.length ≡ length_of p.items
   pub varies : p.variable ≡ are_variable p.items
+  pub short : p.length ≤ most_bytes
   pub few : length p.items ≤ most_items
   pub distinct : IsDistinct is_same (map (λ (i : ItemData). i.name) p.items)
   pub known_target : is_same p.target unknown ≡ false
@@ -86,7 +87,15 @@ is_telemetry sets p = not p.hazardous && list_all (is_telemetry_item sets) p.ite
 abbrev pub are_telemetry : DefinitionsData → Bool
 are_telemetry d = list_all (is_telemetry d.set_names) d.telemetry
 
--- what all definitions keep
+-- the limits set in which every item with limits has some
+abbrev pub default_set : List ℕ
+default_set = codes "DEFAULT"
+
+abbrev pub begins_with_set : List ℕ → List (List ℕ) → Bool
+begins_with_set set [] = false
+begins_with_set set (name ∷ names) = is_same name set
+
+-- what all definitions keep; the first limits set is there from the start
 pub record AreSoundDefinitions (d : DefinitionsData) : Type 0 where
   pub telemetry : IsDistinct have_same_names d.telemetry
   pub commands : IsDistinct have_same_names d.commands
@@ -95,5 +104,6 @@ pub record AreSoundDefinitions (d : DefinitionsData) : Type 0 where
   pub few_items : items_in d.telemetry + items_in d.commands ≤ most_items_in_all
   pub telemetry_packets : IsTrue (are_telemetry d)
   pub command_packets : IsTrue (list_all is_command d.commands)
+  pub first_set : IsTrue (begins_with_set default_set d.set_names)
   pub sets : IsDistinct is_same d.set_names
   pub few_sets : length d.set_names ≤ most_sets

@@ -6,7 +6,7 @@ use Rattle.cts_def.specs.declared.proto_spec.Kind.{Kind}
 use Rattle.cts_def.specs.declared.proto_spec.Kind.TheVariants as kind
 use Rattle.cts_def.specs.declared.proto_spec.ProtoSpec.{ProtoSpec}
 use Rattle.cts_def.specs.declared.proto_spec.ProtoSpec.TheVariants as spec
-use Rattle.cts_def.specs.Starts.{PlaceData, place_data, IdField, StartData}
+use Rattle.cts_def.specs.Starts.{PlaceData, place_data, is_place, has_places, StartData, IdField}
 
 pub record BurstData : Type 0 where
   pub discard : ℕ
@@ -96,7 +96,9 @@ is_sound_spec (Burst b) = is_within_frame b.discard && is_pattern b.sync
 is_sound_spec (Fixed f) =
     nat_le 1 f.min_id && is_within_frame f.min_id && is_within_frame f.discard && is_pattern f.sync
     && nat_le (length f.sync) (f.discard + f.min_id) && list_all (is_start_within f.min_id) f.starts
-is_sound_spec (Length l) = nat_le 1 l.per_count && nat_le l.per_count 65535 && is_within_frame l.discard && is_pattern l.sync
+    && list_all has_places f.starts
+is_sound_spec (Length l) =
+    is_place l.place && nat_le 1 l.per_count && nat_le l.per_count 65535 && is_within_frame l.discard && is_pattern l.sync
 is_sound_spec (Terminated t) =
     is_pattern t.write && is_pattern t.read && nat_le 1 (length t.read) && is_within_frame t.discard && is_pattern t.sync
 is_sound_spec (Preidentified p) = is_pattern p.sync

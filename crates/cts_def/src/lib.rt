@@ -48,7 +48,7 @@ pub use limits_setup::LimitsSetup;
 pub use loss::Loss;
 pub use makers::{FIRST_DESK, FIRST_SLOT, SCRIBE, SERVER};
 pub use most::{
-    MOST_ITEMS, MOST_ITEMS_IN_ALL, MOST_PACKETS, MOST_SEGMENTS, MOST_SETS, MOST_STATES,
+    MOST_BYTES, MOST_ITEMS, MOST_ITEMS_IN_ALL, MOST_PACKETS, MOST_SEGMENTS, MOST_SETS, MOST_STATES,
 };
 pub use packet::Packet;
 pub use proto_spec::{Kind, ProtoSpec};

@@ -34,13 +34,15 @@ impl Model for Packet {
 }
 
 impl Packet {
-    ghost use Rattle.std.specs.Prelude.{◌≡◌, IfOk};
+    ghost use Rattle.std.specs.Prelude.{◌≡◌, IfOk, IsTrue};
     ghost use Rattle.cts_def.specs.Beginnings.{start_of};
+    ghost use Rattle.cts_def.specs.Starts.{has_places};
 
     /// How it begins: its id fields with their values in order of definition, and its length. `Memory` where none was
     /// found for them.
     pub fn start(&self, alloc: Global) -> Result<Start, Memory>
-        ensures { IfOk result (λ s. s ≡ start_of self.now) }
+        ensures value { IfOk result (λ s. s ≡ start_of self.now) }
+        ensures placed { IfOk result (λ s. IsTrue (has_places s)) }
     {
         Ok(Start {
             ids: List::of(id_fields(alloc, self.items.as_slice())?),

@@ -1,8 +1,11 @@
 // The protocols of a chain, with their parameters.
+ghost use Rattle.std.specs.Prelude.{◌≡◌, IfOk};
+ghost use Rattle.cts_def.specs.Protocols.{spec_data};
 
 use crate::Start;
-use cts_base::{Bytes, List};
+use cts_base::{Bytes, List, Memory};
 use cts_bits::Place;
+use std::alloc::Global;
 
 /// The protocols that there are. Each cuts the bytes that come into frames, and puts bytes into frames.
 #[derive(Clone, Copy, Debug, PartialEq, Eq)]
@@ -68,4 +71,87 @@ pub enum ProtoSpec {
         sync: Bytes,
         max: Option<u64>,
     },
+}
+
+// Copies of these starts, in their order.
+fn starts_copied(alloc: Global, starts: &[Start]) -> Result<List<Start>, Memory>
+    ensures { IfOk result (λ s. s ≡ starts.now) }
+{
+    let mut copies = List::new(alloc);
+    for start in starts {
+        copies.push(start.copied(alloc)?)?;
+    }
+    Ok(copies)
+}
+
+impl ProtoSpec {
+    /// A copy with the same parameters, in memory of its own. `Memory` where none was found for it.
+    pub fn copied(&self, alloc: Global) -> Result<ProtoSpec, Memory>
+        ensures { IfOk result (λ s. spec_data s ≡ spec_data self.now) }
+    {
+        Ok(match self {
+            ProtoSpec::Burst {
+                discard,
+                sync,
+                fill,
+            } => ProtoSpec::Burst {
+                discard: *discard,
+                sync: sync.clone()?,
+                fill: *fill,
+            },
+            ProtoSpec::Fixed {
+                min_id,
+                discard,
+                sync,
+                telemetry,
+                fill,
+                raise,
+                starts,
+            } => ProtoSpec::Fixed {
+                min_id: *min_id,
+                discard: *discard,
+                sync: sync.clone()?,
+                telemetry: *telemetry,
+                fill: *fill,
+                raise: *raise,
+                starts: starts_copied(alloc, starts.as_slice())?,
+            },
+            ProtoSpec::Length {
+                place,
+                value_offset,
+                per_count,
+                discard,
+                sync,
+                max,
+                fill,
+            } => ProtoSpec::Length {
+                place: *place,
+                value_offset: *value_offset,
+                per_count: *per_count,
+                discard: *discard,
+                sync: sync.clone()?,
+                max: *max,
+                fill: *fill,
+            },
+            ProtoSpec::Terminated {
+                write,
+                read,
+                strip,
+                discard,
+                sync,
+                fill,
+            } => ProtoSpec::Terminated {
+                write: write.clone()?,
+                read: read.clone()?,
+                strip: *strip,
+                discard: *discard,
+                sync: sync.clone()?,
+                fill: *fill,
+            },
+            ProtoSpec::Preidentified { sync, max } => ProtoSpec::Preidentified {
+                sync: sync.clone()?,
+                max: *max,
+            },
+        })
+    }
 }

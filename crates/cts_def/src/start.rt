@@ -1,7 +1,8 @@
 // How packets of known length begin.
 
-use cts_base::List;
+use cts_base::{List, Memory};
 use cts_bits::Place;
+use std::alloc::Global;
 use std::marker::Model;
 
 /// How a packet begins, for FIXED: the values of its id fields, and how long it is.
@@ -19,4 +20,18 @@ impl Model for Start {
     ghost Value = { StartData };
 
     ghost view = { λ s. record { ids = id_fields s.ids; length = s.length } };
+}
+
+impl Start {
+    ghost use Rattle.std.specs.Prelude.{◌≡◌, IfOk};
+
+    /// A copy with the same ids and length. `Memory` where none was found for it.
+    pub fn copied(&self, alloc: Global) -> Result<Start, Memory>
+        ensures { IfOk result (λ s. s ≡ self.now) }
+    {
+        Ok(Start {
+            ids: List::of(Vec::from_slice(alloc, self.ids.as_slice())?),
+            length: self.length,
+        })
+    }
 }

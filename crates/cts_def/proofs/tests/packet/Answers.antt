@@ -7,6 +7,6 @@ use Rattle.cts_def.proofs.tests.packet.Goals as goal
 
 pub invariant_of-result-3 : goal.invariant_of-result-3
 invariant_of-result-3 c =
-    sound_packet _ c.args.item (c.of.ensures ∙ c.in_ok-vec.ensures.items) (c.bytes_needed-length.ensures ∙ ap bytes_needed c.span.ensures) (c.is_variable-variable.ensures ∙ ap is_variable c.span-2.ensures)
+    sound_packet _ c.args.item (c.of.ensures ∙ c.in_ok-vec.ensures.items) (c.bytes_needed-length.ensures ∙ ap bytes_needed c.span.ensures) (c.is_variable-variable.ensures ∙ ap is_variable c.span-2.ensures) ?
     (ap (λ (x : List ℕ). is_same x unknown) (c.target.view_is ∙ sym c.as_slice.ensures.value) ∙ ap (is_same c.as_slice.result.now) (sym c.as_slice-2.ensures) ∙ sym c.eq.ensures ∙ c.if-eq.false)
     (ap (λ (x : ItemData). is_same x.name received_count) (sym c.item.view_is) ∙ ap (λ (x : List ℕ). is_same x received_count) (sym c.as_slice-else-eq.ensures.value) ∙ ap (is_same c.as_slice-else-eq.result.now) (sym c.as_slice-else-eq-2.ensures) ∙ sym c.eq-else-eq.ensures ∙ c.if-eq-2.false)
