@@ -6,7 +6,7 @@ use Rattle.std.proofs.lemmas.List.{take-append-drop, drop-append-le, length-drop
 use Rattle.cts_bits.specs.Places.{reach_of}
 use Rattle.cts_def.specs.Beginnings.{has_id, begins_with}
 use Rattle.cts_def.specs.Protocols.{FixedData, Fixed, is_sound_spec, is_id_within, is_start_within, is_within_frame, is_pattern}
-use Rattle.cts_def.specs.Starts.{IdField, StartData}
+use Rattle.cts_def.specs.Starts.{IdField, StartData, has_places}
 use Rattle.cts_proto.specs.Rows.{decided_at, first_start}
 use Rattle.cts_proto.proofs.Fronts.{and_tells, le_tells, le_test, field_front}
 
@@ -56,7 +56,8 @@ pub fixed_rules : (f : FixedData) → is_sound_spec (Fixed f) ≡ true → Fixed
 fixed_rules f h =
     let small : Bool = nat_le 1 f.min_id && is_within_frame f.min_id && is_within_frame f.discard && is_pattern f.sync in
     let room : Bool = nat_le (length f.sync) (f.discard + f.min_id) in
-    let a = and_tells (small && room) (list_all (is_start_within f.min_id) f.starts) h in
+    let start : Bool = list_all (is_start_within f.min_id) f.starts in
+    let a = and_tells (small && room) start (and_tells (small && room && start) (list_all has_places f.starts) h).0 in
     let b = and_tells small room a.0 in
     let c = and_tells (nat_le 1 f.min_id && is_within_frame f.min_id && is_within_frame f.discard) (is_pattern f.sync) b.0 in
     let d = and_tells (nat_le 1 f.min_id && is_within_frame f.min_id) (is_within_frame f.discard) c.0 in
