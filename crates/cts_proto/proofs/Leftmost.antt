@@ -1,5 +1,5 @@
 -- The leftmost place of a pattern is behind its leftmost occurrence.
-use Rattle.std.proofs.Common.{◌≡◌, ◌≤◌, ℕ, suc, Bool, true, false, List, [], ◌∷◌, ◌++◌, length, refl, sym, ◌∙◌, ap, arith, Some, inl, inr}
+use Rattle.std.proofs.Common.{option_map, ◌≡◌, ◌≤◌, ℕ, suc, Bool, true, false, cond, List, [], ◌∷◌, ◌++◌, length, refl, sym, ◌∙◌, ap, arith, Some, None, Option, inl, inr}
 use Rattle.cts_proto.specs.Framing.{BeginsWith}
 use Rattle.cts_proto.specs.Patterns.{begins, first_place}
 use Rattle.cts_proto.specs.SyncPatterns.{OccursBehind, IsLeftmost}
@@ -57,3 +57,17 @@ first_test t (x ∷ u) (y ∷ before) m =
       first = λ other o. omega (arith, m.first (x ∷ other) (o.0, ap (λ v. x ∷ v) o.1));
     } in
     rw (here, first_test t u before tail) refl
+
+none_by : (b : Bool) (o : Option ℕ) → cond b (Some 0) (option_map suc o) ≡ None → o ≡ None
+none_by true o h = cc
+none_by false None h = refl
+none_by false (Some k) h = cc
+
+some_none : (k : ℕ) → Some k ≡ None → ⊥
+some_none k h = cc
+
+-- where a pattern has no place it does not occur
+pub first_none : (t u : List ℕ) → first_place t u ≡ None → (before : List ℕ) → OccursBehind t u before → ⊥
+first_none t u h [] o = some_none 0 (sym (first_zero t u (begins_test t u o)) ∙ h)
+first_none t [] h (y ∷ before) o = let e : [] ≡ y ∷ (before ++ (t ++ o.0)) = o.1 in absurd (cc)
+first_none t (x ∷ u) h (y ∷ before) o = first_none t u (none_by (begins t (x ∷ u)) (first_place t u) h) before (occurs_behind t u before x y o)

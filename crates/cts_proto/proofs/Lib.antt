@@ -22,4 +22,6 @@ pub mod Leftmost
 pub mod HeadAgain
 pub mod HeadWhole
 pub mod Starts
+pub mod Reaches
 pub mod RowsExact
+pub mod ErrorsExact

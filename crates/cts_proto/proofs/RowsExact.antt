@@ -19,22 +19,23 @@ use Rattle.cts_proto.proofs.HeadWhole.{are_drop, fits_of, head_whole}
 use Rattle.cts_proto.proofs.Leftmost.{begins_test, first_tells, first_test}
 use Rattle.cts_proto.proofs.LengthSteady.{field_tells, guard_long, within_tells, wrong_or_long}
 use Rattle.cts_proto.proofs.PreidentifiedSteady.{head_long, count_tells}
+use Rattle.cts_proto.proofs.Reaches.{length_reaches}
 use Rattle.cts_proto.proofs.Starts.{FixedRules, fixed_rules, start_decided, start_room}
 use Rattle.cts_proto.proofs.Steady.{FrameTells, frame_tells, frame_test}
 use Rattle.cts_proto.proofs.TerminatedSteady.{end_long, end_tells}
 
-over_tells : (o : Option ℕ) (n : ℕ) → is_over o n ≡ false → IsAtMost o n
+pub over_tells : (o : Option ℕ) (n : ℕ) → is_over o n ≡ false → IsAtMost o n
 over_tells None n h = tt
 over_tells (Some max) n h = not_lt_tells max n h
 
-over_test : (o : Option ℕ) (n : ℕ) → IsAtMost o n → is_over o n ≡ false
+pub over_test : (o : Option ℕ) (n : ℕ) → IsAtMost o n → is_over o n ≡ false
 over_test None n h = refl
 over_test (Some max) n h = not_lt_test max n h
 
 within_limit : (n : ℕ) → n ≤ frame_limit → long_within n ≡ Long n
 within_limit n h = rw (le_test n frame_limit h) refl
 
-begins_split : (s u : List ℕ) → begins s u ≡ true → u ≡ s ++ drop (length s) u
+pub begins_split : (s u : List ℕ) → begins s u ≡ true → u ≡ s ++ drop (length s) u
 begins_split s u h =
     let r = begins_tells s u h in
     r.1 ∙ ap (λ v. s ++ v) (sym (ap (drop (length s)) r.1 ∙ drop_at s r.0 (length s) refl))
@@ -57,7 +58,6 @@ length_to l w t =
     let g = guard_long (nat_lt (length w) (reach l.place)) (field_states l (field l.place w)) (length w) t.states_are in
     let k = field_tells l (field l.place w) (length w) g.1 in
     record {
-      some = t.some;
       begin = begins_tells l.sync w t.begin;
       max = over_tells l.max (field l.place w) k.max;
       length_is = sym k.length_is;
@@ -69,14 +69,14 @@ length_to l w t =
 not_short : (z r : ℕ) → r ≤ z → int_lt (pos z) (pos r) ≡ false
 not_short z r h = not_lt_test z r h
 
-length_back : (l : LengthData) (w : List ℕ) → IsLengthFrame l w → FrameTells l.sync (length_states l) w
-length_back l w f =
+length_back : (l : LengthData) → 1 ≤ reach l.place → (w : List ℕ) → IsLengthFrame l w → FrameTells l.sync (length_states l) w
+length_back l some w f =
     let there : nat_lt (length w) (reach l.place) ≡ false = not_lt_test (length w) (reach l.place) f.reaches in
     let a = not_short (length w) (reach l.place) f.reaches in
     let b = not_short (length w) (length l.sync) f.room in
     let length_is : length_by l (field l.place w) ≡ pos (length w) = sym f.length_is in
     record {
-      some = f.some;
+      some = omega (arith, some, f.reaches);
       begin = begins_test l.sync w f.begin;
       states_are = rw (there, over_test l.max (field l.place w) f.max, length_is, a, b, within_limit (length w) f.within) refl;
     }
@@ -193,7 +193,7 @@ preidentified_back p w f =
 
 -- ---- all protocols
 
-read_some : (t : TerminatedData) → is_sound_spec (Terminated t) ≡ true → 1 ≤ length t.read
+pub read_some : (t : TerminatedData) → is_sound_spec (Terminated t) ≡ true → 1 ≤ length t.read
 read_some t h =
     let a = and_tells (is_pattern t.write && is_pattern t.read && nat_le 1 (length t.read) && is_within_frame t.discard) (is_pattern t.sync) h in
     let b = and_tells (is_pattern t.write && is_pattern t.read && nat_le 1 (length t.read)) (is_within_frame t.discard) a.0 in
@@ -205,7 +205,7 @@ frames_are_exact (Fixed f) w x s y = (
   λ h. fixed_to f (fixed_rules f s) w (frame_tells f.sync (fixed_states f) w h),
   λ k. frame_test f.sync (fixed_states f) w (fixed_back f (fixed_rules f s) w k),
 )
-frames_are_exact (Length l) w x s y = (λ h. length_to l w (frame_tells l.sync (length_states l) w h), λ k. frame_test l.sync (length_states l) w (length_back l w k))
+frames_are_exact (Length l) w x s y = (λ h. length_to l w (frame_tells l.sync (length_states l) w h), λ k. frame_test l.sync (length_states l) w (length_back l (length_reaches l s) w k))
 frames_are_exact (Terminated t) w x s y = (
   λ h. terminated_to t (read_some t s) w (frame_tells t.sync (terminated_states t) w h),
   λ k. frame_test t.sync (terminated_states t) w (terminated_back t (read_some t s) w k),

@@ -21,7 +21,6 @@ pub record IsBurstFrame (b : BurstData) (w x : List ℕ) : Type 0 where
 
 -- LENGTH: as many bytes as the field states, which has room in them
 pub record IsLengthFrame (l : LengthData) (w : List ℕ) : Type 0 where
-  pub some : 1 ≤ length w
   pub begin : BeginsWith l.sync w
   pub max : IsAtMost l.max (field l.place w)
   pub length_is : pos (length w) ≡ length_by l (field l.place w)

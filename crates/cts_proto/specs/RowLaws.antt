@@ -1,8 +1,10 @@
 -- Laws of the rows.
-use Rattle.std.specs.Prelude.{◌≡◌, ◌↔◌, ℕ, true, List, ◌++◌, IsTrue}
+use Rattle.std.specs.Prelude.{◌≡◌, ◌↔◌, ℕ, true, List, ◌++◌, Some, IsTrue}
 use Rattle.cts_def.specs.Protocols.{SpecData, is_sound_spec}
 use Rattle.cts_def.specs.Sites.{SiteData}
 use Rattle.cts_proto.specs.Chains.{framings_at}
+use Rattle.cts_def.specs.declared.bad_cause.BadCause.{BadCause}
+use Rattle.cts_proto.specs.Errors.{IsError}
 use Rattle.cts_proto.specs.Frames.{IsFrame}
 use Rattle.cts_proto.specs.Framing.{IsSound}
 use Rattle.cts_proto.specs.Heads.{AreBytes, HeadData, FitsHead, head_bytes, has_head}
@@ -20,6 +22,10 @@ ChainsAreSound = (site : SiteData) (by : ℕ) → AllSound (framings_at site by)
 -- with parameters that a site may give, the test of a framing passes exactly the whole frames
 abbrev pub FramesAreExact : Type 0
 FramesAreExact = (s : SpecData) (w x : List ℕ) → IsTrue (is_sound_spec s) → AreBytes w → ((framing_of s).whole w x ≡ true) ↔ IsFrame s w x
+
+-- and its error stands exactly where the description has it
+abbrev pub ErrorsAreExact : Type 0
+ErrorsAreExact = (s : SpecData) (u : List ℕ) (c : BadCause) → IsTrue (is_sound_spec s) → AreBytes u → ((framing_of s).error u ≡ Some c) ↔ IsError s u c
 
 -- bytes hold a whole head exactly where they begin with the bytes of one
 abbrev pub HeadsAreExact : Type 0

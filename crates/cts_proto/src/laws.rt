@@ -1,6 +1,6 @@
 // Laws of the definitions. Each function does nothing: its contract is the law.
 ghost use Rattle.cts_proto.specs.Laws.{HasCut, HasOneCut, HasPackets, HasOnePackets, PacketsGrow, HoweverCut};
-ghost use Rattle.cts_proto.specs.RowLaws.{AreSound, ChainsAreSound, FramesAreExact, HeadsAreExact};
+ghost use Rattle.cts_proto.specs.RowLaws.{AreSound, ChainsAreSound, FramesAreExact, ErrorsAreExact, HeadsAreExact};
 ghost use Rattle.cts_proto.specs.SoFar.{NothingSoFar, MoreIsTaken, PieceComes, AllIsTaken};
 ghost use Rattle.cts_proto.specs.SyncPatterns.{CutsFollowThePattern, NothingIsSkipped};
 
@@ -43,11 +43,13 @@ pub fn packets()
 
 /// Each protocol, with any parameters, is a sound framing, and so is each one of the chains of a
 /// site: the laws of cuts and packets hold of them. With parameters that a site may give, the test
-/// of a protocol passes exactly the frames that all conditions of its description hold of.
+/// of a protocol passes exactly the frames of which all conditions of its description hold, and an
+/// error stands exactly where it is the first that the description has there.
 pub fn rows()
     ensures sound { AreSound }
     ensures chains { ChainsAreSound }
     ensures frames { FramesAreExact }
+    ensures errors { ErrorsAreExact }
 {}
 
 /// Bytes hold a whole head exactly where they begin with the bytes of one.
