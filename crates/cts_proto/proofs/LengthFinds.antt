@@ -1,5 +1,5 @@
 -- What stands where a frame begins whose first two bytes are its length.
-use Rattle.std.proofs.Common.{◌≡◌, ℕ, zero, suc, ◌+◌, ◌*◌, ◌≤◌, ◌<◌, true, cond, List, [], ◌∷◌, ◌++◌, length, take, drop, refl, sym, ◌∙◌, ap, arith, Some, None, length-append}
+use Rattle.std.proofs.Common.{◌≡◌, ℕ, zero, suc, ◌+◌, ◌*◌, ◌≤◌, ◌<◌, true, cond, List, [], ◌∷◌, length, take, drop, refl, sym, ◌∙◌, ap, arith, Some, None}
 use Rattle.std.specs.Prelude.{ℤ, pos, unsigned_abs, slice_index}
 use Rattle.std.specs.Int.Digits.{number_from_digits}
 use Rattle.std.proofs.lemmas.List.{length-take-le}
@@ -9,10 +9,11 @@ use Rattle.cts_def.specs.declared.bad_cause.BadCause.TheVariants.{Short}
 use Rattle.cts_proto.specs.Cuts.{Ends}
 use Rattle.cts_proto.specs.LengthRow.{whole_length, length_framing, stated_length}
 use Rattle.cts_proto.specs.Rows.{field, length_by, is_short, long_within, field_states, length_states}
-use Rattle.cts_proto.specs.Stating.{Stated, Open, Long, Wrong, wrong}
+use Rattle.cts_proto.specs.Stating.{Stated, Open, Long, Wrong}
+use Rattle.cts_proto.proofs.Endings.{open_ends, part_ends, wrong_ends}
 use Rattle.cts_proto.proofs.Fronts.{lt_test, not_lt_test, le_test}
 use Rattle.cts_proto.proofs.LengthSteady.{length_steady}
-use Rattle.cts_proto.proofs.Steady.{frame_tells, frame_test, fault_test, no_error, long_stays, one_length}
+use Rattle.cts_proto.proofs.Steady.{frame_test}
 
 -- the first two bytes are bytes
 pub record BeginsWithBytes (u : List ℕ) : Type 0 where
@@ -72,31 +73,14 @@ finds_frame u n b e many room =
       states_are = states_long w (length w) (omega (arith, len, many)) bytes (omega (arith, len, e, front.0, front.1)) (omega (arith, len, many));
     })
 
-no_frame : (u : List ℕ) → ((n : ℕ) → length_states whole_length u ≡ Long n → length u < n) → (w x : List ℕ) → u ≡ w ++ x → length_framing.whole w x ≡ true → ⊥
-no_frame u far w x e h =
-    let t = frame_tells [] (length_states whole_length) w h in
-    let stays = long_stays [] (length_states whole_length) length_framing.output (length_steady whole_length) w x (length w) t.states_are in
-    absurd (omega (arith, far (length w) (ap (length_states whole_length) e ∙ stays), ap length e, length-append w x))
+-- what the search answers elsewhere: an error, and nothing where fewer bytes are there than the length or the frame has
+module _ (u : List ℕ) where
+  pub finds_short : (n : ℕ) (z : ℤ) → 2 ≤ length u → BeginsWithBytes u → n ≡ stated_length u → n < 2 → pos n ≡ z → Ends length_framing u (Some (Short z))
+  finds_short n z h b e few same =
+      wrong_ends [] (length_states whole_length) length_framing.output (length_steady whole_length) u (Short z) (omega (arith, h)) refl (states_short u n h b e few ∙ ap (λ v. Wrong (Short v)) same)
 
--- nothing stands there yet
-pub finds_nothing : (u : List ℕ) → ((n : ℕ) → length_states whole_length u ≡ Long n → length u < n) → wrong (length_states whole_length u) ≡ None → Ends length_framing u None
-finds_nothing u far right = record { synced = tt; no_frame = no_frame u far; error = rw right (no_error _) }
+  pub finds_few : length u < 2 → Ends length_framing u None
+  finds_few h = open_ends [] (length_states whole_length) length_framing.output (length_steady whole_length) u tt (states_open u h)
 
-pub finds_short : (u : List ℕ) (n : ℕ) (z : ℤ) → 2 ≤ length u → BeginsWithBytes u → n ≡ stated_length u → n < 2 → pos n ≡ z → Ends length_framing u (Some (Short z))
-finds_short u n z h b e few same =
-    let states : length_states whole_length u ≡ Wrong (Short z) = states_short u n h b e few ∙ ap (λ v. Wrong (Short v)) same in
-    record {
-      synced = tt;
-      no_frame = no_frame u (λ k long. let never : Wrong (Short z) ≡ Long k = sym states ∙ long in absurd (cc));
-      error = fault_test [] (length_states whole_length) u (Short z) (record { some = omega (arith, h); begin = refl; states_are = states });
-    }
-
-pub finds_few : (u : List ℕ) → length u < 2 → Ends length_framing u None
-finds_few u h =
-    let states = states_open u h in
-    finds_nothing u (λ k long. let never : Open ≡ Long k = sym states ∙ long in absurd (cc)) (ap wrong states)
-
-pub finds_part : (u : List ℕ) (n : ℕ) → 2 ≤ length u → BeginsWithBytes u → n ≡ stated_length u → 2 ≤ n → length u < n → Ends length_framing u None
-finds_part u n h b e many room =
-    let states = states_long u n h b e many in
-    finds_nothing u (λ k long. omega (arith, room, one_length n k (sym states ∙ long))) (ap wrong states)
+  pub finds_part : (n : ℕ) → 2 ≤ length u → BeginsWithBytes u → n ≡ stated_length u → 2 ≤ n → length u < n → Ends length_framing u None
+  finds_part n h b e many room = part_ends [] (length_states whole_length) length_framing.output (length_steady whole_length) u n tt (states_long u n h b e many) room

@@ -5,6 +5,7 @@ pub mod Takings
 pub mod Stagings
 pub mod Fronts
 pub mod Steady
+pub mod Endings
 pub mod HeadFronts
 pub mod LengthSteady
 pub mod TerminatedSteady
@@ -25,3 +26,4 @@ pub mod Starts
 pub mod Reaches
 pub mod RowsExact
 pub mod ErrorsExact
+pub mod Worked

@@ -12,5 +12,6 @@ pub mod Chains
 pub mod Frames
 pub mod Errors
 pub mod RowLaws
+pub mod WorkedCuts
 pub mod LengthRow
 pub mod Cuttings

@@ -3,6 +3,7 @@ ghost use Rattle.cts_proto.specs.Laws.{HasCut, HasOneCut, HasPackets, HasOnePack
 ghost use Rattle.cts_proto.specs.RowLaws.{AreSound, ChainsAreSound, FramesAreExact, ErrorsAreExact, HeadsAreExact};
 ghost use Rattle.cts_proto.specs.SoFar.{NothingSoFar, MoreIsTaken, PieceComes, AllIsTaken};
 ghost use Rattle.cts_proto.specs.SyncPatterns.{CutsFollowThePattern, NothingIsSkipped};
+ghost use Rattle.cts_proto.specs.WorkedCuts.{WorkedCuts};
 
 /// Under a sound framing each list of bytes has exactly one cut.
 pub fn cuts()
@@ -55,4 +56,10 @@ pub fn rows()
 /// Bytes hold a whole head exactly where they begin with the bytes of one.
 pub fn heads()
     ensures { HeadsAreExact }
+{}
+
+/// Worked examples: bytes before a sync pattern, a part of one that is kept, a frame without bytes,
+/// two stages, pieces cut each for itself, the greatest frame, and packets by how they begin.
+pub fn worked_cuts()
+    ensures { WorkedCuts }
 {}
