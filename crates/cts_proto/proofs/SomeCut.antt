@@ -23,7 +23,7 @@ dec_agree (c ∷ s) [] = inl tt
 dec_agree (c ∷ s) (x ∷ u) = both c x s u (dec_same c x) (dec_agree s u)
 
 -- each list has a first place where a frame may begin
-place : (s b : List ℕ) → (gap : List ℕ) × (u : List ℕ) × (b ≡ gap ++ u) × NoneBegins s gap u × Agree s u
+pub place : (s b : List ℕ) → (gap : List ℕ) × (u : List ℕ) × (b ≡ gap ++ u) × NoneBegins s gap u × Agree s u
 place s [] = ([], [], refl, tt, agree_nil s)
 place s (x ∷ b) = elim (dec_agree s (x ∷ b)) [
   | inl a ↦ ([], x ∷ b, refl, tt, a)
