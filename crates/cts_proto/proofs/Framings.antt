@@ -1,6 +1,6 @@
 -- Lemmas on gaps and parts, whatever a frame is.
 use Rattle.std.proofs.Common.{◌≡◌, ℕ, ◌+◌, false, true, List, [], ◌∷◌, ◌++◌, refl, sym, ◌∙◌, ap, subst, append_assoc, arith, None}
-use Rattle.cts_proto.specs.Framing.{Framing, Output, Agree, IsSound}
+use Rattle.cts_proto.specs.Framing.{Framing, Output, Agree, BeginsWith, IsSound}
 use Rattle.cts_proto.specs.Cuts.{NoneBegins, Part, Parts, and_output, outputs, empties, gaps, Ends, Taken}
 
 pub agree_nil : (s : List ℕ) → Agree s []
@@ -12,6 +12,18 @@ pub agree_shorter : (s u y : List ℕ) → Agree s (u ++ y) → Agree s u
 agree_shorter [] u y h = tt
 agree_shorter (c ∷ s) [] y h = tt
 agree_shorter (c ∷ s) (x ∷ u) y h = (h.0, agree_shorter s u y h.1)
+
+-- a pattern agrees with the bytes that begin with it
+pub pattern_agrees : (s t : List ℕ) → Agree s (s ++ t)
+pattern_agrees [] t = tt
+pattern_agrees (c ∷ s) t = (refl, pattern_agrees s t)
+
+pub begin_agrees : (s u x : List ℕ) → BeginsWith s u → Agree s (u ++ x)
+begin_agrees s u x h = subst (Agree s) (sym (ap (λ v. v ++ x) h.1 ∙ append_assoc s h.0 x)) (pattern_agrees s (h.0 ++ x))
+
+-- a frame may begin where a whole one does
+pub whole_agrees : (f : Framing) → IsSound f → (w x : List ℕ) → f.whole w x ≡ true → Agree f.sync (w ++ x)
+whole_agrees f s w x h = begin_agrees f.sync w x (s.synced w x h)
 
 -- where no frame begins, none begins when more bytes come
 pub none_append : (s gap u y : List ℕ) → NoneBegins s gap u → NoneBegins s gap (u ++ y)

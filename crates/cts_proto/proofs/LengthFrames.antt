@@ -1,9 +1,9 @@
--- Frames that state their length: what their tests tell, and what a loop over them keeps.
+-- Frames that state their length: what a loop over them keeps.
 use Rattle.std.proofs.Common.{◌≡◌, ℕ, ◌+◌, ◌≤◌, ◌<◌, true, List, [], ◌∷◌, ◌++◌, length, take, drop, refl, sym, ◌∙◌, ap, subst, arith, slice_range}
 use Rattle.std.proofs.lemmas.List.{map-append, take-append-drop, length-take-le, drop-drop}
 use Rattle.cts_proto.specs.Framing.{Output, plain}
 use Rattle.cts_proto.specs.Cuts.{Taken, outputs, empties}
-use Rattle.cts_proto.specs.LengthRow.{length_framing, is_whole}
+use Rattle.cts_proto.specs.LengthRow.{length_framing}
 use Rattle.cts_proto.specs.Cuttings.{Tiles, frames_at}
 use Rattle.cts_proto.proofs.Takings.{taken_join}
 
@@ -20,7 +20,7 @@ empties_alone [] h = absurd (omega (arith, h))
 empties_alone (c ∷ w) h = refl
 
 -- a frame, and what follows it
-frame_taken : (w x : List ℕ) → 0 < length w → is_whole w ≡ true → Taken length_framing (w ++ x) (plain w ∷ []) 0 0 x
+frame_taken : (w x : List ℕ) → 0 < length w → length_framing.whole w x ≡ true → Taken length_framing (w ++ x) (plain w ∷ []) 0 0 x
 frame_taken w x some whole = record {
   parts = record { gap = []; frame = w } ∷ [];
   gap = [];
@@ -33,7 +33,7 @@ frame_taken w x some whole = record {
 
 -- a whole frame that stands at the beginning of what is left
 pub frame_more : (bytes : List ℕ) (spans : List (ℕ × ℕ)) (place n : ℕ) → Taken length_framing bytes (frames_at bytes spans) 0 0 (drop place bytes)
-    → 0 < n → n ≤ length (drop place bytes) → is_whole (take n (drop place bytes)) ≡ true
+    → 0 < n → n ≤ length (drop place bytes) → length_framing.whole (take n (drop place bytes)) (drop n (drop place bytes)) ≡ true
     → Taken length_framing bytes (frames_at bytes (spans ++ (place, place + n) ∷ [])) 0 0 (drop (place + n) bytes)
 frame_more bytes spans place n t some room whole =
     let u = drop place bytes in

@@ -3,6 +3,8 @@ use Rattle.std.proofs.Common.{◌≡◌, ℕ, true, List, [], ◌∷◌, ◌++�
 use Rattle.std.proofs.lemmas.List.{append_cancel_left}
 use Rattle.cts_def.specs.declared.bad_cause.BadCause.{BadCause}
 use Rattle.cts_proto.specs.Framing.{Framing, Agree, IsSound}
+use Rattle.cts_proto.specs.Laws.{HasOneCut}
+use Rattle.cts_proto.proofs.Framings.{whole_agrees}
 use Rattle.cts_proto.specs.Cuts.{NoneBegins, Part, Parts, outputs, empties, gaps, Ends, Pieces, IsCut}
 
 -- the first place where a frame may begin is one
@@ -23,7 +25,7 @@ same_part p q e f = λ i. record { gap = e i; frame = f i }
 pub same_head : (f : Framing) → IsSound f → (p q : Part) (x y : List ℕ) → p.gap ++ (p.frame ++ x) ≡ q.gap ++ (q.frame ++ y) → f.whole p.frame x ≡ true → f.whole q.frame y ≡ true
     → NoneBegins f.sync p.gap (p.frame ++ x) → NoneBegins f.sync q.gap (q.frame ++ y) → (p ≡ q) × (x ≡ y)
 same_head f s p q x y e h k n m =
-    let place = first_place f.sync p.gap q.gap (p.frame ++ x) (q.frame ++ y) e n m (s.synced p.frame x h) (s.synced q.frame y k) in
+    let place = first_place f.sync p.gap q.gap (p.frame ++ x) (q.frame ++ y) e n m (whole_agrees f s p.frame x h) (whole_agrees f s q.frame y k) in
     let frame = s.one p.frame q.frame x y h k place.1 in
     (same_part p q place.0 frame, append_cancel_left q.frame x y (ap (λ t. t ++ x) (sym frame) ∙ place.1))
 
@@ -36,7 +38,7 @@ pub record Rests (f : Framing) (gap rest : List ℕ) (bad : Option BadCause) : T
 pub no_part : (f : Framing) → IsSound f → (p : Part) (x gap rest : List ℕ) (bad : Option BadCause) → p.gap ++ (p.frame ++ x) ≡ gap ++ rest → f.whole p.frame x ≡ true
     → NoneBegins f.sync p.gap (p.frame ++ x) → Rests f gap rest bad → ⊥
 no_part f s p x gap rest bad e h n r =
-    let place = first_place f.sync p.gap gap (p.frame ++ x) rest e n r.clear (s.synced p.frame x h) r.ends.synced in
+    let place = first_place f.sync p.gap gap (p.frame ++ x) rest e n r.clear (whole_agrees f s p.frame x h) r.ends.synced in
     r.ends.no_frame p.frame x (sym place.1) h
 
 record SameCut (ps qs : List Part) (gap gap' rest rest' : List ℕ) (bad bad' : Option BadCause) : Type 0 where
@@ -57,12 +59,20 @@ parts_one f s (p ∷ ps) (q ∷ qs) b gap gap' rest rest' bad bad' h k r r' =
     let tail = parts_one f s ps qs h.0 gap gap' rest rest' bad bad' h.4 (subst (λ t. Parts f qs t (gap' ++ rest')) (sym head.1) k.4) r r' in
     record { parts = cc (head.0, tail.parts); gap_is = tail.gap_is; rest_is = tail.rest_is; bad_is = tail.bad_is }
 
+-- what two cuts of one list have in common
+cut_parts : (f : Framing) (b : List ℕ) (c d : Pieces) → IsSound f → (h : IsCut f b c) (k : IsCut f b d) → SameCut h.taken.parts k.taken.parts h.taken.gap k.taken.gap c.rest d.rest c.bad d.bad
+cut_parts f b c d s h k = parts_one f s h.taken.parts k.taken.parts b h.taken.gap k.taken.gap c.rest d.rest c.bad d.bad h.taken.cut k.taken.cut
+    (record { clear = h.taken.clear; ends = h.ends }) (record { clear = k.taken.clear; ends = k.ends })
+
 pub one_cut : (f : Framing) (b : List ℕ) (c d : Pieces) → IsSound f → IsCut f b c → IsCut f b d → c ≡ d
 one_cut f b c d s h k =
     let t = h.taken in
     let u = k.taken in
-    let same = parts_one f s t.parts u.parts b t.gap u.gap c.rest d.rest c.bad d.bad t.cut u.cut (record { clear = t.clear; ends = h.ends }) (record { clear = u.clear; ends = k.ends }) in
+    let same = cut_parts f b c d s h k in
     let outs : c.outs ≡ d.outs = t.outs_are ∙ (ap (outputs f) same.parts ∙ sym u.outs_are) in
     let skipped : c.skipped ≡ d.skipped = omega (arith, t.skipped_is, u.skipped_is, ap gaps same.parts, ap length same.gap_is) in
     let empty : c.empty ≡ d.empty = t.empty_is ∙ (ap (empties f) same.parts ∙ sym u.empty_is) in
     λ i. record { outs = outs i; skipped = skipped i; empty = empty i; rest = same.rest_is i; bad = same.bad_is i }
+
+pub has_one_cut : HasOneCut
+has_one_cut f b c d s h k = let same = cut_parts f b c d s h k in record { pieces = one_cut f b c d s h k; parts = same.parts; gap = same.gap_is }

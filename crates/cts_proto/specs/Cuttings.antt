@@ -6,7 +6,7 @@ use Rattle.cts_proto.specs.declared.found.Found.{Found}
 use Rattle.cts_proto.specs.declared.found.Found.TheVariants.{Frame, Nothing, Short as TooShort}
 use Rattle.cts_proto.specs.Framing.{Output, plain}
 use Rattle.cts_proto.specs.Cuts.{Pieces, Ends, IsCut}
-use Rattle.cts_proto.specs.LengthRow.{length_framing, is_whole}
+use Rattle.cts_proto.specs.LengthRow.{length_framing}
 
 -- spans that are not empty, one directly after another, from one place to another
 abbrev pub Tiles : ℕ → List (ℕ × ℕ) → ℕ → Type 0
@@ -30,6 +30,6 @@ pub record IsCutting (bytes : List ℕ) (c : Cutting) : Type 0 where
 
 -- what stands at the beginning of the bytes u
 abbrev pub Finds : List ℕ → Found → Type 0
-Finds u (Frame n) = (0 < n) × (n ≤ length u) × (is_whole (take n u) ≡ true)
+Finds u (Frame n) = (0 < n) × (n ≤ length u) × (length_framing.whole (take n u) (drop n u) ≡ true)
 Finds u Nothing = Ends length_framing u None
 Finds u (TooShort n) = Ends length_framing u (Some (Short n))

@@ -36,13 +36,17 @@ Agree [] u = Unit {0}
 Agree (c ∷ s) [] = Unit {0}
 Agree (c ∷ s) (x ∷ u) = (c ≡ x) × Agree s u
 
+-- the bytes u begin with the pattern s
+abbrev pub BeginsWith : List ℕ → List ℕ → Type 0
+BeginsWith s u = (t : List ℕ) × (u ≡ s ++ t)
+
 -- What each framing owes. At most one frame stands at a place, it is not empty, and it begins with the sync pattern.
--- Where an error stands no frame does. Unless each piece is cut for itself, what stands there stays when more bytes come.
+-- An error stands only where the bytes begin with the sync pattern, and where it stands no frame does. Unless each piece is cut for itself, what stands there stays when more bytes come.
 pub record IsSound (f : Framing) : Type 0 where
   pub some : (x : List ℕ) → f.whole [] x ≡ false
   pub one : (w v x y : List ℕ) → f.whole w x ≡ true → f.whole v y ≡ true → w ++ x ≡ v ++ y → w ≡ v
-  pub synced : (w x : List ℕ) → f.whole w x ≡ true → Agree f.sync (w ++ x)
-  pub error_synced : (u : List ℕ) (c : BadCause) → f.error u ≡ Some c → Agree f.sync u
+  pub synced : (w x : List ℕ) → f.whole w x ≡ true → BeginsWith f.sync w
+  pub error_synced : (u : List ℕ) (c : BadCause) → f.error u ≡ Some c → BeginsWith f.sync u
   pub no_error_in_none : f.error [] ≡ None
   pub apart : (w x : List ℕ) → f.whole w x ≡ true → f.error (w ++ x) ≡ None
   pub whole_stays : f.by_piece ≡ false → (w x y : List ℕ) → f.whole w x ≡ true → f.whole w (x ++ y) ≡ true

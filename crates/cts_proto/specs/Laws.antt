@@ -8,9 +8,16 @@ use Rattle.cts_proto.specs.Packets.{IsPackets, joined}
 abbrev pub HasCut : Type 0
 HasCut = (f : Framing) (b : List ℕ) → IsSound f → (c : Pieces) × IsCut f b c
 
+-- Two cuts are one: what they give and leave, their frames with the bytes skipped before each, and the bytes skipped
+-- behind the last frame.
+pub record IsSameCut (f : Framing) (b : List ℕ) (c d : Pieces) (h : IsCut f b c) (k : IsCut f b d) : Type 0 where
+  pub pieces : c ≡ d
+  pub parts : h.taken.parts ≡ k.taken.parts
+  pub gap : h.taken.gap ≡ k.taken.gap
+
 -- and no other
 abbrev pub HasOneCut : Type 0
-HasOneCut = (f : Framing) (b : List ℕ) (c d : Pieces) → IsSound f → IsCut f b c → IsCut f b d → c ≡ d
+HasOneCut = (f : Framing) (b : List ℕ) (c d : Pieces) → IsSound f → (h : IsCut f b c) (k : IsCut f b d) → IsSameCut f b c d h k
 
 -- each framing of a chain is sound
 abbrev pub AllSound : List Framing → Type 0

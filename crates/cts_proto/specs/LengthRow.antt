@@ -1,25 +1,20 @@
--- Frames that begin with their own length, as the protocol `LENGTH 0 16 0 1` reads them: the first two bytes, the high
--- one first, are the number of bytes of the whole frame, and nothing else is asked.
-use Rattle.std.specs.Prelude.{ℕ, Bool, ◌+◌, ◌*◌, ◌==◌, ◌&&◌, nat_le, nat_lt, false, List, [], length, slice_index, pos, Option, Some, None, if◌then◌else◌}
-use Rattle.cts_def.specs.declared.bad_cause.BadCause.{BadCause}
-use Rattle.cts_def.specs.declared.bad_cause.BadCause.TheVariants.{Short}
-use Rattle.cts_proto.specs.Framing.{Framing, plain}
+-- Frames that begin with their own length, as the protocol `LENGTH 0 16 0 1` reads them: the first two bytes, the high one
+-- first, are the number of bytes of the whole frame, and nothing else is asked.
+use Rattle.std.specs.Prelude.{ℕ, pos, ◌+◌, ◌*◌, false, List, [], slice_index, None}
+use Rattle.cts_bits.specs.declared.order.Order.TheVariants.{Big}
+use Rattle.cts_def.specs.Protocols.{LengthData, Length}
+use Rattle.cts_proto.specs.Framing.{Framing}
+use Rattle.cts_proto.specs.Rows.{framing_of}
 
--- how many bytes hold the length
-abbrev pub reach : ℕ
-reach = 2
+-- the parameters of that protocol
+abbrev pub whole_length : LengthData
+whole_length =
+    record { place = record { offset = 0; bits = 16; order = Big }; value_offset = pos 0; per_count = 1; discard = 0; sync = []; max = None; fill = false }
 
--- the length that the bytes state
+-- its framing, an instance of LENGTH with all parameters
+abbrev pub length_framing : Framing
+length_framing = framing_of (Length whole_length)
+
+-- the number in the first two bytes
 abbrev pub stated_length : List ℕ → ℕ
 stated_length u = 256 * slice_index u 0 + slice_index u 1
-
--- a frame is as long as it states, and has its length field whole
-abbrev pub is_whole : List ℕ → Bool
-is_whole w = nat_le reach (length w) && (length w == stated_length w)
-
--- a stated length that does not reach the end of its own field is an error, once the field is there
-abbrev pub error_at : List ℕ → Option BadCause
-error_at u = if nat_le reach (length u) && nat_lt (stated_length u) reach then Some (Short (pos (stated_length u))) else None
-
-abbrev pub length_framing : Framing
-length_framing = record { sync = []; whole = λ w x. is_whole w; error = error_at; output = plain; by_piece = false }

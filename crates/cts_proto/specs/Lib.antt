@@ -2,5 +2,13 @@ pub mod Framing
 pub mod Cuts
 pub mod Packets
 pub mod Laws
+pub mod SyncPatterns
+pub mod SoFar
+pub mod Patterns
+pub mod Stating
+pub mod Heads
+pub mod Rows
+pub mod Chains
+pub mod RowLaws
 pub mod LengthRow
 pub mod Cuttings

@@ -6,7 +6,7 @@ mod found;
 mod laws;
 
 pub use cutting::{Cutting, cut_length};
-pub use laws::{cuts, length_frames, packets};
+pub use laws::{cuts, cuts_follow_the_sync_pattern, packets, rows, taken_so_far};
 
 #[cfg(test)]
 mod tests;

@@ -1,0 +1,28 @@
+-- The framing of each protocol is sound.
+use Rattle.std.proofs.Common.{List, [], ◌∷◌, map, filter}
+use Rattle.cts_def.specs.Protocols.{SpecData, Burst, Fixed, Length, Terminated, Preidentified, UseData, reads}
+use Rattle.cts_proto.specs.Chains.{use_framing, uses_at}
+use Rattle.cts_proto.specs.Framing.{IsSound}
+use Rattle.cts_proto.specs.Laws.{AllSound}
+use Rattle.cts_proto.specs.RowLaws.{ChainsAreSound}
+use Rattle.cts_proto.specs.Rows.{framing_of, length_states, terminated_states, fixed_states, preidentified_states}
+use Rattle.cts_proto.proofs.Steady.{stating_is_sound}
+use Rattle.cts_proto.proofs.BurstSound.{burst_is_sound}
+use Rattle.cts_proto.proofs.FixedSteady.{fixed_steady}
+use Rattle.cts_proto.proofs.LengthSteady.{length_steady}
+use Rattle.cts_proto.proofs.TerminatedSteady.{terminated_steady}
+use Rattle.cts_proto.proofs.PreidentifiedSteady.{preidentified_steady}
+
+pub is_sound : (s : SpecData) → IsSound (framing_of s)
+is_sound (Burst b) = burst_is_sound b
+is_sound (Fixed f) = stating_is_sound f.sync (fixed_states f) _ (fixed_steady f)
+is_sound (Length l) = stating_is_sound l.sync (length_states l) _ (length_steady l)
+is_sound (Terminated t) = stating_is_sound t.sync (terminated_states t) _ (terminated_steady t)
+is_sound (Preidentified p) = stating_is_sound p.sync (preidentified_states p) _ (preidentified_steady p)
+
+pub all_sound : (uses : List UseData) → AllSound (map use_framing uses)
+all_sound [] = tt
+all_sound (u ∷ uses) = (is_sound u.spec, all_sound uses)
+
+pub chains_are_sound : ChainsAreSound
+chains_are_sound site by = all_sound (filter reads (uses_at site by))
