@@ -24,13 +24,14 @@ use Rattle.cts_proto.specs.Laws.{AllSound}
 use Rattle.cts_proto.proofs.Framings.{taken_none, ends_nil}
 use Rattle.cts_proto.proofs.Stagings.{has_one_packets}
 use Rattle.cts_core.specs.States.{Environment, State, is_line, opening, may_close, unsent, ahead, put_next}
-use Rattle.cts_core.specs.Runs.{Did, Does, after, kept, pieces_for, passed_for, pieces_after, cursor_after, Ending, Runs, Receives, Closes, closing, closed_entry}
+use Rattle.cts_core.specs.Runs.{Did, Does, after, pieces_for, passed_for, pieces_after, cursor_after, Ending, Runs, Receives, Closes, closing, closed_entry}
 use Rattle.cts_core.specs.Told.{Connection, Line, IsStay, Told, ToldBy, told_from, told_after, turned, heard, put_for, one_or_none, history_of}
 use Rattle.cts_core.specs.Laws.{IsSoundEnvironment, IsAnsweredByDesks, CoreIsTold}
 use Rattle.cts_told.specs.Routing.{time_in, said_of, posted_entries, walk, queue, spell}
 use Rattle.cts_told.specs.Connections.{Says, Shows, is_bad_frame, Blames}
 use Rattle.cts_told.proofs.Connecting.{says_connects}
 use Rattle.cts_told.proofs.Walks.{enough_of, packets_connect, packets_open, packets_queue, packets_show}
+use Rattle.cts_core.proofs.Keeping.{pieces_turned, cursor_turned, pieces_grow, cursor_grows, pieces_stay, cursor_stays}
 use Rattle.cts_core.proofs.Going.{Going, GoingWell, going_connected, going_since, going_more, going_put, going_talks, going_closes, unsent_at, unsent_kept}
 
 -- a chain gives nothing for no pieces
@@ -95,20 +96,6 @@ fits_kept env s event did m past (Some c) w n p q =
     let at_pieces = subst (λ (l : List (List ℕ)). GoingWell env.routing m (s.history ++ did.entries) l (s.cursor m) past c) (sym (p ∙ go.pieces_are)) well in
     subst (λ (k : ℕ). GoingWell env.routing m (s.history ++ did.entries) (pieces_after event did.entries s.pieces m) k past c) (sym q) at_pieces
 
--- where a connection is neither opened nor closed, what is kept of it grows by what the event brings
-
-pieces_grow : (m : ℕ) (event : Event) (entries : List Entry) (pieces : ℕ → List (List ℕ)) → latest (connects_maker m) entries ≡ None → pieces_after event entries pieces m ≡ pieces m ++ pieces_for m event
-pieces_grow m event entries pieces none = ap (λ (t : Option Bool). kept t [] (pieces m ++ pieces_for m event)) none
-
-cursor_grows : (m : ℕ) (event : Event) (entries : List Entry) (cursor : ℕ → ℕ) → latest (connects_maker m) entries ≡ None → cursor_after event entries cursor m ≡ cursor m + passed_for m event
-cursor_grows m event entries cursor none = ap (λ (t : Option Bool). kept t 0 (cursor m + passed_for m event)) none
-
-pieces_stay : (m : ℕ) (event : Event) (entries : List Entry) (pieces : ℕ → List (List ℕ)) → latest (connects_maker m) entries ≡ None → pieces_for m event ≡ [] → pieces_after event entries pieces m ≡ pieces m
-pieces_stay m event entries pieces none p = pieces_grow m event entries pieces none ∙ (ap (λ (l : List (List ℕ)). pieces m ++ l) p ∙ append-nil (pieces m))
-
-cursor_stays : (m : ℕ) (event : Event) (entries : List Entry) (cursor : ℕ → ℕ) → latest (connects_maker m) entries ≡ None → passed_for m event ≡ 0 → cursor_after event entries cursor m ≡ cursor m
-cursor_stays m event entries cursor none p = let grows = cursor_grows m event entries cursor none in omega (arith, grows, p)
-
 quiet_event : (env : Environment) (s : State) (event : Event) (did : Did) (m : ℕ) (line : Line) → FitsLine env s m line → has_own m did.entries ≡ false → pieces_for m event ≡ [] → put_for m did.effect ≡ []
     → passed_for m event ≡ 0 → FitsLine env (after s event did) m (told_after m event did line)
 quiet_event env s event did m line f n p q passed =
@@ -169,8 +156,8 @@ opens_mine env s did m line sound f d =
       put = zero_walk;
     } in
     let well : GoingWell env.routing m (s.history ++ did.entries) [] 0 line.past fresh = (go, none.2) in
-    let at_pieces = subst (λ (l : List (List ℕ)). GoingWell env.routing m (s.history ++ did.entries) l 0 line.past fresh) (sym (ap (λ (t : Option Bool). kept t [] (s.pieces m ++ pieces_for m (Opens m))) tells)) well in
-    let at_cursor = subst (λ (k : ℕ). GoingWell env.routing m (s.history ++ did.entries) (pieces_after (Opens m) did.entries s.pieces m) k line.past fresh) (sym (ap (λ (t : Option Bool). kept t 0 (s.cursor m + passed_for m (Opens m))) tells)) at_pieces in
+    let at_pieces = subst (λ (l : List (List ℕ)). GoingWell env.routing m (s.history ++ did.entries) l 0 line.past fresh) (sym (pieces_turned m (Opens m) did.entries s.pieces true tells)) well in
+    let at_cursor = subst (λ (k : ℕ). GoingWell env.routing m (s.history ++ did.entries) (pieces_after (Opens m) did.entries s.pieces m) k line.past fresh) (sym (cursor_turned m (Opens m) did.entries s.cursor true tells)) at_pieces in
     subst (λ (t : Option Bool). FitsLine env (after s (Opens m) did) m (turned t (record { past = line.past; now = option_map (heard m (Opens m) did) line.now }))) (sym tells) at_cursor
 
 -- it puts something
