@@ -1,19 +1,72 @@
--- Laws of a run, for every ground whose chains are sound.
-use Rattle.std.specs.Prelude.{◌≡◌, ℕ, List}
+-- Laws of a run, for every environment whose chains are sound.
+use Rattle.std.specs.Prelude.{◌≡◌, ℕ, ◌+◌, ◌-◌, ◌&&◌, nat_le, true, false, List, ◌++◌, length, take, drop}
+use Rattle.std.specs.List.{All, list_any}
+use Rattle.cts_def.specs.Makers.{first_desk, server}
+use Rattle.cts_def.specs.declared.time.Time.{Time}
+use Rattle.cts_entry.specs.declared.entry.Entry.{Entry}
 use Rattle.cts_entry.specs.declared.event.Event.{Event}
+use Rattle.cts_entry.specs.Legal.{Rules, is_ended, IsLegal}
 use Rattle.cts_proto.specs.Laws.{AllSound}
-use Rattle.cts_core.specs.States.{Ground, State}
+use Rattle.cts_proto.specs.Packets.{capped}
+use Rattle.cts_told.specs.Routing.{queue, walk}
+use Rattle.cts_core.specs.States.{Environment, State, is_line, opening, ahead, unsent, packets_log, commands_log}
 use Rattle.cts_core.specs.Runs.{Did, Ending, Runs}
+use Rattle.cts_core.specs.Logs.{drained_by, packets_logged, commands_logged}
+use Rattle.cts_core.specs.Cursors.{IsPassed}
+use Rattle.cts_core.specs.Told.{Told, told, history_of}
 
 -- the chain of each maker is sound
-abbrev pub IsSoundGround : Ground → Type 0
-IsSoundGround g = (by : ℕ) → AllSound (g.chain by)
+abbrev pub IsSoundEnvironment : Environment → Type 0
+IsSoundEnvironment env = (by : ℕ) → AllSound (env.routing.chain by)
 
 -- each list of events has a run
 abbrev pub HasRun : Type 0
-HasRun = (g : Ground) (s : State) (events : List Event) → IsSoundGround g → (dids : List Did) × (ending : Ending) × Runs g s events dids ending
+HasRun = (env : Environment) (s : State) (events : List Event) → IsSoundEnvironment env → (dids : List Did) × (ending : Ending) × Runs env s events dids ending
 
 -- and no other
 abbrev pub HasOneRun : Type 0
-HasOneRun = (g : Ground) (s : State) (events : List Event) (dids others : List Did) (ending other : Ending) → IsSoundGround g
-    → Runs g s events dids ending → Runs g s events others other → (dids ≡ others) × (ending ≡ other)
+HasOneRun = (env : Environment) (s : State) (events : List Event) (dids others : List Did) (ending other : Ending) → IsSoundEnvironment env
+    → Runs env s events dids ending → Runs env s events others other → (dids ≡ others) × (ending ≡ other)
+
+-- what desks answer is appended by them, and neither they nor the server are lines
+pub record IsAnsweredByDesks (env : Environment) : Type 0 where
+  pub server : is_line env server ≡ false
+  pub desks : (desk : ℕ) → env.is_desk desk ≡ true → is_line env (first_desk + desk) ≡ false
+  pub answers : (history : List Entry) (desk : ℕ) (time : Time) (body : List ℕ) → All (λ (e : Entry). e.by ≡ first_desk + desk) (env.answer history desk time body).entries
+
+-- What the history of a run says of each interface and slot is what the events told of it.
+abbrev pub CoreIsTold : Type 0
+CoreIsTold = (env : Environment) (events : List Event) (dids : List Did) (ending : Ending) (m : ℕ) → IsSoundEnvironment env → IsAnsweredByDesks env → is_line env m ≡ true
+    → Runs env opening events dids ending → Told env.routing m (history_of dids) (told m events dids)
+
+-- The logs have what stands of the history up to the place that they have passed, and nothing else.
+abbrev pub CoreIsLogged : Type 0
+CoreIsLogged = (env : Environment) (events : List Event) (dids : List Did) (ending : Ending) → Runs env opening events dids ending
+    → (packets_logged dids ≡ packets_log env (take (drained_by events dids) (history_of dids)))
+    × (commands_logged dids ≡ commands_log env (take (drained_by events dids) (history_of dids)))
+
+-- how an environment judges a history
+abbrev pub rules_of : Environment → Rules
+rules_of env = record {
+  is_interface = env.routing.is_interface;
+  is_slot = env.is_slot;
+  is_desk = λ by. nat_le first_desk by && env.is_desk (by - first_desk);
+  interface_of = env.routing.interface_of;
+  most_entries = env.most_entries;
+  most_bytes = env.most_bytes;
+}
+
+-- what desks answer behind a legal history leaves it legal, its limits too, and no worker ends by it
+pub record IsAnsweredLegally (env : Environment) : Type 0 where
+  pub legal : (history : List Entry) (desk : ℕ) (time : Time) (body : List ℕ) → env.is_desk desk ≡ true → IsLegal (rules_of env) history → IsLegal (rules_of env) (history ++ (env.answer history desk time body).entries)
+  pub none_ended : (history : List Entry) (desk : ℕ) (time : Time) (body : List ℕ) → list_any (λ (e : Entry). is_ended e.what) (env.answer history desk time body).entries ≡ false
+
+-- The history of a run is legal.
+abbrev pub CoreIsLegal : Type 0
+CoreIsLegal = (env : Environment) (events : List Event) (dids : List Did) (ending : Ending) → IsAnsweredLegally env → Runs env opening events dids ending → IsLegal (rules_of env) (history_of dids)
+
+-- A maker's cursor may be kept as one place of the history, and a count of what was refused before it: what is ahead, and what
+-- a Closed says is unsent, follow from these two.
+abbrev pub CursorIsPlace : Type 0
+CursorIsPlace = (env : Environment) (s : State) (by place count : ℕ) → IsPassed env s by place count
+    → (ahead env s by ≡ walk env.routing by (drop place s.history)) × (unsent env s by ≡ capped (count + length (queue env.routing by (drop place s.history))))

@@ -1,79 +1,85 @@
 -- What each event does, and what a list of events does.
-use Rattle.std.specs.Prelude.{◌≡◌, ℕ, true, false, List, [], ◌∷◌, ◌++◌, map, Option, Some, None, ◌⊎◌}
+use Rattle.std.specs.Prelude.{◌≡◌, ℕ, ◌+◌, ◌==◌, Bool, true, false, if◌then◌else◌, List, [], ◌∷◌, ◌++◌, length, take, Option, Some, None, ◌⊎◌}
 use Rattle.cts_def.specs.declared.time.Time.{Time}
 use Rattle.cts_entry.specs.declared.entry.Entry.{Entry}
 use Rattle.cts_def.specs.Makers.{server}
-use Rattle.cts_entry.specs.declared.what.What.TheVariants.{Opened, Packet, Closed, Stop as StopEntry}
+use Rattle.cts_entry.specs.declared.what.What.TheVariants.{Opened, Closed, Stop as StopEntry}
 use Rattle.cts_entry.specs.declared.why.Why.{Why}
 use Rattle.cts_entry.specs.declared.why.Why.TheVariants.{BadFrame}
 use Rattle.cts_entry.specs.declared.event.Event.{Event}
 use Rattle.cts_entry.specs.declared.event.Event.TheVariants.{SetTime, Opens, Piece, Finish, Write, Call, DrainLog, DrainSlot, Stop}
 use Rattle.cts_entry.specs.declared.event.Effect.{Effect}
-use Rattle.cts_entry.specs.declared.event.Effect.TheVariants.{Posted}
-use Rattle.cts_proto.specs.Framing.{Output, Heading}
+use Rattle.cts_entry.specs.declared.event.Effect.TheVariants.{Posted, Reply, Written, Logged, Routed}
+use Rattle.cts_entry.specs.Histories.{latest, connects_maker}
+use Rattle.cts_proto.specs.Framing.{Output}
 use Rattle.cts_proto.specs.Cuts.{Pieces}
 use Rattle.cts_proto.specs.Packets.{IsPackets, Fault, fault_of, loss_of}
-use Rattle.cts_core.specs.States.{Ground, State, is_enabled, has_room, with_pieces}
+use Rattle.cts_told.specs.Routing.{posted_entries}
+use Rattle.cts_core.specs.States.{Environment, State, is_enabled, takes_room, has_room, put_next, unsent, log_ahead, packets_log, commands_log}
 
--- the time that a packet brings along, else the clock's
-abbrev pub time_in : Option Heading → Time → Time
-time_in (Some heading) now = heading.time
-time_in None now = now
-
--- the entries of packets
-abbrev pub packet_entries : Ground → Time → ℕ → List Output → List Entry
-packet_entries g now by outs = map (λ o. record { by = by; time = time_in o.heading now; what = Packet (g.ident by o) o.bytes }) outs
-
--- a connection's Closed has what its chain gave to no packet
-abbrev pub closed_entry : Time → ℕ → Why → List Pieces → Entry
-closed_entry now by why cuts = record { by = by; time = now; what = Closed why (loss_of cuts) 0 0 }
+-- a connection's Closed has what its chain gave to no packet, and how many of its queue were not put whole
+abbrev pub closed_entry : Time → ℕ → Why → ℕ → List Pieces → Entry
+closed_entry now by why unsent cuts = record { by = by; time = now; what = Closed why (loss_of cuts) 0 unsent }
 
 -- the entry of a connection whose chain has failed, if it has
-abbrev pub closing : Time → ℕ → List Pieces → Option Fault → List Entry
-closing now by cuts (Some fault) = closed_entry now by (BadFrame fault.stage fault.cause) cuts ∷ []
-closing now by cuts None = []
+abbrev pub closing : Time → ℕ → ℕ → List Pieces → Option Fault → List Entry
+closing now by unsent cuts (Some fault) = closed_entry now by (BadFrame fault.stage fault.cause) unsent cuts ∷ []
+closing now by unsent cuts None = []
 
 -- A piece came: the entries are those of the packets that the connection's pieces have with this one beyond those that
 -- they had without it, and then the Closed of a chain that fails.
-pub record Receives (g : Ground) (s : State) (by : ℕ) (piece : List ℕ) (entries : List Entry) : Type 0 where
+pub record Receives (env : Environment) (s : State) (by : ℕ) (piece : List ℕ) (entries : List Entry) : Type 0 where
   pub earlier : List Pieces
   pub given : List Output
-  pub before : IsPackets (g.chain by) (s.pieces by) earlier given
+  pub before : IsPackets (env.routing.chain by) (s.pieces by) earlier given
   pub cuts : List Pieces
   pub packets : List Output
-  pub after : IsPackets (g.chain by) (s.pieces by ++ piece ∷ []) cuts (given ++ packets)
-  pub entries_are : entries ≡ packet_entries g s.time by packets ++ closing s.time by cuts (fault_of cuts)
+  pub after : IsPackets (env.routing.chain by) (s.pieces by ++ piece ∷ []) cuts (given ++ packets)
+  pub entries_are : entries ≡ posted_entries env.routing s.history s.time by packets ++ closing s.time by (unsent env s by) cuts (fault_of cuts)
 
 -- A connection ends: its Closed has what its chain gave to no packet.
-pub record Closes (g : Ground) (s : State) (by : ℕ) (why : Why) (entries : List Entry) : Type 0 where
+pub record Closes (env : Environment) (s : State) (by : ℕ) (why : Why) (entries : List Entry) : Type 0 where
   pub cuts : List Pieces
   pub given : List Output
-  pub before : IsPackets (g.chain by) (s.pieces by) cuts given
-  pub entries_are : entries ≡ closed_entry s.time by why cuts ∷ []
+  pub before : IsPackets (env.routing.chain by) (s.pieces by) cuts given
+  pub entries_are : entries ≡ closed_entry s.time by why (unsent env s by) cuts ∷ []
 
 -- the entries that an event appends
-abbrev pub Appends : Ground → State → Event → List Entry → Type 0
-Appends g s (SetTime time) entries = entries ≡ []
-Appends g s (Opens by) entries = entries ≡ record { by = by; time = s.time; what = Opened } ∷ []
-Appends g s (Piece by piece) entries = Receives g s by piece entries
-Appends g s (Finish by why) entries = Closes g s by why entries
-Appends g s (Write by count) entries = ⊥
-Appends g s (Call desk body) entries = ⊥
-Appends g s (DrainLog count) entries = ⊥
-Appends g s (DrainSlot by count) entries = ⊥
-Appends g s Stop entries = entries ≡ record { by = server; time = s.time; what = StopEntry } ∷ []
+abbrev pub Appends : Environment → State → Event → List Entry → Type 0
+Appends env s (SetTime time) entries = entries ≡ []
+Appends env s (Opens by) entries = entries ≡ record { by = by; time = s.time; what = Opened } ∷ []
+Appends env s (Piece by piece) entries = Receives env s by piece entries
+Appends env s (Finish by why) entries = Closes env s by why entries
+Appends env s (Write by count) entries = entries ≡ []
+Appends env s (Call desk body) entries = entries ≡ (env.answer s.history desk s.time body).entries
+Appends env s (DrainLog count) entries = entries ≡ []
+Appends env s (DrainSlot by count) entries = entries ≡ []
+Appends env s Stop entries = entries ≡ record { by = server; time = s.time; what = StopEntry } ∷ []
+
+-- what an event gives besides
+abbrev pub effect_of : Environment → State → Event → Effect
+effect_of env s (SetTime time) = Posted
+effect_of env s (Opens by) = Posted
+effect_of env s (Piece by piece) = Posted
+effect_of env s (Finish by why) = Posted
+effect_of env s (Write by count) = Written by (put_next env s by count)
+effect_of env s (Call desk body) = Reply desk (length s.history) (env.answer s.history desk s.time body).text
+effect_of env s (DrainLog count) = Logged (packets_log env (take count (log_ahead s))) (commands_log env (take count (log_ahead s)))
+effect_of env s (DrainSlot by count) = Routed by (put_next env s by count)
+effect_of env s Stop = Posted
 
 -- what an event did: the entries that it appended, and what it gave besides
 pub record Did : Type 0 where
   pub entries : List Entry
   pub effect : Effect
 
--- An event does this.
-pub record Does (g : Ground) (s : State) (event : Event) (did : Did) : Type 0 where
-  pub enabled : is_enabled g s event ≡ true
-  pub appends : Appends g s event did.entries
-  pub room : has_room g s did.entries ≡ true
-  pub effect : did.effect ≡ Posted
+-- An event does this. An Opens or a Piece needs room for its entries; an answer of a desk has it by itself, and a Closed and a
+-- Stop take none.
+pub record Does (env : Environment) (s : State) (event : Event) (did : Did) : Type 0 where
+  pub enabled : is_enabled env s event ≡ true
+  pub appends : Appends env s event did.entries
+  pub room : takes_room event ≡ true → has_room env s did.entries ≡ true
+  pub effect : did.effect ≡ effect_of env s event
 
 abbrev pub time_after : Event → Time → Time
 time_after (SetTime time) now = time
@@ -86,20 +92,62 @@ time_after (DrainLog count) now = now
 time_after (DrainSlot by count) now = now
 time_after Stop now = now
 
-abbrev pub pieces_after : Event → (ℕ → List (List ℕ)) → ℕ → List (List ℕ)
-pieces_after (SetTime time) pieces = pieces
-pieces_after (Opens by) pieces = with_pieces by [] pieces
-pieces_after (Piece by piece) pieces = with_pieces by (pieces by ++ piece ∷ []) pieces
-pieces_after (Finish by why) pieces = with_pieces by [] pieces
-pieces_after (Write by count) pieces = pieces
-pieces_after (Call desk body) pieces = pieces
-pieces_after (DrainLog count) pieces = pieces
-pieces_after (DrainSlot by count) pieces = pieces
-pieces_after Stop pieces = pieces
+-- the piece that an event brings from a maker's connection
+abbrev pub pieces_for : ℕ → Event → List (List ℕ)
+pieces_for m (SetTime time) = []
+pieces_for m (Opens by) = []
+pieces_for m (Piece by piece) = if by == m then piece ∷ [] else []
+pieces_for m (Finish by why) = []
+pieces_for m (Write by count) = []
+pieces_for m (Call desk body) = []
+pieces_for m (DrainLog count) = []
+pieces_for m (DrainSlot by count) = []
+pieces_for m Stop = []
+
+-- how many entries a maker passes by an event
+abbrev pub passed_for : ℕ → Event → ℕ
+passed_for m (SetTime time) = 0
+passed_for m (Opens by) = 0
+passed_for m (Piece by piece) = 0
+passed_for m (Finish by why) = 0
+passed_for m (Write by count) = if by == m then count else 0
+passed_for m (Call desk body) = 0
+passed_for m (DrainLog count) = 0
+passed_for m (DrainSlot by count) = if by == m then count else 0
+passed_for m Stop = 0
+
+-- What is kept of a maker's connection, where entries tell whether it is opened or closed: with either, what was kept before
+-- is given up, and else there is so much.
+abbrev pub kept : {T : Type 0} → Option Bool → T → T → T
+kept (Some opened) none more = none
+kept None none more = more
+
+abbrev pub pieces_after : Event → List Entry → (ℕ → List (List ℕ)) → ℕ → List (List ℕ)
+pieces_after event entries pieces by = kept (latest (connects_maker by) entries) [] (pieces by ++ pieces_for by event)
+
+abbrev pub cursor_after : Event → List Entry → (ℕ → ℕ) → ℕ → ℕ
+cursor_after event entries cursor by = kept (latest (connects_maker by) entries) 0 (cursor by + passed_for by event)
+
+abbrev pub log_cursor_after : Event → ℕ → ℕ
+log_cursor_after (SetTime time) cursor = cursor
+log_cursor_after (Opens by) cursor = cursor
+log_cursor_after (Piece by piece) cursor = cursor
+log_cursor_after (Finish by why) cursor = cursor
+log_cursor_after (Write by count) cursor = cursor
+log_cursor_after (Call desk body) cursor = cursor
+log_cursor_after (DrainLog count) cursor = cursor + count
+log_cursor_after (DrainSlot by count) cursor = cursor
+log_cursor_after Stop cursor = cursor
 
 -- what the core holds after an event that did this
 abbrev pub after : State → Event → Did → State
-after s event did = record { history = s.history ++ did.entries; time = time_after event s.time; pieces = pieces_after event s.pieces }
+after s event did = record {
+  history = s.history ++ did.entries;
+  time = time_after event s.time;
+  pieces = pieces_after event did.entries s.pieces;
+  cursor = cursor_after event did.entries s.cursor;
+  log_cursor = log_cursor_after event s.log_cursor;
+}
 
 -- how a list of events ends: all are done, or the next one is refused
 pub data Ending : Type 0 where
@@ -108,14 +156,14 @@ pub data Ending : Type 0 where
   HistoryFull : Ending
 
 -- An event is refused, and changes nothing.
-abbrev pub Refuses : Ground → State → Event → Ending → Type 0
-Refuses g s event Finished = ⊥
-Refuses g s event NotEnabled = is_enabled g s event ≡ false
-Refuses g s event HistoryFull = (is_enabled g s event ≡ true) × ((entries : List Entry) × Appends g s event entries × (has_room g s entries ≡ false))
+abbrev pub Refuses : Environment → State → Event → Ending → Type 0
+Refuses env s event Finished = ⊥
+Refuses env s event NotEnabled = is_enabled env s event ≡ false
+Refuses env s event HistoryFull = (is_enabled env s event ≡ true) × (takes_room event ≡ true) × ((entries : List Entry) × Appends env s event entries × (has_room env s entries ≡ false))
 
 -- The events do this one after another, and end so. What the events did that were done stands in the list, in order.
-abbrev pub Runs : Ground → State → List Event → List Did → Ending → Type 0
-Runs g s [] dids ending = (dids ≡ []) × (ending ≡ Finished)
-Runs g s (event ∷ events) dids ending =
-    ((dids ≡ []) × Refuses g s event ending)
-    ⊎ ((did : Did) × (more : List Did) × (dids ≡ did ∷ more) × Does g s event did × Runs g (after s event did) events more ending)
+abbrev pub Runs : Environment → State → List Event → List Did → Ending → Type 0
+Runs env s [] dids ending = (dids ≡ []) × (ending ≡ Finished)
+Runs env s (event ∷ events) dids ending =
+    ((dids ≡ []) × Refuses env s event ending)
+    ⊎ ((did : Did) × (more : List Did) × (dids ≡ did ∷ more) × Does env s event did × Runs env (after s event did) events more ending)

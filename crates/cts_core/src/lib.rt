@@ -5,5 +5,5 @@
 mod enabling;
 mod laws;
 
-pub use enabling::{is_piece, may_close};
-pub use laws::runs;
+pub use enabling::{is_piece, may_close, takes_room};
+pub use laws::{core_is_legal, core_is_logged, core_is_told, cursors, runs};

@@ -5,7 +5,7 @@ use Rattle.cts_def.specs.Sites.{SiteData}
 use Rattle.cts_core.specs.States.{opening}
 use Rattle.cts_core.proofs.OneRun.{has_run}
 use Rattle.cts_outside.specs.Causes.{Rose, Steady}
-use Rattle.cts_serve.specs.Grounds.{site_ground}
+use Rattle.cts_serve.specs.Environments.{site_environment}
 use Rattle.cts_serve.specs.Texts.{usage_line}
 use Rattle.cts_serve.specs.Judging.{Outcome, refusal, judge_script, events_in}
 use Rattle.cts_serve.specs.Outcomes.{RequestData, first_refusal, script_refusal, site_asked, events_asked, events_of, replay_outcome, check_outcome, IsReplay, IsDone, IsOutcome}
@@ -24,7 +24,7 @@ use Rattle.cts_serve.proofs.Loadings.{first_refusal_is, script_answer}
 
 replay_of : (site : SiteData) (script : List ℕ) (events : List (ℕ × Event)) → (o : Outcome) × IsReplay site script events o
 replay_of site script events =
-    let run = has_run (site_ground site) opening (events_of events) (site_sound site) in
+    let run = has_run (site_environment site) opening (events_of events) (site_sound site) in
     (replay_outcome site script events run.0 run.1, record { dids = run.0; ending = run.1; runs = run.2; outcome = refl })
 
 done_of : (files : List ℕ → Option (List ℕ)) (r : RequestData) (script : Option (List ℕ)) → (o : Outcome) × IsDone files r script o

@@ -1,6 +1,7 @@
 pub mod Lines
 pub mod Names
 pub mod Postings
+pub mod Building
 pub mod WorldSteps
 pub mod LastLines
 pub mod Progress

@@ -4,18 +4,19 @@ use Rattle.std.proofs.lemmas.List.{append-nil, take_at}
 use Rattle.cts_entry.specs.declared.entry.Entry.{Entry}
 use Rattle.cts_entry.specs.declared.event.Event.{Event}
 use Rattle.cts_entry.specs.Histories.{entries_in, bytes_in}
-use Rattle.cts_proto.proofs.LengthSound.{length_is_sound}
+use Rattle.cts_proto.proofs.Sound.{chains_are_sound}
 use Rattle.cts_core.specs.States.{State, opening}
 use Rattle.cts_core.specs.Runs.{Did, Does, after, Ending, Finished, NotEnabled, HistoryFull, Refuses, Runs}
-use Rattle.cts_core.specs.Laws.{IsSoundGround}
+use Rattle.cts_core.specs.Laws.{IsSoundEnvironment}
 use Rattle.cts_core.proofs.OneRun.{has_run}
 use Rattle.cts_outside.specs.Causes.{Rose}
 use Rattle.cts_outside.specs.Contents.{appended, IsPartPut}
 use Rattle.cts_outside.proofs.Putting.{whole_then, part_first, part_then}
 use Rattle.cts_script.specs.Lines.{entry_lines}
 use Rattle.cts_def.specs.Sites.{SiteData}
-use Rattle.cts_serve.specs.Grounds.{site_ground, site_names}
-use Rattle.cts_serve.specs.Worlds.{Held, Stands, shut}
+use Rattle.cts_serve.specs.Environments.{site_environment}
+use Rattle.cts_serve.specs.Grounds.{site_names}
+use Rattle.cts_serve.specs.Worlds.{Held, Represents, shut}
 use Rattle.cts_serve.proofs.WorldSteps.{stands_first}
 use Rattle.cts_serve.specs.Texts.{memory_line, refused_line, full_line, end_line}
 use Rattle.cts_serve.specs.Outcomes.{events_of, all_entries, transcript, next_line, replay_outcome, IsReplay}
@@ -31,13 +32,13 @@ use Rattle.cts_serve.specs.declared.status.Status.TheVariants.{Ok as Fine, Memor
 pub record IsProgress (site : SiteData) (events left : List (ℕ × Event)) (w : Held) (text : List ℕ) : Type 0 where
   pub state : State
   pub prior : List Did
-  pub stands : Stands site w state
+  pub stands : Represents site w state
   pub history : state.history ≡ all_entries prior
   pub text_is : text ≡ transcript site 0 prior
-  pub runs : (dids : List Did) (ending : Ending) → Runs (site_ground site) state (events_of left) dids ending → Runs (site_ground site) opening (events_of events) (prior ++ dids) ending
+  pub runs : (dids : List Did) (ending : Ending) → Runs (site_environment site) state (events_of left) dids ending → Runs (site_environment site) opening (events_of events) (prior ++ dids) ending
   pub lines : (dids : List Did) → next_line (prior ++ dids) events ≡ next_line dids left
 
-pub begun : (site : SiteData) (events : List (ℕ × Event)) (w : Held) → Stands site w opening → IsProgress site events events w []
+pub begun : (site : SiteData) (events : List (ℕ × Event)) (w : Held) → Represents site w opening → IsProgress site events events w []
 begun site events w h = record { state = opening; prior = []; stands = h; history = refl; text_is = refl; runs = λ dids ending r. r; lines = λ dids. refl }
 
 all_entries_append : (ds es : List Did) → all_entries (ds ++ es) ≡ all_entries ds ++ all_entries es
@@ -58,7 +59,7 @@ transcript_more site ds es s d h =
     transcript_append site 0 ds (d ∷ es)
     ∙ ap (λ (m : ℕ). transcript site 0 ds ++ (entry_lines (site_names site) m d.entries ++ transcript site (m + length d.entries) es)) (omega (arith, ap length h))
 
-pub goes_on : (site : SiteData) (events rest : List (ℕ × Event)) (x : ℕ × Event) (w new : Held) (text : List ℕ) (p : IsProgress site events (x ∷ rest) w text) (did : Did) → Does (site_ground site) p.state x.1 did → Stands site new (after p.state x.1 did)
+pub goes_on : (site : SiteData) (events rest : List (ℕ × Event)) (x : ℕ × Event) (w new : Held) (text : List ℕ) (p : IsProgress site events (x ∷ rest) w text) (did : Did) → Does (site_environment site) p.state x.1 did → Represents site new (after p.state x.1 did)
     → IsProgress site events rest new (text ++ entry_lines (site_names site) (length p.state.history) did.entries)
 goes_on site events rest x w new text p did d h = record {
   state = after p.state x.1 did;
@@ -67,12 +68,12 @@ goes_on site events rest x w new text p did d h = record {
   history = ap (λ (t : List Entry). t ++ did.entries) p.history ∙ (ap (λ (t : List Entry). all_entries p.prior ++ t) (sym (append-nil did.entries)) ∙ sym (all_entries_append p.prior (did ∷ [])));
   text_is = ap (λ (t : List ℕ). t ++ entry_lines (site_names site) (length p.state.history) did.entries) p.text_is
       ∙ (ap (λ (t : List ℕ). transcript site 0 p.prior ++ t) (sym (append-nil (entry_lines (site_names site) (length p.state.history) did.entries))) ∙ sym (transcript_more site p.prior [] p.state did p.history));
-  runs = λ dids ending r. subst (λ (t : List Did). Runs (site_ground site) opening (events_of events) t ending) (sym (append_assoc p.prior (did ∷ []) dids)) (p.runs (did ∷ dids) ending (inr (did, dids, refl, d, r)));
+  runs = λ dids ending r. subst (λ (t : List Did). Runs (site_environment site) opening (events_of events) t ending) (sym (append_assoc p.prior (did ∷ []) dids)) (p.runs (did ∷ dids) ending (inr (did, dids, refl, d, r)));
   lines = λ dids. ap (λ (t : List Did). next_line t events) (append_assoc p.prior (did ∷ []) dids) ∙ p.lines (did ∷ dids);
 }
 
-pub site_sound : (site : SiteData) → IsSoundGround (site_ground site)
-site_sound site by = (length_is_sound, tt)
+pub site_sound : (site : SiteData) → IsSoundEnvironment (site_environment site)
+site_sound site by = chains_are_sound site by
 
 -- what was put before, and then a last line
 printed_then : (old mid new : Option (List ℕ)) (before now : ℕ) (text last : List ℕ) → mid ≡ appended old text → Printed mid new before now [] last → Printed old new before now text last
@@ -99,11 +100,11 @@ body_is site script events dids HistoryFull = sym (append-nil (transcript site 0
 pub record WholeRun (site : SiteData) (events left : List (ℕ × Event)) (w : Held) (text : List ℕ) (p : IsProgress site events left w text) : Type 0 where
   pub dids : List Did
   pub ending : Ending
-  pub runs : Runs (site_ground site) opening (events_of events) (p.prior ++ dids) ending
+  pub runs : Runs (site_environment site) opening (events_of events) (p.prior ++ dids) ending
 
 whole_run : (site : SiteData) (events left : List (ℕ × Event)) (w : Held) (text : List ℕ) (p : IsProgress site events left w text) → WholeRun site events left w text p
 whole_run site events left w text p =
-    let r = has_run (site_ground site) p.state (events_of left) (site_sound site) in
+    let r = has_run (site_environment site) p.state (events_of left) (site_sound site) in
     record { dids = r.0; ending = r.1; runs = p.runs r.0 r.1 r.2 }
 
 -- the text so far is a front of the body of any run that goes on from here
@@ -155,11 +156,11 @@ begins_so [] b h = λ e. h refl
 begins_so (x ∷ a) b h = λ e. absurd (cc)
 
 -- a put failed within the lines of an event that was done
-faulted : (site : SiteData) (script : List ℕ) (events rest : List (ℕ × Event)) (x : ℕ × Event) (w : Held) (text : List ℕ) (p : IsProgress site events (x ∷ rest) w text) (did : Did) → Does (site_ground site) p.state x.1 did
+faulted : (site : SiteData) (script : List ℕ) (events rest : List (ℕ × Event)) (x : ℕ × Event) (w : Held) (text : List ℕ) (p : IsProgress site events (x ∷ rest) w text) (did : Did) → Does (site_environment site) p.state x.1 did
     → (old mid new : Option (List ℕ)) (before now : ℕ) (status : Status) → status ≡ WriteFault → mid ≡ appended old text → FailsWithin (record { old = mid; new = new; before = before; now = now }) (entry_lines (site_names site) (length p.state.history) did.entries)
     → Replays site script events status (record { old = old; new = new; before = before; now = now })
 faulted site script events rest x w text p did d old mid new before now status e m fails =
-    let r = has_run (site_ground site) (after p.state x.1 did) (events_of rest) (site_sound site) in
+    let r = has_run (site_environment site) (after p.state x.1 did) (events_of rest) (site_sound site) in
     let dids = p.prior ++ did ∷ r.0 in
     let o = replay_outcome site script events dids r.1 in
     let lines = entry_lines (site_names site) (length p.state.history) did.entries in
@@ -180,7 +181,7 @@ faulted site script events rest x w text p did d old mid new before now status e
     }
 
 -- a replay that stops at an event which is refused so
-refused : (site : SiteData) (script : List ℕ) (events rest : List (ℕ × Event)) (x : ℕ × Event) (w : Held) (text : List ℕ) (p : IsProgress site events (x ∷ rest) w text) (ending : Ending) → Refuses (site_ground site) p.state x.1 ending
+refused : (site : SiteData) (script : List ℕ) (events rest : List (ℕ × Event)) (x : ℕ × Event) (w : Held) (text : List ℕ) (p : IsProgress site events (x ∷ rest) w text) (ending : Ending) → Refuses (site_environment site) p.state x.1 ending
     → IsReplay site script events (replay_outcome site script events (p.prior ++ []) ending)
 refused site script events rest x w text p ending r = record { dids = p.prior ++ []; ending = ending; runs = p.runs [] ending (inl (refl, r)); outcome = refl }
 
@@ -189,7 +190,7 @@ nothing_more site script events left w text p = ap (transcript site 0) (append-n
 
 -- the last line of a refused event, or want of memory for it
 said_refused : (site : SiteData) (script : List ℕ) (events rest : List (ℕ × Event)) (x : ℕ × Event) (w : Held) (text : List ℕ) (p : IsProgress site events (x ∷ rest) w text) (old mid new : Option (List ℕ)) (before now : ℕ) (status : Status)
-    → mid ≡ appended old text → Refuses (site_ground site) p.state x.1 NotEnabled
+    → mid ≡ appended old text → Refuses (site_environment site) p.state x.1 NotEnabled
     → SaysOrWants ScriptRefused (refused_line script x.0 (codes "NotEnabled")) status (record { old = mid; new = new; before = before; now = now })
     → Replays site script events status (record { old = old; new = new; before = before; now = now })
 said_refused site script events rest x w text p old mid new before now status m r (inl h) =
@@ -206,7 +207,7 @@ said_refused site script events rest x w text p old mid new before now status m 
 said_refused site script events rest x w text p old mid new before now status m r (inr h) = wants site script events (x ∷ rest) w text p old new before now status h.0 (printed_then old mid new before now text memory_line m h.1)
 
 said_full : (site : SiteData) (script : List ℕ) (events rest : List (ℕ × Event)) (x : ℕ × Event) (w : Held) (text : List ℕ) (p : IsProgress site events (x ∷ rest) w text) (old mid new : Option (List ℕ)) (before now entries bytes : ℕ) (status : Status)
-    → mid ≡ appended old text → Refuses (site_ground site) p.state x.1 HistoryFull → entries ≡ entries_in p.state.history → bytes ≡ bytes_in p.state.history
+    → mid ≡ appended old text → Refuses (site_environment site) p.state x.1 HistoryFull → entries ≡ entries_in p.state.history → bytes ≡ bytes_in p.state.history
     → SaysOrWants FullStatus (full_line entries bytes) status (record { old = mid; new = new; before = before; now = now })
     → Replays site script events status (record { old = old; new = new; before = before; now = now })
 said_full site script events rest x w text p old mid new before now entries bytes status m r n b (inl h) =

@@ -1,6 +1,6 @@
 -- What can be replayed so far: definitions without limits and state colours, interfaces whose frames state their length,
 -- and a script that opens them, brings them bytes and closes them.
-use Rattle.std.specs.Prelude.{ℕ, ◌==◌, ◌&&◌, ◌||◌, not, Bool, false, List, [], ◌∷◌, length, codes, Option, Some, None, is_some, is_none, option_map, option_and_then, pos, if◌then◌else◌}
+use Rattle.std.specs.Prelude.{ℕ, ◌==◌, ◌&&◌, ◌||◌, not, Bool, true, false, List, [], ◌∷◌, length, codes, Option, Some, None, is_some, is_none, option_map, option_and_then, pos, if◌then◌else◌}
 use Rattle.std.specs.Ordering.{int_eq}
 use Rattle.std.specs.List.{filter_map, list_any, list_all, position}
 use Rattle.std.specs.Result.{result_ok}
@@ -14,7 +14,7 @@ use Rattle.cts_def.specs.Sites.{InterfaceData, SiteData}
 use Rattle.cts_def.specs.Starts.{PlaceData}
 use Rattle.cts_def.specs.Spans.{is_little}
 use Rattle.cts_entry.specs.declared.event.Event.{Event}
-use Rattle.cts_entry.specs.declared.event.Event.TheVariants.{Opens, Piece, Finish}
+use Rattle.cts_entry.specs.declared.event.Event.TheVariants.{SetTime, Opens, Piece, Finish, Write, Call, DrainLog, DrainSlot, Stop}
 use Rattle.cts_entry.specs.declared.why.Why.TheVariants.{PeerEnded}
 use Rattle.cts_words.specs.declared.statement.Statement.{Statement}
 
@@ -77,6 +77,21 @@ maker_named site name = maker_in site.interfaces name
 -- the piece that these digits write, for a maker
 abbrev pub piece_of : List ℕ → ℕ → Option Event
 piece_of digits by = option_and_then (λ bytes. if is_piece bytes then Some (Piece by bytes) else None) (result_ok (decode_of digits))
+
+-- the events that are built
+abbrev pub is_built_event : Event → Bool
+is_built_event (SetTime time) = true
+is_built_event (Opens by) = true
+is_built_event (Piece by piece) = true
+is_built_event (Finish by why) = true
+is_built_event (Write by count) = false
+is_built_event (Call desk body) = false
+is_built_event (DrainLog count) = false
+is_built_event (DrainSlot by count) = false
+is_built_event Stop = true
+
+abbrev pub are_built_events : List (ℕ × Event) → Bool
+are_built_events events = list_all (λ (e : ℕ × Event). is_built_event e.1) events
 
 -- the event of a statement's words; keywords and names are read in any case
 abbrev pub words_event : SiteData → List (List ℕ) → Option Event

@@ -1,4 +1,5 @@
 pub mod Grounds
+pub mod Environments
 pub mod Worlds
 pub mod Texts
 pub mod Forms

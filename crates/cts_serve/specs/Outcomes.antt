@@ -10,7 +10,8 @@ use Rattle.cts_core.specs.Runs.{Did, Ending, Finished, NotEnabled, HistoryFull, 
 use Rattle.cts_script.specs.Lines.{entry_lines}
 use Rattle.cts_def.specs.Packets.{DefinitionsData}
 use Rattle.cts_def.specs.Sites.{SiteData}
-use Rattle.cts_serve.specs.Grounds.{site_ground, site_names}
+use Rattle.cts_serve.specs.Environments.{site_environment}
+use Rattle.cts_serve.specs.Grounds.{site_names}
 use Rattle.cts_serve.specs.Texts.{usage_line, absent_line, refused_line, full_line, end_line, counts_line}
 use Rattle.cts_serve.specs.Forms.{are_built_definitions, is_built_site}
 use Rattle.cts_serve.specs.Judging.{Outcome, refusal, judge_definitions, judge_site, judge_script, definitions_in, site_in, events_in}
@@ -105,7 +106,7 @@ replay_outcome site script events dids HistoryFull =
 pub record IsReplay (site : SiteData) (script : List ℕ) (events : List (ℕ × Event)) (o : Outcome) : Type 0 where
   pub dids : List Did
   pub ending : Ending
-  pub runs : Runs (site_ground site) opening (events_of events) dids ending
+  pub runs : Runs (site_environment site) opening (events_of events) dids ending
   pub outcome : o ≡ replay_outcome site script events dids ending
 
 -- how many packets, commands, items of both, interfaces and routers there are

@@ -8,8 +8,9 @@ use Rattle.cts_entry.specs.Histories.{entries_in, bytes_in}
 use Rattle.cts_outside.specs.Contents.{appended}
 use Rattle.cts_script.specs.Lines.{entry_lines}
 use Rattle.cts_def.specs.Sites.{SiteData}
-use Rattle.cts_serve.specs.Grounds.{site_ground, site_names}
-use Rattle.cts_serve.specs.Worlds.{Held, Stands}
+use Rattle.cts_serve.specs.Environments.{site_environment}
+use Rattle.cts_serve.specs.Grounds.{site_names}
+use Rattle.cts_serve.specs.Worlds.{Held, Represents}
 use Rattle.cts_serve.specs.Texts.{memory_line, refused_line, full_line, end_line}
 use Rattle.cts_serve.specs.Judging.{Outcome}
 use Rattle.cts_serve.specs.Outcomes.{IsReplay}
@@ -35,12 +36,12 @@ PutsEntries site n entries (Err (Refused FullHistory)) p = ⊥
 -- An event was done and its lines were put, or why not.
 abbrev pub DoesEvent : SiteData → State → Event → Result (Unit {0}) Stop → Held → Puts → Type 0
 DoesEvent site s event (Ok done) w p =
-    (did : Did) × Does (site_ground site) s event did × Stands site w (after s event did) × (p.now ≡ p.before) × (p.new ≡ appended p.old (entry_lines (site_names site) (length s.history) did.entries))
+    (did : Did) × Does (site_environment site) s event did × Represents site w (after s event did) × (p.now ≡ p.before) × (p.new ≡ appended p.old (entry_lines (site_names site) (length s.history) did.entries))
 DoesEvent site s event (Err PutFault) w p =
-    (did : Did) × Does (site_ground site) s event did × FailsWithin p (entry_lines (site_names site) (length s.history) did.entries)
-DoesEvent site s event (Err (Refused RefusedEvent)) w p = Refuses (site_ground site) s event NotEnabled × IsUntouched p
+    (did : Did) × Does (site_environment site) s event did × FailsWithin p (entry_lines (site_names site) (length s.history) did.entries)
+DoesEvent site s event (Err (Refused RefusedEvent)) w p = Refuses (site_environment site) s event NotEnabled × IsUntouched p
 DoesEvent site s event (Err (Refused FullHistory)) w p =
-    Refuses (site_ground site) s event HistoryFull × (w.entries ≡ entries_in s.history) × (w.bytes ≡ bytes_in s.history) × IsUntouched p
+    Refuses (site_environment site) s event HistoryFull × (w.entries ≡ entries_in s.history) × (w.bytes ≡ bytes_in s.history) × IsUntouched p
 DoesEvent site s event (Err (Refused NoMemory)) w p = IsUntouched p
 
 -- what a replay with this outcome puts at each status

@@ -1,10 +1,10 @@
--- What the running core holds, and the states of the defined core for which it stands.
+-- What the running core holds, and the states of the defined core that it represents.
 use Rattle.std.specs.Prelude.{◌≡◌, ℕ, ◌+◌, ◌<◌, Bool, true, false, List, [], ◌∷◌, ◌++◌, map, length, drop, slice_index_or, slice_set, ℤ, Option, None, Some, Result, Ok, Err}
 use Rattle.cts_def.specs.Sites.{SiteData}
 use Rattle.cts_def.specs.declared.time.Time.{Time}
 use Rattle.cts_entry.specs.declared.entry.Entry.{Entry}
 use Rattle.cts_entry.specs.declared.event.Event.{Event}
-use Rattle.cts_entry.specs.Histories.{is_connected, is_stopped, entries_in, bytes_in}
+use Rattle.cts_entry.specs.Histories.{is_connected, is_stopped, has_command, entries_in, bytes_in}
 use Rattle.cts_proto.specs.Framing.{Output}
 use Rattle.cts_proto.specs.Cuts.{IsCut}
 use Rattle.cts_proto.specs.Packets.{joined}
@@ -16,8 +16,9 @@ use Rattle.cts_entry.specs.declared.why.Why.TheVariants.{BadFrame}
 use Rattle.cts_def.specs.declared.bad_cause.BadCause.TheVariants.{Short}
 use Rattle.cts_proto.specs.declared.cutting.Cutting.{Cutting}
 use Rattle.cts_proto.specs.Cuttings.{frames_at}
-use Rattle.cts_core.specs.Runs.{packet_entries, Did, Does, after, Refuses, NotEnabled, HistoryFull}
-use Rattle.cts_serve.specs.Grounds.{site_ground}
+use Rattle.cts_told.specs.Routing.{packet_entries}
+use Rattle.cts_core.specs.Runs.{Did, Does, after, Refuses, NotEnabled, HistoryFull}
+use Rattle.cts_serve.specs.Environments.{site_environment}
 use Rattle.cts_serve.specs.declared.connection.Connection.{Connection}
 use Rattle.cts_serve.specs.declared.world.World.{World}
 use Rattle.cts_serve.specs.declared.refusal.Refusal.{Refusal}
@@ -58,19 +59,21 @@ held_in w = record { time = w.time; history = w.history.items; lines = lines_in 
 abbrev pub IsRest : List (List ℕ) → List ℕ → Type 0
 IsRest pieces rest = (given : List Output) × IsCut length_framing (joined pieces) (record { outs = given; skipped = 0; empty = 0; rest = rest; bad = None })
 
--- A connection stands where the history says so, and of its pieces only what no packet has yet is held.
+-- A connection stands where the history says so, and of its pieces only what no packet has yet is held; of one that does not
+-- stand there are none.
 pub record IsLine (s : State) (by : ℕ) (line : HeldConnection) : Type 0 where
   pub connected : line.connected ≡ is_connected by s.history
-  pub rest : line.connected ≡ true → IsRest (s.pieces by) line.rest
+  pub rest : IsRest (s.pieces by) line.rest
 
--- The history and the time are the state's, and what is kept beside them is what they say; each interface has its
--- connection.
-pub record Stands (site : SiteData) (w : Held) (s : State) : Type 0 where
+-- What is held represents a state: the history and the time are the state's, and what is kept beside them is what they say;
+-- each interface has its connection, and no command stands yet.
+pub record Represents (site : SiteData) (w : Held) (s : State) : Type 0 where
   pub history : w.history ≡ s.history
   pub time : w.time ≡ s.time
   pub stopped : w.stopped ≡ is_stopped s.history
   pub entries : w.entries ≡ entries_in s.history
   pub bytes : w.bytes ≡ bytes_in s.history
+  pub uncommanded : has_command s.history ≡ false
   pub count : length w.lines ≡ length site.interfaces
   pub lines : (by : ℕ) → by < length site.interfaces → IsLine s by (line_at w.lines by)
 
@@ -89,7 +92,7 @@ extended by w piece = record w { lines = slice_set w.lines by (record (line_at w
 -- the packets of a cutting of a connection's rest are posted
 abbrev pub posted : SiteData → ℕ → Held → Cutting → Held
 posted site by w c = record w {
-  history = w.history ++ packet_entries (site_ground site) w.time by (frames_at (line_at w.lines by).rest c.frames);
+  history = w.history ++ packet_entries (site_environment site).routing w.time by (frames_at (line_at w.lines by).rest c.frames);
   lines = slice_set w.lines by (record (line_at w.lines by) { rest = drop c.rest (line_at w.lines by).rest });
   entries = w.entries + length c.frames;
   bytes = w.bytes + c.rest;
@@ -108,10 +111,10 @@ abbrev pub settled : ℕ → Held → Option ℤ → Held
 settled by w None = w
 settled by w (Some stated) = closed by w (BadFrame 1 (Short stated))
 
--- What a step answers, and the states for which the world stands then: the one after the event, where it was done, and
+-- What a step answers, and the states that the world represents then: the one after the event, where it was done, and
 -- the same ones as before, where the event is not enabled. After want of memory nothing is said.
 abbrev pub Steps : SiteData → State → Event → Result (Unit {0}) Refusal → Held → Type 0
-Steps site s event (Ok done) new = (did : Did) × Does (site_ground site) s event did × Stands site new (after s event did)
-Steps site s event (Err RefusedEvent) new = Refuses (site_ground site) s event NotEnabled × Stands site new s
-Steps site s event (Err FullHistory) new = Refuses (site_ground site) s event HistoryFull × (new.entries ≡ entries_in s.history) × (new.bytes ≡ bytes_in s.history)
+Steps site s event (Ok done) new = (did : Did) × Does (site_environment site) s event did × Represents site new (after s event did)
+Steps site s event (Err RefusedEvent) new = Refuses (site_environment site) s event NotEnabled × Represents site new s
+Steps site s event (Err FullHistory) new = Refuses (site_environment site) s event HistoryFull × (new.entries ≡ entries_in s.history) × (new.bytes ≡ bytes_in s.history)
 Steps site s event (Err Memory) new = Unit {0}

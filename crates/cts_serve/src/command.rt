@@ -1,7 +1,8 @@
 // The top call.
-ghost use Rattle.std.specs.Prelude.{◌≡◌, ◌≢◌, ◌≤◌, ◌↔◌, [], map, IfSome, None, Some};
+ghost use Rattle.std.specs.Prelude.{◌≡◌, ◌≢◌, ◌≤◌, ◌↔◌, [], true, map, IfSome, None, Some};
 ghost use Rattle.cts_outside.specs.Causes.{Rose, Steady};
 ghost use Rattle.cts_serve.specs.Causing.{IsCaused};
+ghost use Rattle.cts_serve.specs.Forms.{is_built_site};
 ghost use Rattle.cts_serve.specs.Loading.{RefusedPuts, PutsCounts, LoadsSite};
 ghost use Rattle.cts_serve.specs.Outcomes.{asked};
 ghost use Rattle.cts_serve.specs.Printing.{Answers, Completes, Printed};
@@ -106,6 +107,7 @@ fn replay_script<F: Files, O: Sink>(
 ) -> Status
     requires asked { request.now.script ≡ Some script.now }
     requires taken { IfSome (F.told files.old) (λ all. LoadsSite all request.now (Ok site.now)) }
+    requires built { is_built_site site.now ≡ true }
     ensures usage { result ≢ Status.Usage }
     ensures stays { F.told files.new ≡ F.told files.old }
     ensures caused { IsCaused result (record { faults = F.faults files.old; faults_now = F.faults files.new; absences = F.absences files.old; absences_now = F.absences files.new; put_faults = O.faults out.old; put_faults_now = O.faults out.new }) }

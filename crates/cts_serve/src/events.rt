@@ -1,8 +1,9 @@
 // One event of a script: done, and its lines put.
-ghost use Rattle.std.specs.Prelude.{◌≡◌, drop, min, length, vec_len};
+ghost use Rattle.std.specs.Prelude.{◌≡◌, true, drop, min, length, vec_len};
 ghost use Rattle.cts_core.specs.States.{State};
+ghost use Rattle.cts_serve.specs.Forms.{is_built_event, is_built_site};
 ghost use Rattle.cts_serve.specs.Replays.{PutsEntries, DoesEvent};
-ghost use Rattle.cts_serve.specs.Worlds.{Stands, held_in};
+ghost use Rattle.cts_serve.specs.Worlds.{Represents, held_in};
 
 use crate::naming::SiteNames;
 use crate::refusal::Refusal;
@@ -22,8 +23,10 @@ pub fn do_event<O: Sink>(
     event: &Event,
     out: &mut O,
 ) -> Result<(), Stop>
-    requires { vec_len world.old.connections ≡ length site.now.interfaces }
-    ensures { (s : State) → Stands site.now (held_in world.old) s
+    requires count { vec_len world.old.connections ≡ length site.now.interfaces }
+    requires site { is_built_site site.now ≡ true }
+    requires event { is_built_event event.now ≡ true }
+    ensures { (s : State) → Represents site.now (held_in world.old) s
         → DoesEvent site.now s event.now result (held_in world.new) (record { old = O.told out.old; new = O.told out.new; before = O.faults out.old; now = O.faults out.new }) }
 {
     let before = world.history.len();

@@ -1,6 +1,6 @@
 // The files of a command, read and taken.
-ghost use Rattle.std.specs.Prelude.{◌≡◌, ◌≤◌, ◌||◌, is_none, length, IfOk, IfSome};
-ghost use Rattle.cts_serve.specs.Forms.{are_built_definitions, is_built_site};
+ghost use Rattle.std.specs.Prelude.{◌≡◌, ◌≤◌, ◌||◌, true, is_none, length, IfOk, IfSome};
+ghost use Rattle.cts_serve.specs.Forms.{are_built_definitions, are_built_events, is_built_site};
 ghost use Rattle.cts_serve.specs.Judging.{file_limit, judge_definitions, judge_site, judge_script, definitions_read, definitions_in, site_read, site_in, events_in};
 ghost use Rattle.cts_serve.specs.Outcomes.{is_taken};
 ghost use Rattle.cts_serve.specs.Fetching.{IsReadAs, GivesStatements, Takes, GivesRead, IsNotBuilt, IsRefusedAt, answer_seen};
@@ -43,6 +43,7 @@ pub fn load_site<F: Files>(
 ) -> Result<Site, Refused>
     ensures stays { F.told files.new ≡ F.told files.old }
     ensures content { IfSome (F.told files.old) (λ all. LoadsSite all request.now result) }
+    ensures built { IfOk result (λ site. is_taken request.now is_built_site site ≡ true) }
     ensures cause { LoadCause result (F.faults files.old) (F.faults files.new) (F.absences files.old) (F.absences files.new) }
 {
     let definitions = take_definitions(alloc, files, request)?;
@@ -58,6 +59,7 @@ pub fn load_script<F: Files>(
 ) -> Result<Vec<(u32, Event)>, Refused>
     ensures stays { F.told files.new ≡ F.told files.old }
     ensures content { IfSome (F.told files.old) (λ all. Takes (judge_script site.now) (events_in site.now) name.now (all name.now) (answer_seen (λ v. v.items) result)) }
+    ensures built { IfOk result (λ events. are_built_events events.items ≡ true) }
     ensures cause { LoadCause result (F.faults files.old) (F.faults files.new) (F.absences files.old) (F.absences files.new) }
 {
     let found = read_statements(alloc, files, name, FileKind::Script)?;
@@ -93,6 +95,7 @@ fn take_site<F: Files>(
 ) -> Result<Site, Refused>
     ensures stays { F.told files.new ≡ F.told files.old }
     ensures content { IfSome (F.told files.old) (λ all. Takes (judge_site (is_taken request.now is_built_site) definitions) (site_in definitions) request.now.site (all request.now.site) result) }
+    ensures built { IfOk result (λ site. is_taken request.now is_built_site site ≡ true) }
     ensures cause { LoadCause result (F.faults files.old) (F.faults files.new) (F.absences files.old) (F.absences files.new) }
 {
     let name = request.site;

@@ -2,9 +2,9 @@
 ghost use Rattle.std.specs.Prelude.{◌≡◌, ◌<◌, ◌≤◌, drop, length, vec_len, IfOk};
 ghost use Rattle.cts_entry.specs.declared.what.What.TheVariants.{Packet};
 ghost use Rattle.cts_proto.specs.Cuttings.{Tiles, frames_at};
-ghost use Rattle.cts_core.specs.Runs.{packet_entries};
-ghost use Rattle.cts_serve.specs.Grounds.{site_ground};
-ghost use Rattle.cts_ident.specs.Identification.{identified};
+ghost use Rattle.cts_proto.specs.Framing.{plain};
+ghost use Rattle.cts_told.specs.Routing.{packet_entries};
+ghost use Rattle.cts_serve.specs.Environments.{ident_of, site_environment};
 
 use cts_base::{Bytes, Memory};
 use cts_def::{Site, Time};
@@ -25,7 +25,7 @@ pub fn packets(
     requires interface { by < length site.now.interfaces }
     requires tiles { Tiles 0 cutting.now.frames cutting.now.rest }
     requires within { cutting.now.rest ≤ length bytes.now }
-    ensures { IfOk result (λ v. v.items ≡ packet_entries (site_ground site.now) time by (frames_at bytes.now cutting.now.frames)) }
+    ensures { IfOk result (λ v. v.items ≡ packet_entries (site_environment site.now).routing time by (frames_at bytes.now cutting.now.frames)) }
 {
     let mut left = cutting.frames.as_slice();
     let mut entries = Vec::with_capacity(alloc, left.len())?;
@@ -38,7 +38,7 @@ pub fn packets(
 
 fn packet(alloc: Global, site: &Site, by: u32, time: Time, bytes: &[u8]) -> Result<Entry, Memory>
     requires { by < length site.now.interfaces }
-    ensures { IfOk result (λ e. (e.by ≡ by) × (e.time ≡ time) × (e.what ≡ Packet (identified site.now by bytes.now) bytes.now)) }
+    ensures { IfOk result (λ e. (e.by ≡ by) × (e.time ≡ time) × (e.what ≡ Packet (ident_of site.now by (plain bytes.now)) bytes.now)) }
 {
     Ok(Entry {
         by,

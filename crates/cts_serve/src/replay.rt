@@ -1,6 +1,8 @@
 // The events of a script, one after another.
+ghost use Rattle.std.specs.Prelude.{◌≡◌, true};
+ghost use Rattle.cts_serve.specs.Forms.{are_built_events, is_built_site};
 ghost use Rattle.cts_serve.specs.Replays.{Replays, StopPuts, EndPuts};
-ghost use Rattle.cts_serve.specs.Worlds.{Stands, held_in};
+ghost use Rattle.cts_serve.specs.Worlds.{Represents, held_in};
 ghost use Rattle.cts_core.specs.States.{opening};
 
 use crate::events::do_event;
@@ -14,7 +16,7 @@ use cts_entry::Event;
 use cts_outside::Sink;
 use std::alloc::Global;
 
-/// Does the events of a script on a site in order, each with its line, and puts the lines of each when it is done; then
+/// Does the events of a script on a site, both of which have to be built, in order, each with its line, and puts the lines of each when it is done; then
 /// `END n`, or the line that says why the replay stops there.
 pub fn replay<O: Sink>(
     alloc: Global,
@@ -23,6 +25,8 @@ pub fn replay<O: Sink>(
     events: &[(u32, Event)],
     out: &mut O,
 ) -> Status
+    requires site { is_built_site site.now ≡ true }
+    requires events { are_built_events events.now ≡ true }
     ensures { Replays site.now script.now events.now result (record { old = O.told out.old; new = O.told out.new; before = O.faults out.old; now = O.faults out.new }) }
 {
     match World::new(alloc, site) {
@@ -40,7 +44,9 @@ fn replay_from<O: Sink>(
     mut world: World,
     out: &mut O,
 ) -> Status
-    requires { Stands site.now (held_in world) opening }
+    requires site { is_built_site site.now ≡ true }
+    requires events { are_built_events events.now ≡ true }
+    requires world { Represents site.now (held_in world) opening }
     ensures { Replays site.now script.now events.now result (record { old = O.told out.old; new = O.told out.new; before = O.faults out.old; now = O.faults out.new }) }
 {
     let mut left = events;

@@ -1,6 +1,6 @@
 // The events of a script.
-ghost use Rattle.std.specs.Prelude.{◌≡◌, ◌<◌, ◌≤◌, ◌∷◌, [], is_some, length, option_and_then, IfOk, IfSome};
-ghost use Rattle.cts_serve.specs.Forms.{has_events, maker_in, maker_named, piece_of, script_events, words_event};
+ghost use Rattle.std.specs.Prelude.{◌≡◌, ◌<◌, ◌≤◌, ◌∷◌, [], true, is_some, length, option_and_then, IfOk, IfSome};
+ghost use Rattle.cts_serve.specs.Forms.{are_built_events, has_events, maker_in, maker_named, piece_of, script_events, words_event};
 
 use cts_base::{Bytes, Memory, spells};
 use cts_core::is_piece;
@@ -18,6 +18,7 @@ pub fn script_events(
 ) -> Result<Option<Vec<(u32, Event)>>, Memory>
     ensures whether { IfOk result (λ events. is_some events ≡ has_events site.now statements.now) }
     ensures events { IfOk result (λ events. IfSome events (λ v. v.items ≡ script_events site.now statements.now)) }
+    ensures built { IfOk result (λ events. IfSome events (λ v. are_built_events v.items ≡ true)) }
 {
     let mut events = Vec::new(alloc);
     let mut left = statements;

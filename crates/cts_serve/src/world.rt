@@ -43,12 +43,13 @@ impl World {
     ghost use Rattle.cts_entry.specs.declared.event.Event.TheVariants as event;
     ghost use Rattle.cts_entry.specs.Histories.{is_stopped};
     ghost use Rattle.cts_proto.specs.Cuttings.{Tiles, IsCutting};
+    ghost use Rattle.cts_serve.specs.Forms.{is_built_event, is_built_site};
     ghost use Rattle.cts_serve.specs.Grounds.{bytes_limit, entries_limit};
-    ghost use Rattle.cts_serve.specs.Worlds.{Steps, Stands, held_in, line_at, opened, extended, posted, closed, settled};
+    ghost use Rattle.cts_serve.specs.Worlds.{Steps, Represents, held_in, line_at, opened, extended, posted, closed, settled};
 
     /// A world of a site in which nothing has happened.
     pub fn new(alloc: Global, site: &Site) -> Result<World, Memory>
-        ensures { IfOk result (λ world. Stands site.now (held_in world) opening) }
+        ensures { IfOk result (λ world. Represents site.now (held_in world) opening) }
     {
         let connections = Connection::none_stands(alloc, site.interfaces.len())?;
         Ok(World {
@@ -65,9 +66,12 @@ impl World {
     }
 
     /// Does one event of the site for which the world was made. Its entries then stand at the end of the history.
+    /// The site and the event have to be built.
     pub fn step(&mut self, alloc: Global, site: &Site, event: &Event) -> Result<(), Refusal>
-        requires { vec_len self.old.connections ≡ length site.now.interfaces }
-        ensures { (s : State) → Stands site.now (held_in self.old) s → Steps site.now s event.now result (held_in self.new) }
+        requires count { vec_len self.old.connections ≡ length site.now.interfaces }
+        requires site { is_built_site site.now ≡ true }
+        requires event { is_built_event event.now ≡ true }
+        ensures { (s : State) → Represents site.now (held_in self.old) s → Steps site.now s event.now result (held_in self.new) }
     {
         match event {
             Event::SetTime(time) => self.set_time(*time),
@@ -83,7 +87,7 @@ impl World {
     }
 
     fn set_time(&mut self, time: Time) -> Result<(), Refusal>
-        ensures { (site : SiteData) (s : State) → Stands site (held_in self.old) s → Steps site s (event.SetTime time) result (held_in self.new) }
+        ensures { (site : SiteData) (s : State) → Represents site (held_in self.old) s → Steps site s (event.SetTime time) result (held_in self.new) }
     {
         if !time.is_of_clock() {
             return Err(Refusal::NotEnabled);
@@ -93,8 +97,9 @@ impl World {
     }
 
     fn open(&mut self, site: &Site, by: u32) -> Result<(), Refusal>
-        requires { vec_len self.old.connections ≡ length site.now.interfaces }
-        ensures { (s : State) → Stands site.now (held_in self.old) s → Steps site.now s (event.Opens by) result (held_in self.new) }
+        requires count { vec_len self.old.connections ≡ length site.now.interfaces }
+        requires site { is_built_site site.now ≡ true }
+        ensures { (s : State) → Represents site.now (held_in self.old) s → Steps site.now s (event.Opens by) result (held_in self.new) }
     {
         if !self.may_open(site, by) {
             return Err(Refusal::NotEnabled);
@@ -119,8 +124,9 @@ impl World {
     }
 
     fn finish(&mut self, site: &Site, by: u32, why: Why) -> Result<(), Refusal>
-        requires { vec_len self.old.connections ≡ length site.now.interfaces }
-        ensures { (s : State) → Stands site.now (held_in self.old) s → Steps site.now s (event.Finish by why) result (held_in self.new) }
+        requires count { vec_len self.old.connections ≡ length site.now.interfaces }
+        requires site { is_built_site site.now ≡ true }
+        ensures { (s : State) → Represents site.now (held_in self.old) s → Steps site.now s (event.Finish by why) result (held_in self.new) }
     {
         if !self.may_finish(site, by, why) {
             return Err(Refusal::NotEnabled);
@@ -130,8 +136,9 @@ impl World {
     }
 
     fn receive(&mut self, alloc: Global, site: &Site, by: u32, piece: &[u8]) -> Result<(), Refusal>
-        requires { vec_len self.old.connections ≡ length site.now.interfaces }
-        ensures { (s : State) → Stands site.now (held_in self.old) s → Steps site.now s (event.Piece by piece.now) result (held_in self.new) }
+        requires count { vec_len self.old.connections ≡ length site.now.interfaces }
+        requires site { is_built_site site.now ≡ true }
+        ensures { (s : State) → Represents site.now (held_in self.old) s → Steps site.now s (event.Piece by piece.now) result (held_in self.new) }
     {
         if !self.may_receive(site, by, piece) {
             return Err(Refusal::NotEnabled);
@@ -207,13 +214,14 @@ impl World {
             skipped: 0,
             empty: 0,
         };
-        self.history.push(Entry::closed(by, self.time, why, loss))?;
+        self.history
+            .push(Entry::closed(by, self.time, why, loss, 0, 0))?;
         connection.close();
         Ok(())
     }
 
     fn stop(&mut self) -> Result<(), Refusal>
-        ensures { (site : SiteData) (s : State) → Stands site (held_in self.old) s → Steps site s event.Stop result (held_in self.new) }
+        ensures { (site : SiteData) (s : State) → Represents site (held_in self.old) s → Steps site s event.Stop result (held_in self.new) }
     {
         if self.stopped {
             return Err(Refusal::NotEnabled);
@@ -242,13 +250,15 @@ impl World {
 
     fn may_finish(&self, site: &Site, by: u32, why: Why) -> bool
         ensures there { result ≡ true → by < length site.now.interfaces }
+        ensures few { length site.now.interfaces ≤ 16 }
         ensures test { (history : List Entry) → is_stopped history ≡ self.now.stopped → result ≡ (nat_lt by (length site.now.interfaces) && ((line_at (held_in self.now).lines by).connected && may_close history why)) }
     {
         is_interface(site, by) && (self.is_connected(by) && may_close(why, self.stopped))
     }
 
     fn may_receive(&self, site: &Site, by: u32, piece: &[u8]) -> bool
-        ensures { result ≡ (nat_lt by (length site.now.interfaces) && ((line_at (held_in self.now).lines by).connected && is_piece piece.now)) }
+        ensures test { result ≡ (nat_lt by (length site.now.interfaces) && ((line_at (held_in self.now).lines by).connected && is_piece piece.now)) }
+        ensures few { length site.now.interfaces ≤ 16 }
     {
         is_interface(site, by) && (self.is_connected(by) && is_piece(piece))
     }
@@ -263,7 +273,8 @@ impl World {
 }
 
 fn is_interface(site: &Site, by: u32) -> bool
-    ensures { result ≡ nat_lt by (length site.now.interfaces) }
+    ensures test { result ≡ nat_lt by (length site.now.interfaces) }
+    ensures few { length site.now.interfaces ≤ 16 }
 {
     (by as usize) < site.interfaces.len()
 }

@@ -1,13 +1,13 @@
 use Rattle.std.proofs.Common.{◌≡◌, ◌++◌, ℕ, length}
 use Rattle.cts_proto.specs.Cuttings.{Tiles, frames_at}
-use Rattle.cts_core.specs.Runs.{packet_entries}
-use Rattle.cts_serve.specs.Grounds.{site_ground}
+use Rattle.cts_told.specs.Routing.{packet_entries}
+use Rattle.cts_serve.specs.Environments.{site_environment}
 use Rattle.cts_serve.proofs.posting.packets.Given as goal
 
 abbrev pub invariant-frames : goal.invariant-frames
 invariant-frames l = record {
   tiles : (from : ℕ) × Tiles from l.left l.cutting.rest;
-  done : l.entries.items ++ packet_entries (site_ground l.site) l.time l.by (frames_at l.bytes l.left) ≡ packet_entries (site_ground l.site) l.time l.by (frames_at l.bytes l.cutting.frames);
+  done : l.entries.items ++ packet_entries (site_environment l.site).routing l.time l.by (frames_at l.bytes l.left) ≡ packet_entries (site_environment l.site).routing l.time l.by (frames_at l.bytes l.cutting.frames);
 }
 
 abbrev pub decreases-frames : goal.decreases-frames

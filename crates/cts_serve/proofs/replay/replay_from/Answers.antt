@@ -1,4 +1,4 @@
-use Rattle.std.proofs.Common.{rules, ◌≡◌, ◌∷◌, ◌++◌, [], ℕ, List, length, refl, sym, ◌∙◌, subst, arith}
+use Rattle.std.proofs.Common.{rules, ◌≡◌, ◌∷◌, ◌++◌, [], ℕ, List, length, refl, sym, ◌∙◌, ap, subst, arith}
 use Rattle.std.proofs.lemmas.List.{length-map}
 use Rattle.cts_entry.specs.declared.event.Event.{Event}
 use Rattle.cts_outside.proofs.Putting.{appended-nil, whole_then}
@@ -6,11 +6,13 @@ use Rattle.cts_script.specs.Lines.{entry_lines}
 use Rattle.cts_serve.specs.Worlds.{held_in, line_in}
 use Rattle.cts_serve.specs.Grounds.{site_names}
 use Rattle.cts_serve.specs.Replays.{Replays, EndPuts}
+use Rattle.cts_serve.specs.Forms.{are_built_events, is_built_event}
+use Rattle.cts_serve.proofs.Building.{and_tells}
 use Rattle.cts_serve.proofs.Progress.{IsProgress, begun, goes_on, stops, ends}
 use Rattle.cts_serve.proofs.replay.replay_from.Goals as goal
 
 pub events-init : goal.events-init
-events-init g c = record { progress = ([], begun c.args.site.now c.args.events.now (held_in c.args.world) c.requires, sym (appended-nil _)); steady = refl }
+events-init g c = record { progress = ([], begun c.args.site.now c.args.events.now (held_in c.args.world) c.requires.world, sym (appended-nil _)); built = c.requires.events; steady = refl }
 
 pub events-preserved : goal.events-preserved
 events-preserved g c =
@@ -21,6 +23,7 @@ events-preserved g c =
     let lines = entry_lines (site_names c.args.site.now) (length progress.state.history) did.0.entries in
     record {
       progress = (so_far.0 ++ lines, goes_on c.args.site.now c.args.events.now c.in-Some.after.now c.in-Some.next.now (held_in c.events.world) (held_in c.do_event.new.world) so_far.0 progress did.0 did.1 did.2, whole_then _ _ _ so_far.0 lines so_far.2 did.4);
+      built = (and_tells (is_built_event c.in-Some.next.now.1) (are_built_events c.in-Some.after.now) (sym (ap are_built_events left) ∙ c.events.invariant.built)).1;
       steady = did.3 ∙ c.events.invariant.steady;
     }
 
@@ -46,5 +49,10 @@ returns g c =
     subst (λ (b : ℕ). Replays c.args.site.now c.args.script.now c.args.events.now c.put_end.result (record { old = g.O.Sink.told c.args.out.now; new = g.O.Sink.told c.put_end.new.out; before = b; now = g.O.Sink.faults c.put_end.new.out })) c.events.invariant.steady
     (ends c.args.site.now c.args.script.now c.args.events.now (held_in c.events.world) so_far.0 progress _ _ _ _ _ c.put_end.result so_far.2 ending)
 
-pub do_event-requires : goal.do_event-requires
-do_event-requires g c = omega (arith, c.events.invariant.progress.1.stands.count, length-map c.events.world.connections.items line_in, c.events.world.connections.ok.0)
+pub do_event-requires-clause-count : goal.do_event-requires-clause-count
+do_event-requires-clause-count g c = omega (arith, c.events.invariant.progress.1.stands.count, length-map c.events.world.connections.items line_in, c.events.world.connections.ok.0)
+
+pub do_event-requires-clause-event : goal.do_event-requires-clause-event
+do_event-requires-clause-event g c =
+    let left : c.events.left.now ≡ c.in-Some.next.now ∷ c.in-Some.after.now = search rules in
+    (and_tells (is_built_event c.in-Some.next.now.1) (are_built_events c.in-Some.after.now) (sym (ap are_built_events left) ∙ c.events.invariant.built)).0

@@ -1,8 +1,8 @@
 use Rattle.std.proofs.Common.{◌≡◌, ◌+◌, ◌<◌, ℕ, List, ◌++◌, length, drop, set, sym, ap, ◌∙◌, arith}
 use Rattle.cts_entry.specs.declared.entry.Entry.{Entry}
 use Rattle.cts_proto.specs.Cuttings.{frames_at}
-use Rattle.cts_core.specs.Runs.{packet_entries}
-use Rattle.cts_serve.specs.Grounds.{site_ground}
+use Rattle.cts_told.specs.Routing.{packet_entries}
+use Rattle.cts_serve.specs.Environments.{site_environment}
 use Rattle.cts_serve.specs.Worlds.{HeldConnection, held_in, line_at, line_in, lines_in}
 use Rattle.cts_serve.proofs.Lines.{line_read, line_written}
 use Rattle.cts_serve.proofs.world.World.post.Goals as goal
@@ -16,9 +16,9 @@ returns-clause-posted c =
     let there : c.args.by < length connections.items = omega (arith, c.requires.there, connections.ok.0) in
     let read : line_at w.lines c.args.by ≡ line_in connection = line_read connections.items c.args.by connection there c.index_mut-connection.ensures.value in
     let rest : c.deref.result.now ≡ (line_at w.lines c.args.by).rest = c.deref.ensures.value ∙ ap (λ (l : HeldConnection). l.rest) (sym read) in
-    let entries : c.in_ok-entries.entries.items ≡ packet_entries (site_ground c.args.site.now) w.time c.args.by (frames_at (line_at w.lines c.args.by).rest cutting.frames) =
-    c.in_ok-entries.ensures ∙ ap (λ (bytes : List ℕ). packet_entries (site_ground c.args.site.now) w.time c.args.by (frames_at bytes cutting.frames)) rest in
-    let history : c.append.new.self.items ≡ w.history ++ packet_entries (site_ground c.args.site.now) w.time c.args.by (frames_at (line_at w.lines c.args.by).rest cutting.frames) =
+    let entries : c.in_ok-entries.entries.items ≡ packet_entries (site_environment c.args.site.now).routing w.time c.args.by (frames_at (line_at w.lines c.args.by).rest cutting.frames) =
+    c.in_ok-entries.ensures ∙ ap (λ (bytes : List ℕ). packet_entries (site_environment c.args.site.now).routing w.time c.args.by (frames_at bytes cutting.frames)) rest in
+    let history : c.append.new.self.items ≡ w.history ++ packet_entries (site_environment c.args.site.now).routing w.time c.args.by (frames_at (line_at w.lines c.args.by).rest cutting.frames) =
     c.in_ok-append.ensures.items ∙ ap (λ (l : List Entry). w.history ++ l) entries in
     let shorter : HeldConnection = record (line_at w.lines c.args.by) { rest = drop cutting.rest (line_at w.lines c.args.by).rest } in
     let line : record { connected = connection.connected; rest = c.drop_front.new.bytes.items } ≡ shorter =

@@ -8,7 +8,7 @@ use Rattle.cts_serve.proofs.world.World.receive.Goals as goal
 pub returns-then-not-may_receive : goal.returns-then-not-may_receive
 returns-then-not-may_receive c =
     let off : c.may_receive.result ≡ false = search rules in
-    λ s h. (sym (may_receive_is c.args.site.now (held_in c.args.self.now) s c.args.by c.args.piece.now h) ∙ (sym c.may_receive.ensures ∙ off), h)
+    λ s h. (sym (may_receive_is c.args.site.now (held_in c.args.self.now) s c.args.by c.args.piece.now c.requires.site h) ∙ (sym c.may_receive.ensures.test ∙ off), h)
 
 pub returns-then-not-has_room : goal.returns-then-not-has_room
 returns-then-not-has_room c =
@@ -18,7 +18,7 @@ returns-then-not-has_room c =
     let full : c.has_room.result ≡ false = search rules in
     let room = ap (λ (x : Held). nat_le (x.entries + length cutting.frames) entries_limit && nat_le (x.bytes + cutting.rest) bytes_limit) (sym c.in_ok-cutting.ensures.held) ∙ (sym c.has_room.ensures ∙ full) in
     λ s h.
-    let said = piece_full c.args.site.now w s c.args.by c.args.piece.now cutting (sym (may_receive_is c.args.site.now w s c.args.by c.args.piece.now h) ∙ (sym c.may_receive.ensures ∙ on)) c.in_ok-cutting.ensures.cutting room h in
+    let said = piece_full c.args.site.now w s c.args.by c.args.piece.now cutting c.requires.site c.may_receive.ensures.few (sym (may_receive_is c.args.site.now w s c.args.by c.args.piece.now c.requires.site h) ∙ (sym c.may_receive.ensures.test ∙ on)) c.in_ok-cutting.ensures.cutting room h in
     (said.0, ap (λ (x : Held). x.entries) c.in_ok-cutting.ensures.held ∙ said.1, ap (λ (x : Held). x.bytes) c.in_ok-cutting.ensures.held ∙ said.2)
 
 pub returns : goal.returns
@@ -29,5 +29,5 @@ returns c =
     let fits : c.has_room.result ≡ true = search rules in
     let room = ap (λ (x : Held). nat_le (x.entries + length cutting.frames) entries_limit && nat_le (x.bytes + cutting.rest) bytes_limit) (sym c.in_ok-cutting.ensures.held) ∙ (sym c.has_room.ensures ∙ fits) in
     let done = c.in_ok-settle.ensures ∙ ap (λ (x : Held). settled c.args.by x cutting.short) (c.in_ok-post.ensures.posted ∙ ap (λ (x : Held). posted c.args.site.now c.args.by x cutting) c.in_ok-cutting.ensures.held) in
-    λ s h. received c.args.site.now w (held_in c.settle.new.self) s c.args.by c.args.piece.now cutting (sym (may_receive_is c.args.site.now w s c.args.by c.args.piece.now h) ∙ (sym c.may_receive.ensures ∙ on))
+    λ s h. received c.args.site.now w (held_in c.settle.new.self) s c.args.by c.args.piece.now cutting c.requires.site c.may_receive.ensures.few (sym (may_receive_is c.args.site.now w s c.args.by c.args.piece.now c.requires.site h) ∙ (sym c.may_receive.ensures.test ∙ on))
     c.in_ok-cutting.ensures.cutting room c.in_ok-cutting.ensures.small done h

@@ -5,4 +5,4 @@ use Rattle.cts_serve.proofs.WorldSteps.{stopped}
 use Rattle.cts_serve.proofs.world.World.stop.Goals as goal
 
 pub returns : goal.returns
-returns c = λ site s h. stopped site (held_in c.args.self.now) s _ (search rules) c.args.self.now.entries_within c.args.self.now.bytes_within (c.in_ok-push.ensures.items ∙ ap (λ (e : Entry). c.args.self.now.history.items ++ e ∷ []) c.stop.ensures) h
+returns c = λ site s h. stopped site (held_in c.args.self.now) s _ (search rules) (c.in_ok-push.ensures.items ∙ ap (λ (e : Entry). c.args.self.now.history.items ++ e ∷ []) c.stop.ensures) h

@@ -1,0 +1,112 @@
+-- What a site gives to events: the environment in which they are done.
+use Rattle.std.specs.Prelude.{ℕ, false, Bool, ◌==◌, ◌&&◌, nat_le, nat_lt, List, [], map, length, slice_get, slice_index_or, Option, Some, None, option_and_then, if◌then◌else◌}
+use Rattle.std.specs.List.{list_any, position}
+use Rattle.cts_core.specs.States.{Answer, Environment}
+use Rattle.cts_def.specs.Items.{is_same}
+use Rattle.cts_def.specs.Makers.{first_slot}
+use Rattle.cts_def.specs.Packets.{PacketData, unknown}
+use Rattle.cts_def.specs.Sites.{InterfaceData, SiteData}
+use Rattle.cts_def.specs.declared.ident.Ident.{Ident}
+use Rattle.cts_def.specs.declared.ident.Ident.TheVariants.{Known, Unknown}
+use Rattle.cts_def.specs.declared.time.Time.{Time}
+use Rattle.cts_entry.specs.declared.entry.Entry.{Entry}
+use Rattle.cts_ident.specs.Identification.{identified, identified_command, named, router_of, routes_at}
+use Rattle.cts_proto.specs.Chains.{framings_at}
+use Rattle.cts_proto.specs.Framing.{Heading, Output}
+use Rattle.cts_serve.specs.Grounds.{entries_limit, bytes_limit}
+
+-- ---- makers
+
+-- interface k is maker k
+abbrev pub is_interface : SiteData → ℕ → Bool
+is_interface site by = nat_lt by (length site.interfaces)
+
+-- each router has two slots, one behind the other from the first slot on
+abbrev pub is_slot : SiteData → ℕ → Bool
+is_slot site by = nat_le first_slot by && nat_lt (router_of by) (length site.routers)
+
+-- desks are counted from 0
+abbrev pub is_desk : SiteData → ℕ → Bool
+is_desk site desk = nat_lt desk site.desks
+
+-- ---- which definition an output is
+
+-- by its id fields: a packet of the interface's targets, or a command of the targets of the slot's router
+abbrev pub identified_by : SiteData → ℕ → List ℕ → Ident
+identified_by site by bytes = if is_interface site by then identified site by bytes else identified_command site (router_of by) bytes
+
+-- by the names that it brings along, and by its id fields where it has none
+abbrev pub ident_by : SiteData → ℕ → List ℕ → Option Heading → Ident
+ident_by site by bytes None = identified_by site by bytes
+ident_by site by bytes (Some heading) = named site by heading.target heading.packet
+
+abbrev pub ident_of : SiteData → ℕ → Output → Ident
+ident_of site by out = ident_by site by out.bytes out.heading
+
+-- ---- where it goes
+
+-- the first interface that has this target
+abbrev pub interface_with : List InterfaceData → List ℕ → Option ℕ
+interface_with interfaces target = position (λ (i : InterfaceData). list_any (is_same target) i.targets) interfaces
+
+-- the interface that has the target of the command of this number
+abbrev pub interface_of : SiteData → ℕ → Option ℕ
+interface_of site command = option_and_then (λ (p : PacketData). interface_with site.interfaces p.target) (slice_get site.definitions.commands command)
+
+-- the slot's router routes the packets of the interface
+abbrev pub is_routed : SiteData → ℕ → ℕ → Bool
+is_routed site slot interface = is_slot site slot && list_any (λ n. n == interface) (routes_at site.routers (router_of slot))
+
+-- the packets of the interface and the commands for it are logged
+abbrev pub is_logged : SiteData → ℕ → Bool
+is_logged site interface = slice_index_or (map (λ (i : InterfaceData). i.logged) site.interfaces) interface false
+
+-- ---- names
+
+-- the target and the name of the packet of this number
+abbrev pub names_at : List PacketData → ℕ → List ℕ × List ℕ
+names_at packets number = slice_index_or (map (λ (p : PacketData). (p.target, p.name)) packets) number ([], [])
+
+abbrev pub packet_names : SiteData → Ident → List ℕ × List ℕ
+packet_names site (Known number) = names_at site.definitions.telemetry number
+packet_names site Unknown = (unknown, unknown)
+
+abbrev pub command_names : SiteData → ℕ → List ℕ × List ℕ
+command_names site number = names_at site.definitions.commands number
+
+-- ---- the environment
+
+-- what is not defined yet: the spelling by write chains, the layout in logs, and what desks answer
+pub record Undefined : Type 0 where
+  pub spelling : ℕ → Heading → List ℕ → Option (List ℕ)
+  pub layout : Heading → List ℕ → List ℕ
+  pub answer : List Entry → ℕ → Time → List ℕ → Answer
+
+-- The environment that a site gives, with these in their places.
+abbrev pub environment_with : Undefined → SiteData → Environment
+environment_with u site = record {
+  routing = record {
+    is_interface = is_interface site;
+    chain = framings_at site;
+    ident = ident_of site;
+    interface_of = interface_of site;
+    routes = is_routed site;
+    packet_names = packet_names site;
+    command_names = command_names site;
+    spelling = u.spelling;
+  };
+  is_slot = is_slot site;
+  is_desk = is_desk site;
+  is_logged = is_logged site;
+  layout = u.layout;
+  answer = u.answer;
+  most_entries = entries_limit;
+  most_bytes = bytes_limit;
+}
+
+-- Stand-ins: nothing is spelled, laid out or answered. No event that a script can state so far asks for one of these.
+abbrev pub stand_ins : Undefined
+stand_ins = record { spelling = λ by heading bytes. None; layout = λ heading bytes. []; answer = λ history desk time body. record { text = None; entries = [] } }
+
+abbrev pub site_environment : SiteData → Environment
+site_environment site = environment_with stand_ins site
