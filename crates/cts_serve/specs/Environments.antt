@@ -13,7 +13,7 @@ use Rattle.cts_entry.specs.declared.entry.Entry.{Entry}
 use Rattle.cts_ident.specs.Identification.{identified, identified_command, named, router_of, routes_at}
 use Rattle.cts_proto.specs.Chains.{framings_at}
 use Rattle.cts_proto.specs.Framing.{Heading, Output}
-use Rattle.cts_serve.specs.Grounds.{entries_limit, bytes_limit}
+use Rattle.cts_serve.specs.HistoryLimits.{entries_limit, bytes_limit}
 
 -- ---- makers
 

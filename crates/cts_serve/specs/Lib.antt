@@ -1,4 +1,4 @@
-pub mod Grounds
+pub mod HistoryLimits
 pub mod Environments
 pub mod Worlds
 pub mod Texts
