@@ -1,4 +1,4 @@
--- The limits of a history.
+-- The most that a history holds.
 use Rattle.std.specs.Prelude.{ℕ}
 
 -- the most entries of a history, and the most bytes
