@@ -1,23 +1,20 @@
 -- Laws of the rows.
-use Rattle.std.specs.Prelude.{◌≡◌, ◌↔◌, ℕ, true, List, ◌++◌, Some, IsTrue}
+use Rattle.std.specs.Prelude.{◌≡◌, ◌≤◌, ◌↔◌, ℕ, true, List, ◌++◌, length, Some, IsTrue}
 use Rattle.cts_def.specs.Protocols.{SpecData, is_sound_spec}
-use Rattle.cts_def.specs.Sites.{SiteData}
-use Rattle.cts_proto.specs.Chains.{framings_at}
 use Rattle.cts_def.specs.declared.bad_cause.BadCause.{BadCause}
 use Rattle.cts_proto.specs.Errors.{IsError}
 use Rattle.cts_proto.specs.Frames.{IsFrame}
 use Rattle.cts_proto.specs.Framing.{IsSound}
 use Rattle.cts_proto.specs.Heads.{AreBytes, HeadData, FitsHead, head_bytes, has_head}
-use Rattle.cts_proto.specs.Laws.{AllSound}
 use Rattle.cts_proto.specs.Rows.{framing_of}
 
 -- each protocol, with any parameters, is a sound framing
 abbrev pub AreSound : Type 0
 AreSound = (s : SpecData) → IsSound (framing_of s)
 
--- and so is each one of a site's chains
-abbrev pub ChainsAreSound : Type 0
-ChainsAreSound = (site : SiteData) (by : ℕ) → AllSound (framings_at site by)
+-- and what a frame gives is no longer than the frame
+abbrev pub AreShort : Type 0
+AreShort = (s : SpecData) (w : List ℕ) → length ((framing_of s).output w).bytes ≤ length w
 
 -- with parameters that a site may give, the test of a framing passes exactly the whole frames
 abbrev pub FramesAreExact : Type 0

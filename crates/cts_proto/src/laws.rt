@@ -1,6 +1,7 @@
 // Laws of the definitions. Each function does nothing: its contract is the law.
+ghost use Rattle.cts_proto.specs.ChainLaws.{AllMakersHaveTheirChains, ChainsAreSound, ChainsHaveStages};
 ghost use Rattle.cts_proto.specs.Laws.{HasCut, HasOneCut, HasPackets, HasOnePackets, PacketsGrow, HoweverCut};
-ghost use Rattle.cts_proto.specs.RowLaws.{AreSound, ChainsAreSound, FramesAreExact, ErrorsAreExact, HeadsAreExact};
+ghost use Rattle.cts_proto.specs.RowLaws.{AreSound, AreShort, FramesAreExact, ErrorsAreExact, HeadsAreExact};
 ghost use Rattle.cts_proto.specs.SoFar.{NothingSoFar, MoreIsTaken, PieceComes, AllIsTaken};
 ghost use Rattle.cts_proto.specs.SyncPatterns.{CutsFollowThePattern, NothingIsSkipped};
 ghost use Rattle.cts_proto.specs.WorkedCuts.{WorkedCuts};
@@ -42,15 +43,24 @@ pub fn packets()
     ensures however_cut { HoweverCut }
 {}
 
-/// Each protocol, with any parameters, is a sound framing, and so is each one of the chains of a
-/// site: the laws of cuts and packets hold of them. With parameters that a site may give, the test
-/// of a protocol passes exactly the frames of which all conditions of its description hold, and an
-/// error stands exactly where it is the first that the description has there.
+/// Each protocol, with any parameters, is a sound framing, so the laws of cuts and packets hold of
+/// it, and what a frame gives is no longer than the frame. With parameters that a site may give, the
+/// test of a protocol passes exactly the frames of which all conditions of its description hold, and
+/// an error stands exactly where it is the first that the description has there.
 pub fn rows()
     ensures sound { AreSound }
-    ensures chains { ChainsAreSound }
+    ensures short { AreShort }
     ensures frames { FramesAreExact }
     ensures errors { ErrorsAreExact }
+{}
+
+/// The bytes of each interface, and of each slot of a router, are cut by those of its protocols that
+/// read, in order, and no other maker's bytes are cut. These framings are sound, and a chain that a
+/// site may have has one to four of them.
+pub fn chains()
+    ensures makers { AllMakersHaveTheirChains }
+    ensures sound { ChainsAreSound }
+    ensures stages { ChainsHaveStages }
 {}
 
 /// Bytes hold a whole head exactly where they begin with the bytes of one.
