@@ -3,6 +3,7 @@ pub mod OneCut
 pub mod SomeCut
 pub mod Takings
 pub mod Stagings
+pub mod OneStage
 pub mod Fronts
 pub mod Steady
 pub mod Endings

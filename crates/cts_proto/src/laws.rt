@@ -1,15 +1,17 @@
 // Laws of the definitions. Each function does nothing: its contract is the law.
 ghost use Rattle.cts_proto.specs.ChainLaws.{AllMakersHaveTheirChains, ChainsAreSound, ChainsHaveStages};
-ghost use Rattle.cts_proto.specs.Laws.{HasCut, HasOneCut, HasPackets, HasOnePackets, PacketsGrow, HoweverCut};
+ghost use Rattle.cts_proto.specs.Laws.{HasCut, HasOneCut, HasOneStage, HasPackets, HasOnePackets, PacketsGrow, HoweverCut};
 ghost use Rattle.cts_proto.specs.RowLaws.{AreSound, AreShort, FramesAreExact, ErrorsAreExact, HeadsAreExact};
 ghost use Rattle.cts_proto.specs.SoFar.{NothingSoFar, MoreIsTaken, PieceComes, AllIsTaken};
 ghost use Rattle.cts_proto.specs.SyncPatterns.{CutsFollowThePattern, NothingIsSkipped};
 ghost use Rattle.cts_proto.specs.WorkedCuts.{WorkedCuts};
 
-/// Under a sound framing each list of bytes has exactly one cut.
+/// Under a sound framing each list of bytes has exactly one cut: what it gives and leaves, its
+/// frames, and the bytes skipped before each. So a stage cuts what comes to it in one way.
 pub fn cuts()
     ensures some { HasCut }
     ensures one { HasOneCut }
+    ensures stage { HasOneStage }
 {}
 
 /// Under a sound framing the cut is said by the occurrences of the sync pattern alone: each frame
