@@ -28,3 +28,4 @@ pub mod Reaches
 pub mod RowsExact
 pub mod ErrorsExact
 pub mod Worked
+pub mod BurstCutting

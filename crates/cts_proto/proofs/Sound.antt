@@ -2,7 +2,7 @@
 use Rattle.std.proofs.Common.{ℕ, ◌-◌, ◌≤◌, Bool, true, false, cond, List, [], ◌∷◌, length, map, filter, take, drop, arith}
 use Rattle.std.proofs.lemmas.List.{length-drop, length-take}
 use Rattle.cts_proto.specs.Heads.{head_end}
-use Rattle.cts_proto.specs.RowLaws.{AreShort}
+use Rattle.cts_proto.specs.RowLaws.{AreNoLonger}
 use Rattle.cts_def.specs.Protocols.{SpecData, Burst, Fixed, Length, Terminated, Preidentified, UseData, reads}
 use Rattle.cts_proto.specs.Chains.{use_framing, uses_at}
 use Rattle.cts_proto.specs.Framing.{IsSound}
@@ -32,12 +32,12 @@ strip_short : (b : Bool) (n : ℕ) (w : List ℕ) → length (cond b (take n w) 
 strip_short true n w = omega (arith, length-take n w)
 strip_short false n w = omega arith
 
-pub are_short : AreShort
-are_short (Burst b) w = drop_short b.discard w
-are_short (Fixed f) w = drop_short f.discard w
-are_short (Length l) w = drop_short l.discard w
-are_short (Terminated t) w = omega (arith, drop_short t.discard (stripped t w), strip_short t.strip (length w - length t.read) w)
-are_short (Preidentified p) w = omega (arith, drop_short (head_end (drop (length p.sync) w)) (drop (length p.sync) w), drop_short (length p.sync) w)
+pub are_no_longer : AreNoLonger
+are_no_longer (Burst b) w = drop_short b.discard w
+are_no_longer (Fixed f) w = drop_short f.discard w
+are_no_longer (Length l) w = drop_short l.discard w
+are_no_longer (Terminated t) w = omega (arith, drop_short t.discard (stripped t w), strip_short t.strip (length w - length t.read) w)
+are_no_longer (Preidentified p) w = omega (arith, drop_short (head_end (drop (length p.sync) w)) (drop (length p.sync) w), drop_short (length p.sync) w)
 
 -- ---- chains
 

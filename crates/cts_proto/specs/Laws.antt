@@ -20,19 +20,19 @@ abbrev pub HasOneCut : Type 0
 HasOneCut = (f : Framing) (b : List ℕ) (c d : Pieces) → IsSound f → (h : IsCut f b c) (k : IsCut f b d) → IsSameCut f b c d h k
 
 -- the frames of a cut with the bytes skipped before each, and the bytes skipped behind the last
-pub record Frames : Type 0 where
+pub record FramesAndGaps : Type 0 where
   pub parts : List Part
   pub gap : List ℕ
 
-abbrev pub cut_frames : (f : Framing) (b : List ℕ) (c : Pieces) → IsCut f b c → Frames
+abbrev pub cut_frames : (f : Framing) (b : List ℕ) (c : Pieces) → IsCut f b c → FramesAndGaps
 cut_frames f b c h = record { parts = h.taken.parts; gap = h.taken.gap }
 
 -- the frames of each piece that was cut for itself, and of what was left of the last one
-abbrev pub each_frames : (f : Framing) (from : List ℕ) (pieces : List (List ℕ)) (c : Pieces) → CutEach f from pieces c → List Frames
+abbrev pub each_frames : (f : Framing) (from : List ℕ) (pieces : List (List ℕ)) (c : Pieces) → CutEach f from pieces c → List FramesAndGaps
 each_frames f from [] c h = cut_frames f from c h ∷ []
 each_frames f from (p ∷ ps) c h = cut_frames f (from ++ p) h.0 h.2 ∷ each_frames f h.0.rest ps h.1 h.3
 
-abbrev pub frames_by : (by_piece : Bool) (f : Framing) (pieces : List (List ℕ)) (c : Pieces) → cut_by by_piece f pieces c → List Frames
+abbrev pub frames_by : (by_piece : Bool) (f : Framing) (pieces : List (List ℕ)) (c : Pieces) → cut_by by_piece f pieces c → List FramesAndGaps
 frames_by false f pieces c h = cut_frames f (joined pieces) c h ∷ []
 frames_by true f pieces c h = each_frames f [] pieces c h
 

@@ -13,8 +13,8 @@ abbrev pub AreSound : Type 0
 AreSound = (s : SpecData) → IsSound (framing_of s)
 
 -- and what a frame gives is no longer than the frame
-abbrev pub AreShort : Type 0
-AreShort = (s : SpecData) (w : List ℕ) → length ((framing_of s).output w).bytes ≤ length w
+abbrev pub AreNoLonger : Type 0
+AreNoLonger = (s : SpecData) (w : List ℕ) → length ((framing_of s).output w).bytes ≤ length w
 
 -- with parameters that a site may give, the test of a framing passes exactly the whole frames
 abbrev pub FramesAreExact : Type 0

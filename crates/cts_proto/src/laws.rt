@@ -1,7 +1,8 @@
 // Laws of the definitions. Each function does nothing: its contract is the law.
+ghost use Rattle.cts_proto.specs.Bursts.{AllBurstCuts};
 ghost use Rattle.cts_proto.specs.ChainLaws.{AllMakersHaveTheirChains, ChainsAreSound, ChainsHaveStages};
 ghost use Rattle.cts_proto.specs.Laws.{HasCut, HasOneCut, HasOneStage, HasPackets, HasOnePackets, PacketsGrow, HoweverCut};
-ghost use Rattle.cts_proto.specs.RowLaws.{AreSound, AreShort, FramesAreExact, ErrorsAreExact, HeadsAreExact};
+ghost use Rattle.cts_proto.specs.RowLaws.{AreSound, AreNoLonger, FramesAreExact, ErrorsAreExact, HeadsAreExact};
 ghost use Rattle.cts_proto.specs.SoFar.{NothingSoFar, MoreIsTaken, PieceComes, AllIsTaken};
 ghost use Rattle.cts_proto.specs.SyncPatterns.{CutsFollowThePattern, NothingIsSkipped};
 ghost use Rattle.cts_proto.specs.WorkedCuts.{WorkedCuts};
@@ -51,9 +52,16 @@ pub fn packets()
 /// an error stands exactly where it is the first that the description has there.
 pub fn rows()
     ensures sound { AreSound }
-    ensures short { AreShort }
+    ensures no_longer { AreNoLonger }
     ensures frames { FramesAreExact }
     ensures errors { ErrorsAreExact }
+{}
+
+/// BURST cuts off the rest so far and a piece behind it one frame: all bytes from the leftmost
+/// occurrence of its sync pattern to the end. One that is too long is an error, and without an
+/// occurrence the longest suffix that may become the pattern is kept.
+pub fn bursts()
+    ensures { AllBurstCuts }
 {}
 
 /// The bytes of each interface, and of each slot of a router, are cut by those of its protocols that
