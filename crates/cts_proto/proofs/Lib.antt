@@ -26,6 +26,7 @@ pub mod HeadWhole
 pub mod Starts
 pub mod Reaches
 pub mod RowsExact
+pub mod OutputsExact
 pub mod ErrorsExact
 pub mod Worked
 pub mod BurstCutting

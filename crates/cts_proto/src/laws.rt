@@ -2,7 +2,7 @@
 ghost use Rattle.cts_proto.specs.Bursts.{AllBurstCuts};
 ghost use Rattle.cts_proto.specs.ChainLaws.{AllMakersHaveTheirChains, ChainsAreSound, ChainsHaveStages};
 ghost use Rattle.cts_proto.specs.Laws.{HasCut, HasOneCut, HasOneStage, HasPackets, HasOnePackets, PacketsGrow, HoweverCut};
-ghost use Rattle.cts_proto.specs.RowLaws.{AreSound, AreNoLonger, FramesAreExact, ErrorsAreExact, HeadsAreExact};
+ghost use Rattle.cts_proto.specs.RowLaws.{AreSound, AreNoLonger, FramesAreExact, OutputsAreExact, ErrorsAreExact, HeadsAreExact};
 ghost use Rattle.cts_proto.specs.SoFar.{NothingSoFar, MoreIsTaken, PieceComes, AllIsTaken};
 ghost use Rattle.cts_proto.specs.SyncPatterns.{CutsFollowThePattern, NothingIsSkipped};
 ghost use Rattle.cts_proto.specs.WorkedCuts.{WorkedCuts};
@@ -48,12 +48,14 @@ pub fn packets()
 
 /// Each protocol, with any parameters, is a sound framing, so the laws of cuts and packets hold of
 /// it, and what a frame gives is no longer than the frame. With parameters that a site may give, the
-/// test of a protocol passes exactly the frames of which all conditions of its description hold, and
-/// an error stands exactly where it is the first that the description has there.
+/// test of a protocol passes exactly the frames of which all conditions of its description hold, what
+/// they give is what the description takes of them, and an error stands exactly where it is the first
+/// that the description has there.
 pub fn rows()
     ensures sound { AreSound }
     ensures no_longer { AreNoLonger }
     ensures frames { FramesAreExact }
+    ensures outputs { OutputsAreExact }
     ensures errors { ErrorsAreExact }
 {}
 
