@@ -62,7 +62,7 @@ too_long_test n c e h = rw (not_within_test n frame_limit h) (ap Wrong (sym e))
 
 -- ---- BURST
 
-burst_exact : (b : BurstData) (u : List ℕ) (c : BadCause) → (burst_error b u ≡ Some c) ↔ IsBurstError b u c
+pub burst_exact : (b : BurstData) (u : List ℕ) (c : BadCause) → (burst_error b u ≡ Some c) ↔ IsBurstError b u c
 burst_exact b u c = (
   λ h.
       let t = error_tells (begins b.sync u && nat_lt frame_limit (length u)) (Some TooLong) c h in

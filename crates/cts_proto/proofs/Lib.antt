@@ -3,6 +3,7 @@ pub mod OneCut
 pub mod SomeCut
 pub mod Takings
 pub mod Stagings
+pub mod OneStage
 pub mod Fronts
 pub mod Steady
 pub mod Endings
@@ -25,5 +26,7 @@ pub mod HeadWhole
 pub mod Starts
 pub mod Reaches
 pub mod RowsExact
+pub mod OutputsExact
 pub mod ErrorsExact
 pub mod Worked
+pub mod BurstCutting

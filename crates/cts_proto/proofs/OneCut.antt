@@ -41,7 +41,7 @@ no_part f s p x gap rest bad e h n r =
     let place = first_place f.sync p.gap gap (p.frame ++ x) rest e n r.clear (whole_agrees f s p.frame x h) r.ends.synced in
     r.ends.no_frame p.frame x (sym place.1) h
 
-record SameCut (ps qs : List Part) (gap gap' rest rest' : List ℕ) (bad bad' : Option BadCause) : Type 0 where
+pub record SameCut (ps qs : List Part) (gap gap' rest rest' : List ℕ) (bad bad' : Option BadCause) : Type 0 where
   pub parts : ps ≡ qs
   pub gap_is : gap ≡ gap'
   pub rest_is : rest ≡ rest'
@@ -59,20 +59,23 @@ parts_one f s (p ∷ ps) (q ∷ qs) b gap gap' rest rest' bad bad' h k r r' =
     let tail = parts_one f s ps qs h.0 gap gap' rest rest' bad bad' h.4 (subst (λ t. Parts f qs t (gap' ++ rest')) (sym head.1) k.4) r r' in
     record { parts = cc (head.0, tail.parts); gap_is = tail.gap_is; rest_is = tail.rest_is; bad_is = tail.bad_is }
 
--- what two cuts of one list have in common
-cut_parts : (f : Framing) (b : List ℕ) (c d : Pieces) → IsSound f → (h : IsCut f b c) (k : IsCut f b d) → SameCut h.taken.parts k.taken.parts h.taken.gap k.taken.gap c.rest d.rest c.bad d.bad
-cut_parts f b c d s h k = parts_one f s h.taken.parts k.taken.parts b h.taken.gap k.taken.gap c.rest d.rest c.bad d.bad h.taken.cut k.taken.cut
-    (record { clear = h.taken.clear; ends = h.ends }) (record { clear = k.taken.clear; ends = k.ends })
+-- the cuts of one list, however it is written
+pub same_cut : (f : Framing) → IsSound f → (b b' : List ℕ) → b ≡ b' → (c d : Pieces) (h : IsCut f b c) (k : IsCut f b' d) → SameCut h.taken.parts k.taken.parts h.taken.gap k.taken.gap c.rest d.rest c.bad d.bad
+same_cut f s b b' e c d h k =
+    let t = h.taken in
+    let u = k.taken in
+    parts_one f s t.parts u.parts b t.gap u.gap c.rest d.rest c.bad d.bad t.cut (subst (λ v. Parts f u.parts v (u.gap ++ d.rest)) (sym e) u.cut)
+    (record { clear = t.clear; ends = h.ends }) (record { clear = u.clear; ends = k.ends })
 
 pub one_cut : (f : Framing) (b : List ℕ) (c d : Pieces) → IsSound f → IsCut f b c → IsCut f b d → c ≡ d
 one_cut f b c d s h k =
     let t = h.taken in
     let u = k.taken in
-    let same = cut_parts f b c d s h k in
+    let same = same_cut f s b b refl c d h k in
     let outs : c.outs ≡ d.outs = t.outs_are ∙ (ap (outputs f) same.parts ∙ sym u.outs_are) in
     let skipped : c.skipped ≡ d.skipped = omega (arith, t.skipped_is, u.skipped_is, ap gaps same.parts, ap length same.gap_is) in
     let empty : c.empty ≡ d.empty = t.empty_is ∙ (ap (empties f) same.parts ∙ sym u.empty_is) in
     λ i. record { outs = outs i; skipped = skipped i; empty = empty i; rest = same.rest_is i; bad = same.bad_is i }
 
 pub has_one_cut : HasOneCut
-has_one_cut f b c d s h k = let same = cut_parts f b c d s h k in record { pieces = one_cut f b c d s h k; parts = same.parts; gap = same.gap_is }
+has_one_cut f b c d s h k = let same = same_cut f s b b refl c d h k in record { pieces = one_cut f b c d s h k; parts = same.parts; gap = same.gap_is }

@@ -45,7 +45,7 @@ begins_split s u h =
 nothing : (x : List ℕ) → x ≡ [] → (length x == 0) ≡ true
 nothing x e = ap (λ v. length v == 0) e
 
-burst_exact : (b : BurstData) (w x : List ℕ) → (burst_whole b w x ≡ true) ↔ IsBurstFrame b w x
+pub burst_exact : (b : BurstData) (w x : List ℕ) → (burst_whole b w x ≡ true) ↔ IsBurstFrame b w x
 burst_exact b w x = (
   λ h. let t = burst_tells b w x h in record { last = t.nothing; some = t.some; begin = begins_tells b.sync w t.begin; within = t.within },
   λ f. rw (nothing x f.last, le_test 1 (length w) f.some, begins_test b.sync w f.begin, le_test (length w) frame_limit f.within) refl,

@@ -58,7 +58,7 @@ stage_some : (b : Bool) (f : Framing) → IsSound f → (ps : List (List ℕ)) �
 stage_some false f s ps = some_cut f (joined ps) s
 stage_some true f s ps = each_some f s [] ps
 
-stage_one : (b : Bool) (f : Framing) → IsSound f → (ps : List (List ℕ)) (c d : Pieces) → cut_by b f ps c → cut_by b f ps d → c ≡ d
+pub stage_one : (b : Bool) (f : Framing) → IsSound f → (ps : List (List ℕ)) (c d : Pieces) → cut_by b f ps c → cut_by b f ps d → c ≡ d
 stage_one false f s ps c d h k = one_cut f (joined ps) c d s h k
 stage_one true f s ps c d h k = each_one f s [] ps c d h k
 

@@ -125,6 +125,15 @@ module _ (s b gap u : List ℕ) (e : b ≡ gap ++ u) (r : FirstPlace s b) where
       let near : length r.rest ≤ length u = k.longest r.gap r.rest r.all (few, agree_short s r.rest r.agrees (omega (arith, few))) in
       (clear_by (omega (arith, away, near, ap length e, ap length r.all, length-append gap u, length-append r.gap r.rest)), agrees)
 
+-- no frame begins before a leftmost occurrence, nor before an end
+pub clear_of_leftmost : (s b gap u : List ℕ) → b ≡ gap ++ u → IsLeftmost s b gap → NoneBegins s gap u
+clear_of_leftmost s b gap u e m = leftmost_clear s b gap u e (first_place s b) m
+
+pub clear_of_end : (s b gap u : List ℕ) → EndsByPattern s b gap u → NoneBegins s gap u × Agree s u
+clear_of_end s b gap u h =
+    let r = first_place s b in
+    end_clear s b gap u h.all r h (elim (dec_le (length s) (length r.rest)) [ yes y ↦ inl y | no z ↦ inr z ])
+
 -- ---- whole cuts
 
 follows : (f : Framing) → IsSound f → (ps : List Part) (b gap rest : List ℕ) → Parts f ps b (gap ++ rest) → NoneBegins f.sync gap rest → Agree f.sync rest → FollowPattern f ps b gap rest
@@ -142,12 +151,11 @@ pub record Back (f : Framing) (ps : List Part) (b gap rest : List ℕ) : Type 0 
 
 back : (f : Framing) (ps : List Part) (b gap rest : List ℕ) → FollowPattern f ps b gap rest → Back f ps b gap rest
 back f [] b gap rest h =
-    let r = first_place f.sync b in
-    let end = end_clear f.sync b gap rest h.all r h (elim (dec_le (length f.sync) (length r.rest)) [ yes y ↦ inl y | no z ↦ inr z ]) in
+    let end = clear_of_end f.sync b gap rest h in
     record { parts = h.all; clear = end.0; agrees = end.1 }
 back f (p ∷ ps) b gap rest h =
     let more = back f ps h.0 gap rest h.5 in
-    record { parts = (h.0, h.1, h.2, leftmost_clear f.sync b p.gap (p.frame ++ h.0) h.1 (first_place f.sync b) h.4, more.parts); clear = more.clear; agrees = more.agrees }
+    record { parts = (h.0, h.1, h.2, clear_of_leftmost f.sync b p.gap (p.frame ++ h.0) h.1 h.4, more.parts); clear = more.clear; agrees = more.agrees }
 
 by_pattern : (f : Framing) (b : List ℕ) (c : Pieces) → IsSound f → IsCut f b c → IsCutByPattern f b c
 by_pattern f b c s h =

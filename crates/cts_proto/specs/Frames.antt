@@ -1,8 +1,8 @@
 -- What a whole frame of each protocol is, said once more by all that holds of it.
-use Rattle.std.specs.Prelude.{◌≡◌, ◌≤◌, ℕ, ◌+◌, pos, false, List, [], ◌++◌, length, Option, Some, None}
+use Rattle.std.specs.Prelude.{◌≡◌, ◌≤◌, ℕ, ◌+◌, pos, false, List, [], ◌++◌, length, drop, Option, Some, None, if◌then◌else◌}
 use Rattle.cts_def.specs.Protocols.{BurstData, FixedData, LengthData, TerminatedData, PreidentifiedData, SpecData, Burst, Fixed, Length, Terminated, Preidentified}
 use Rattle.cts_def.specs.Starts.{StartData}
-use Rattle.cts_proto.specs.Framing.{BeginsWith}
+use Rattle.cts_proto.specs.Framing.{BeginsWith, Output, plain}
 use Rattle.cts_proto.specs.Heads.{HeadData, FitsHead, head_bytes}
 use Rattle.cts_proto.specs.Rows.{frame_limit, reach, field, length_by, first_start, decided_at}
 use Rattle.cts_proto.specs.SyncPatterns.{IsLeftmost}
@@ -63,3 +63,12 @@ IsFrame (Fixed f) w x = IsFixedFrame f w
 IsFrame (Length l) w x = IsLengthFrame l w
 IsFrame (Terminated t) w x = IsTerminatedFrame t w
 IsFrame (Preidentified p) w x = IsPreidentifiedFrame p w
+
+-- What a whole frame gives: its bytes without the termination, where that is stripped, and then without the discarded ones;
+-- of PREIDENTIFIED the bytes behind the head, with the head's time and names.
+abbrev pub output_of : (s : SpecData) (w x : List ℕ) → IsFrame s w x → Output
+output_of (Burst b) w x h = plain (drop b.discard w)
+output_of (Fixed f) w x h = plain (drop f.discard w)
+output_of (Length l) w x h = plain (drop l.discard w)
+output_of (Terminated t) w x h = plain (drop t.discard (if t.strip then t.sync ++ h.body else w))
+output_of (Preidentified p) w x h = record { bytes = h.bytes; heading = Some (record { time = h.head.time; target = h.head.target; packet = h.head.packet }) }

@@ -9,6 +9,8 @@ pub mod Stating
 pub mod Heads
 pub mod Rows
 pub mod Chains
+pub mod ChainLaws
+pub mod Bursts
 pub mod Frames
 pub mod Errors
 pub mod RowLaws

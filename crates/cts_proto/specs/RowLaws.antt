@@ -1,27 +1,28 @@
 -- Laws of the rows.
-use Rattle.std.specs.Prelude.{◌≡◌, ◌↔◌, ℕ, true, List, ◌++◌, Some, IsTrue}
+use Rattle.std.specs.Prelude.{◌≡◌, ◌≤◌, ◌↔◌, ℕ, true, List, ◌++◌, length, Some, IsTrue}
 use Rattle.cts_def.specs.Protocols.{SpecData, is_sound_spec}
-use Rattle.cts_def.specs.Sites.{SiteData}
-use Rattle.cts_proto.specs.Chains.{framings_at}
 use Rattle.cts_def.specs.declared.bad_cause.BadCause.{BadCause}
 use Rattle.cts_proto.specs.Errors.{IsError}
-use Rattle.cts_proto.specs.Frames.{IsFrame}
+use Rattle.cts_proto.specs.Frames.{IsFrame, output_of}
 use Rattle.cts_proto.specs.Framing.{IsSound}
 use Rattle.cts_proto.specs.Heads.{AreBytes, HeadData, FitsHead, head_bytes, has_head}
-use Rattle.cts_proto.specs.Laws.{AllSound}
 use Rattle.cts_proto.specs.Rows.{framing_of}
 
 -- each protocol, with any parameters, is a sound framing
 abbrev pub AreSound : Type 0
 AreSound = (s : SpecData) → IsSound (framing_of s)
 
--- and so is each one of a site's chains
-abbrev pub ChainsAreSound : Type 0
-ChainsAreSound = (site : SiteData) (by : ℕ) → AllSound (framings_at site by)
+-- and what a frame gives is no longer than the frame
+abbrev pub AreNoLonger : Type 0
+AreNoLonger = (s : SpecData) (w : List ℕ) → length ((framing_of s).output w).bytes ≤ length w
 
 -- with parameters that a site may give, the test of a framing passes exactly the whole frames
 abbrev pub FramesAreExact : Type 0
 FramesAreExact = (s : SpecData) (w x : List ℕ) → IsTrue (is_sound_spec s) → AreBytes w → ((framing_of s).whole w x ≡ true) ↔ IsFrame s w x
+
+-- what each of them gives is its output
+abbrev pub OutputsAreExact : Type 0
+OutputsAreExact = (s : SpecData) (w x : List ℕ) (h : IsFrame s w x) → (framing_of s).output w ≡ output_of s w x h
 
 -- and its error stands exactly where the description has it
 abbrev pub ErrorsAreExact : Type 0

@@ -1,14 +1,18 @@
 // Laws of the definitions. Each function does nothing: its contract is the law.
-ghost use Rattle.cts_proto.specs.Laws.{HasCut, HasOneCut, HasPackets, HasOnePackets, PacketsGrow, HoweverCut};
-ghost use Rattle.cts_proto.specs.RowLaws.{AreSound, ChainsAreSound, FramesAreExact, ErrorsAreExact, HeadsAreExact};
+ghost use Rattle.cts_proto.specs.Bursts.{AllBurstCuts};
+ghost use Rattle.cts_proto.specs.ChainLaws.{AllMakersHaveTheirChains, ChainsAreSound, ChainsHaveStages};
+ghost use Rattle.cts_proto.specs.Laws.{HasCut, HasOneCut, HasOneStage, HasPackets, HasOnePackets, PacketsGrow, HoweverCut};
+ghost use Rattle.cts_proto.specs.RowLaws.{AreSound, AreNoLonger, FramesAreExact, OutputsAreExact, ErrorsAreExact, HeadsAreExact};
 ghost use Rattle.cts_proto.specs.SoFar.{NothingSoFar, MoreIsTaken, PieceComes, AllIsTaken};
 ghost use Rattle.cts_proto.specs.SyncPatterns.{CutsFollowThePattern, NothingIsSkipped};
 ghost use Rattle.cts_proto.specs.WorkedCuts.{WorkedCuts};
 
-/// Under a sound framing each list of bytes has exactly one cut.
+/// Under a sound framing each list of bytes has exactly one cut: what it gives and leaves, its
+/// frames, and the bytes skipped before each. So a stage cuts what comes to it in one way.
 pub fn cuts()
     ensures some { HasCut }
     ensures one { HasOneCut }
+    ensures stage { HasOneStage }
 {}
 
 /// Under a sound framing the cut is said by the occurrences of the sync pattern alone: each frame
@@ -42,15 +46,33 @@ pub fn packets()
     ensures however_cut { HoweverCut }
 {}
 
-/// Each protocol, with any parameters, is a sound framing, and so is each one of the chains of a
-/// site: the laws of cuts and packets hold of them. With parameters that a site may give, the test
-/// of a protocol passes exactly the frames of which all conditions of its description hold, and an
-/// error stands exactly where it is the first that the description has there.
+/// Each protocol, with any parameters, is a sound framing, so the laws of cuts and packets hold of
+/// it, and what a frame gives is no longer than the frame. With parameters that a site may give, the
+/// test of a protocol passes exactly the frames of which all conditions of its description hold, what
+/// they give is what the description takes of them, and an error stands exactly where it is the first
+/// that the description has there.
 pub fn rows()
     ensures sound { AreSound }
-    ensures chains { ChainsAreSound }
+    ensures no_longer { AreNoLonger }
     ensures frames { FramesAreExact }
+    ensures outputs { OutputsAreExact }
     ensures errors { ErrorsAreExact }
+{}
+
+/// BURST cuts off the rest so far and a piece behind it one frame: all bytes from the leftmost
+/// occurrence of its sync pattern to the end. One that is too long is an error, and without an
+/// occurrence the longest suffix that may become the pattern is kept.
+pub fn bursts()
+    ensures { AllBurstCuts }
+{}
+
+/// The bytes of each interface, and of each slot of a router, are cut by those of its protocols that
+/// read, in order, and no other maker's bytes are cut. These framings are sound, and a chain that a
+/// site may have has one to four of them.
+pub fn chains()
+    ensures makers { AllMakersHaveTheirChains }
+    ensures sound { ChainsAreSound }
+    ensures stages { ChainsHaveStages }
 {}
 
 /// Bytes hold a whole head exactly where they begin with the bytes of one.

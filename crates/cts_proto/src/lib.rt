@@ -7,7 +7,8 @@ mod laws;
 
 pub use cutting::{Cutting, cut_length};
 pub use laws::{
-    cuts, cuts_follow_the_sync_pattern, heads, packets, rows, taken_so_far, worked_cuts,
+    bursts, chains, cuts, cuts_follow_the_sync_pattern, heads, packets, rows, taken_so_far,
+    worked_cuts,
 };
 
 #[cfg(test)]
