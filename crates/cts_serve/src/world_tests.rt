@@ -1,8 +1,10 @@
 // Events that no script can ask for yet, and a history that is full.
-ghost use Rattle.std.specs.Prelude.{◌≡◌, length, vec_len, IfOk};
+ghost use Rattle.std.specs.Prelude.{◌≡◌, true, length, vec_len, IfOk};
+ghost use Rattle.cts_serve.specs.Forms.{is_built_site};
 
 use crate::Status;
 use crate::events::do_event;
+use crate::form::is_built_site;
 use crate::refusal::Refusal;
 use crate::replay::{put_stop, replay};
 use crate::site_tests::site_of;
@@ -25,10 +27,21 @@ fn world_of(alloc: Global, site: &Site) -> Result<World, Fail>
     }
 }
 
+fn built_site(alloc: Global) -> Result<Site, Fail>
+    ensures { IfOk result (λ site. is_built_site site ≡ true) }
+{
+    let site = site_of(alloc, "", SITE)?;
+    if is_built_site(&site) {
+        Ok(site)
+    } else {
+        Err(Fail::new("not built"))
+    }
+}
+
 #[test]
 fn a_history_of_the_most_entries_is_full(rt: HostRuntime) -> Result<(), Fail> {
     let alloc = rt.alloc();
-    let site = site_of(alloc, "", SITE)?;
+    let site = built_site(alloc)?;
     let mut world = world_of(alloc, &site)?;
     world.entries = MOST_ENTRIES;
     let mut sink = MemSink::new(alloc, Vec::new(alloc));
@@ -50,7 +63,7 @@ const TIME: Time = Time {
 #[test]
 fn the_clock_is_set_and_nothing_opens_after_a_stop(rt: HostRuntime) -> Result<(), Fail> {
     let alloc = rt.alloc();
-    let site = site_of(alloc, "", SITE)?;
+    let site = built_site(alloc)?;
     let events = [
         (1u32, Event::SetTime(TIME)),
         (2, Event::Opens(0)),
