@@ -1,4 +1,3 @@
-pub mod Grounds
 pub mod Environments
 pub mod Worlds
 pub mod Texts
