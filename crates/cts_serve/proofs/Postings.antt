@@ -17,8 +17,7 @@ use Rattle.cts_core.specs.States.{State, has_room}
 use Rattle.cts_told.specs.Routing.{packet_entries, time_in}
 use Rattle.cts_entry.specs.declared.what.What.TheVariants.{Packet}
 use Rattle.cts_def.specs.Sites.{SiteData}
-use Rattle.cts_serve.specs.Environments.{ident_of, site_environment}
-use Rattle.cts_serve.specs.HistoryLimits.{entries_limit, bytes_limit}
+use Rattle.cts_serve.specs.Environments.{bytes_limit, entries_limit, ident_of, site_environment}
 
 or_false : (b : Bool) → (b || false) ≡ b
 or_false true = refl

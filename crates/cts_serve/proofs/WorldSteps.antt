@@ -35,8 +35,7 @@ use Rattle.cts_core.proofs.Passing.{nothing_unsent}
 use Rattle.cts_told.specs.Routing.{packet_entries}
 use Rattle.cts_told.proofs.Walks.{posted_packets}
 use Rattle.cts_proto.specs.Chains.{framings_at}
-use Rattle.cts_serve.specs.Environments.{site_environment}
-use Rattle.cts_serve.specs.HistoryLimits.{entries_limit, bytes_limit}
+use Rattle.cts_serve.specs.Environments.{bytes_limit, entries_limit, site_environment}
 use Rattle.cts_serve.specs.Worlds.{Held, HeldConnection, Represents, IsLine, IsRest, line_at, shut, lost, opened, closed, extended, posted, settled}
 use Rattle.cts_serve.specs.Forms.{is_built_site}
 use Rattle.cts_serve.proofs.Building.{below, line_is, enabled_line, chain_is}

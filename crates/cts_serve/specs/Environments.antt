@@ -13,7 +13,16 @@ use Rattle.cts_entry.specs.declared.entry.Entry.{Entry}
 use Rattle.cts_ident.specs.Identification.{identified, identified_command, named, router_of, routes_at}
 use Rattle.cts_proto.specs.Chains.{framings_at}
 use Rattle.cts_proto.specs.Framing.{Heading, Output}
-use Rattle.cts_serve.specs.HistoryLimits.{entries_limit, bytes_limit}
+use Rattle.cts_script.specs.Names.{packet_names as names_of_packet, command_names}
+
+-- ---- limits
+
+-- the most entries of a history, and the most bytes
+abbrev pub entries_limit : ℕ
+entries_limit = 4000000
+
+abbrev pub bytes_limit : ℕ
+bytes_limit = 1073741824
 
 -- ---- makers
 
@@ -63,16 +72,10 @@ is_logged site interface = slice_index_or (map (λ (i : InterfaceData). i.logged
 
 -- ---- names
 
--- the target and the name of the packet of this number
-abbrev pub names_at : List PacketData → ℕ → List ℕ × List ℕ
-names_at packets number = slice_index_or (map (λ (p : PacketData). (p.target, p.name)) packets) number ([], [])
-
+-- the target and the name of a packet, which are UNKNOWN where no definition fits
 abbrev pub packet_names : SiteData → Ident → List ℕ × List ℕ
-packet_names site (Known number) = names_at site.definitions.telemetry number
+packet_names site (Known number) = names_of_packet site number
 packet_names site Unknown = (unknown, unknown)
-
-abbrev pub command_names : SiteData → ℕ → List ℕ × List ℕ
-command_names site number = names_at site.definitions.commands number
 
 -- ---- the environment
 

@@ -1,4 +1,3 @@
-pub mod HistoryLimits
 pub mod Environments
 pub mod Worlds
 pub mod Texts

@@ -1,6 +1,6 @@
 // The core that runs events: the interfaces of a site, whose frames state their length.
 ghost use Rattle.std.specs.Prelude.{◌≡◌, ◌≤◌, length, nat_lt};
-ghost use Rattle.cts_serve.specs.HistoryLimits.{bytes_limit, entries_limit};
+ghost use Rattle.cts_serve.specs.Environments.{bytes_limit, entries_limit};
 
 use crate::connection::Connection;
 use crate::posting::{drop_front, packets};
@@ -44,7 +44,7 @@ impl World {
     ghost use Rattle.cts_entry.specs.Histories.{is_stopped};
     ghost use Rattle.cts_proto.specs.Cuttings.{Tiles, IsCutting};
     ghost use Rattle.cts_serve.specs.Forms.{is_built_event, is_built_site};
-    ghost use Rattle.cts_serve.specs.HistoryLimits.{bytes_limit, entries_limit};
+    ghost use Rattle.cts_serve.specs.Environments.{bytes_limit, entries_limit};
     ghost use Rattle.cts_serve.specs.Worlds.{Steps, Represents, held_in, line_at, opened, extended, posted, closed, settled};
 
     /// A world of a site in which nothing has happened.

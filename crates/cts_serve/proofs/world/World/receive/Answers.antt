@@ -1,6 +1,6 @@
 use Rattle.std.proofs.Common.{rules, ◌≡◌, ◌+◌, true, false, ◌&&◌, length, sym, ◌∙◌, ap}
 use Rattle.std.specs.Prelude.{nat_le}
-use Rattle.cts_serve.specs.HistoryLimits.{entries_limit, bytes_limit}
+use Rattle.cts_serve.specs.Environments.{entries_limit, bytes_limit}
 use Rattle.cts_serve.specs.Worlds.{Held, held_in, posted, settled}
 use Rattle.cts_serve.proofs.WorldSteps.{may_receive_is, received, piece_full}
 use Rattle.cts_serve.proofs.world.World.receive.Goals as goal
