@@ -10,3 +10,7 @@ pub mod Runs
 pub mod Heads
 pub mod FirstRefused
 pub mod Empty
+pub mod WordsRead
+pub mod SiteSaid
+pub mod SoundSites
+pub mod Fitting

@@ -100,11 +100,11 @@ routed_keyword n keyword.Route ws cs known name e = spelled (is_name (word ws 0)
 
 -- ---- a statement without refusal
 
-none_left : {R : Type 0} (a b : Option R) → or_else a b ≡ None → (a ≡ None) × (b ≡ None)
+pub none_left : {R : Type 0} (a b : Option R) → or_else a b ≡ None → (a ≡ None) × (b ≡ None)
 none_left None b e = (refl, e)
 none_left (Some r) b e = absurd cc
 
-no_cause : (s : Statement) (o : Option SiteCause) → at_line s o ≡ None → o ≡ None
+pub no_cause : (s : Statement) (o : Option SiteCause) → at_line s o ≡ None → o ≡ None
 no_cause s None e = refl
 no_cause s (Some c) e = absurd cc
 
@@ -208,7 +208,7 @@ begins d draft all none port desks = record {
   refused = record { same = refl };
 }
 
-settled_more : (d : DefinitionsData) (l : Line) (s : StandingData) → IsFree d s.connections l → AreSettledBehind d [] (but_last s.connections) → AreSettledBehind d [] (but_last (place l s).connections)
+pub settled_more : (d : DefinitionsData) (l : Line) (s : StandingData) → IsFree d s.connections l → AreSettledBehind d [] (but_last s.connections) → AreSettledBehind d [] (but_last (place l s).connections)
 settled_more d line.Nothing s is_free settled = settled
 settled_more d (line.ApiPort port) s is_free settled = settled
 settled_more d (line.Desks desks) s is_free settled = settled

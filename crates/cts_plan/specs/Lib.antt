@@ -11,3 +11,5 @@ pub mod Completing
 pub mod SiteFiles
 pub mod Placing
 pub mod Laws
+pub mod Parameters
+pub mod SiteLaws

@@ -1,10 +1,10 @@
 -- What a statement says, read from its words. Of words that are not what their fields ask for, the reading says nothing
 -- that is used: a missing parameter and one that is no such number read as the default.
-use Rattle.std.specs.Prelude.{ℕ, pos, ◌+◌, ◌/◌, Bool, true, false, not, ◌&&◌, ◌||◌, ◌==◌, nat_eq, nat_lt, List, [], length, option_to_list, Option, Some, None, unwrap_or, option_map, is_none, if◌then◌else◌}
+use Rattle.std.specs.Prelude.{ℕ, pos, Bool, true, false, nat_eq, List, [], length, option_to_list, Option, Some, None, unwrap_or, option_map, is_none, if◌then◌else◌}
 use Rattle.cts_base.specs.Names.{is_name, in_upper_case}
-use Rattle.cts_bits.specs.Places.{is_whole, span}
+use Rattle.cts_bits.specs.Places.{is_refused}
 use Rattle.cts_bits.specs.declared.order.Order.{Order}
-use Rattle.cts_bits.specs.declared.order.Order.TheVariants.{Big, Little}
+use Rattle.cts_bits.specs.declared.order.Order.TheVariants.{Big}
 use Rattle.cts_def.specs.declared.proto_spec.Kind.{Kind}
 use Rattle.cts_def.specs.declared.proto_spec.Kind.TheVariants as kind
 use Rattle.cts_def.specs.Starts.{PlaceData}
@@ -37,16 +37,6 @@ name_of word = if is_name word then Some (in_upper_case word) else None
 
 -- ---- protocols
 
--- a little-endian bit field would begin before byte 0
-abbrev pub begins_before_start : ℕ → ℕ → Order → Bool
-begins_before_start offset bits Big = false
-begins_before_start offset bits Little = not (is_whole offset bits) && nat_lt (offset / 8 + 1) (span offset bits)
-
--- no field has this place
-abbrev pub is_bad_place : ℕ → ℕ → Order → Bool
-is_bad_place offset bits order =
-    bits == 0 || nat_lt 64 bits || nat_lt 8388608 (offset + bits) || begins_before_start offset bits order
-
 abbrev pub length_offset : List (List ℕ) → ℕ
 length_offset ws = unwrap_or (bits_of (word ws 0)) 0
 
@@ -59,7 +49,7 @@ length_order ws = unwrap_or (order_of (word ws 4)) Big
 -- the place of a length field, if there is such a one
 abbrev pub place_at : ℕ → ℕ → Order → Option PlaceData
 place_at offset bits order =
-    if is_bad_place offset bits order then None else Some (record { offset = offset; bits = bits; order = order })
+    if is_refused order offset bits then None else Some (record { offset = offset; bits = bits; order = order })
 
 abbrev pub length_place : List (List ℕ) → Option PlaceData
 length_place ws = place_at (length_offset ws) (length_bits ws) (length_order ws)
@@ -97,15 +87,18 @@ length_with ws place = Length (record {
 abbrev pub length_of : List (List ℕ) → Option SpecData
 length_of ws = option_map (length_with ws) (length_place ws)
 
-abbrev pub terminated_of : List (List ℕ) → Option SpecData
-terminated_of ws = if nat_eq (length (pattern_of (word ws 1))) 0 then None else Some (Terminated (record {
+abbrev pub terminated_with : List (List ℕ) → SpecData
+terminated_with ws = Terminated (record {
   write = pattern_of (word ws 0);
   read = pattern_of (word ws 1);
   strip = flag_or true (word ws 2);
   discard = size_or_zero (word ws 3);
   sync = pattern_of (word ws 4);
   fill = flag_or false (word ws 5);
-}))
+})
+
+abbrev pub terminated_of : List (List ℕ) → Option SpecData
+terminated_of ws = if nat_eq (length (pattern_of (word ws 1))) 0 then None else Some (terminated_with ws)
 
 abbrev pub preidentified_of : List (List ℕ) → SpecData
 preidentified_of ws = Preidentified (record { sync = pattern_of (word ws 0); max = max_of (word ws 1) })

@@ -1,10 +1,10 @@
 // What is judged when an interface or router is complete.
-ghost use Rattle.std.specs.Prelude.{◌≡◌, ◌≤◌, ◌++◌, length, find, IfOk, OnOk};
+ghost use Rattle.std.specs.Prelude.{◌≡◌, ◌≤◌, ◌++◌, length, find, IfOk, IsTrue, OnOk};
 ghost use Rattle.std.specs.List.{list_any, list_all, flat_map};
 ghost use Rattle.std.specs.Option.{option_copied};
 ghost use Rattle.cts_def.specs.Protocols.{is_id_within, is_start_within};
 ghost use Rattle.cts_def.specs.Sites.{packets_of};
-ghost use Rattle.cts_def.specs.Starts.{id_field_data, id_fields};
+ghost use Rattle.cts_def.specs.Starts.{has_places, id_field_data, id_fields};
 ghost use Rattle.cts_def.specs.Packets.{is_of};
 ghost use Rattle.cts_plan.specs.Chains.{step_reads, whole_chain};
 ghost use Rattle.cts_plan.specs.Placing.{Settles};
@@ -40,7 +40,8 @@ fn is_of(targets: &Targets, packet: &Packet) -> bool
 
 /// How the packets of these targets begin.
 pub fn starts_of(alloc: Global, targets: &Targets, packets: &[Packet]) -> Result<Vec<Start>, Memory>
-    ensures { IfOk result (λ starts. starts.items ≡ starts_of targets.now packets.now) }
+    ensures value { IfOk result (λ starts. starts.items ≡ starts_of targets.now packets.now) }
+    ensures placed { IfOk result (λ starts. IsTrue (list_all has_places starts.items)) }
 {
     let mut starts = Vec::new(alloc);
     for packet in packets {

@@ -1,6 +1,8 @@
-//! Laws of site files: which statement is refused, and what stands after the others.
+//! Laws of site files: which statement is refused, and what a site has of its statements.
 
 ghost use Rattle.cts_plan.specs.Laws.{RefusesTheFirst, TakesTheOthers, StatementsSayLines, ConnectionsAreOfTheirLines, ConnectionsHaveTheirLines, NoneStandsBefore};
+ghost use Rattle.cts_plan.specs.Parameters.{ParametersAreOfTheirWords};
+ghost use Rattle.cts_plan.specs.SiteLaws.{SitesAreOfTheirStatements, SitesAreSound, StatementsFit};
 
 /// Statements are refused at the first one that is refused behind those before it, and at their end where none is and the
 /// last interface or router is. Where nothing is refused, each statement says one line, and they say the site of all lines.
@@ -17,4 +19,22 @@ pub fn connections_are_of_their_lines()
     ensures heads { ConnectionsAreOfTheirLines }
     ensures bodies { ConnectionsHaveTheirLines }
     ensures none { NoneStandsBefore }
+{}
+
+/// Each parameter of a protocol is what its own word writes, and its default where that word is not there.
+pub fn parameters_are_of_their_words()
+    ensures { ParametersAreOfTheirWords }
+{}
+
+/// A site has an interface for each INTERFACE statement and a router for each ROUTER statement, in their order, with the
+/// name, host and port of that statement, and with the protocols, targets, routes and settings of the statements behind it.
+/// The words of each of these statements are right for their places, and each statement that opens one gives a name.
+pub fn sites_are_of_their_statements()
+    ensures said { SitesAreOfTheirStatements }
+    ensures fit { StatementsFit }
+{}
+
+/// A site of statements keeps the rules of sites.
+pub fn sites_are_sound()
+    ensures { SitesAreSound }
 {}

@@ -19,7 +19,10 @@ mod targets;
 mod words;
 
 pub use fault::{SiteCause, SiteFault};
-pub use laws::{connections_are_of_their_lines, first_statement_is_refused};
+pub use laws::{
+    connections_are_of_their_lines, first_statement_is_refused, parameters_are_of_their_words,
+    sites_are_of_their_statements, sites_are_sound,
+};
 pub use reading::read_site;
 
 #[cfg(test)]

@@ -1,9 +1,9 @@
 // What a statement says.
-ghost use Rattle.std.specs.Prelude.{◌≡◌, ◌≤◌, length, option_to_list, option_map, unwrap_or, pos, IfOk, IsTrue};
+ghost use Rattle.std.specs.Prelude.{◌≡◌, ◌≤◌, length, option_to_list, option_map, unwrap_or, pos, IfOk, IfSome, IsTrue};
 ghost use Rattle.cts_plan.specs.Chains.{are_packets_last};
 ghost use Rattle.cts_plan.specs.Words.{word, signed_of, per_count_of};
 ghost use Rattle.cts_plan.specs.Lines.{flag_or, size_or_zero, name_of, length_offset, length_bits, length_order, length_place, is_bad_length, burst_of, fixed_of, length_of, terminated_of, preidentified_of, ready, step_of, step_in, step_at, opens_router, is_server, port_at, host_of, port_or_one, opening_of, place_at, opening_line, target_line, protocol_line, route_line, port_line, desks_line, delay_line, line_of};
-ghost use Rattle.cts_def.specs.Starts.{place_data};
+ghost use Rattle.cts_def.specs.Starts.{is_place, place_data};
 ghost use Rattle.cts_plan.specs.Sound.{IsSoundLine};
 
 use crate::connection::Connection;
@@ -14,7 +14,7 @@ use crate::words::{
     signed_of, size_of, way_of, word,
 };
 use cts_base::{Bytes, Decimal, List, Memory, Name, NameFault};
-use cts_bits::{Order, Place, PlaceFault};
+use cts_bits::{Order, Place, PlaceFault, places_are_not_refused};
 use cts_def::{Kind, ProtoSpec, ProtoUse};
 use std::alloc::Global;
 
@@ -137,17 +137,22 @@ fn length_order(words: &[Bytes]) -> Order
 
 // The place of a length field, if there is such a one.
 fn place_at(offset: u32, bits: u32, order: Order) -> Option<Place>
-    ensures { option_map place_data result ≡ place_at offset bits order }
+    ensures value { option_map place_data result ≡ place_at offset bits order }
+    ensures placed { IfSome result (λ p. IsTrue (is_place (place_data p))) }
 {
     match Place::new(offset, bits, order) {
-        Ok(place) => Some(place),
+        Ok(place) => {
+            places_are_not_refused(&place);
+            Some(place)
+        }
         Err(PlaceFault::Size) => None,
         Err(PlaceFault::BeforeStart) => None,
     }
 }
 
 fn length_place(words: &[Bytes]) -> Option<Place>
-    ensures { option_map place_data result ≡ length_place words.now }
+    ensures value { option_map place_data result ≡ length_place words.now }
+    ensures placed { IfSome result (λ p. IsTrue (is_place (place_data p))) }
 {
     place_at(
         length_offset(words),

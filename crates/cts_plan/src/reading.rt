@@ -1,6 +1,7 @@
 //! Statements read to a site.
 
 ghost use Rattle.std.specs.Prelude.{◌≡◌, None, Ok, IfOk, IfErr, option_map, if◌then◌else◌};
+ghost use Rattle.cts_def.specs.Sites.{IsSoundSite};
 ghost use Rattle.cts_plan.specs.SiteFiles.{parts, opening, site_in, site_of};
 ghost use Rattle.cts_plan.specs.Completing.{due};
 ghost use Rattle.cts_plan.specs.Sound.{IsSoundLine};
@@ -115,7 +116,8 @@ pub fn read_site(
     statements: &[Statement],
     definitions: Definitions,
 ) -> Result<Site, SiteFault>
-    ensures { Gives (λ site. site) result (site_of definitions statements.now) }
+    ensures said { Gives (λ site. site) result (site_of definitions statements.now) }
+    ensures sound { IfOk result (λ site. IsSoundSite site) }
 {
     let draft = read_draft(alloc, statements, &definitions)?;
     Ok(site_of(alloc, definitions, draft)?)

@@ -1,7 +1,7 @@
 // What no clause says: which site files are refused and why, what is read where a word is left out, and that reading
 // succeeds where there is memory.
 use super::*;
-use cts_base::{Bytes, List};
+use cts_base::{Bytes, List, Name};
 use cts_bits::Place;
 use cts_def::{Definitions, Interface, ProtoSpec, Site};
 use cts_words::statements;
@@ -199,12 +199,14 @@ NotNumber| FIXED x";
 const INTERFACE: &str = "INTERFACE I tcpip_server_interface.rb 1 1 nil nil";
 
 /// Definitions of no packets.
-fn no_definitions(alloc: Global) -> Definitions {
-    Definitions {
+fn no_definitions(alloc: Global) -> Result<Definitions, Fail> {
+    let mut set_names = List::new(alloc);
+    set_names.push(Name::read(alloc, b"DEFAULT")?)?;
+    Ok(Definitions {
         telemetry: List::new(alloc),
         commands: List::new(alloc),
-        set_names: List::new(alloc),
-    }
+        set_names,
+    })
 }
 
 /// A text whose lines end with line feeds, of one whose lines end with `;`.
@@ -251,7 +253,7 @@ fn compare(rt: &impl Abort, alloc: Global, front: &str, rows: &str) -> Result<()
             return Err(Fail::new("no row"));
         };
         let text = lines(alloc, front, text)?;
-        let found = outcome(rt, alloc, &text, no_definitions(alloc))?;
+        let found = outcome(rt, alloc, &text, no_definitions(alloc)?)?;
         assert_eq!(rt; found.as_str(), want, "at {row}");
     }
     Ok(())
@@ -288,7 +290,7 @@ fn a_pattern_has_at_most_64_bytes(rt: HostRuntime) -> Result<(), Fail> {
             text.extend_from_slice(b"5A")?;
         }
         let want = if taken { "read" } else { "1 NotNumber" };
-        let found = outcome(&rt, rt.alloc(), &text, no_definitions(rt.alloc()))?;
+        let found = outcome(&rt, rt.alloc(), &text, no_definitions(rt.alloc())?)?;
         assert_eq!(rt; found.as_str(), want);
     }
     Ok(())
@@ -312,7 +314,7 @@ fn compare_one_more(
     most: u32,
 ) -> Result<(), Fail> {
     let text = as_many(alloc, front, behind, most)?;
-    let found = outcome(rt, alloc, &text, no_definitions(alloc))?;
+    let found = outcome(rt, alloc, &text, no_definitions(alloc)?)?;
     assert_eq!(rt; found.as_str(), "read");
     for row in ONE_MORE.lines() {
         let Some((cause, words)) = row.split_once('|') else {
@@ -321,7 +323,7 @@ fn compare_one_more(
         let mut text = as_many(alloc, front, behind, most)?;
         let line = format!(in alloc; "{front} M {behind}{words}\n")?;
         text.extend_from_slice(line.as_bytes())?;
-        let found = outcome(rt, alloc, &text, no_definitions(alloc))?;
+        let found = outcome(rt, alloc, &text, no_definitions(alloc)?)?;
         assert!(rt; most < 100);
         let want = format!(in alloc; "{} {cause}", most + 1)?;
         assert_eq!(rt; found.as_str(), want.as_str(), "at {row}");
@@ -491,7 +493,7 @@ fn parameters_that_are_left_out_have_defaults(rt: HostRuntime) -> Result<(), Fai
             return Err(Fail::new("no row"));
         };
         let text = lines(rt.alloc(), INTERFACE, words)?;
-        let Ok(site) = read(&rt, rt.alloc(), &text, no_definitions(rt.alloc()))? else {
+        let Ok(site) = read(&rt, rt.alloc(), &text, no_definitions(rt.alloc())?)? else {
             return Err(Fail::new("refused"));
         };
         let found = shown_chain(rt.alloc(), &site)?;
@@ -516,7 +518,7 @@ const AS_READ: [&str; 3] = [
 #[test]
 fn the_last_of_a_setting_counts(rt: HostRuntime) -> Result<(), Fail> {
     let text = lines(rt.alloc(), "", SETTINGS)?;
-    let Ok(site) = read(&rt, rt.alloc(), &text, no_definitions(rt.alloc()))? else {
+    let Ok(site) = read(&rt, rt.alloc(), &text, no_definitions(rt.alloc())?)? else {
         return Err(Fail::new("refused"));
     };
     assert_eq!(rt; site.api_port, 80);
@@ -531,7 +533,7 @@ fn the_last_of_a_setting_counts(rt: HostRuntime) -> Result<(), Fail> {
 
 #[test]
 fn an_empty_file_is_a_site(rt: HostRuntime) -> Result<(), Fail> {
-    let Ok(site) = read(&rt, rt.alloc(), b"", no_definitions(rt.alloc()))? else {
+    let Ok(site) = read(&rt, rt.alloc(), b"", no_definitions(rt.alloc())?)? else {
         return Err(Fail::new("refused"));
     };
     assert_eq!(rt; site.api_port, 7777);

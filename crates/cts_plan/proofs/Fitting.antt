@@ -1,0 +1,97 @@
+-- The words of the statements of a site are right for their places.
+use Rattle.std.proofs.Common.{◌≡◌, ℕ, Bool, true, false, cond, List, [], ◌∷◌, ◌++◌, Option, Some, None, Ok, refl, sym, ◌∙◌, ap}
+use Rattle.std.specs.Prelude.{◌||◌, ◌&&◌, find, nat_lt, length, zip, not, if◌then◌else◌}
+use Rattle.std.specs.List.{list_any}
+use Rattle.cts_base.specs.Names.{is_name, in_upper_case}
+use Rattle.cts_def.specs.declared.proto_spec.Kind.{Kind}
+use Rattle.cts_def.specs.Packets.{DefinitionsData}
+use Rattle.cts_def.specs.Sites.{SiteData}
+use Rattle.cts_words.specs.declared.statement.Statement.{Statement}
+use Rattle.cts_words.specs.Refusals.{first_refusal, NoneRefused}
+use Rattle.cts_words.proofs.Refused.{first_one_is_refused}
+use Rattle.cts_words.proofs.Finds.{none_passes}
+use Rattle.cts_plan.specs.declared.keyword.Keyword.{Keyword}
+use Rattle.cts_plan.specs.declared.keyword.Keyword.TheVariants as keyword
+use Rattle.cts_plan.specs.declared.keyword.Role.{Role}
+use Rattle.cts_plan.specs.declared.keyword.Role.TheVariants.{Client, Server}
+use Rattle.cts_plan.specs.declared.keyword.Field.{Field}
+use Rattle.cts_plan.specs.Words.{word}
+use Rattle.cts_plan.specs.Forms.{role_of, opening_fields, head_fields, protocol_of, parameters, parameter_fields, fields_of, any_field, is_other_choice, is_bad_name, is_no_number}
+use Rattle.cts_plan.specs.Lines.{name_of, line_of, is_bad_length}
+use Rattle.cts_plan.specs.Causes.{holds, order, is_wrong_count, is_not_number, is_length, is_protocol_missing, has_wrong_rest}
+use Rattle.cts_plan.specs.Completing.{due}
+use Rattle.cts_plan.specs.SiteFiles.{Refused, parts, opening, opens, cause_in, at_line, after, refusal, at_end, site_or}
+use Rattle.cts_plan.specs.SiteLaws.{Fits, StatementsFit}
+use Rattle.cts_plan.proofs.Lists.{neither}
+use Rattle.cts_plan.proofs.Runs.{none_left, no_cause}
+
+-- ---- a name on the opening line
+
+name_at : (role : Option Role) (ws : List (List ℕ)) → nat_lt (length ws) (length (opening_fields role)) ≡ false
+    → list_any (λ p. is_bad_name p.0 p.1) (zip (opening_fields role) ws) ≡ false → not (is_name (word ws 0)) ≡ false
+name_at None [] count names = absurd (cc)
+name_at (Some Client) [] count names = absurd (cc)
+name_at (Some Server) [] count names = absurd (cc)
+name_at None (w ∷ ws) count names = (neither (not (is_name w)) _ names).0
+name_at (Some Client) (w ∷ ws) count names = (neither (not (is_name w)) _ names).0
+name_at (Some Server) (w ∷ ws) count names = (neither (not (is_name w)) _ names).0
+
+name_found : (b : Bool) (w : List ℕ) → not b ≡ false → (name : List ℕ) × ((if b then Some (in_upper_case w) else None) ≡ Some name)
+name_found true w e = (in_upper_case w, refl)
+name_found false w e = absurd (cc)
+
+named : (k : Keyword) (ws : List (List ℕ)) → nat_lt (length ws) (length (head_fields k ws)) ≡ false → list_any (λ p. is_bad_name p.0 p.1) (zip (head_fields k ws) ws) ≡ false
+    → opening k ≡ true → (name : List ℕ) × (name_of (word ws 0) ≡ Some name)
+unfolding head_fields
+named keyword.Interface ws count names is = name_found (is_name (word ws 0)) (word ws 0) (name_at (role_of keyword.Interface ws) ws count names)
+named keyword.Router ws count names is = name_found (is_name (word ws 0)) (word ws 0) (name_at (role_of keyword.Router ws) ws count names)
+named keyword.Title ws count names is = absurd (cc)
+named keyword.Port ws count names is = absurd (cc)
+named keyword.Desks ws count names is = absurd (cc)
+named keyword.Target ws count names is = absurd (cc)
+named keyword.Protocol ws count names is = absurd (cc)
+named keyword.ReconnectDelay ws count names is = absurd (cc)
+named keyword.DontReconnect ws count names is = absurd (cc)
+named keyword.Log ws count names is = absurd (cc)
+named keyword.DontLog ws count names is = absurd (cc)
+named keyword.Route ws count names is = absurd (cc)
+
+-- ---- a statement that is not refused
+
+fields_pass : (fails : Field → List ℕ → Bool) (k : Keyword) (ws : List (List ℕ)) (kind : Kind) → any_field fails k ws ≡ false → protocol_of k ws ≡ Some kind
+    → list_any (λ p. fails p.0 p.1) (zip (parameter_fields kind) (parameters k ws)) ≡ false
+fields_pass fails k ws kind none is =
+    ap (λ o. list_any (λ p. fails p.0 p.1) (zip (fields_of o) (parameters k ws))) (sym is)
+    ∙ (neither (list_any (λ p. fails p.0 p.1) (zip (head_fields k ws) ws)) (list_any (λ p. fails p.0 p.1) (zip (fields_of (protocol_of k ws)) (parameters k ws))) none).1
+
+fits_where : (k : Keyword) (ws : List (List ℕ)) → is_wrong_count k ws ≡ false → any_field is_bad_name k ws ≡ false → is_not_number k ws ≡ false → Fits k ws
+fits_where k ws count names numbers =
+    let counts = neither (nat_lt (length ws) (length (head_fields k ws)) || is_protocol_missing k ws || has_wrong_rest k ws) (any_field is_other_choice k ws) count in
+    let heads = neither (nat_lt (length ws) (length (head_fields k ws)) || is_protocol_missing k ws) (has_wrong_rest k ws) counts.0 in
+    let enough = neither (nat_lt (length ws) (length (head_fields k ws))) (is_protocol_missing k ws) heads.0 in
+    let bad_names = neither (list_any (λ p. is_bad_name p.0 p.1) (zip (head_fields k ws) ws)) (list_any (λ p. is_bad_name p.0 p.1) (zip (fields_of (protocol_of k ws)) (parameters k ws))) names in
+    let bad_numbers = neither (any_field is_no_number k ws) (is_length (protocol_of k ws) && is_bad_length (parameters k ws)) numbers in
+    record {
+      named = named k ws enough.0 bad_names.0;
+      fit = λ kind is. record {
+        choices = fields_pass is_other_choice k ws kind counts.1 is;
+        numbers = fields_pass is_no_number k ws kind bad_numbers.0 is;
+      };
+    }
+
+fits_at : (d : DefinitionsData) (before : List Statement) (t : Statement) (k : Keyword) (ws : List (List ℕ)) → refusal d before t ≡ None → parts t.words ≡ Some (k, ws) → Fits k ws
+fits_at d before t k ws none is =
+    let cs = (after before).connections in
+    let cause = none_left (cond (opens (parts t.words)) (due d cs) None) (at_line t (cause_in d cs t.line (parts t.words))) none in
+    let found : find (λ c. holds c d cs k ws (line_of t.line k ws)) order ≡ None = ap (cause_in d cs t.line) (sym is) ∙ no_cause t (cause_in d cs t.line (parts t.words)) cause.1 in
+    let passes = none_passes (λ c. holds c d cs k ws (line_of t.line k ws)) order found in
+    fits_where k ws passes.1.0 passes.1.1.1.0 passes.1.1.1.1.0
+
+none_refused : (d : DefinitionsData) (all : List Statement) (s : SiteData) (o : Option Refused) → first_refusal (refusal d) (at_end d) [] all ≡ o → site_or d (after all) o ≡ Ok s → NoneRefused (refusal d) all
+none_refused d all s None e said = ((first_one_is_refused (refusal d) (at_end d) all None).0 e).0
+none_refused d all s (Some r) e said = absurd (cc)
+
+pub statements_fit : StatementsFit
+statements_fit d front t rest s e k ws is =
+    let all : List Statement = front ++ t ∷ rest in
+    fits_at d front t k ws (none_refused d all s (first_refusal (refusal d) (at_end d) [] all) refl e front t rest refl) is
