@@ -1,15 +1,14 @@
 -- What the environment of a site is where the site is built.
-use Rattle.std.proofs.Common.{◌≡◌, ℕ, zero, suc, ◌<◌, ◌≤◌, Bool, true, false, ◌&&◌, ◌||◌, not, List, [], ◌∷◌, map, filter, length, Option, None, Some, refl, sym, ◌∙◌, ap, subst, arith}
+use Rattle.std.proofs.Common.{◌≡◌, ℕ, zero, suc, ◌<◌, ◌≤◌, Bool, true, false, ◌&&◌, ◌||◌, not, List, [], ◌∷◌, map, length, Option, None, Some, refl, sym, ◌∙◌, ap, arith}
 use Rattle.std.specs.Prelude.{nat_lt, nat_le, pos, is_none, slice_index_or, if◌then◌else◌}
 use Rattle.std.specs.List.{list_all}
-use Rattle.std.specs.Ordering.{int_eq}
-use Rattle.std.proofs.lemmas.Bool.{eqb-true, ltb-true, not-true}
+use Rattle.std.proofs.lemmas.Bool.{eqb-true, ltb-true}
 use Rattle.std.proofs.lemmas.Bool.Decides.{nat_tests, Decides-int_eq}
 use Rattle.std.proofs.lemmas.List.{nil_from_length}
 use Rattle.cts_bits.specs.declared.order.Order.{Order}
 use Rattle.cts_bits.specs.declared.order.Order.TheVariants.{Big, Little}
 use Rattle.cts_def.specs.Makers.{first_slot}
-use Rattle.cts_def.specs.Protocols.{SpecData, Burst, Fixed, Length, Terminated, Preidentified, LengthData, UseData, reads}
+use Rattle.cts_def.specs.Protocols.{SpecData, Burst, Fixed, Length, Terminated, Preidentified, LengthData, UseData}
 use Rattle.cts_def.specs.Sites.{InterfaceData, SiteData}
 use Rattle.cts_def.specs.Spans.{is_little}
 use Rattle.cts_ident.specs.Identification.{identified, identified_command, router_of}
@@ -20,7 +19,7 @@ use Rattle.cts_proto.specs.Rows.{framing_of}
 use Rattle.cts_proto.proofs.Chainings.{interface_framings, IsWholeLength, whole_length_framing}
 use Rattle.cts_core.specs.States.{is_line}
 use Rattle.cts_serve.specs.Environments.{site_environment, is_slot, ident_of}
-use Rattle.cts_serve.specs.Forms.{is_stated_length, is_built_spec, is_built_use, is_built_chain, is_built_interface, is_built_site}
+use Rattle.cts_serve.specs.Forms.{is_stated_length, is_built_spec, is_built_chain, is_built_interface, is_built_site}
 
 pub and_tells : (a b : Bool) → (a && b) ≡ true → (a ≡ true) × (b ≡ true)
 and_tells true b h = (refl, h)

@@ -2,6 +2,7 @@ pub mod Lines
 pub mod Postings
 pub mod Building
 pub mod WorldSteps
+pub mod Undefining
 pub mod LastLines
 pub mod Progress
 pub mod Loadings

@@ -1,5 +1,5 @@
 -- How far a replay has come, and what it has put when it ends.
-use Rattle.std.proofs.Common.{◌≡◌, ◌≢◌, ℕ, ◌+◌, List, [], ◌∷◌, ◌++◌, length, take, Option, Err, refl, sym, ◌∙◌, ap, subst, arith, append_assoc, length-append, inl, inr, codes, false, replicate}
+use Rattle.std.proofs.Common.{◌≡◌, ◌≢◌, ℕ, List, [], ◌∷◌, ◌++◌, length, take, Option, Err, refl, sym, ◌∙◌, ap, subst, append_assoc, inl, inr, codes, false, replicate}
 use Rattle.std.proofs.lemmas.List.{append-nil, take_at}
 use Rattle.cts_entry.specs.declared.entry.Entry.{Entry}
 use Rattle.cts_entry.specs.declared.event.Event.{Event}

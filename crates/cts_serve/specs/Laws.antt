@@ -1,5 +1,12 @@
--- Laws of outcomes.
-use Rattle.std.specs.Prelude.{◌≡◌, ℕ, List, Option}
+-- Laws of outcomes, and of the runs on which they stand.
+use Rattle.std.specs.Prelude.{◌≡◌, ℕ, true, List, Option}
+use Rattle.std.specs.List.{list_all}
+use Rattle.cts_core.specs.Runs.{Did, Ending, Runs}
+use Rattle.cts_core.specs.States.{opening}
+use Rattle.cts_def.specs.Sites.{SiteData}
+use Rattle.cts_entry.specs.declared.event.Event.{Event}
+use Rattle.cts_serve.specs.Environments.{Undefined, environment_with}
+use Rattle.cts_serve.specs.Forms.{is_built_event, is_built_site}
 use Rattle.cts_serve.specs.Judging.{Outcome}
 use Rattle.cts_serve.specs.Outcomes.{RequestData, IsOutcome}
 
@@ -10,3 +17,8 @@ HasOneOutcome = (files : List ℕ → Option (List ℕ)) (r : Option RequestData
 -- and there is one, whatever is asked for
 abbrev pub HasOutcome : Type 0
 HasOutcome = (files : List ℕ → Option (List ℕ)) (r : Option RequestData) → (o : Outcome) × IsOutcome files r o
+
+-- A run of built events on a built site is the same whatever stands for what is not defined yet.
+abbrev pub RestsOnNoStandIn : Type 0
+RestsOnNoStandIn = (u v : Undefined) (site : SiteData) (events : List Event) (dids : List Did) (ending : Ending) → is_built_site site ≡ true → list_all is_built_event events ≡ true
+    → Runs (environment_with u site) opening events dids ending → Runs (environment_with v site) opening events dids ending

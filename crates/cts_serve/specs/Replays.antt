@@ -1,5 +1,5 @@
 -- What a replay puts, event by event and as a whole.
-use Rattle.std.specs.Prelude.{◌≡◌, ℕ, List, [], length, take, codes, ◌⊎◌, Result, Ok, Err}
+use Rattle.std.specs.Prelude.{◌≡◌, ℕ, List, [], take, codes, ◌⊎◌, Result, Ok, Err}
 use Rattle.cts_entry.specs.declared.entry.Entry.{Entry}
 use Rattle.cts_entry.specs.declared.event.Event.{Event}
 use Rattle.cts_core.specs.States.{State}

@@ -22,7 +22,7 @@ mod texts;
 mod world;
 
 pub use command::run;
-pub use laws::outcomes;
+pub use laws::{outcomes, stand_ins};
 pub use status::Status;
 
 #[cfg(test)]

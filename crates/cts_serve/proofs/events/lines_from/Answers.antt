@@ -1,8 +1,8 @@
-use Rattle.std.proofs.Common.{◌≡◌, ℕ, ◌+◌, ◌-◌, ◌<◌, List, [], ◌++◌, length, min, take, drop, arith, get_or, sym, ap, subst, ◌∙◌, length-drop, length-take}
+use Rattle.std.proofs.Common.{◌≡◌, ℕ, ◌+◌, ◌-◌, ◌<◌, List, [], length, min, take, drop, arith, get_or, ap, subst, ◌∙◌, length-drop, length-take}
 use Rattle.std.proofs.lemmas.List.{drop_min}
 use Rattle.std.proofs.Math.Seq.{take-length}
 use Rattle.cts_entry.specs.declared.entry.Entry.{Entry}
-use Rattle.cts_serve.specs.Outcomes.{lines_of, limits_events}
+use Rattle.cts_serve.specs.Outcomes.{limits_events}
 use Rattle.cts_script.proofs.LineLemmas.{lines_behind-take_more}
 use Rattle.cts_script.specs.Transcripts.{entry_lines}
 use Rattle.cts_serve.proofs.events.lines_from.Goals as goal
