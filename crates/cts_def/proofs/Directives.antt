@@ -10,7 +10,7 @@ use Rattle.std.specs.List.{list_all, list_any, prefix_len}
 use Rattle.cts_def.specs.FormatParts.{AreFormatParts, FormatParts, are_flags, begins_with_zero, fits_letter, is_precision, is_width, stands_once, written, written_tail}
 use Rattle.cts_def.specs.Formats.{behind_directive, behind_f, behind_flags, behind_percent, behind_point, behind_width, ends_plain, flags_len, is_above_twelve, is_flag, is_format, is_letter, is_new_flag, is_plain, is_plain_rest}
 
-both : (a b : Bool) → (a && b) ≡ true → (a ≡ true) × (b ≡ true)
+pub both : (a b : Bool) → (a && b) ≡ true → (a ≡ true) × (b ≡ true)
 both true true h = (refl, refl)
 both true false h = absurd (false≢true h)
 both false b h = absurd (false≢true h)
@@ -31,7 +31,7 @@ plain_last : (percent : Bool) (behind past w : Option (List ℕ)) → not percen
 plain_last true behind past w h k = absurd (false≢true h)
 plain_last false behind past w h k = k
 
-behind_plain : (before d : List ℕ) → is_plain before ≡ true → behind_percent (before ++ 37 ∷ d) ≡ behind_percent (37 ∷ d)
+pub behind_plain : (before d : List ℕ) → is_plain before ≡ true → behind_percent (before ++ 37 ∷ d) ≡ behind_percent (37 ∷ d)
 behind_plain [] d h = refl
 behind_plain (c ∷ []) d h = plain_last (c == 37) _ _ _ h refl
 behind_plain (c ∷ e ∷ rest) d h =
@@ -42,18 +42,18 @@ behind_plain (c ∷ e ∷ rest) d h =
 digit_is : (c : ℕ) → is_ascii_digit c ≡ true → (48 ≤ c) × (c ≤ 57)
 digit_is c h = (grind (arith, nat_tests), grind (arith, nat_tests))
 
-no_digit : (c : ℕ) → 57 < c → is_ascii_digit c ≡ false
+pub no_digit : (c : ℕ) → 57 < c → is_ascii_digit c ≡ false
 no_digit c h = grind (arith, nat_tests)
 
-no_flag : (c : ℕ) → 48 < c → is_flag c ≡ false
+pub no_flag : (c : ℕ) → 48 < c → is_flag c ≡ false
 no_flag c h = grind (arith, nat_tests)
 
-letter_is : (c : ℕ) → is_letter c ≡ true → 57 < c
+pub letter_is : (c : ℕ) → is_letter c ≡ true → 57 < c
 letter_is c h = grind (arith, nat_tests)
 
 -- ---- width
 
-digits_then : (digits : List ℕ) (t : ℕ) (ts : List ℕ) → list_all is_ascii_digit digits ≡ true → is_ascii_digit t ≡ false
+pub digits_then : (digits : List ℕ) (t : ℕ) (ts : List ℕ) → list_all is_ascii_digit digits ≡ true → is_ascii_digit t ≡ false
     → prefix_len is_ascii_digit (digits ++ t ∷ ts) ≡ length digits
 digits_then [] t ts h k = rw k refl
 digits_then (c ∷ digits) t ts h k =
@@ -112,15 +112,23 @@ no_flags flags (w ∷ width) t ts h k f =
     let e = no_new_digit (w == 48) flags w refl b.0 k in
     rw e refl
 
+-- the flags are read as far as they go
+pub flags_counted : (flags width : List ℕ) (t : ℕ) (ts : List ℕ) → are_flags flags ≡ true → is_width flags width ≡ true → is_flag t ≡ false
+    → flags_len [] (flags ++ (width ++ t ∷ ts)) ≡ length flags
+flags_counted flags width t ts fs h f =
+    let b = both (list_all is_ascii_digit width) (nat_le (length width) 3 && (not (begins_with_zero width) || list_any (nat_eq 48) flags)) h in
+    let s = both (nat_le (length width) 3) (not (begins_with_zero width) || list_any (nat_eq 48) flags) b.1 in
+    let none = no_flags flags width t ts b.0 s.1 f in
+    let read = flags_read [] flags (width ++ t ∷ ts) fs (none_seen flags) in
+    omega arith
+
 -- flags, a width and what follows them, of which the first is neither a digit nor a flag
 directive_read : (flags width : List ℕ) (t : ℕ) (ts : List ℕ) → are_flags flags ≡ true → is_width flags width ≡ true → is_ascii_digit t ≡ false → is_flag t ≡ false
     → behind_directive (flags ++ (width ++ t ∷ ts)) ≡ behind_width (t ∷ ts)
 directive_read flags width t ts fs h k f =
     let b = both (list_all is_ascii_digit width) (nat_le (length width) 3 && (not (begins_with_zero width) || list_any (nat_eq 48) flags)) h in
     let s = both (nat_le (length width) 3) (not (begins_with_zero width) || list_any (nat_eq 48) flags) b.1 in
-    let none = no_flags flags width t ts b.0 s.1 f in
-    let read = flags_read [] flags (width ++ t ∷ ts) fs (none_seen flags) in
-    let all : flags_len [] (flags ++ (width ++ t ∷ ts)) ≡ length flags = omega arith in
+    let all = flags_counted flags width t ts fs h f in
     let front = drop-append_seam flags (width ++ t ∷ ts) in
     let len = digits_then width t ts b.0 k in
     let seam = drop-append_seam width (t ∷ ts) in
@@ -159,7 +167,7 @@ no_percent : (f : ℕ) → is_flag f ≡ true → (f == 37) ≡ false
 no_percent f h = grind (arith, nat_tests)
 
 -- the first behind the percent sign is no percent sign
-behind_first : (flags width : List ℕ) (precision : Option (List ℕ)) (c : ℕ) (after : List ℕ) → are_flags flags ≡ true → is_width flags width ≡ true
+pub behind_first : (flags width : List ℕ) (precision : Option (List ℕ)) (c : ℕ) (after : List ℕ) → are_flags flags ≡ true → is_width flags width ≡ true
     → fits_letter precision c ≡ true
     → behind_percent (37 ∷ (flags ++ (width ++ written_tail precision (c ∷ after)))) ≡ Some (flags ++ (width ++ written_tail precision (c ∷ after)))
 behind_first [] [] None c after f w h = let g = letter_is c h in let e : (c == 37) ≡ false = grind (arith, nat_tests) in rw e refl

@@ -1,5 +1,5 @@
 -- The parts that a format is written of: text, a directive, and text.
-use Rattle.std.specs.Prelude.{ℕ, Bool, false, not, true, ◌&&◌, ◌||◌, ◌==◌, nat_eq, nat_le, List, [], ◌∷◌, ◌++◌, length, Option, Some, None, IsTrue}
+use Rattle.std.specs.Prelude.{◌≡◌, ℕ, Bool, false, not, true, ◌&&◌, ◌||◌, ◌==◌, nat_eq, nat_le, List, [], ◌∷◌, ◌++◌, length, Option, Some, None, IsTrue}
 use Rattle.std.specs.Char.{is_ascii_digit}
 use Rattle.std.specs.List.{list_all, list_any}
 use Rattle.cts_def.specs.Formats.{is_above_twelve, is_flag, is_letter, is_plain}
@@ -55,3 +55,7 @@ pub record AreFormatParts (p : FormatParts) : Type 0 where
   pub width : IsTrue (is_width p.flags p.width)
   pub letter : IsTrue (fits_letter p.precision p.letter)
   pub after : IsTrue (is_plain p.after)
+
+-- Two sets of parts that are written as one text are one.
+abbrev pub FormatsHaveOneSetOfParts : Type 0
+FormatsHaveOneSetOfParts = (p q : FormatParts) → AreFormatParts p → AreFormatParts q → written p ≡ written q → p ≡ q

@@ -1,9 +1,9 @@
 -- Packets and definitions: what contracts see of them, and the rules that they keep.
 use Rattle.std.specs.Prelude.{◌≡◌, ℕ, ◌+◌, ◌≤◌, max, Bool, true, false, not, ◌&&◌, List, [], ◌∷◌, map, length, codes, IsTrue}
-use Rattle.std.specs.List.{filter, list_any, list_all, IsDistinct}
+use Rattle.std.specs.List.{filter, list_any, list_all, AllByRecursion, IsDistinct}
 use Rattle.cts_def.specs.Items.{ItemData, span_of, is_same, is_to_the_end, is_parameter, is_telemetry_item}
 use Rattle.cts_def.specs.Most.{most_bytes, most_items, most_items_in_all, most_packets, most_sets}
-use Rattle.cts_def.specs.Spans.{bytes_needed, is_variable}
+use Rattle.cts_def.specs.Spans.{Lies, bytes_needed, is_variable}
 
 -- what contracts see of a packet or command: its fields
 pub record PacketData : Type 0 where
@@ -22,6 +22,10 @@ greatest (n ∷ ns) = max n (greatest ns)
 -- the least number of bytes in which each of these items lies
 abbrev pub length_of : List ItemData → ℕ
 length_of items = greatest (map (λ (i : ItemData). bytes_needed (span_of i)) items)
+
+-- each of these items lies in so many bytes
+abbrev pub AllLie : List ItemData → ℕ → Type 0
+AllLie items bytes = AllByRecursion (λ (i : ItemData). Lies (span_of i) bytes) items
 
 -- one of these items has a place or length that is known only with the packet's bytes
 abbrev pub are_variable : List ItemData → Bool
@@ -44,6 +48,10 @@ pub record IsSoundPacket (p : PacketData) : Type 0 where
   pub distinct : IsDistinct is_same (map (λ (i : ItemData). i.name) p.items)
   pub known_target : is_same p.target unknown ≡ false
   pub no_counts : list_any (λ (i : ItemData). is_same i.name received_count) p.items ≡ false
+
+-- A packet's length is the least number of bytes in which all of its items lie.
+abbrev pub LengthsAreLeast : Type 0
+LengthsAreLeast = (p : PacketData) → IsSoundPacket p → AllLie p.items p.length × ((bytes : ℕ) → AllLie p.items bytes → p.length ≤ bytes)
 
 -- ---- definitions
 

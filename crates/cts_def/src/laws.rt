@@ -3,11 +3,17 @@ ghost use Rattle.std.specs.Prelude.{◌≡◌, ◌≤◌, ◌<◌, ◌^◌, ◌�
 ghost use Rattle.std.specs.Int.{is_negative};
 ghost use Rattle.cts_bits.specs.Bits.{HasSpelling};
 ghost use Rattle.cts_bits.specs.Places.{IsBadSize, IsBeforeStart, reach_of};
-ghost use Rattle.cts_def.specs.Spans.{HasNoPlace, bytes_needed, is_misplaced, is_number, is_spelled};
-ghost use Rattle.cts_def.specs.FormatParts.{AreFormatParts, FormatParts, written};
+ghost use Rattle.cts_def.specs.Spans.{HasNoPlace, Lies, bytes_needed, is_misplaced, is_number, is_spelled};
+ghost use Rattle.cts_def.specs.FormatParts.{AreFormatParts, FormatParts, FormatsHaveOneSetOfParts, written};
 ghost use Rattle.cts_def.specs.Formats.{is_format};
+ghost use Rattle.cts_def.specs.Makers.{first_desk, first_slot, scribe, server};
+ghost use Rattle.cts_def.specs.Most.{most_bytes, most_items, most_items_in_all, most_packets, most_segments, most_sets, most_states};
+ghost use Rattle.cts_def.specs.Packets.{LengthsAreLeast};
 
-use crate::{ItemKind, Span};
+use crate::{
+    FIRST_DESK, FIRST_SLOT, ItemKind, MOST_BYTES, MOST_ITEMS, MOST_ITEMS_IN_ALL, MOST_PACKETS,
+    MOST_SEGMENTS, MOST_SETS, MOST_STATES, SCRIBE, SERVER, Span,
+};
 
 /// A number that is counted from its packet's start and is not misplaced has a place: neither its size nor its beginning
 /// is refused, and its field lies within the bytes that it needs.
@@ -44,4 +50,34 @@ pub fn spellings_of_numbers(bits: u32)
 pub fn formats_have_parts(text: &[u8])
     ensures written { (p : FormatParts) → AreFormatParts p → is_format (written p) ≡ true }
     ensures parts { is_format text.now ≡ true → (p : FormatParts) × AreFormatParts p × (text.now ≡ written p) }
+{}
+
+/// A format is written of one set of parts: two that are written as one text are equal.
+pub fn formats_have_one_set_of_parts()
+    ensures { FormatsHaveOneSetOfParts }
+{}
+
+/// An item lies in a number of bytes exactly where that is at least what it needs.
+pub fn items_lie_where_they_have_room(span: &Span)
+    ensures { (bytes : ℕ) → Lies span.now bytes ↔ (bytes_needed span.now ≤ bytes) }
+{}
+
+/// A packet's length is the least number of bytes in which all of its items lie.
+pub fn lengths_are_least()
+    ensures { LengthsAreLeast }
+{}
+
+/// The constants are the numbers of the definitions.
+pub fn constants_are_their_words()
+    ensures packets { MOST_PACKETS ≡ most_packets }
+    ensures items { MOST_ITEMS ≡ most_items }
+    ensures items_in_all { MOST_ITEMS_IN_ALL ≡ most_items_in_all }
+    ensures bytes { MOST_BYTES ≡ most_bytes }
+    ensures states { MOST_STATES ≡ most_states }
+    ensures segments { MOST_SEGMENTS ≡ most_segments }
+    ensures sets { MOST_SETS ≡ most_sets }
+    ensures slots { FIRST_SLOT ≡ first_slot }
+    ensures desks { FIRST_DESK ≡ first_desk }
+    ensures scribe { SCRIBE ≡ scribe }
+    ensures server { SERVER ≡ server }
 {}

@@ -41,7 +41,9 @@ pub use item::Item;
 pub use item_kind::{ItemKind, Overflow, Preset};
 pub use label::Label;
 pub use laws::{
-    formats_have_parts, misplaced_numbers_have_no_place, number_has_a_place, spellings_of_numbers,
+    constants_are_their_words, formats_have_one_set_of_parts, formats_have_parts,
+    items_lie_where_they_have_room, lengths_are_least, misplaced_numbers_have_no_place,
+    number_has_a_place, spellings_of_numbers,
 };
 pub use limits::Limits;
 pub use limits_setup::LimitsSetup;

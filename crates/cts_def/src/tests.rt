@@ -2,8 +2,8 @@
 ghost use Rattle.std.specs.Prelude.{◌≡◌};
 
 use super::*;
-use cts_base::{Decimal, List, Name};
-use cts_bits::Order;
+use cts_base::{Bytes, Decimal, List, Name};
+use cts_bits::{Order, Place};
 use std::alloc::Global;
 use std::test::Fail;
 
@@ -250,4 +250,31 @@ fn limits_have_an_order(rt: HostRuntime) {
     assert!(rt; !limits(-1, 2, green).are_in_order());
     assert!(rt; !limits(-2, 1, green).are_in_order());
     assert!(rt; !limits(-2, 2, Some((decimal(1), decimal(1)))).are_in_order());
+}
+
+#[test]
+fn protocols_are_copied(rt: HostRuntime) -> Result<(), Fail> {
+    let alloc = rt.alloc();
+    let start = Start {
+        ids: List::of(vec![in alloc; (Place::new(8, 16, Order::Little)?, 7, true)]?),
+        length: 3,
+    };
+    let fixed = ProtoSpec::Fixed {
+        min_id: 3,
+        discard: 0,
+        sync: Bytes::copy(alloc, b"\x1a\xcf")?,
+        telemetry: true,
+        fill: false,
+        raise: true,
+        starts: List::of(vec![in alloc; start]?),
+    };
+    let ProtoSpec::Fixed { sync, starts, .. } = fixed.copied(alloc)? else {
+        return Err(Fail::new("another protocol"));
+    };
+    assert_eq!(rt; sync.as_slice(), b"\x1a\xcf".as_slice());
+    let [start] = starts.as_slice() else {
+        return Err(Fail::new("another count of starts"));
+    };
+    assert_eq!(rt; start.length, 3);
+    Ok(())
 }

@@ -3,3 +3,4 @@ pub mod LineRules
 pub mod NamesRead
 pub mod Utf8
 pub mod Within
+pub mod OwnWords

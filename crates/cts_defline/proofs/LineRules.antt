@@ -1,12 +1,13 @@
 -- Words for which no cause holds say lines that keep their rules.
-use Rattle.std.proofs.Common.{◌≡◌, ℕ, ℤ, pos, negsuc, ◌≤◌, suc, Bool, true, false, ◌&&◌, ◌||◌, List, [], ◌∷◌, ◌++◌, length, map, Option, Some, None, refl, ap, ap₂, ◌∙◌, arith, nat_le}
+use Rattle.std.proofs.Common.{◌≡◌, ℕ, ℤ, pos, negsuc, ◌+◌, ◌≤◌, suc, Bool, true, false, ◌&&◌, ◌||◌, List, [], ◌∷◌, ◌++◌, length, map, Option, Some, None, refl, ap, ap₂, ◌∙◌, arith, nat_le}
 use Rattle.std.specs.Prelude.{not, unwrap_or, is_some, codes, if◌then◌else◌}
 use Rattle.std.proofs.lemmas.Bool.{and_from, or_parts}
 use Rattle.std.proofs.lemmas.Bool.Decides.{nat_tests}
-use Rattle.std.proofs.lemmas.Cmp.{nat_list_eq_equiv}
+use Rattle.std.proofs.lemmas.Cmp.{int_eq_equiv, nat_list_eq_equiv}
 use Rattle.std.proofs.lemmas.List.{length-map}
 use Rattle.cts_base.specs.Names.{in_upper_case, spells, upper}
 use Rattle.cts_base.specs.Wholes.{whole_of}
+use Rattle.cts_def.specs.declared.item_kind.Preset.{Preset}
 use Rattle.cts_def.specs.declared.color.Color.TheVariants.{StateRed, StateYellow, StateGreen}
 use Rattle.cts_def.specs.Items.{has_coefficients, has_color, is_same, is_sound_color, is_sound_state}
 use Rattle.cts_def.specs.Spans.{is_number}
@@ -17,11 +18,11 @@ use Rattle.cts_defline.specs.declared.open.Open.{Open}
 use Rattle.cts_defline.specs.declared.open.PacketKind.{PacketKind}
 use Rattle.cts_defline.specs.declared.open.PacketKind.TheVariants as «kind»
 use Rattle.cts_defline.specs.Fields.{is_color, is_other_choice}
-use Rattle.cts_defline.specs.Forms.{word_at, wanted, more, fits, kind_of_keyword, state_wanted, state_fields}
-use Rattle.cts_defline.specs.Lines.{color_of, kind_in, line_of, number_parameter, state_def, text_parameter}
+use Rattle.cts_defline.specs.Forms.{word_at, size_at, wanted, more, fits, kind_of_keyword, state_wanted, state_fields}
+use Rattle.cts_defline.specs.Lines.{bound_in, color_of, kind_in, line_of, number_parameter, state_def, text_parameter}
 use Rattle.cts_defline.specs.Numbers.{count_in, decimal}
 use Rattle.cts_defline.specs.Refusals.{any_word, form_kind, is_of_other_kind, open_kind}
-use Rattle.cts_defline.specs.Rules.{IsSoundLine, KeepsRules, is_of_kind, suits}
+use Rattle.cts_defline.specs.Rules.{IsSoundLine, KeepsRules, has_wanted_default, has_wanted_range, is_of_kind, suits}
 use Rattle.cts_defline.proofs.NamesRead.{AreReadable, so_true}
 
 -- ---- states
@@ -113,14 +114,20 @@ sound kind keyword.AllowShort words f = tt
 
 -- ---- what suits the open definition
 
-number_or_id : (b : Bool) → (if b || true then true else false) ≡ true
-number_or_id true = refl
-number_or_id false = refl
+number_or_id : (b same : Bool) → same ≡ true → (if b || true then true else false) && same ≡ true
+number_or_id true same e = e
+number_or_id false same e = e
+
+no_id : (o : Option Preset) → has_wanted_default None o ≡ true
+no_id None = refl
+no_id (Some preset) = refl
 
 ranged : (append : Bool) (words : List (List ℕ)) (number : Bool) → is_number (kind_in append words) ≡ number
     → is_of_kind «kind».Command (line.Item (if number then number_parameter append false words else text_parameter append words)) ≡ true
 ranged append words true e = rw e refl
-ranged append words false e = rw e refl
+ranged append words false e =
+    let range : has_wanted_range (text_parameter append words) ≡ true = rw e refl in
+    and_from (has_wanted_range (text_parameter append words)) (has_wanted_default None (text_parameter append words).preset) range (no_id (text_parameter append words).preset)
 
 of_kind : (kind : PacketKind) (k : Keyword) (words : List (List ℕ)) → is_of_other_kind (Some kind) (kind_of_keyword k) ≡ false
     → any_word is_other_choice (wanted k words ++ more kind k) words ≡ false → is_of_kind kind (line_of k words) ≡ true
@@ -142,7 +149,8 @@ of_kind «kind».Telemetry keyword.AllowShort words own chosen = refl
 of_kind «kind».Command keyword.Command words own chosen = refl
 of_kind «kind».Command keyword.Telemetry words own chosen = refl
 of_kind «kind».Command (keyword.Item append id) words own chosen = absurd cc
-of_kind «kind».Command (keyword.Parameter append true) words own chosen = number_or_id (is_number (kind_in append words))
+of_kind «kind».Command (keyword.Parameter append true) words own chosen =
+    number_or_id (is_number (kind_in append words)) _ (int_eq_equiv.refl (bound_in append words (size_at append + 2 + 2)))
 of_kind «kind».Command (keyword.Parameter append false) words own chosen = ranged append words (is_number (kind_in append words)) refl
 of_kind «kind».Command keyword.State words own chosen = command_state words chosen
 of_kind «kind».Command keyword.Limits words own chosen = absurd cc

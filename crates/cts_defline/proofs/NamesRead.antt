@@ -64,10 +64,10 @@ names_in : (kind : PacketKind) (k : Keyword) (words : List (List ℕ)) → fits 
     → any_word is_bad_name (wanted k words ++ more kind k) words ≡ false → AreNames k words
 names_in kind Command words f e = two_names (field.Order ∷ field.Text ∷ []) words (let h = enough 3 4 (length words) f in omega arith) e
 names_in kind Telemetry words f e = two_names (field.Order ∷ field.Text ∷ []) words (let h = enough 3 4 (length words) f in omega arith) e
-names_in kind (Item true true) words f e = one_name (drop 1 (item_fields true true ++ last_fields)) words (let h = enough 4 6 (length words) f in omega arith) e
-names_in kind (Item true false) words f e = one_name (drop 1 (item_fields true false ++ last_fields)) words (let h = enough 3 5 (length words) f in omega arith) e
-names_in kind (Item false true) words f e = one_name (drop 1 (item_fields false true ++ last_fields)) words (let h = enough 5 7 (length words) f in omega arith) e
-names_in kind (Item false false) words f e = one_name (drop 1 (item_fields false false ++ last_fields)) words (let h = enough 4 6 (length words) f in omega arith) e
+names_in kind (Item true true) words f e = one_name (drop 1 (item_fields true true (has_text_type true words) ++ last_fields)) words (let h = enough 4 6 (length words) f in omega arith) e
+names_in kind (Item true false) words f e = one_name (drop 1 (item_fields true false (has_text_type true words) ++ last_fields)) words (let h = enough 3 5 (length words) f in omega arith) e
+names_in kind (Item false true) words f e = one_name (drop 1 (item_fields false true (has_text_type false words) ++ last_fields)) words (let h = enough 5 7 (length words) f in omega arith) e
+names_in kind (Item false false) words f e = one_name (drop 1 (item_fields false false (has_text_type false words) ++ last_fields)) words (let h = enough 4 6 (length words) f in omega arith) e
 names_in kind (Parameter append id) words f e = parameter_name append id (has_text_type append words) words f e
 names_in kind State words f e = tt
 names_in kind Limits words f e = one_name (drop 1 (limits_wanted ++ field.Decimal ∷ field.Decimal ∷ [])) words (some_limits (length words) f) e

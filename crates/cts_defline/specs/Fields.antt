@@ -6,7 +6,7 @@ use Rattle.cts_base.specs.Decimals.{decimal_of}
 use Rattle.cts_def.specs.Items.{is_same}
 use Rattle.cts_defline.specs.declared.keyword.Field.{Field}
 use Rattle.cts_defline.specs.declared.keyword.Field.TheVariants as field
-use Rattle.cts_defline.specs.Numbers.{order_of, kind_of, is_bound, persistence_of}
+use Rattle.cts_defline.specs.Numbers.{order_of, kind_of, is_bound, is_bound_of_types, persistence_of}
 
 -- the types that are known, those that no item may have among them
 abbrev pub is_type : List ℕ → Bool
@@ -44,6 +44,7 @@ is_type_of text _ word = false
 abbrev pub is_no_number : Field → List ℕ → Bool
 is_no_number field.Whole word = is_none (whole_of word)
 is_no_number field.Bound word = not (is_bound word)
+is_no_number field.TextId word = not (is_bound_of_types word)
 is_no_number field.Decimal word = not (is_ok (decimal_of word))
 is_no_number field.Persistence word = is_none (persistence_of word)
 is_no_number _ word = false

@@ -82,9 +82,13 @@ place_fields append =
     if append then field.Name ∷ field.Whole ∷ field.Type ∷ []
     else field.Name ∷ field.Whole ∷ field.Whole ∷ field.Type ∷ []
 
+-- the id of an item, which may be a text or block
+abbrev pub id_field : Bool → Field
+id_field text = if text then field.TextId else field.Bound
+
 -- an item, with its id if it has one
-abbrev pub item_fields : Bool → Bool → List Field
-item_fields append id = place_fields append ++ (if id then field.Bound ∷ [] else [])
+abbrev pub item_fields : Bool → Bool → Bool → List Field
+item_fields append id text = place_fields append ++ (if id then id_field text ∷ [] else [])
 
 -- a parameter that is a number: the least value, the greatest, and the default or id
 abbrev pub number_fields : Bool → List Field
@@ -93,7 +97,7 @@ number_fields append = place_fields append ++ field.Bound ∷ field.Bound ∷ fi
 -- A text or block has a default alone. Of an id parameter of such a type least and greatest are not read.
 abbrev pub text_fields : Bool → Bool → List Field
 text_fields append id =
-    place_fields append ++ (if id then field.Text ∷ field.Text ∷ field.Bound ∷ [] else field.Text ∷ [])
+    place_fields append ++ (if id then field.Text ∷ field.Text ∷ id_field true ∷ [] else field.Text ∷ [])
 
 abbrev pub parameter_fields : Bool → Bool → Bool → List Field
 parameter_fields append id text = if text then text_fields append id else number_fields append
@@ -109,7 +113,7 @@ limits_wanted =
 abbrev pub wanted : Keyword → List (List ℕ) → List Field
 wanted Command words = field.Name ∷ field.Name ∷ field.Order ∷ []
 wanted Telemetry words = field.Name ∷ field.Name ∷ field.Order ∷ []
-wanted (Item append id) words = item_fields append id
+wanted (Item append id) words = item_fields append id (has_text_type append words)
 wanted (Parameter append id) words = parameter_fields append id (has_text_type append words)
 wanted State words = state_wanted
 wanted Limits words = limits_wanted

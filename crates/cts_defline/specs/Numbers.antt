@@ -54,10 +54,13 @@ greatest_number Uint size = if is_size size then pos (2 ^ unsigned_abs size - 1)
 greatest_number Int size = if is_size size then pos (2 ^ (unsigned_abs size - 1) - 1) else pos 0
 greatest_number _ size = pos 0
 
--- a whole number, or a word for a bound of a type or of the item's own type and size
+-- a whole number, or a word for a bound of a type of 8, 16, 32 or 64 bits
+abbrev pub is_bound_of_types : List ℕ → Bool
+is_bound_of_types word = is_some (whole_of word) || is_some (named_bound word)
+
+-- the same, or a word for a bound of the item's own type and size, of which texts and blocks have none
 abbrev pub is_bound : List ℕ → Bool
-is_bound word =
-    is_some (whole_of word) || is_some (named_bound word) || is_same word (codes "MIN") || is_same word (codes "MAX")
+is_bound word = is_bound_of_types word || is_same word (codes "MIN") || is_same word (codes "MAX")
 
 abbrev pub bound : ItemKind → ℤ → List ℕ → ℤ
 bound kind size word =

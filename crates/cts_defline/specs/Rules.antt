@@ -1,6 +1,7 @@
 -- What a line keeps whose words were not refused.
-use Rattle.std.specs.Prelude.{◌≤◌, Bool, true, false, not, ◌||◌, Option, Some, None, is_some, is_none, IsTrue, if◌then◌else◌}
-use Rattle.cts_def.specs.Items.{has_coefficients, has_color, is_sound_state}
+use Rattle.std.specs.Prelude.{ℤ, ◌≤◌, Bool, true, false, not, ◌&&◌, ◌||◌, Option, Some, None, is_some, is_none, IsTrue, if◌then◌else◌}
+use Rattle.cts_def.specs.declared.item_kind.Preset.{Preset}
+use Rattle.cts_def.specs.Items.{has_coefficients, has_color, has_default_of, is_sound_state}
 use Rattle.cts_def.specs.Spans.{is_number}
 use Rattle.cts_defline.specs.declared.details.Detail.TheVariants as detail
 use Rattle.cts_defline.specs.declared.line.ItemLine.{ItemLine}
@@ -22,14 +23,19 @@ IsSoundLine _ = Unit {0}
 abbrev pub has_wanted_range : ItemLine → Bool
 has_wanted_range head = if is_number head.kind || is_some head.id then is_some head.range else is_none head.range
 
+-- an id has a default, which is the id
+abbrev pub has_wanted_default : Option ℤ → Option Preset → Bool
+has_wanted_default id None = is_none id
+has_wanted_default id (Some preset) = has_default_of id preset
+
 -- The line may stand in a definition of this kind: a telemetry item has no range, is not required, and no state of it is
--- hazardous, and a parameter has a range where it is wanted, no limits, no conversion and no colours.
+-- hazardous, and a parameter has a range where it is wanted, its id as its default, no limits, no conversion and no colours.
 abbrev pub is_of_kind : PacketKind → Line → Bool
 is_of_kind Telemetry (line.Item head) = is_none head.range
 is_of_kind Telemetry (line.Detail (detail.State s)) = not s.hazardous
 is_of_kind Telemetry (line.Detail detail.Required) = false
 is_of_kind Telemetry line.Hazardous = false
-is_of_kind Command (line.Item head) = has_wanted_range head
+is_of_kind Command (line.Item head) = has_wanted_range head && has_wanted_default head.id head.preset
 is_of_kind Command (line.Detail (detail.State s)) = not (has_color s)
 is_of_kind Command (line.Detail (detail.Limits l)) = false
 is_of_kind Command (line.Detail (detail.Poly coefficients)) = false

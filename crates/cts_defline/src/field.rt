@@ -4,7 +4,7 @@ ghost use Rattle.cts_defline.specs.Fields.{is_type, is_enabling, is_color, is_ov
 
 use crate::Field;
 use crate::fixed::{kind_of, order_of};
-use crate::numbers::{is_bound, is_decimal, persistence_of};
+use crate::numbers::{is_bound, is_bound_of_types, is_decimal, persistence_of};
 use crate::words::is_same;
 use cts_base::{is_name, read_whole};
 
@@ -78,6 +78,7 @@ impl Field {
         match self {
             Field::Whole => read_whole(word).is_none(),
             Field::Bound => !is_bound(word),
+            Field::TextId => !is_bound_of_types(word),
             Field::Decimal => !is_decimal(word),
             Field::Persistence => persistence_of(word).is_none(),
             _ => false,

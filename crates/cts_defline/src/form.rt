@@ -1,5 +1,5 @@
 // The words that follow each keyword.
-ghost use Rattle.std.specs.Prelude.{◌≡◌, ◌+◌, ◌≤◌, ◌++◌, false, length, true};
+ghost use Rattle.std.specs.Prelude.{◌≡◌, ◌+◌, ◌≤◌, ◌++◌, Bool, false, length, true};
 ghost use Rattle.cts_defline.specs.Fields.{is_other_choice, is_bad_name, is_type_of, is_no_number};
 ghost use Rattle.cts_defline.specs.Forms.{size_at, is_text_type, has_text_type, item_fields, number_fields, text_fields, parameter_fields, last_fields, state_wanted, state_fields, wanted, more, fits_in};
 ghost use Rattle.cts_defline.specs.Refusals.{any_word};
@@ -37,27 +37,45 @@ fn has_text_type(append: bool, words: &[Bytes]) -> bool
     is_text_type(word_at(words, size_at(append) + 1))
 }
 
-// An item: its place and type, and its id if it has one.
-fn item_fields(append: bool, id: bool) -> &'static [Field]
-    ensures { result.now ≡ item_fields append id ++ last_fields }
+// An item without an id: its place and type.
+fn plain_item_fields(append: bool) -> &'static [Field]
+    ensures { result.now ≡ item_fields append false false ++ last_fields }
 {
-    match (append, id) {
-        (true, true) => &[
+    if append {
+        &[
+            Field::Name,
+            Field::Whole,
+            Field::Type,
+            Field::Text,
+            Field::Order,
+        ]
+    } else {
+        &[
+            Field::Name,
+            Field::Whole,
+            Field::Whole,
+            Field::Type,
+            Field::Text,
+            Field::Order,
+        ]
+    }
+}
+
+// An id item that is a number: its place and type, and its id.
+fn number_id_fields(append: bool) -> &'static [Field]
+    ensures { result.now ≡ item_fields append true false ++ last_fields }
+{
+    if append {
+        &[
             Field::Name,
             Field::Whole,
             Field::Type,
             Field::Bound,
             Field::Text,
             Field::Order,
-        ],
-        (true, false) => &[
-            Field::Name,
-            Field::Whole,
-            Field::Type,
-            Field::Text,
-            Field::Order,
-        ],
-        (false, true) => &[
+        ]
+    } else {
+        &[
             Field::Name,
             Field::Whole,
             Field::Whole,
@@ -65,15 +83,43 @@ fn item_fields(append: bool, id: bool) -> &'static [Field]
             Field::Bound,
             Field::Text,
             Field::Order,
-        ],
-        (false, false) => &[
+        ]
+    }
+}
+
+// The same of one that is a text or block.
+fn text_item_fields(append: bool) -> &'static [Field]
+    ensures { result.now ≡ item_fields append true true ++ last_fields }
+{
+    if append {
+        &[
+            Field::Name,
+            Field::Whole,
+            Field::Type,
+            Field::TextId,
+            Field::Text,
+            Field::Order,
+        ]
+    } else {
+        &[
             Field::Name,
             Field::Whole,
             Field::Whole,
             Field::Type,
+            Field::TextId,
             Field::Text,
             Field::Order,
-        ],
+        ]
+    }
+}
+
+fn item_fields(append: bool, id: bool, text: bool) -> &'static [Field]
+    ensures { result.now ≡ item_fields append id text ++ last_fields }
+{
+    match (id, text) {
+        (false, _) => plain_item_fields(append),
+        (true, false) => number_id_fields(append),
+        (true, true) => text_item_fields(append),
     }
 }
 
@@ -144,7 +190,7 @@ fn text_id_fields(append: bool) -> &'static [Field]
             Field::Type,
             Field::Text,
             Field::Text,
-            Field::Bound,
+            Field::TextId,
             Field::Text,
             Field::Order,
         ]
@@ -156,7 +202,7 @@ fn text_id_fields(append: bool) -> &'static [Field]
             Field::Type,
             Field::Text,
             Field::Text,
-            Field::Bound,
+            Field::TextId,
             Field::Text,
             Field::Order,
         ]
@@ -202,7 +248,7 @@ fn fields(kind: PacketKind, keyword: Keyword, words: &[Bytes]) -> &'static [Fiel
         Keyword::Command | Keyword::Telemetry => {
             &[Field::Name, Field::Name, Field::Order, Field::Text]
         }
-        Keyword::Item { append, id } => item_fields(append, id),
+        Keyword::Item { append, id } => item_fields(append, id, has_text_type(append, words)),
         Keyword::Parameter { append, id } => {
             parameter_fields(append, id, has_text_type(append, words))
         }
@@ -225,7 +271,7 @@ fn parameter_least(append: bool, id: bool, text: bool) -> usize
 }
 
 fn item_least(append: bool, id: bool) -> usize
-    ensures { result ≡ length (item_fields append id) }
+    ensures { (text : Bool) → result ≡ length (item_fields append id text) }
 {
     match (append, id) {
         (true, false) => 3,

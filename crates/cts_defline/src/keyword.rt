@@ -63,8 +63,10 @@ pub enum Field {
     Type,
     /// A whole number.
     Whole,
-    /// A whole number, or a word for a bound of a type.
+    /// A whole number, or a word for a bound of a type or of the item's own type and size.
     Bound,
+    /// The id of a text or block: a whole number, or a word for a bound of a type. Its own type has no bounds.
+    TextId,
     /// A decimal.
     Decimal,
     /// A whole number from 1 to 4,294,967,295.

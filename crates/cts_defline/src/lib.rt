@@ -27,7 +27,7 @@ pub use cause::DefCause;
 pub use details::{Detail, LimitsLine};
 pub use fault::LineFault;
 pub use keyword::{Field, Keyword};
-pub use laws::characters_are_spelled_in_utf8;
+pub use laws::{characters_are_spelled_in_utf8, statements_say_their_words};
 pub use line::{ItemLine, Line, PacketLine};
 pub use open::{Open, PacketKind};
 pub use reading::read_line;

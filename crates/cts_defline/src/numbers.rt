@@ -2,7 +2,7 @@
 ghost use Rattle.std.specs.Prelude.{◌≡◌, find, is_ok, option_map, not};
 ghost use Rattle.cts_base.specs.Decimals.{decimal_of};
 ghost use Rattle.cts_def.specs.Items.{is_same};
-ghost use Rattle.cts_defline.specs.Numbers.{whole, decimal, named_bound, is_size, least_number, greatest_number, is_bound, bound, is_count, count_in, persistence_of, persistence};
+ghost use Rattle.cts_defline.specs.Numbers.{whole, decimal, named_bound, is_size, least_number, greatest_number, is_bound, is_bound_of_types, bound, is_count, count_in, persistence_of, persistence};
 
 use crate::words::is_same;
 use cts_base::{Decimal, read_decimal, read_whole};
@@ -150,14 +150,18 @@ fn greatest_number(kind: ItemKind, size: i128) -> i128
     }
 }
 
-/// Whether the word is a whole number, or a word for a bound.
+/// Whether the word is a whole number, or a word for a bound of a type.
+pub(crate) fn is_bound_of_types(word: &[u8]) -> bool
+    ensures { result ≡ is_bound_of_types word.now }
+{
+    read_whole(word).is_some() || named_bound(word).is_some()
+}
+
+/// Whether the word is a whole number, or a word for a bound of a type or of the item's own.
 pub(crate) fn is_bound(word: &[u8]) -> bool
     ensures { result ≡ is_bound word.now }
 {
-    read_whole(word).is_some()
-        || named_bound(word).is_some()
-        || is_same(word, b"MIN")
-        || is_same(word, b"MAX")
+    is_bound_of_types(word) || is_same(word, b"MIN") || is_same(word, b"MAX")
 }
 
 /// The number that the word says for an item of this kind and size.

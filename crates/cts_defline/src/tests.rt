@@ -236,6 +236,10 @@ fn of_two_causes_the_first_is_named(rt: HostRuntime) -> Result<(), Fail> {
          t ITEM A x 8 UINT => NotNumber\n\
          t ITEM A 0 8.0 UINT => NotNumber\n\
          t APPEND_ID_ITEM A 8 STRING x => NotNumber\n\
+         t ID_ITEM A 0 8 STRING MIN => NotNumber\n\
+         t APPEND_ID_ITEM A 8 BLOCK MAX => NotNumber\n\
+         t ID_ITEM A 0 8 STRING MAX_UINT8 => none\n\
+         c ID_PARAMETER A 0 8 STRING x y MIN => NotNumber\n\
          c PARAMETER A 0 8 UINT 0 x 1 => NotNumber\n\
          c PARAMETER A 0 8 UINT MIN MAX min => NotNumber\n\
          ti STATE ON 1.5 => NotNumber\n\

@@ -29,6 +29,7 @@ all_sound d h = record {
   few_items = omega (arith, count_parts d.packets.items, h.item_count, h.few_items);
   telemetry_packets = all_telemetry d.set_names.items d.packets.items h.sound.kinds;
   command_packets = all_commands d.set_names.items d.packets.items h.sound.kinds;
+  first_set = h.sound.first_set;
   sets = h.sound.distinct_sets;
   few_sets = h.sound.few_sets;
 }

@@ -66,12 +66,13 @@ offset_at order end (b ∷ bs) (f ∷ front) rest i (k ∷ before) after l items
     offset_at order (max end (end_of (span_of (item_at order end b.0 b.1)))) bs front rest i before after l others heads_left (omega arith)
     ∙ ap (λ (j : ItemData). offset_or (end_from (max end (end_of (span_of j))) front) l.offset) item
 
+pub end_behind_first : (items : List ItemData) → end_from 0 items ≡ end_behind items
+end_behind_first items = let e = end_from_greatest 0 items in omega arith
+
 pub items_have_their_offsets : ItemsHaveTheirOffsets
 items_have_their_offsets head body front rest i before after l items lines same =
     offset_at head.order 0 (blocks item_in body) front rest i before after l items (heads item_in body ∙ lines) same
-    ∙ ap (λ (n : ℕ). offset_or n l.offset) (end_from_greatest 0 front ∙ zero_before (end_behind front)) where
-      zero_before : (n : ℕ) → max 0 n ≡ n
-      zero_before n = omega arith
+    ∙ ap (λ (n : ℕ). offset_or n l.offset) (end_behind_first front)
 
 -- ---- the first refusal
 

@@ -8,12 +8,13 @@ use Rattle.std.specs.Ordering.{nat_cmp, int_eq}
 use Rattle.std.proofs.lemmas.Bool.{leb-false}
 use Rattle.std.proofs.lemmas.Cmp.{nat_list_eq_equiv}
 use Rattle.std.proofs.lemmas.List.{append-nil, map-append, length-append}
-use Rattle.std.proofs.lemmas.Map.Keys.{IsDistinct-push}
+use Rattle.std.proofs.lemmas.Map.Keys.{IsDistinct-from_apart, IsDistinct-push}
 use Rattle.cts_base.specs.Known.{Knows, pair_cmp}
 use Rattle.cts_base.proofs.Known.{knows_none}
 use Rattle.cts_def.specs.declared.span.Span.{Span}
 use Rattle.cts_def.specs.declared.state_def.StateDef.{StateDef}
 use Rattle.cts_def.specs.Items.{ItemData, span_of, is_same, is_to_the_end}
+use Rattle.cts_def.specs.Packets.{begins_with_set, default_set}
 use Rattle.cts_def.specs.Spans.{end_of}
 use Rattle.cts_defline.specs.declared.details.Detail.{Detail}
 use Rattle.cts_defline.specs.declared.details.Detail.TheVariants as detail
@@ -37,22 +38,22 @@ use Rattle.cts_words.specs.Blocks.{last_of, on_last}
 
 -- ---- no definitions
 
-no_packets : (ps : List Drafted) (sets : List (List ℕ)) → ps ≡ [] → sets ≡ [] → AreSound ps sets
+no_packets : (ps : List Drafted) (sets : List (List ℕ)) → ps ≡ [] → sets ≡ default_set ∷ [] → AreSound ps sets
 unfolding IsDistinct
 no_packets ps sets e f =
     let P : List Drafted → Type 0 = λ qs. AreSound qs sets in
     let Q : List (List ℕ) → Type 0 = λ ss. AreSound [] ss in
-    let none : Q [] = record { telemetry = tt; commands = tt; kinds = refl; distinct_sets = tt; few_sets = omega arith } in
+    let none : Q (default_set ∷ []) = record { telemetry = tt; commands = tt; kinds = refl; first_set = refl; distinct_sets = IsDistinct-from_apart is_same (default_set ∷ []) (λ i j d before within. absurd (omega arith)); few_sets = omega arith } in
     subst P (sym e) (subst Q (sym f) none)
 
-pub none_kept : (d : Draft) → d.packets.items ≡ [] → d.set_names.items ≡ [] → IsEmpty d.telemetry → IsEmpty d.commands → IsEmpty d.items → IsEmpty d.states → IsEmpty d.sets
+pub none_kept : (d : Draft) → d.packets.items ≡ [] → d.set_names.items ≡ default_set ∷ [] → IsEmpty d.telemetry → IsEmpty d.commands → IsEmpty d.items → IsEmpty d.states → Knows (slice_cmp nat_cmp) d.sets (default_set ∷ [])
     → d.telemetry_count ≡ 0 → d.command_count ≡ 0 → d.item_count ≡ 0 → d.end ≡ 0 → d.is_open_ended ≡ false → d.is_to_the_end ≡ false → IsKept d
 none_kept d packets set_names telemetry commands items states sets telemetry_count command_count item_count end ended filled = record {
   telemetry = subst (λ (ps : List Drafted). Knows pair_cmp d.telemetry (names_of Telemetry ps)) (sym packets) (knows_none pair_cmp d.telemetry telemetry);
   commands = subst (λ (ps : List Drafted). Knows pair_cmp d.commands (names_of Command ps)) (sym packets) (knows_none pair_cmp d.commands commands);
   items = subst (λ (ps : List Drafted). Knows (slice_cmp nat_cmp) d.items (item_names (open_items ps))) (sym packets) (knows_none (slice_cmp nat_cmp) d.items items);
   states = subst (λ (ps : List Drafted). Knows (slice_cmp nat_cmp) d.states (state_names (open_item ps))) (sym packets) (knows_none (slice_cmp nat_cmp) d.states states);
-  sets = subst (λ (ss : List (List ℕ)). Knows (slice_cmp nat_cmp) d.sets ss) (sym set_names) (knows_none (slice_cmp nat_cmp) d.sets sets);
+  sets = subst (λ (ss : List (List ℕ)). Knows (slice_cmp nat_cmp) d.sets ss) (sym set_names) sets;
   telemetry_count = telemetry_count ∙ sym (ap (λ (ps : List Drafted). length (packets_of Telemetry ps)) packets);
   command_count = command_count ∙ sym (ap (λ (ps : List Drafted). length (packets_of Command ps)) packets);
   item_count = item_count ∙ sym (ap count_items packets);
@@ -94,11 +95,12 @@ pub record SameDraft (new old : Draft) : Type 0 where
   pub ended : new.is_open_ended ≡ old.is_open_ended
   pub filled : new.is_to_the_end ≡ old.is_to_the_end
 
-sound_kept : (ps qs : List Drafted) (sets sets' : List (List ℕ)) → SamePackets ps qs → list_all (keeps_its_kind sets') ps ≡ true → IsDistinct is_same sets' → length sets' ≤ 64 → AreSound qs sets → AreSound ps sets'
-sound_kept ps qs sets sets' same kinds distinct few h = record {
+sound_kept : (ps qs : List Drafted) (sets sets' : List (List ℕ)) → SamePackets ps qs → list_all (keeps_its_kind sets') ps ≡ true → begins_with_set default_set sets' ≡ true → IsDistinct is_same sets' → length sets' ≤ 64 → AreSound qs sets → AreSound ps sets'
+sound_kept ps qs sets sets' same kinds first distinct few h = record {
   telemetry = distinct_kept Telemetry ps qs same.telemetry h.telemetry;
   commands = distinct_kept Command ps qs same.commands h.commands;
   kinds = kinds;
+  first_set = first;
   distinct_sets = distinct;
   few_sets = few;
 }
@@ -170,7 +172,7 @@ hazardous_kept old new h suited same states sets names placed =
     (subst (λ (s : BTreeSet (List ℕ)). Knows (slice_cmp nat_cmp) s new.set_names.items) (sym sets) (subst (λ (ns : List (List ℕ)). Knows (slice_cmp nat_cmp) old.sets ns) (sym names) h.sets))
     (sound_kept new.packets.items old.packets.items old.set_names.items new.set_names.items packets
     (same_kinds old.set_names.items new.set_names.items new.packets.items (on_last make_hazardous old.packets.items) names placed (kinds_hazardous old.set_names.items old.packets.items suited h.sound.kinds))
-    (subst (λ (ns : List (List ℕ)). IsDistinct is_same ns) (sym names) h.sound.distinct_sets) (omega (arith, ap (λ (ns : List (List ℕ)). length ns) names, h.sound.few_sets)) h.sound)
+    (ap (begins_with_set default_set) names ∙ h.sound.first_set) (subst (λ (ns : List (List ℕ)). IsDistinct is_same ns) (sym names) h.sound.distinct_sets) (omega (arith, ap (λ (ns : List (List ℕ)). length ns) names, h.sound.few_sets)) h.sound)
 
 -- ---- nothing was changed
 
@@ -188,7 +190,7 @@ unchanged_kept old new h same states sets names placed =
     (subst (λ (s : BTreeSet (List ℕ)). Knows (slice_cmp nat_cmp) s new.set_names.items) (sym sets) (subst (λ (ns : List (List ℕ)). Knows (slice_cmp nat_cmp) old.sets ns) (sym names) h.sets))
     (sound_kept new.packets.items old.packets.items old.set_names.items new.set_names.items packets
     (same_kinds old.set_names.items new.set_names.items new.packets.items old.packets.items names placed h.sound.kinds)
-    (subst (λ (ns : List (List ℕ)). IsDistinct is_same ns) (sym names) h.sound.distinct_sets) (omega (arith, ap (λ (ns : List (List ℕ)). length ns) names, h.sound.few_sets)) h.sound)
+    (ap (begins_with_set default_set) names ∙ h.sound.first_set) (subst (λ (ns : List (List ℕ)). IsDistinct is_same ns) (sym names) h.sound.distinct_sets) (omega (arith, ap (λ (ns : List (List ℕ)). length ns) names, h.sound.few_sets)) h.sound)
 
 -- ---- a detail
 
@@ -254,6 +256,22 @@ sets_placed (detail.Format text) packets sets few distinct count = (distinct, co
 sets_placed (detail.Overflow o) packets sets few distinct count = (distinct, count)
 sets_placed detail.Required packets sets few distinct count = (distinct, count)
 
+-- the first set stays the first
+begins_more : (sets : List (List ℕ)) (set : List ℕ) (b : Bool) → begins_with_set default_set sets ≡ true → begins_with_set default_set (cond b sets (sets ++ set ∷ [])) ≡ true
+begins_more [] set b e = absurd cc
+begins_more (s ∷ sets) set true e = e
+begins_more (s ∷ sets) set false e = e
+
+first_placed : (d : Detail) (sets : List (List ℕ)) → begins_with_set default_set sets ≡ true → begins_with_set default_set (place_set (line.Detail d) sets) ≡ true
+first_placed (detail.State s) sets e = e
+first_placed (detail.Limits l) sets e = begins_more sets l.set (list_any (is_same l.set) sets) e
+first_placed (detail.Poly coefficients) sets e = e
+first_placed (detail.Segment s) sets e = e
+first_placed (detail.Units full short) sets e = e
+first_placed (detail.Format text) sets e = e
+first_placed (detail.Overflow o) sets e = e
+first_placed detail.Required sets e = e
+
 pub detail_kept : (old new : Draft) (d : Detail) → IsKept old → place_cause old.packets.items old.set_names.items (line.Detail d) ≡ None → suits (open_kind (opened old.packets.items)) (line.Detail d) ≡ true → SameDraft new old
     → new.packets.items ≡ on_last (add_detail d) old.packets.items
     → Knows (slice_cmp nat_cmp) new.states (state_names (open_item old.packets.items) ++ taken_name (is_some (open_item old.packets.items)) (state_name d))
@@ -270,4 +288,4 @@ detail_kept old new d h none suited same placed states sets names =
     (sound_kept new.packets.items old.packets.items old.set_names.items new.set_names.items packets
     (same_kinds (place_set (line.Detail d) old.set_names.items) new.set_names.items new.packets.items (on_last (add_detail d) old.packets.items) names placed
     (kinds_detail old.set_names.items old.packets.items d suited h.sound.kinds))
-    (subst (λ (ns : List (List ℕ)). IsDistinct is_same ns) (sym names) fine.0) (subst (λ (ns : List (List ℕ)). length ns ≤ 64) (sym names) fine.1) h.sound)
+    (ap (begins_with_set default_set) names ∙ first_placed d old.set_names.items h.sound.first_set) (subst (λ (ns : List (List ℕ)). IsDistinct is_same ns) (sym names) fine.0) (subst (λ (ns : List (List ℕ)). length ns ≤ 64) (sym names) fine.1) h.sound)

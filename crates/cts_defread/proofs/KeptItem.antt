@@ -11,13 +11,15 @@ use Rattle.std.proofs.lemmas.List.{map-append, length-append}
 use Rattle.cts_base.specs.Known.{Knows, pair_cmp}
 use Rattle.cts_base.proofs.Known.{knows_none}
 use Rattle.cts_bits.specs.declared.order.Order.{Order}
+use Rattle.cts_bits.specs.Places.{last_place}
 use Rattle.cts_def.specs.declared.item_kind.ItemKind.{ItemKind}
 use Rattle.cts_def.specs.declared.item_kind.Preset.{Preset}
 use Rattle.cts_def.specs.declared.item_kind.Preset.TheVariants.{Whole, Raw}
 use Rattle.cts_def.specs.declared.span.Span.{Span}
 use Rattle.cts_def.specs.Items.{ItemData, IsSoundItem, is_same, span_of, is_sound_id, is_sound_preset, is_to_the_end, has_room}
 use Rattle.cts_def.specs.Packets.{received_count}
-use Rattle.cts_def.specs.Spans.{end_of, bytes_needed, is_variable, is_far, is_number, is_misplaced, is_misplaced_by_kind, is_spelled}
+use Rattle.cts_def.specs.Spans.{end_of, bytes_needed, is_variable, is_number, is_misplaced, is_spelled, is_too_far, is_refused_number, is_bad_from_end, is_split_text, is_text_past_end, ends_too_far}
+use Rattle.cts_def.proofs.Needs.{placed as placed_so}
 use Rattle.cts_defline.specs.declared.line.ItemLine.{ItemLine}
 use Rattle.cts_defline.specs.declared.line.Line.TheVariants as line
 use Rattle.cts_defline.specs.declared.open.PacketKind.TheVariants.{Telemetry, Command}
@@ -26,12 +28,13 @@ use Rattle.cts_defline.specs.Refusals.{open_kind}
 use Rattle.cts_defline.specs.Rules.{suits}
 use Rattle.cts_defread.specs.declared.draft.Draft.{Draft}
 use Rattle.cts_defread.specs.declared.drafted.Drafted.{Drafted}
-use Rattle.cts_defread.specs.Causes.{drafted_items, open_items, open_end, order_in, span_in, is_open_ended, opened, is_command_in, is_bad_in_command, is_unfit_id, is_unfit_preset, fits, has_item, count_items}
+use Rattle.cts_defread.specs.Causes.{drafted_items, open_items, open_end, order_in, span_in, is_open_ended, opened, is_command_in, of_place, is_behind_open_end, is_id_from_end, is_from_end_in_command, is_behind_rest_in_command, is_unfit_id, is_unfit_preset, fits, has_item, count_items}
 use Rattle.cts_defread.specs.Drafts.{IsKept, names_of, item_names, state_names}
 use Rattle.cts_defread.specs.Sound.{AreSound, keeps_its_kind}
 use Rattle.cts_defread.specs.Standing.{item_at, end_from, offset_or, preset_or, are_same_kind}
 use Rattle.cts_defread.specs.Steps.{add_item, new_item, with_items}
 use Rattle.cts_defread.proofs.Clean.{Clean}
+use Rattle.cts_defread.proofs.Misplaced.{six_first}
 use Rattle.cts_defread.proofs.OfKind.{IsFurther, kinds_item}
 use Rattle.cts_defread.proofs.Lists.{any_more}
 use Rattle.cts_defread.proofs.Names.{names_on_last, same_count, distinct_kept, count_more}
@@ -106,29 +109,21 @@ lies ps front d head e = lies_last ps d head (open_of ps front d e)
 
 -- ---- what no bad place says
 
-abbrev is_behind_end : List Drafted → ItemLine → Bool
-is_behind_end ps head = is_none head.offset && list_any is_open_ended (open_items ps)
-
-abbrev is_id_from_end : List Drafted → ItemLine → Bool
-is_id_from_end ps head = is_some head.id && is_negative (span_in ps head).offset
-
-abbrev is_bad_command : List Drafted → ItemLine → Bool
-is_bad_command ps head = is_command_in (last_of ps) && is_bad_in_command ps head
-
 record IsPlaced (ps : List Drafted) (head : ItemLine) : Type 0 where
   pub place : is_misplaced (span_in ps head) ≡ false
   pub id : is_id_from_end ps head ≡ false
-  pub command : is_bad_command ps head ≡ false
-
-four_parts : (a b c d : Bool) → a || b || c || d ≡ false → (a ≡ false) × (c ≡ false) × (d ≡ false)
-four_parts a b c d e =
-    let front : a || b || c ≡ false = left_false (a || b || c) d e in
-    (left_false a b (left_false (a || b) c front), right_false (a || b) c front, right_false (a || b || c) d e)
+  pub command : is_from_end_in_command ps head ≡ false
+  pub behind : is_behind_rest_in_command ps head ≡ false
 
 is_placed : (ps : List Drafted) (sets : List (List ℕ)) (head : ItemLine) → Clean ps sets (line.Item head) → IsPlaced ps head
 is_placed ps sets head h =
-    let parts = four_parts (is_misplaced (span_in ps head)) (is_behind_end ps head) (is_id_from_end ps head) (is_bad_command ps head) h.placed in
-    record { place = parts.0; id = parts.1; command = parts.2 }
+    let six = six_first (of_place is_too_far ps head) (of_place is_refused_number ps head) (of_place is_bad_from_end ps head) (of_place is_split_text ps head) (of_place is_text_past_end ps head) (of_place ends_too_far ps head)
+    (is_behind_open_end ps head || (is_id_from_end ps head || (is_from_end_in_command ps head || (is_behind_rest_in_command ps head || false)))) h.placed in
+    let a = or_parts (is_behind_open_end ps head) (is_id_from_end ps head || (is_from_end_in_command ps head || (is_behind_rest_in_command ps head || false))) six.1 in
+    let b = or_parts (is_id_from_end ps head) (is_from_end_in_command ps head || (is_behind_rest_in_command ps head || false)) a.1 in
+    let c = or_parts (is_from_end_in_command ps head) (is_behind_rest_in_command ps head || false) b.1 in
+    let d = or_parts (is_behind_rest_in_command ps head) false c.1 in
+    record { place = six.0; id = b.0; command = c.0; behind = d.0 }
 
 place_false : (ps front : List Drafted) (d : Drafted) (sets : List (List ℕ)) (head : ItemLine) → ps ≡ front ++ d ∷ [] → Clean ps sets (line.Item head) → is_misplaced (span_of (new_item head d)) ≡ false
 place_false ps front d sets head e h = ap is_misplaced (sym (lies ps front d head e)) ∙ (is_placed ps sets head h).place
@@ -161,15 +156,16 @@ end_more end (j ∷ is) i = end_more (max end (end_of (span_of j))) is i
 pub is_further : (ps : List Drafted) (d : Drafted) (sets : List (List ℕ)) (head : ItemLine) → last_of ps ≡ Some d → Clean ps sets (line.Item head) → are_same_kind Command d.kind ≡ true → IsFurther d head
 is_further ps d sets head last h command =
     let is_one : is_command_in (last_of ps) ≡ true = ap is_command_in last ∙ command in
-    let fine : is_bad_in_command ps head ≡ false = not_both (is_command_in (last_of ps)) (is_bad_in_command ps head) (is_placed ps sets head h).command is_one in
-    let parts = or_parts (is_negative (span_in ps head).offset || is_negative head.size) (list_any is_to_the_end (open_items ps)) fine in
-    let sides = or_parts (is_negative (span_in ps head).offset) (is_negative head.size) parts.0 in
+    let near : is_negative (span_in ps head).offset || is_negative head.size ≡ false =
+    not_both (is_command_in (last_of ps)) (is_negative (span_in ps head).offset || is_negative head.size) (is_placed ps sets head h).command is_one in
+    let rest : list_any is_to_the_end (open_items ps) ≡ false = not_both (is_command_in (last_of ps)) (list_any is_to_the_end (open_items ps)) (is_placed ps sets head h).behind is_one in
+    let sides = or_parts (is_negative (span_in ps head).offset) (is_negative head.size) near in
     let offset : is_negative (span_of (new_item head d)).offset ≡ false = ap (λ (s : Span). is_negative s.offset) (sym (lies_last ps d head last)) ∙ sides.0 in
     record {
       from_start =
           and_from (not (is_negative (span_of (new_item head d)).offset)) (not (is_negative head.size)) (not_from_false (is_negative (span_of (new_item head d)).offset) offset)
           (not_from_false (is_negative head.size) sides.1);
-      behind = ap (λ (o : Option Drafted). list_any is_to_the_end (drafted_items o)) (sym last) ∙ parts.1;
+      behind = ap (λ (o : Option Drafted). list_any is_to_the_end (drafted_items o)) (sym last) ∙ rest;
     }
 
 item_sound : (old new front : List Drafted) (d : Drafted) (sets : List (List ℕ)) (head : ItemLine) → old ≡ front ++ d ∷ [] → new ≡ on_last (add_item head) old → Clean old sets (line.Item head) → suits (open_kind (opened old)) (line.Item head) ≡ true → AreSound old sets → AreSound new sets
@@ -179,6 +175,7 @@ item_sound old new front d sets head popped placed h suited sound = record {
   kinds =
       ap (λ (ps : List Drafted). list_all (keeps_its_kind sets) ps) placed
       ∙ kinds_item sets old head suited h.whole_id (λ p last kind. is_further old p sets head last h kind) sound.kinds;
+  first_set = sound.first_set;
   distinct_sets = sound.distinct_sets;
   few_sets = sound.few_sets;
 }
@@ -220,8 +217,7 @@ item_kept old new front d item head h clean suited same popped made placed names
     let commands : names_of Command new.packets.items ≡ names_of Command old.packets.items = ap (names_of Command) placed ∙ names_on_last Command (add_item head) old.packets.items (λ p. refl) in
     let total : count_items new.packets.items ≡ count_items old.packets.items + 1 =
     omega (arith, ap count_items behind, count_more front (add_item head d), length-append d.packet.items (i ∷ []), ap count_items popped, count_more front d) in
-    let room : end_of (span_of i) ≤ 8388608 = ltb-false 8388608 (end_of (span_of i)) (right_false (is_far i.offset || is_far i.size || is_misplaced_by_kind (span_of i)) (nat_lt 8388608 (end_of (span_of i)))
-    (place_false old.packets.items front d old.set_names.items head popped clean)) in
+    let room : end_of (span_of i) ≤ last_place = (placed_so (span_of i) (place_false old.packets.items front d old.set_names.items head popped clean)).end in
     let few : count_items old.packets.items < 65536 = leb-false 65536 (count_items old.packets.items) (right_false (nat_le 4096 (length (open_items old.packets.items))) (nat_le 65536 (count_items old.packets.items)) clean.few) in
     let new_end : new.end ≡ max old.end (end_of (span_of i)) = end ∙ ap (λ (j : ItemData). max old.end (end_of (span_of j))) is_one in
     record {

@@ -103,6 +103,7 @@ packet_sound old new sets head placed h sound =
       telemetry = kind_distinct Telemetry old new head (are_same_kind Telemetry head.kind) refl placed (of_kind Telemetry) sound.telemetry;
       commands = kind_distinct Command old new head (are_same_kind Command head.kind) refl placed (of_kind Command) sound.commands;
       kinds = ap (λ (ps : List Drafted). list_all (keeps_its_kind sets) ps) placed ∙ kinds_packet sets old head sound.kinds;
+      first_set = sound.first_set;
       distinct_sets = sound.distinct_sets;
       few_sets = sound.few_sets;
     }

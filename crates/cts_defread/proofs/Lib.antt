@@ -15,3 +15,4 @@ pub mod Rules
 pub mod Runs
 pub mod Sets
 pub mod Taken
+pub mod Told

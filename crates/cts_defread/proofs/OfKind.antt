@@ -1,13 +1,15 @@
 -- Each line keeps what packets and commands are by their kind.
-use Rattle.std.proofs.Common.{◌≡◌, ℕ, Bool, true, false, not, ◌||◌, ◌&&◌, cond, map, List, [], ◌∷◌, ◌++◌, Option, Some, None, refl, ap, ◌∙◌, subst}
+use Rattle.std.proofs.Common.{◌≡◌, ℕ, ℤ, Bool, true, false, not, ◌||◌, ◌&&◌, cond, map, List, [], ◌∷◌, ◌++◌, Option, Some, None, refl, ap, ◌∙◌, subst}
 use Rattle.std.specs.Prelude.{is_none, is_some, if◌then◌else◌}
 use Rattle.std.specs.List.{list_any, list_all, filter}
 use Rattle.std.proofs.lemmas.Bool.{and_parts, and_from, or_parts, or_from, or_left, not_from_false, not-true}
 use Rattle.std.proofs.lemmas.Cmp.{nat_list_eq_equiv}
+use Rattle.cts_def.specs.declared.item_kind.ItemKind.{ItemKind}
+use Rattle.cts_def.specs.declared.item_kind.Preset.{Preset}
 use Rattle.cts_def.specs.declared.limits.Limits.{Limits}
 use Rattle.cts_def.specs.declared.limits_setup.LimitsSetup.{LimitsSetup}
 use Rattle.cts_def.specs.declared.state_def.StateDef.{StateDef}
-use Rattle.cts_def.specs.Items.{ItemData, is_same, has_color, has_range_of_its_kind, has_sets_among, is_from_start, is_parameter, is_plain, is_telemetry_item, is_to_the_end, sets_in}
+use Rattle.cts_def.specs.Items.{ItemData, is_same, has_color, has_default_of, has_range_of_its_kind, has_sets_among, is_from_start, is_parameter, is_plain, is_telemetry_item, is_to_the_end, sets_in}
 use Rattle.cts_def.specs.Packets.{PacketData, are_before_the_end, is_command, is_telemetry}
 use Rattle.cts_def.specs.Spans.{is_number}
 use Rattle.cts_defline.specs.declared.details.Detail.{Detail}
@@ -20,11 +22,11 @@ use Rattle.cts_defline.specs.declared.line.PacketLine.{PacketLine}
 use Rattle.cts_defline.specs.declared.open.PacketKind.{PacketKind}
 use Rattle.cts_defline.specs.declared.open.PacketKind.TheVariants.{Telemetry, Command}
 use Rattle.cts_defline.specs.Refusals.{open_kind}
-use Rattle.cts_defline.specs.Rules.{is_of_kind, suits}
+use Rattle.cts_defline.specs.Rules.{has_wanted_default, has_wanted_range, is_of_kind, suits}
 use Rattle.cts_defread.specs.declared.drafted.Drafted.{Drafted}
 use Rattle.cts_defread.specs.Causes.{is_text_id, opened_in, opened_with}
 use Rattle.cts_defread.specs.Sound.{keeps_kind, keeps_its_kind}
-use Rattle.cts_defread.specs.Standing.{are_same_kind, packets_of, set_limits}
+use Rattle.cts_defread.specs.Standing.{are_same_kind, packets_of, preset_or, set_limits}
 use Rattle.cts_defread.specs.Steps.{add_detail, add_item, add_limits, change_item, make_hazardous, new_item, new_packet, place_set}
 use Rattle.cts_defread.proofs.Lists.{all_more, all_on_last, any_more}
 use Rattle.cts_defread.proofs.Rules.{or_right}
@@ -129,6 +131,11 @@ wanted_range true id some none whole e = e
 wanted_range false true some none whole e = absurd cc
 wanted_range false false some none whole e = e
 
+own_default : (kind : ItemKind) (id : Option ℤ) (preset : Option Preset) → has_wanted_default id preset ≡ true → has_default_of id (preset_or kind preset) ≡ true
+own_default kind None None e = refl
+own_default kind (Some z) None e = absurd cc
+own_default kind id (Some preset) e = e
+
 -- what a command asks of a further item
 pub record IsFurther (d : Drafted) (head : ItemLine) : Type 0 where
   pub from_start : is_from_start (new_item head d) ≡ true
@@ -145,9 +152,12 @@ item_keeps sets Telemetry d head suited whole further e =
 item_keeps sets Command d head suited whole further e =
     let parts = and_parts (list_all is_parameter d.packet.items) (are_before_the_end d.packet.items) e in
     let h : IsFurther d head = further refl in
-    let range : has_range_of_its_kind (new_item head d) ≡ true = wanted_range (is_number head.kind) (is_some head.id) (is_some head.range) (is_none head.range) whole suited in
+    let asked = and_parts (has_wanted_range head) (has_wanted_default head.id head.preset) suited in
+    let range : has_range_of_its_kind (new_item head d) ≡ true = wanted_range (is_number head.kind) (is_some head.id) (is_some head.range) (is_none head.range) whole asked.0 in
+    let default : has_default_of head.id (preset_or head.kind head.preset) ≡ true = own_default head.kind head.id head.preset asked.1 in
     let one : is_parameter (new_item head d) ≡ true =
-    and_from (is_from_start (new_item head d) && true && true && true) (has_range_of_its_kind (new_item head d)) (ap (λ (b : Bool). b && true && true && true) h.from_start) range in
+    and_from (is_from_start (new_item head d) && true && true && true && has_range_of_its_kind (new_item head d)) (has_default_of head.id (preset_or head.kind head.preset))
+    (and_from (is_from_start (new_item head d) && true && true && true) (has_range_of_its_kind (new_item head d)) (ap (λ (b : Bool). b && true && true && true) h.from_start) range) default in
     and_from (list_all is_parameter (d.packet.items ++ new_item head d ∷ [])) (are_before_the_end (d.packet.items ++ new_item head d ∷ []))
     (all_more is_parameter d.packet.items (new_item head d) ∙ and_from (list_all is_parameter d.packet.items) (is_parameter (new_item head d)) parts.0 one)
     (before_more d.packet.items (new_item head d) h.behind)
@@ -197,12 +207,14 @@ is_unconverted i = is_from_start i && is_none i.limits && is_plain i.conversion
 command_detail : (d : Detail) (i : ItemData) → is_of_kind Command (line.Detail d) ≡ true → is_parameter i ≡ true → is_parameter (change_item d i) ≡ true
 command_detail (detail.State s) i suited e =
     let colors : Bool = list_any has_color i.states in
-    let parts = and_parts (is_unconverted i && not colors) (has_range_of_its_kind i) e in
+    let all = and_parts (is_unconverted i && not colors && has_range_of_its_kind i) (has_default_of i.id i.preset) e in
+    let parts = and_parts (is_unconverted i && not colors) (has_range_of_its_kind i) all.0 in
     let front = and_parts (is_unconverted i) (not colors) parts.0 in
     let colorless : not (list_any has_color (i.states ++ s ∷ [])) ≡ true =
     not_from_false (list_any has_color (i.states ++ s ∷ [])) (any_more has_color i.states s ∙ or_from colors (has_color s) (not-true colors front.1) (not-true (has_color s) suited)) in
-    and_from (is_unconverted i && not (list_any has_color (i.states ++ s ∷ []))) (has_range_of_its_kind i)
-    (and_from (is_unconverted i) (not (list_any has_color (i.states ++ s ∷ []))) front.0 colorless) parts.1
+    and_from (is_unconverted i && not (list_any has_color (i.states ++ s ∷ [])) && has_range_of_its_kind i) (has_default_of i.id i.preset)
+    (and_from (is_unconverted i && not (list_any has_color (i.states ++ s ∷ []))) (has_range_of_its_kind i)
+    (and_from (is_unconverted i) (not (list_any has_color (i.states ++ s ∷ []))) front.0 colorless) parts.1) all.1
 command_detail (detail.Limits l) i suited e = absurd cc
 command_detail (detail.Poly coefficients) i suited e = absurd cc
 command_detail (detail.Segment s) i suited e = absurd cc

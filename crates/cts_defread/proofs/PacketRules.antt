@@ -8,7 +8,8 @@ use Rattle.std.proofs.lemmas.List.{map-append, length-append}
 use Rattle.std.proofs.lemmas.Map.Keys.{IsDistinct-push}
 use Rattle.cts_def.specs.Items.{ItemData, is_same, span_of}
 use Rattle.cts_def.specs.Packets.{PacketData, IsSoundPacket, received_count, unknown}
-use Rattle.cts_def.specs.Spans.{bytes_needed, is_variable}
+use Rattle.cts_def.specs.Spans.{bytes_needed, is_misplaced, is_variable}
+use Rattle.cts_def.proofs.Needs.{few_bytes}
 use Rattle.cts_defline.specs.declared.details.Detail.{Detail}
 use Rattle.cts_defread.specs.declared.drafted.Drafted.{Drafted}
 use Rattle.cts_defread.specs.Causes.{has_item, drafted_items, open_item}
@@ -24,18 +25,19 @@ pub new_sound : (target name : List ℕ) (items : List ItemData) (hazardous : Bo
 unfolding IsDistinct
 new_sound target name items hazardous e known =
     let P : List ItemData → Type 0 = λ is. IsSoundPacket (record { target = target; name = name; items = is; length = 0; variable = false; hazardous = hazardous }) in
-    let none : P [] = record { least = refl; varies = refl; few = omega arith; distinct = tt; known_target = known; no_counts = refl } in
+    let none : P [] = record { least = refl; varies = refl; short = omega arith; few = omega arith; distinct = tt; known_target = known; no_counts = refl } in
     subst P (sym e) none
 
 -- ---- one more item
 
-pub more_sound : (p : PacketData) (i : ItemData) → IsSoundPacket p → nat_le 4096 (length p.items) ≡ false → is_same i.name received_count ≡ false → has_item p.items i.name ≡ false
+pub more_sound : (p : PacketData) (i : ItemData) → IsSoundPacket p → is_misplaced (span_of i) ≡ false → nat_le 4096 (length p.items) ≡ false → is_same i.name received_count ≡ false → has_item p.items i.name ≡ false
     → IsSoundPacket (record p { items = p.items ++ i ∷ []; length = max p.length (bytes_needed (span_of i)); variable = p.variable || is_variable (span_of i) })
-more_sound p i h few other single =
+more_sound p i h placed few other single =
     let count : length p.items ≤ 4095 = omega (arith, leb-false 4096 (length p.items) few) in
     record {
       least = ap (λ (n : ℕ). max n (bytes_needed (span_of i))) h.least ∙ sym (length_more p.items i);
       varies = ap (λ (b : Bool). b || is_variable (span_of i)) h.varies ∙ sym (variable_more p.items i);
+      short = let more = few_bytes (span_of i) placed in omega (arith, h.short);
       few = omega (arith, length-append p.items (i ∷ []), count);
       distinct =
           subst (λ (ns : List (List ℕ)). IsDistinct is_same ns) (sym (map-append (λ (j : ItemData). j.name) p.items (i ∷ [])))
@@ -46,17 +48,17 @@ more_sound p i h few other single =
           ∙ or_from (list_any (λ (j : ItemData). is_same j.name received_count) p.items) (is_same i.name received_count) h.no_counts other;
     }
 
-pub pushed_sound : (inside p : PacketData) (i : ItemData) (items : List ItemData) (length' : ℕ) (variable : Bool) → inside ≡ p → IsSoundPacket inside
+pub pushed_sound : (inside p : PacketData) (i : ItemData) (items : List ItemData) (length' : ℕ) (variable : Bool) → inside ≡ p → IsSoundPacket inside → is_misplaced (span_of i) ≡ false
     → nat_le 4096 (length p.items) ≡ false → is_same i.name received_count ≡ false → has_item p.items i.name ≡ false
     → items ≡ inside.items ++ i ∷ [] → length' ≡ max inside.length (bytes_needed (span_of i)) → variable ≡ inside.variable || is_variable (span_of i)
     → IsSoundPacket (record inside { items = items; length = length'; variable = variable })
-pushed_sound inside p i items length' variable same h few other single pushed longer varies =
+pushed_sound inside p i items length' variable same h placed few other single pushed longer varies =
     let P : PacketData → Type 0 = λ q. (nat_le 4096 (length q.items) ≡ false) × (has_item q.items i.name ≡ false) in
     let here : P inside = subst P (sym same) (few, single) in
     let A : List ItemData → Type 0 = λ is. IsSoundPacket (record inside { items = is; length = length'; variable = variable }) in
     let B : ℕ → Type 0 = λ n. IsSoundPacket (record inside { items = inside.items ++ i ∷ []; length = n; variable = variable }) in
     let C : Bool → Type 0 = λ b. IsSoundPacket (record inside { items = inside.items ++ i ∷ []; length = max inside.length (bytes_needed (span_of i)); variable = b }) in
-    subst A (sym pushed) (subst B (sym longer) (subst C (sym varies) (more_sound inside i h here.0 other here.1)))
+    subst A (sym pushed) (subst B (sym longer) (subst C (sym varies) (more_sound inside i h placed here.0 other here.1)))
 
 -- ---- details of the last item
 
@@ -68,6 +70,7 @@ detail_sound d p items h changed =
     record {
       least = h.least ∙ sym (length_on_last_item (change_item d) p.items (same_span d));
       varies = h.varies ∙ sym (variable_on_last_item (change_item d) p.items (same_span d));
+      short = h.short;
       few = omega (arith, length_on_last (change_item d) p.items, h.few);
       distinct = subst (λ (ns : List (List ℕ)). IsDistinct is_same ns) (sym names) h.distinct;
       known_target = h.known_target;

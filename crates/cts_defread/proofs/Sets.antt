@@ -5,6 +5,7 @@ use Rattle.std.proofs.lemmas.List.Elements.{filter_map-append, filter-append}
 use Rattle.std.proofs.lemmas.Cmp.{nat_list_eq_equiv}
 use Rattle.std.specs.List.{filter, filter_map, list_any, cons_option}
 use Rattle.cts_def.specs.Items.{is_same}
+use Rattle.cts_def.specs.Packets.{default_set}
 use Rattle.cts_defline.specs.declared.details.Detail.TheVariants as detail
 use Rattle.cts_defline.specs.declared.line.Line.{Line}
 use Rattle.cts_defline.specs.declared.line.Line.TheVariants as line
@@ -81,13 +82,13 @@ firsts_more (y ∷ xs) x = ap (λ zs. y ∷ filter (is_other y) zs) (firsts_more
 -- ---- lines
 
 no_set : (ls : List Line) (l : Line) → set_in l ≡ None → set_names_of (ls ++ l ∷ []) ≡ set_names_of ls
-no_set ls l none = ap firsts (filter_map-append set_in ls (l ∷ []) ∙ ap (λ (o : Option (List ℕ)). filter_map set_in ls ++ cons_option o []) none ∙ append-nil (filter_map set_in ls))
+no_set ls l none = ap (λ (names : List (List ℕ)). firsts (default_set ∷ names)) (filter_map-append set_in ls (l ∷ []) ∙ ap (λ (o : Option (List ℕ)). filter_map set_in ls ++ cons_option o []) none ∙ append-nil (filter_map set_in ls))
 
 pub set_names-more : (ls : List Line) (l : Line) → set_names_of (ls ++ l ∷ []) ≡ place_set l (set_names_of ls)
 set_names-more ls (line.Packet head) = no_set ls (line.Packet head) refl
 set_names-more ls (line.Item head) = no_set ls (line.Item head) refl
 set_names-more ls (line.Detail (detail.State s)) = no_set ls (line.Detail (detail.State s)) refl
-set_names-more ls (line.Detail (detail.Limits l)) = ap firsts (filter_map-append set_in ls (line.Detail (detail.Limits l) ∷ [])) ∙ firsts_more (filter_map set_in ls) l.set
+set_names-more ls (line.Detail (detail.Limits l)) = ap (λ (names : List (List ℕ)). firsts (default_set ∷ names)) (filter_map-append set_in ls (line.Detail (detail.Limits l) ∷ [])) ∙ firsts_more (default_set ∷ filter_map set_in ls) l.set
 set_names-more ls (line.Detail (detail.Poly coefficients)) = no_set ls (line.Detail (detail.Poly coefficients)) refl
 set_names-more ls (line.Detail (detail.Segment s)) = no_set ls (line.Detail (detail.Segment s)) refl
 set_names-more ls (line.Detail (detail.Units full short)) = no_set ls (line.Detail (detail.Units full short)) refl

@@ -20,7 +20,7 @@ use Rattle.cts_def.specs.Formats.{is_format}
 use Rattle.cts_def.specs.Items.{ItemData, is_same, has_room, has_color, is_too_large, is_to_the_end, are_in_order, sets_in}
 use Rattle.cts_def.specs.Most.{most_items, most_items_in_all, most_packets, most_segments, most_sets, most_states}
 use Rattle.cts_def.specs.Packets.{received_count, unknown}
-use Rattle.cts_def.specs.Spans.{is_number, is_little, is_misplaced, is_spelled}
+use Rattle.cts_def.specs.Spans.{is_number, is_little, is_spelled, is_too_far, is_refused_number, is_bad_from_end, is_split_text, is_text_past_end, ends_too_far}
 use Rattle.cts_defline.specs.declared.cause.DefCause.{DefCause}
 use Rattle.cts_defline.specs.declared.cause.DefCause.TheVariants.{WrongKind, IdNotWhole, DoubleName, AppendLittleBits, BadPlace, IdOutOfRange, DefaultOutOfRange, ConversionTooLarge, LimitsOrder, BadFormat, TooMany}
 use Rattle.cts_defline.specs.declared.details.Detail.TheVariants as detail
@@ -161,17 +161,38 @@ is_little_append packets _ = false
 abbrev pub is_open_ended : ItemData → Bool
 is_open_ended i = int_le i.size (pos 0)
 
--- a command has no place that is counted from the end, and nothing behind an item that goes to the end
-abbrev pub is_bad_in_command : List Drafted → ItemLine → Bool
-is_bad_in_command packets head =
-    is_negative (span_in packets head).offset || is_negative head.size || list_any is_to_the_end (open_items packets)
+-- ---- the places that no item may have, each by the definitions before the line and by the line
+
+-- a test of the place alone
+abbrev pub of_place : (Span → Bool) → List Drafted → ItemLine → Bool
+of_place test packets head = test (span_in packets head)
+
+-- an append stands behind an item of size at most 0
+abbrev pub is_behind_open_end : List Drafted → ItemLine → Bool
+is_behind_open_end packets head = is_none head.offset && list_any is_open_ended (open_items packets)
+
+-- an id item has a negative offset
+abbrev pub is_id_from_end : List Drafted → ItemLine → Bool
+is_id_from_end packets head = is_some head.id && is_negative (span_in packets head).offset
+
+-- in a command, an offset or size is negative
+abbrev pub is_from_end_in_command : List Drafted → ItemLine → Bool
+is_from_end_in_command packets head =
+    is_command_in (last_of packets) && (is_negative (span_in packets head).offset || is_negative head.size)
+
+-- in a command, an item stands behind one of size 0
+abbrev pub is_behind_rest_in_command : List Drafted → ItemLine → Bool
+is_behind_rest_in_command packets head = is_command_in (last_of packets) && list_any is_to_the_end (open_items packets)
+
+-- all ten: six of the place alone, and four by what stands
+abbrev pub bad_places : List (List Drafted → ItemLine → Bool)
+bad_places =
+    of_place is_too_far ∷ of_place is_refused_number ∷ of_place is_bad_from_end ∷ of_place is_split_text
+    ∷ of_place is_text_past_end ∷ of_place ends_too_far
+    ∷ is_behind_open_end ∷ is_id_from_end ∷ is_from_end_in_command ∷ is_behind_rest_in_command ∷ []
 
 abbrev pub is_bad_place : List Drafted → Line → Bool
-is_bad_place packets (line.Item head) =
-    is_misplaced (span_in packets head)
-    || (is_none head.offset && list_any is_open_ended (open_items packets))
-    || (is_some head.id && is_negative (span_in packets head).offset)
-    || (is_command_in (last_of packets) && is_bad_in_command packets head)
+is_bad_place packets (line.Item head) = list_any (λ (bad : List Drafted → ItemLine → Bool). bad packets head) bad_places
 is_bad_place packets _ = false
 
 -- ---- values

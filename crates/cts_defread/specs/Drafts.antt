@@ -4,6 +4,7 @@ use Rattle.std.specs.Cmp.Lexicographic.{slice_cmp}
 use Rattle.std.specs.List.{list_any}
 use Rattle.std.specs.Ordering.{nat_cmp}
 use Rattle.cts_base.specs.Known.{Knows, pair_cmp}
+use Rattle.cts_bits.specs.Places.{last_place}
 use Rattle.cts_def.specs.declared.state_def.StateDef.{StateDef}
 use Rattle.cts_def.specs.Items.{ItemData, is_to_the_end}
 use Rattle.cts_def.specs.Most.{most_items_in_all, most_packets}
@@ -67,5 +68,5 @@ pub record IsKept (d : Draft) : Type 0 where
   pub few_telemetry : d.telemetry_count ≤ most_packets
   pub few_commands : d.command_count ≤ most_packets
   pub few_items : d.item_count ≤ most_items_in_all
-  pub room : d.end ≤ 8388608
+  pub room : d.end ≤ last_place
   pub sound : AreSound d.packets.items d.set_names.items

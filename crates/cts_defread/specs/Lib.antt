@@ -1,4 +1,5 @@
 pub mod Causes
+pub mod Defined
 pub mod Definitions
 pub mod Drafts
 pub mod Laws

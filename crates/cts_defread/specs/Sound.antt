@@ -3,7 +3,7 @@ use Rattle.std.specs.Prelude.{◌≡◌, ℕ, ◌≤◌, Bool, false, List, leng
 use Rattle.std.specs.List.{list_all, IsDistinct}
 use Rattle.cts_def.specs.Items.{ItemData, is_same}
 use Rattle.cts_def.specs.Most.{most_sets}
-use Rattle.cts_def.specs.Packets.{PacketData, have_same_names, is_command, is_telemetry}
+use Rattle.cts_def.specs.Packets.{PacketData, begins_with_set, default_set, have_same_names, is_command, is_telemetry}
 use Rattle.cts_defline.specs.declared.details.Detail.{Detail}
 use Rattle.cts_defline.specs.declared.details.Detail.TheVariants as detail
 use Rattle.cts_defline.specs.declared.line.Line.TheVariants as line
@@ -26,6 +26,7 @@ pub record AreSound (packets : List Drafted) (sets : List (List ℕ)) : Type 0 w
   pub telemetry : IsDistinct have_same_names (packets_of Telemetry packets)
   pub commands : IsDistinct have_same_names (packets_of Command packets)
   pub kinds : IsTrue (list_all (keeps_its_kind sets) packets)
+  pub first_set : IsTrue (begins_with_set default_set sets)
   pub distinct_sets : IsDistinct is_same sets
   pub few_sets : length sets ≤ most_sets
 

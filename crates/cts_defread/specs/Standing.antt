@@ -14,7 +14,7 @@ use Rattle.cts_def.specs.declared.limits.Limits.{Limits}
 use Rattle.cts_def.specs.declared.limits_setup.LimitsSetup.{LimitsSetup}
 use Rattle.cts_def.specs.declared.state_def.StateDef.{StateDef}
 use Rattle.cts_def.specs.Items.{ItemData, span_of, is_same}
-use Rattle.cts_def.specs.Packets.{PacketData, DefinitionsData, length_of, are_variable}
+use Rattle.cts_def.specs.Packets.{PacketData, DefinitionsData, default_set, length_of, are_variable}
 use Rattle.cts_def.specs.Spans.{end_of}
 use Rattle.cts_defline.specs.declared.details.Detail.TheVariants as detail
 use Rattle.cts_defline.specs.declared.details.LimitsLine.{LimitsLine}
@@ -173,9 +173,9 @@ abbrev pub firsts : List (List ℕ) → List (List ℕ)
 firsts [] = []
 firsts (x ∷ xs) = x ∷ filter (is_other x) (firsts xs)
 
--- the limits sets in the order in which lines first name them
+-- the limits sets: DEFAULT, and then the others in the order in which lines first name them
 abbrev pub set_names_of : List Line → List (List ℕ)
-set_names_of lines = firsts (filter_map set_in lines)
+set_names_of lines = firsts (default_set ∷ filter_map set_in lines)
 
 -- ---- all of it
 

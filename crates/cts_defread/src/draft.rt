@@ -1,6 +1,7 @@
 // The definitions as they grow, statement by statement.
 
 ghost use Rattle.std.specs.Prelude.{◌≡◌, IfOk};
+ghost use Rattle.cts_def.specs.Packets.{default_set};
 ghost use Rattle.cts_defread.specs.Standing.{packets_of};
 
 use crate::drafted::Drafted;
@@ -42,31 +43,36 @@ pub(crate) struct Draft {
 }
 
 impl Draft {
-    ghost use Rattle.std.specs.Prelude.{◌≡◌, [], IfOk};
+    ghost use Rattle.std.specs.Prelude.{◌≡◌, [], ◌∷◌, IfOk};
+    ghost use Rattle.cts_def.specs.Packets.{default_set};
     ghost use Rattle.cts_defread.specs.Drafts.{IsKept};
     ghost use Rattle.cts_defread.specs.Standing.{definitions_in};
 
-    /// No definitions. It takes no memory.
-    pub(crate) fn new(alloc: Global) -> Draft
-        ensures packets { result.packets.items ≡ [] }
-        ensures set_names { result.set_names.items ≡ [] }
-        ensures kept { IsKept result }
+    /// No definitions, and the limits set DEFAULT. `Memory` where none was found for it.
+    pub(crate) fn new(alloc: Global) -> Result<Draft, Memory>
+        ensures packets { IfOk result (λ d. d.packets.items ≡ []) }
+        ensures set_names { IfOk result (λ d. d.set_names.items ≡ default_set ∷ []) }
+        ensures kept { IfOk result (λ d. IsKept d) }
     {
-        Draft {
+        let mut set_names = Vec::new(alloc);
+        let mut sets = BTreeSet::new(alloc);
+        set_names.push(default_set(alloc)?)?;
+        sets.insert(default_set(alloc)?)?;
+        Ok(Draft {
             packets: Vec::new(alloc),
-            set_names: Vec::new(alloc),
+            set_names,
             telemetry: BTreeSet::new(alloc),
             commands: BTreeSet::new(alloc),
             items: BTreeSet::new(alloc),
             states: BTreeSet::new(alloc),
-            sets: BTreeSet::new(alloc),
+            sets,
             telemetry_count: 0,
             command_count: 0,
             item_count: 0,
             end: 0,
             is_open_ended: false,
             is_to_the_end: false,
-        }
+        })
     }
 
     /// The packets and the commands, each in their order, and the names of the limits sets.
@@ -80,6 +86,17 @@ impl Draft {
             commands,
             set_names: List::of(self.set_names),
         })
+    }
+}
+
+// The limits set that is there from the start.
+fn default_set(alloc: Global) -> Result<Name, Memory>
+    ensures { IfOk result (λ name. name ≡ default_set) }
+{
+    match Name::read(alloc, b"DEFAULT") {
+        Ok(name) => Ok(name),
+        // The word is a name, so that memory alone was wanting.
+        Err(_) => Err(Memory),
     }
 }
 

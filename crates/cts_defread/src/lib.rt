@@ -23,7 +23,9 @@ mod values;
 
 pub use cts_defline::DefCause;
 pub use fault::DefFault;
-pub use laws::{definitions_are_in_order, first_statement_is_refused};
+pub use laws::{
+    definitions_are_in_order, definitions_are_of_their_lines, first_statement_is_refused,
+};
 pub use reading::read_definitions;
 
 #[cfg(test)]

@@ -3,7 +3,7 @@ ghost use Rattle.std.specs.Prelude.{◌≡◌, ◌||◌, ◌++◌, ◌∷◌, []
 ghost use Rattle.cts_def.specs.Items.{is_same, span_of};
 ghost use Rattle.cts_def.specs.Most.{most_items};
 ghost use Rattle.cts_def.specs.Packets.{received_count, unknown};
-ghost use Rattle.cts_def.specs.Spans.{bytes_needed, is_variable};
+ghost use Rattle.cts_def.specs.Spans.{bytes_needed, is_misplaced, is_variable};
 ghost use Rattle.cts_defread.specs.Causes.{has_item, open_item};
 ghost use Rattle.cts_defread.specs.Sound.{FitsLast};
 ghost use Rattle.cts_defread.specs.Steps.{add_detail, change_item, make_hazardous, new_packet, with_items};
@@ -36,6 +36,7 @@ pub(crate) fn new_packet(alloc: Global, head: PacketLine) -> Drafted
 }
 
 fn push_item(mut packet: Packet, item: Item) -> Result<Packet, Memory>
+    requires placed { is_misplaced (span_of item) ≡ false }
     requires few { nat_le most_items (length packet.items) ≡ false }
     requires other { is_same item.name received_count ≡ false }
     requires single { has_item packet.items item.name ≡ false }
@@ -50,6 +51,7 @@ fn push_item(mut packet: Packet, item: Item) -> Result<Packet, Memory>
 
 /// The definition with one more item.
 pub(crate) fn with_item(drafted: Drafted, item: Item) -> Result<Drafted, Memory>
+    requires placed { is_misplaced (span_of item) ≡ false }
     requires few { nat_le most_items (length drafted.packet.items) ≡ false }
     requires other { is_same item.name received_count ≡ false }
     requires single { has_item drafted.packet.items item.name ≡ false }

@@ -6,13 +6,13 @@ ghost use Rattle.std.specs.List.{list_any};
 ghost use Rattle.cts_bits.specs.Places.{is_whole};
 ghost use Rattle.cts_def.specs.Items.{is_to_the_end};
 ghost use Rattle.cts_def.specs.Spans.{is_far, is_misplaced};
-ghost use Rattle.cts_defread.specs.Causes.{open_items, open_end, order_in, span_in, is_little_append, is_open_ended, is_bad_in_command, is_bad_place};
+ghost use Rattle.cts_defread.specs.Causes.{open_items, open_end, order_in, span_in, is_little_append, is_open_ended, is_behind_open_end, is_id_from_end, is_from_end_in_command, is_behind_rest_in_command, is_bad_place};
 ghost use Rattle.cts_defread.specs.Standing.{offset_or};
 ghost use Rattle.cts_defread.specs.Drafts.{IsKept};
 ghost use Rattle.cts_words.specs.Blocks.{last_of};
 
 use crate::draft::Draft;
-use cts_bits::Order;
+use cts_bits::{LAST_PLACE, Order};
 use cts_def::{ItemKind, Span};
 use cts_defline::{ItemLine, Line};
 
@@ -20,7 +20,7 @@ use cts_defline::{ItemLine, Line};
 fn near(bits: i128) -> Option<i32>
     ensures { MatchOption result (IsTrue (is_far bits)) (λ b. b ≡ bits) }
 {
-    if bits.unsigned_abs() > 8_388_608 {
+    if bits.unsigned_abs() > u128::from(LAST_PLACE) {
         return None;
     }
     i32::try_from(bits).ok()
@@ -54,6 +54,12 @@ fn is_whole(end: u32, size: i128) -> bool
 {
     let bits = size.unsigned_abs();
     0 < size && end % 8 == 0 && (bits == 8 || bits == 16 || bits == 32 || bits == 64)
+}
+
+fn any_of(by_itself: bool, behind: bool, id: bool, parameter: bool, last: bool) -> bool
+    ensures { result ≡ by_itself || behind || id || parameter || last }
+{
+    by_itself || behind || id || parameter || last
 }
 
 impl Draft {
@@ -101,9 +107,9 @@ impl Draft {
     }
 
     // Whether it is appended behind an item that goes to the packet's end, or up to some bits before it.
-    fn is_behind_end(&self, head: &ItemLine) -> bool
+    fn is_behind_open_end(&self, head: &ItemLine) -> bool
         requires { IsKept self.now }
-        ensures { result ≡ is_none head.now.offset && list_any is_open_ended (open_items self.now.packets.items) }
+        ensures { result ≡ is_behind_open_end self.now.packets.items head.now }
     {
         head.offset.is_none() && self.is_open_ended
     }
@@ -111,17 +117,43 @@ impl Draft {
     // Whether it is an id that is counted from the packet's end.
     fn is_id_from_end(&self, head: &ItemLine) -> bool
         requires { IsKept self.now }
-        ensures { result ≡ is_some head.now.id && is_negative (span_in self.now.packets.items head.now).offset }
+        ensures { result ≡ is_id_from_end self.now.packets.items head.now }
     {
         head.id.is_some() && self.offset(head.offset) < 0
     }
 
-    // Whether no command may have it there.
-    fn is_bad_in_command(&self, head: &ItemLine) -> bool
+    // Whether it is a parameter that is counted from the end, or leaves bits before it.
+    fn is_from_end_in_command(&self, head: &ItemLine) -> bool
         requires { IsKept self.now }
-        ensures { result ≡ is_bad_in_command self.now.packets.items head.now }
+        ensures { result ≡ is_from_end_in_command self.now.packets.items head.now }
     {
-        self.offset(head.offset) < 0 || head.size < 0 || self.is_to_the_end
+        self.is_command() && (self.offset(head.offset) < 0 || head.size < 0)
+    }
+
+    // Whether it is a parameter behind one that goes to the end.
+    fn is_behind_rest_in_command(&self, head: &ItemLine) -> bool
+        requires { IsKept self.now }
+        ensures { result ≡ is_behind_rest_in_command self.now.packets.items head.now }
+    {
+        self.is_command() && self.is_to_the_end
+    }
+
+    // Whether one of the ten tests of places holds.
+    fn has_bad_place(&self, head: &ItemLine) -> bool
+        requires { IsKept self.now }
+        ensures { result ≡ is_bad_place self.now.packets.items (line.Item head.now) }
+    {
+        let by_itself = self.is_misplaced(head);
+        let behind = self.is_behind_open_end(head);
+        let id = self.is_id_from_end(head);
+        let parameter = self.is_from_end_in_command(head);
+        any_of(
+            by_itself,
+            behind,
+            id,
+            parameter,
+            self.is_behind_rest_in_command(head),
+        )
     }
 
     /// Whether an item may not lie where the statement puts it.
@@ -130,12 +162,7 @@ impl Draft {
         ensures { result ≡ is_bad_place self.now.packets.items line.now }
     {
         match line {
-            Line::Item(head) => {
-                self.is_misplaced(head)
-                    || self.is_behind_end(head)
-                    || self.is_id_from_end(head)
-                    || (self.is_command() && self.is_bad_in_command(head))
-            }
+            Line::Item(head) => self.has_bad_place(head),
             _ => false,
         }
     }

@@ -1,5 +1,6 @@
 // Statements read to definitions.
 ghost use Rattle.std.specs.Prelude.{◌≡◌, IfOk, None};
+ghost use Rattle.cts_def.specs.Packets.{AreSoundDefinitions};
 ghost use Rattle.cts_defline.specs.Refusals.{open_kind};
 ghost use Rattle.cts_defline.specs.Rules.{KeepsRules};
 ghost use Rattle.cts_defread.specs.Causes.{opened, place_cause};
@@ -39,9 +40,10 @@ impl Draft {
 /// statements, and the names of the limits sets. `Refused` with the line and the first cause of the first statement that
 /// has one, and `Memory` where no memory was found.
 pub fn read_definitions(alloc: Global, statements: &[Statement]) -> Result<Definitions, DefFault>
-    ensures { Gives result (definitions_of statements.now) }
+    ensures read { Gives result (definitions_of statements.now) }
+    ensures sound { IfOk result (λ d. AreSoundDefinitions d) }
 {
-    let mut draft = Draft::new(alloc);
+    let mut draft = Draft::new(alloc)?;
     for statement in statements {
         let line = draft.judge(alloc, statement)?;
         draft.add(alloc, line)?;

@@ -59,7 +59,7 @@ fn words_alone_are_refused(rt: HostRuntime) -> Result<(), Fail> {
         (b"ITEM A x 0 DERIVED", 2, DefCause::DerivedItem),
         (b"ITEM A x 8 ARRAY", 2, DefCause::ArrayItem),
         (b"append_array_item", 2, DefCause::ArrayItem),
-        (b"ID_ITEM A 0 8 STRING x", 2, DefCause::NotNumber),
+        (b"ID_ITEM A 0 8 STRING MIN", 2, DefCause::NotNumber),
         (b"ITEM A 0 8 STRING\nSTATE A x", 3, DefCause::NotNumber),
         (
             b"ITEM A 0 8 UINT\nPOLY_READ_CONVERSION 1 0.0000000000001",
@@ -551,38 +551,38 @@ sets DEFAULT TVAC";
 #[test]
 fn packets_end_behind_their_items(rt: HostRuntime) -> Result<(), Fail> {
     let rows: [(&[u8], &[u8]); 9] = [
-        (b"", b"sets"),
+        (b"", b"sets DEFAULT"),
         (
             b"telemetry t p LITTLE_ENDIAN\nMETA X\nALLOW_SHORT",
-            b"T T P 0\nsets",
+            b"T T P 0\nsets DEFAULT",
         ),
         (
             b"TELEMETRY T P BIG_ENDIAN\nITEM A 32 8 UINT\nITEM B 0 8 UINT\nAPPEND_ITEM C 4 INT\nAPPEND_ITEM D 8 UINT",
-            b"T T P 7\n  A 32 8 UINT = 0\n  B 0 8 UINT = 0\n  C 40 4 INT = 0\n  D 44 8 UINT = 0\nsets",
+            b"T T P 7\n  A 32 8 UINT = 0\n  B 0 8 UINT = 0\n  C 40 4 INT = 0\n  D 44 8 UINT = 0\nsets DEFAULT",
         ),
         (
             b"TELEMETRY T P LITTLE_ENDIAN\nITEM A 12 12 UINT\nAPPEND_ITEM B 8 UINT\nITEM C 17 2 UINT '' BIG_ENDIAN",
-            b"T T P 3\n  A 12 12 UINT little = 0\n  B 16 8 UINT little = 0\n  C 17 2 UINT = 0\nsets",
+            b"T T P 3\n  A 12 12 UINT little = 0\n  B 16 8 UINT little = 0\n  C 17 2 UINT = 0\nsets DEFAULT",
         ),
         (
             b"TELEMETRY T P BIG_ENDIAN\nITEM A 16 0 BLOCK",
-            b"T T P 2 variable\n  A 16 0 BLOCK = \nsets",
+            b"T T P 2 variable\n  A 16 0 BLOCK = \nsets DEFAULT",
         ),
         (
             b"TELEMETRY T P BIG_ENDIAN\nITEM A 16 -8 STRING\nITEM B 0 8 UINT",
-            b"T T P 3 variable\n  A 16 -8 STRING = \n  B 0 8 UINT = 0\nsets",
+            b"T T P 3 variable\n  A 16 -8 STRING = \n  B 0 8 UINT = 0\nsets DEFAULT",
         ),
         (
             b"TELEMETRY T P BIG_ENDIAN\nITEM A -16 16 UINT\nAPPEND_ITEM B 8 UINT",
-            b"T T P 2 variable\n  A -16 16 UINT = 0\n  B 0 8 UINT = 0\nsets",
+            b"T T P 2 variable\n  A -16 16 UINT = 0\n  B 0 8 UINT = 0\nsets DEFAULT",
         ),
         (
             b"TELEMETRY T P BIG_ENDIAN\nITEM A 8388600 8 UINT",
-            b"T T P 1048576\n  A 8388600 8 UINT = 0\nsets",
+            b"T T P 1048576\n  A 8388600 8 UINT = 0\nsets DEFAULT",
         ),
         (
             b"TELEMETRY T P BIG_ENDIAN\nITEM A 8388608 -8388608 STRING",
-            b"T T P 2097152 variable\n  A 8388608 -8388608 STRING = \nsets",
+            b"T T P 2097152 variable\n  A 8388608 -8388608 STRING = \nsets DEFAULT",
         ),
     ];
     check_definitions(&rt, rt.alloc(), &rows)
@@ -593,15 +593,15 @@ fn the_last_detail_counts_and_the_first_limits(rt: HostRuntime) -> Result<(), Fa
     let rows: [(&[u8], &[u8]); 5] = [
         (
             b"TELEMETRY T P BIG_ENDIAN\nITEM A 0 8 UINT\nUNITS Volts V\nUNITS Amps A\nFORMAT_STRING %d\nFORMAT_STRING %x\nOVERFLOW TRUNCATE\nOVERFLOW SATURATE",
-            b"T T P 1\n  A 0 8 UINT = 0 units Amps A format %x saturate\nsets",
+            b"T T P 1\n  A 0 8 UINT = 0 units Amps A format %x saturate\nsets DEFAULT",
         ),
         (
             b"TELEMETRY T P BIG_ENDIAN\nITEM A 0 8 UINT\nPOLY_READ_CONVERSION 1\nPOLY_READ_CONVERSION 0 -2.5\nOVERFLOW ERROR",
-            b"T T P 1\n  A 0 8 UINT = 0 poly 0:0 -2:-500000000000\nsets",
+            b"T T P 1\n  A 0 8 UINT = 0 poly 0:0 -2:-500000000000\nsets DEFAULT",
         ),
         (
             b"TELEMETRY T P BIG_ENDIAN\nITEM A 0 8 UINT\nSEG_POLY_READ_CONVERSION 5 1\nSEG_POLY_READ_CONVERSION 0.5 2 3",
-            b"T T P 1\n  A 0 8 UINT = 0 segment 5:0 poly 1:0 segment 0:500000000000 poly 2:0 3:0\nsets",
+            b"T T P 1\n  A 0 8 UINT = 0 segment 5:0 poly 1:0 segment 0:500000000000 poly 2:0 3:0\nsets DEFAULT",
         ),
         (
             b"TELEMETRY T P BIG_ENDIAN\nITEM A 0 8 UINT\nLIMITS default 3 DISABLED 1 1 4 4 2 3\nLIMITS tvac 9 ENABLED 1 2 3 4\nITEM B 0 8 UINT\nLIMITS DEFAULT 4294967295 ENABLED 1 2 3 4\nLIMITS S 1 ENABLED 1 2 3 4\nLIMITS TVAC 1 ENABLED 1 2 3 4",
@@ -609,7 +609,7 @@ fn the_last_detail_counts_and_the_first_limits(rt: HostRuntime) -> Result<(), Fa
         ),
         (
             b"TELEMETRY T P BIG_ENDIAN\nITEM A 0 8 INT\nSTATE on 1 GREEN\nSTATE low -1 YELLOW\nSTATE '' 0x7f RED\nSTATE other 1000",
-            b"T T P 1\n  A 0 8 INT = 0 [ON 1!green] [LOW -1!yellow] [ 127!red] [OTHER 1000]\nsets",
+            b"T T P 1\n  A 0 8 INT = 0 [ON 1!green] [LOW -1!yellow] [ 127!red] [OTHER 1000]\nsets DEFAULT",
         ),
     ];
     check_definitions(&rt, rt.alloc(), &rows)
@@ -620,19 +620,19 @@ fn commands_have_defaults(rt: HostRuntime) -> Result<(), Fail> {
     let rows: [(&[u8], &[u8]); 4] = [
         (
             b"COMMAND T C BIG_ENDIAN\nHAZARDOUS 'Not now'\nAPPEND_PARAMETER A 12 INT MIN MAX MIN\nREQUIRED\nAPPEND_PARAMETER B 8 UINT MIN_INT8 MAX_UINT64 MAX",
-            b"C T C 3 hazardous\n  A 0 12 INT from -2048 to 2047 = -2048 required\n  B 12 8 UINT from -128 to 18446744073709551615 = 255\nsets",
+            b"C T C 3 hazardous\n  A 0 12 INT from -2048 to 2047 = -2048 required\n  B 12 8 UINT from -128 to 18446744073709551615 = 255\nsets DEFAULT",
         ),
         (
             b"COMMAND T C BIG_ENDIAN\nPARAMETER A 0 32 BLOCK 0x414243\nPARAMETER B 0 32 BLOCK 0x1\nPARAMETER C 0 32 STRING 0x41",
-            b"C T C 4\n  A 0 32 BLOCK = ABC\n  B 0 32 BLOCK = 0x1\n  C 0 32 STRING = 0x41\nsets",
+            b"C T C 4\n  A 0 32 BLOCK = ABC\n  B 0 32 BLOCK = 0x1\n  C 0 32 STRING = 0x41\nsets DEFAULT",
         ),
         (
             b"COMMAND T C BIG_ENDIAN\nPARAMETER A 0 0 STRING 'a \xc3\xbf'",
-            b"C T C 0 variable\n  A 0 0 STRING = a \xff\nsets",
+            b"C T C 0 variable\n  A 0 0 STRING = a \xff\nsets DEFAULT",
         ),
         (
             b"COMMAND T C BIG_ENDIAN\nPARAMETER A 0 8 UINT 0 10 20\nSTATE off 0\nSTATE fire 1 HAZARDOUS 'It burns'",
-            b"C T C 1\n  A 0 8 UINT from 0 to 10 = 20 [OFF 0] [FIRE 1!hazardous]\nsets",
+            b"C T C 1\n  A 0 8 UINT from 0 to 10 = 20 [OFF 0] [FIRE 1!hazardous]\nsets DEFAULT",
         ),
     ];
     check_definitions(&rt, rt.alloc(), &rows)

@@ -1,6 +1,7 @@
 // The targets that connections reach.
 ghost use Rattle.std.specs.Prelude.{◌≡◌, ◌<◌, ◌≤◌, length};
 ghost use Rattle.std.specs.List.{IsDistinct, list_any};
+ghost use Rattle.cts_def.specs.Most.{most_packets};
 ghost use Rattle.cts_def.specs.Items.{is_same};
 ghost use Rattle.cts_def.specs.Packets.{have_same_names};
 ghost use Rattle.cts_def.specs.Sites.{routed_targets, targets_at};
@@ -12,7 +13,7 @@ use cts_def::{Interface, Packet, Router, Site};
 /// The telemetry packets of the site.
 pub(crate) fn telemetry(site: &Site) -> &[Packet]
     ensures value { result.now ≡ site.now.definitions.telemetry }
-    ensures few { length result.now ≤ 4096 }
+    ensures few { length result.now ≤ most_packets }
     ensures distinct { IsDistinct have_same_names result.now }
 {
     let definitions = &site.definitions;
@@ -22,7 +23,7 @@ pub(crate) fn telemetry(site: &Site) -> &[Packet]
 /// The commands of the site.
 pub(crate) fn commands(site: &Site) -> &[Packet]
     ensures value { result.now ≡ site.now.definitions.commands }
-    ensures few { length result.now ≤ 4096 }
+    ensures few { length result.now ≤ most_packets }
     ensures distinct { IsDistinct have_same_names result.now }
 {
     let definitions = &site.definitions;

@@ -1,6 +1,7 @@
 // Identification.
 ghost use Rattle.std.specs.Prelude.{◌≡◌, ◌<◌, ◌≤◌, ◌↔◌, ◌&&◌, ℕ, length, IsTrue, IfSome};
 ghost use Rattle.std.specs.List.{position};
+ghost use Rattle.cts_def.specs.Most.{most_packets};
 ghost use Rattle.cts_def.specs.Packets.{PacketData, is_of};
 ghost use Rattle.cts_def.specs.Sites.{routed_targets, targets_at};
 ghost use Rattle.cts_def.specs.declared.ident.Ident.{Ident};
@@ -77,7 +78,7 @@ fn first_that_fits(
     routes: &[u32],
     bytes: &[u8],
 ) -> Ident
-    requires { length packets.now ≤ 4096 }
+    requires { length packets.now ≤ most_packets }
     ensures { result ≡ first_of (routed_targets interfaces.now routes.now) packets.now (fits bytes.now) }
 {
     ident(place_that_fits(packets, interfaces, routes, bytes))
@@ -103,7 +104,7 @@ pub(crate) fn first_named(
     target: &[u8],
     name: &[u8],
 ) -> Ident
-    requires { length packets.now ≤ 4096 }
+    requires { length packets.now ≤ most_packets }
     ensures { result ≡ first_of (routed_targets interfaces.now routes.now) packets.now (is_named target.now name.now) }
 {
     ident(place_named(packets, interfaces, routes, target, name))
@@ -124,7 +125,7 @@ fn place_named(
 
 // The packet at this place.
 fn ident(place: Option<usize>) -> Ident
-    requires { IfSome place (λ n. n < 4096) }
+    requires { IfSome place (λ n. n < most_packets) }
     ensures { result ≡ at_place place }
 {
     match place {

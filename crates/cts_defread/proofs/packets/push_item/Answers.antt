@@ -12,5 +12,5 @@ invariant_of-packet c =
       | then-packet w ↦ w.packet-is ∙ w.if-packet.true ∙ sym (ap (λ (b : Bool). b || is_variable (span_of c.args.item)) w.if-packet.true)
       | else-packet w ↦ w.packet-is ∙ w.is_variable.ensures ∙ ap is_variable c.span-span.ensures ∙ sym (ap (λ (b : Bool). b || is_variable (span_of c.args.item)) w.if-packet.false)
     ] in
-    pushed_sound _ _ c.args.item _ _ _ c.packet.view_is c.packet.invariant c.requires.few c.requires.other c.requires.single c.in_ok-push.ensures.pushed
+    pushed_sound _ _ c.args.item _ _ _ c.packet.view_is c.packet.invariant c.requires.placed c.requires.few c.requires.other c.requires.single c.in_ok-push.ensures.pushed
     (c.max.ensures ∙ ap (max c.packet.inside.length) (c.bytes_needed.ensures ∙ ap bytes_needed c.span-span.ensures)) varies

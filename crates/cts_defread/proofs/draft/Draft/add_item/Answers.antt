@@ -5,9 +5,9 @@ use Rattle.std.proofs.lemmas.Cmp.{nat_list_cmp_total}
 use Rattle.std.proofs.lemmas.List.{append-nil}
 use Rattle.cts_base.specs.Known.{Knows}
 use Rattle.cts_base.proofs.Known.{knows_more}
-use Rattle.cts_def.specs.Items.{ItemData, is_same, is_to_the_end}
+use Rattle.cts_def.specs.Items.{ItemData, is_same, is_to_the_end, span_of}
 use Rattle.cts_def.specs.Packets.{received_count}
-use Rattle.cts_def.specs.Spans.{end_of}
+use Rattle.cts_def.specs.Spans.{end_of, is_misplaced}
 use Rattle.cts_defline.specs.declared.line.Line.TheVariants as line
 use Rattle.cts_defread.specs.Causes.{open_items, has_item, is_open_ended}
 use Rattle.cts_defread.specs.Drafts.{item_names}
@@ -28,6 +28,12 @@ pub new_item-item-requires : goal.new_item-item-requires
 new_item-item-requires c =
     new_rules c.args.self.now.packets.items c.pop.new.self.items c.in-Some.drafted c.args.self.now.set_names.items c.args.head c.args.self.now.end c.in-Some.ensures.items c.requires.kept.ends
     (clean c.args.self.now.packets.items c.args.self.now.set_names.items (line.Item c.args.head) c.requires.clean)
+
+pub with_item-requires-clause-placed : goal.with_item-requires-clause-placed
+with_item-requires-clause-placed c =
+    ap (λ (i : ItemData). is_misplaced (span_of i)) c.new_item-item.ensures
+    ∙ (new_rules c.args.self.now.packets.items c.pop.new.self.items c.in-Some.drafted c.args.self.now.set_names.items c.args.head c.args.self.now.end c.in-Some.ensures.items c.requires.kept.ends
+    (clean c.args.self.now.packets.items c.args.self.now.set_names.items (line.Item c.args.head) c.requires.clean)).placed
 
 pub with_item-requires-clause-few : goal.with_item-requires-clause-few
 with_item-requires-clause-few c =
