@@ -1,26 +1,28 @@
 -- Laws of the lines of entries.
-use Rattle.std.proofs.Common.{◌≡◌, ◌∙◌, ℕ, ◌+◌, ◌<◌, List, [], ◌∷◌, ◌++◌, length, take, get_or, sym, ap, arith, append_assoc, length-take}
+use Rattle.std.proofs.Common.{◌≡◌, ◌∙◌, ℕ, ◌+◌, ◌<◌, List, [], ◌∷◌, ◌++◌, length, take, get_or, sym, ap, arith, append_assoc, length-take, length-append}
 use Rattle.std.proofs.lemmas.List.{take_more, append-nil}
 use Rattle.cts_entry.specs.declared.entry.Entry.{Entry}
-use Rattle.cts_script.specs.Lines.{Names, entry_line, entry_lines}
+use Rattle.cts_def.specs.Sites.{SiteData}
+use Rattle.cts_script.specs.declared.limits_event.LimitsEvent.{LimitsEvent}
+use Rattle.cts_script.specs.Transcripts.{entry_lines, lines_behind}
+use Rattle.cts_script.specs.Laws.{LinesJoin}
 
--- lines joined end to end, where the numbers go on
-pub entry_lines-append : (names : Names) (n : ℕ) (es fs : List Entry) → entry_lines names n (es ++ fs) ≡ entry_lines names n es ++ entry_lines names (n + length es) fs
-entry_lines-append names n [] fs =
-    let e : n ≡ n + 0 = omega arith in ap (λ k. entry_lines names k fs) e
-entry_lines-append names n (e ∷ es) fs =
-    let later : (n + 1) + length es ≡ n + length (e ∷ es) = omega arith in
-    ap (λ text. entry_line names n e ++ text) (entry_lines-append names (n + 1) es fs)
-    ∙ sym (append_assoc (entry_line names n e) (entry_lines names (n + 1) es) (entry_lines names ((n + 1) + length es) fs))
-    ∙ ap (λ k. (entry_line names n e ++ entry_lines names (n + 1) es) ++ entry_lines names k fs) later
+pub lines_behind-append : LinesJoin
+lines_behind-append site events history [] second = ap (λ (h : List Entry). lines_behind site events h second) (sym (append-nil history))
+lines_behind-append site events history (e ∷ first) second =
+    let head : List ℕ = entry_lines site (length history) e (events history e) in
+    ap (λ (text : List ℕ). head ++ text) (lines_behind-append site events (history ++ e ∷ []) first second)
+    ∙ (sym (append_assoc head (lines_behind site events (history ++ e ∷ []) first) (lines_behind site events ((history ++ e ∷ []) ++ first) second))
+    ∙ ap (λ (h : List Entry). (head ++ lines_behind site events (history ++ e ∷ []) first) ++ lines_behind site events h second) (append_assoc history (e ∷ []) first))
 
--- the line of one more entry
-pub entry_lines-take_more : (names : Names) (n : ℕ) (es : List Entry) (i : ℕ) (e : Entry) → i < length es → e ≡ get_or es i e
-    → entry_lines names n (take (i + 1) es) ≡ entry_lines names n (take i es) ++ entry_line names (n + i) e
-entry_lines-take_more names n es i e below is =
-    let count : length (take i es) ≡ i = grind (arith, length-take {A = Entry}) in
+-- the lines of one more entry
+pub lines_behind-take_more : (site : SiteData) (events : List Entry → Entry → List LimitsEvent) (history es : List Entry) (i : ℕ) (e : Entry) → i < length es → e ≡ get_or es i e
+    → lines_behind site events history (take (i + 1) es) ≡ lines_behind site events history (take i es) ++ entry_lines site (length history + i) e (events (history ++ take i es) e)
+lines_behind-take_more site events history es i e below is =
+    let behind : List Entry = history ++ take i es in
+    let count : length behind ≡ length history + i = simp length-append (grind (arith, length-take {A = Entry})) in
     let one : take (i + 1) es ≡ take i es ++ e ∷ [] = take_more es i e below ∙ ap (λ x. take i es ++ x ∷ []) (sym is) in
-    ap (entry_lines names n) one
-    ∙ entry_lines-append names n (take i es) (e ∷ [])
-    ∙ ap (λ k. entry_lines names n (take i es) ++ (entry_line names k e ++ [])) (ap (λ k. n + k) count)
-    ∙ ap (λ text. entry_lines names n (take i es) ++ text) (append-nil (entry_line names (n + i) e))
+    ap (lines_behind site events history) one
+    ∙ (lines_behind-append site events history (take i es) (e ∷ [])
+    ∙ ap (λ (text : List ℕ). lines_behind site events history (take i es) ++ text) (append-nil (entry_lines site (length behind) e (events behind e))
+    ∙ ap (λ (n : ℕ). entry_lines site n e (events behind e)) count))

@@ -1,1 +1,6 @@
+pub mod Spacing
+pub mod Names
 pub mod Lines
+pub mod Events
+pub mod Transcripts
+pub mod Laws

@@ -1,5 +1,5 @@
 -- The lines of the transcript, whose format is this project's own: one line for each entry of the history.
-use Rattle.std.specs.Prelude.{ℕ, ◌+◌, ◌-◌, ◌/◌, ◌%◌, nat_lt, ◌==◌, Bool, if◌then◌else◌, List, [], ◌∷◌, ◌++◌, length, replicate, codes, slice_index, Option, None, Some}
+use Rattle.std.specs.Prelude.{ℕ, ◌-◌, ◌/◌, ◌%◌, nat_lt, ◌==◌, Bool, if◌then◌else◌, List, [], ◌∷◌, ◌++◌, length, replicate, codes, slice_index, Option, None, Some}
 use Rattle.std.specs.Fmt.{decimal, signed_decimal}
 use Rattle.hex.specs.Hex.{encode_lower}
 use Rattle.cts_base.specs.Prints.{decimal_text}
@@ -11,7 +11,10 @@ use Rattle.cts_def.specs.declared.ident.Ident.TheVariants.{Known, Unknown}
 use Rattle.cts_def.specs.declared.limits.Limits.{Limits}
 use Rattle.cts_def.specs.declared.loss.Loss.{Loss}
 use Rattle.cts_def.specs.declared.time.Time.{Time}
+use Rattle.cts_def.specs.Sites.{SiteData}
 use Rattle.cts_entry.specs.declared.entry.Entry.{Entry}
+use Rattle.cts_script.specs.Names.{interface_name, router_name, packet_names, command_names, item_name}
+use Rattle.cts_script.specs.Spacing.{spaced}
 use Rattle.cts_def.specs.Makers.{first_slot, first_desk, scribe}
 use Rattle.cts_entry.specs.declared.what.NotSent.{NotSent}
 use Rattle.cts_entry.specs.declared.what.NotSent.TheVariants.{Unknown as NoCommand, NotConnected}
@@ -19,25 +22,6 @@ use Rattle.cts_entry.specs.declared.what.What.{What}
 use Rattle.cts_entry.specs.declared.what.What.TheVariants.{Opened, Packet, Closed, Command, SetLimits, Enable, LimitsSetIs, Injected, Unrouted, Stop, Ended}
 use Rattle.cts_entry.specs.declared.why.Why.{Why}
 use Rattle.cts_entry.specs.declared.why.Why.TheVariants.{PeerEnded, ReadFault, WriteFault, BadFrame, Stopped, NoMemory, Full}
-
--- the names behind the numbers of entries
-pub record Names : Type 0 where
-  -- an interface's name
-  pub interface : ℕ → List ℕ
-  -- a router's name
-  pub router : ℕ → List ℕ
-  -- the target and the name of a telemetry packet
-  pub packet : ℕ → (List ℕ × List ℕ)
-  -- the target and the name of a command
-  pub command : ℕ → (List ℕ × List ℕ)
-  -- the name of an item of a telemetry packet
-  pub item : ℕ → ℕ → List ℕ
-
--- words with one space between each two
-abbrev pub spaced : List (List ℕ) → List ℕ
-spaced [] = []
-spaced (word ∷ []) = word
-spaced (word ∷ next ∷ rest) = word ++ (32 ∷ spaced (next ∷ rest))
 
 -- micros have six digits at least: zeros stand before them where they have fewer
 abbrev pub micros_text : ℕ → List ℕ
@@ -48,14 +32,14 @@ abbrev pub time_text : Time → List ℕ
 time_text time = decimal time.seconds ++ (46 ∷ micros_text time.micros)
 
 -- the slots of a router are numbered together, two a router
-abbrev pub slot_text : Names → ℕ → List ℕ
-slot_text names slot = names.router (slot / 2) ++ (47 ∷ decimal (slot % 2))
+abbrev pub slot_text : SiteData → ℕ → List ℕ
+slot_text site slot = router_name site (slot / 2) ++ (47 ∷ decimal (slot % 2))
 
 -- who made an entry, by its number
-abbrev pub maker_text : Names → ℕ → List ℕ
-maker_text names by =
-    if nat_lt by first_slot then names.interface by
-    else if nat_lt by first_desk then slot_text names (by - first_slot)
+abbrev pub maker_text : SiteData → ℕ → List ℕ
+maker_text site by =
+    if nat_lt by first_slot then interface_name site by
+    else if nat_lt by first_desk then slot_text site (by - first_slot)
     else if nat_lt by scribe then codes "DESK/" ++ decimal (by - first_desk)
     else if by == scribe then codes "SCRIBE"
     else codes "SERVER"
@@ -100,18 +84,18 @@ closed_text why loss unposted unsent = spaced (
     ∷ codes "unposted" ∷ decimal unposted ∷ codes "unsent" ∷ decimal unsent ∷ [])
 
 -- the target and the name of a packet, which are unknown where no definition fits
-abbrev pub ident_names : Names → Ident → (List ℕ × List ℕ)
-ident_names names (Known number) = names.packet number
-ident_names names Unknown = (codes "UNKNOWN", codes "UNKNOWN")
+abbrev pub ident_names : SiteData → Ident → (List ℕ × List ℕ)
+ident_names site (Known number) = packet_names site number
+ident_names site Unknown = (codes "UNKNOWN", codes "UNKNOWN")
 
 -- a word, a target and a name, and then bytes
 abbrev pub bytes_text : List ℕ → (List ℕ × List ℕ) → List ℕ → List ℕ
 bytes_text word names bytes = spaced (word ∷ names.0 ∷ names.1 ∷ hex_or_dash bytes ∷ [])
 
 -- a word, and then the target, the name and the item of a telemetry packet
-abbrev pub item_text : List ℕ → Names → ℕ → ℕ → List ℕ
-item_text word names packet item =
-    spaced (word ∷ (names.packet packet).0 ∷ (names.packet packet).1 ∷ names.item packet item ∷ [])
+abbrev pub item_text : List ℕ → SiteData → ℕ → ℕ → List ℕ
+item_text word site packet item =
+    spaced (word ∷ (packet_names site packet).0 ∷ (packet_names site packet).1 ∷ item_name site packet item ∷ [])
 
 -- whether limits are watched, as a state
 abbrev pub state_text : Bool → List ℕ
@@ -139,26 +123,21 @@ not_sent_text NoCommand = codes "UNKNOWN"
 not_sent_text NotConnected = codes "NOTCONNECTED"
 
 -- what an entry says
-abbrev pub what_text : Names → What → List ℕ
-what_text names Opened = codes "OPENED"
-what_text names (Packet ident bytes) = bytes_text (codes "PACKET") (ident_names names ident) bytes
-what_text names (Closed why loss unposted unsent) = closed_text why loss unposted unsent
-what_text names (Command interface command bytes) = bytes_text (codes "COMMAND") (names.command command) bytes
-what_text names (SetLimits packet item set limits persistence enabled) =
-    spaced (item_text (codes "LIMITS") names packet item ∷ set ∷ decimal persistence ∷ state_text enabled ∷ limits_text limits ∷ [])
-what_text names (Enable packet item enabled) = item_text (switch_text enabled) names packet item
-what_text names (LimitsSetIs set) = spaced (codes "LIMITSSET" ∷ set ∷ [])
-what_text names (Injected packet bytes) = bytes_text (codes "INJECTED") (names.packet packet) bytes
-what_text names (Unrouted why bytes) = spaced (codes "UNROUTED" ∷ not_sent_text why ∷ hex_or_dash bytes ∷ [])
-what_text names Stop = codes "STOP"
-what_text names Ended = codes "ENDED"
+abbrev pub what_text : SiteData → What → List ℕ
+what_text site Opened = codes "OPENED"
+what_text site (Packet ident bytes) = bytes_text (codes "PACKET") (ident_names site ident) bytes
+what_text site (Closed why loss unposted unsent) = closed_text why loss unposted unsent
+what_text site (Command interface command bytes) = bytes_text (codes "COMMAND") (command_names site command) bytes
+what_text site (SetLimits packet item set limits persistence enabled) =
+    spaced (item_text (codes "LIMITS") site packet item ∷ set ∷ decimal persistence ∷ state_text enabled ∷ limits_text limits ∷ [])
+what_text site (Enable packet item enabled) = item_text (switch_text enabled) site packet item
+what_text site (LimitsSetIs set) = spaced (codes "LIMITSSET" ∷ set ∷ [])
+what_text site (Injected packet bytes) = bytes_text (codes "INJECTED") (packet_names site packet) bytes
+what_text site (Unrouted why bytes) = spaced (codes "UNROUTED" ∷ not_sent_text why ∷ hex_or_dash bytes ∷ [])
+what_text site Stop = codes "STOP"
+what_text site Ended = codes "ENDED"
 
 -- the line of entry number n: its number, its time, its maker and what it says
-unfoldable pub entry_line : Names → ℕ → Entry → List ℕ
-entry_line names n e =
-    spaced (decimal n ∷ time_text e.time ∷ maker_text names e.by ∷ what_text names e.what ∷ []) ++ (10 ∷ [])
-
--- the lines of entries, the first of which has number n
-abbrev pub entry_lines : Names → ℕ → List Entry → List ℕ
-entry_lines names n [] = []
-entry_lines names n (e ∷ es) = entry_line names n e ++ entry_lines names (n + 1) es
+unfoldable pub entry_line : SiteData → ℕ → Entry → List ℕ
+entry_line site n e =
+    spaced (decimal n ∷ time_text e.time ∷ maker_text site e.by ∷ what_text site e.what ∷ []) ++ (10 ∷ [])

@@ -1,17 +1,19 @@
 //! The printed lines of the history's entries, in the format of this project's own transcript: the number, the time, the maker and what
-//! the entry says, with one space between each two words.
+//! the entry says, with one space between each two words; and behind each entry the lines of its limits events.
 #![tactic(auto)]
 
+mod events;
+mod laws;
 mod limits;
+mod limits_event;
 mod lines;
 mod makers;
-mod naming;
-#[cfg(test)]
-mod tests;
+mod names;
 mod texts;
 mod times;
 mod what;
 mod why;
 
-pub use lines::{entry_line, entry_lines};
-pub use naming::Naming;
+pub use laws::lines_join;
+pub use limits_event::LimitsEvent;
+pub use lines::entry_lines;

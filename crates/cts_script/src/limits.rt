@@ -2,7 +2,8 @@
 ghost use Rattle.std.specs.Prelude.{◌≡◌, ◌++◌, ◌∷◌, [], OnOk};
 ghost use Rattle.std.specs.Fmt.{decimal};
 ghost use Rattle.cts_base.specs.Prints.{decimal_text};
-ghost use Rattle.cts_script.specs.Lines.{green_text, limits_text, spaced, state_text};
+ghost use Rattle.cts_script.specs.Spacing.{spaced};
+ghost use Rattle.cts_script.specs.Lines.{green_text, limits_text, state_text};
 
 use crate::texts::{put_number_word, put_word};
 use cts_base::{Decimal, Memory, print_decimal};

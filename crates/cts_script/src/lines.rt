@@ -1,63 +1,50 @@
-// The lines of entries.
-ghost use Rattle.std.specs.Prelude.{◌≡◌, ◌+◌, ◌^◌, ◌<◌, ◌++◌, length, IfOk, OnOk};
-ghost use Rattle.cts_script.specs.Lines.{entry_line as the_line, entry_lines as the_lines};
+// The lines of an entry.
+ghost use Rattle.std.specs.Prelude.{◌≡◌, ◌++◌, IfOk, OnOk};
+ghost use Rattle.cts_script.specs.Lines.{entry_line as the_line};
+ghost use Rattle.cts_script.specs.Transcripts.{entry_lines as the_lines};
 
-use crate::Naming;
+use crate::LimitsEvent;
+use crate::events::put_events;
 use crate::makers::put_maker_word;
 use crate::texts::{put_number, put_text};
 use crate::times::put_time_word;
 use crate::what::put_what_words;
 use cts_base::{Bytes, Memory};
+use cts_def::Site;
 use cts_entry::Entry;
 use std::alloc::Global;
 
-/// The line of an entry with this number, and its line end. `Memory` where no memory was found for it.
-pub fn entry_line<N: Naming>(
+/// The line of entry number `n`, and directly behind it the line of each of its limits events. Each line has its line
+/// end. A number that names nothing in the site has no text. `Memory` where no memory was found for the lines.
+pub fn entry_lines(
     alloc: Global,
-    naming: &N,
-    number: u64,
+    site: &Site,
+    n: u64,
     entry: &Entry,
+    events: &[LimitsEvent],
 ) -> Result<Bytes, Memory>
-    ensures { IfOk result (λ b. b ≡ the_line (N.names naming.now) number entry.now) }
+    ensures { IfOk result (λ b. b ≡ the_lines site.now n entry.now events.now) }
 {
     let mut out = Vec::new(alloc);
-    put_entry(alloc, &mut out, naming, number, entry)?;
-    Ok(Bytes::of(out))
-}
-
-/// The lines of entries, of which the first has this number. `Memory` where no memory was found for them.
-pub fn entry_lines<N: Naming>(
-    alloc: Global,
-    naming: &N,
-    first: u64,
-    entries: &[Entry],
-) -> Result<Bytes, Memory>
-    requires { first + length entries.now < 2 ^ 64 }
-    ensures { IfOk result (λ b. b ≡ the_lines (N.names naming.now) first entries.now) }
-{
-    let mut out = Vec::new(alloc);
-    let mut number = first;
-    for entry in entries {
-        put_entry(alloc, &mut out, naming, number, entry)?;
-        number += 1;
-    }
+    put_entry(alloc, &mut out, site, n, entry)?;
+    put_events(&mut out, site, events)?;
     Ok(Bytes::of(out))
 }
 
 #[tactic(auto, unfolding(crate::specs::Lines::entry_line))]
-fn put_entry<N: Naming>(
+fn put_entry(
     alloc: Global,
     out: &mut Vec<u8>,
-    naming: &N,
-    number: u64,
+    site: &Site,
+    n: u64,
     entry: &Entry,
 ) -> Result<(), Memory>
     ensures { OnOk result (out.new.items ≡ out.old.items
-        ++ the_line (N.names naming.now) number entry.now) }
+        ++ the_line site.now n entry.now) }
 {
-    put_number(out, number)?;
+    put_number(out, n)?;
     put_time_word(out, entry.time)?;
-    put_maker_word(out, naming, entry.by)?;
-    put_what_words(alloc, out, naming, &entry.what)?;
+    put_maker_word(out, site, entry.by)?;
+    put_what_words(alloc, out, site, &entry.what)?;
     put_text(out, b"\n")
 }

@@ -1,30 +1,31 @@
 // The text of what an entry says.
 ghost use Rattle.std.specs.Prelude.{◌≡◌, ◌++◌, ◌∷◌, [], codes, OnOk};
-ghost use Rattle.cts_script.specs.Lines.{bytes_text, hex_or_dash, ident_names, item_text, not_sent_text, switch_text, what_text, spaced};
+ghost use Rattle.cts_script.specs.Lines.{bytes_text, hex_or_dash, ident_names, item_text, not_sent_text, switch_text, what_text};
+ghost use Rattle.cts_script.specs.Spacing.{spaced};
 
-use crate::Naming;
 use crate::limits::{put_limits_words, put_watch_words};
+use crate::names::{command_names, item_name, packet_names};
 use crate::texts::{put_hex_word, put_word};
 use crate::why::put_closed_words;
 use cts_base::Memory;
-use cts_def::Ident;
+use cts_def::{Ident, Site};
 use cts_entry::{NotSent, What};
 use std::alloc::Global;
 
 /// A space and what an entry says.
-pub fn put_what_words<N: Naming>(
+pub fn put_what_words(
     alloc: Global,
     out: &mut Vec<u8>,
-    naming: &N,
+    site: &Site,
     what: &What,
 ) -> Result<(), Memory>
     ensures { OnOk result
-        (out.new.items ≡ out.old.items ++ 32 ∷ what_text (N.names naming.now) what.now) }
+        (out.new.items ≡ out.old.items ++ 32 ∷ what_text site.now what.now) }
 {
     match what {
         What::Opened => put_word(out, b"OPENED"),
         What::Packet { ident, bytes } => {
-            put_bytes_words(out, b"PACKET", names_of(naming, *ident), bytes.as_slice())
+            put_bytes_words(out, b"PACKET", names_of(site, *ident), bytes.as_slice())
         }
         What::Closed {
             why,
@@ -33,7 +34,12 @@ pub fn put_what_words<N: Naming>(
             unsent,
         } => put_closed_words(out, *why, loss, *unposted, *unsent),
         What::Command { command, bytes, .. } => {
-            put_bytes_words(out, b"COMMAND", naming.command(*command), bytes.as_slice())
+            put_bytes_words(
+                out,
+                b"COMMAND",
+                command_names(site, *command),
+                bytes.as_slice(),
+            )
         }
         What::SetLimits {
             packet,
@@ -43,7 +49,7 @@ pub fn put_what_words<N: Naming>(
             persistence,
             enabled,
         } => {
-            put_item_words(out, b"LIMITS", naming, *packet, *item)?;
+            put_item_words(out, b"LIMITS", site, *packet, *item)?;
             put_watch_words(out, set.as_slice(), *persistence, *enabled)?;
             put_limits_words(alloc, out, limits)
         }
@@ -51,10 +57,15 @@ pub fn put_what_words<N: Naming>(
             packet,
             item,
             enabled,
-        } => put_item_words(out, switch(*enabled), naming, *packet, *item),
+        } => put_item_words(out, switch(*enabled), site, *packet, *item),
         What::LimitsSetIs { set } => put_pair_words(out, b"LIMITSSET", set.as_slice()),
         What::Injected { packet, bytes } => {
-            put_bytes_words(out, b"INJECTED", naming.packet(*packet), bytes.as_slice())
+            put_bytes_words(
+                out,
+                b"INJECTED",
+                packet_names(site, *packet),
+                bytes.as_slice(),
+            )
         }
         What::Unrouted { why, bytes } => put_unrouted_words(out, *why, bytes.as_slice()),
         What::Stop => put_word(out, b"STOP"),
@@ -63,12 +74,12 @@ pub fn put_what_words<N: Naming>(
 }
 
 // The target and the name of a packet that was identified or not.
-fn names_of<N: Naming>(naming: &N, ident: Ident) -> (&[u8], &[u8])
-    ensures target { result.0.now ≡ (ident_names (N.names naming.now) ident).0 }
-    ensures name { result.1.now ≡ (ident_names (N.names naming.now) ident).1 }
+fn names_of(site: &Site, ident: Ident) -> (&[u8], &[u8])
+    ensures target { result.0.now ≡ (ident_names site.now ident).0 }
+    ensures name { result.1.now ≡ (ident_names site.now ident).1 }
 {
     match ident {
-        Ident::Known(number) => naming.packet(number),
+        Ident::Known(number) => packet_names(site, number),
         Ident::Unknown => (b"UNKNOWN", b"UNKNOWN"),
     }
 }
@@ -108,19 +119,19 @@ fn put_unrouted_words(out: &mut Vec<u8>, why: NotSent, bytes: &[u8]) -> Result<(
 }
 
 // A space, a word, and the names of an item.
-fn put_item_words<N: Naming>(
+fn put_item_words(
     out: &mut Vec<u8>,
     word: &[u8],
-    naming: &N,
+    site: &Site,
     packet: u32,
     item: u32,
 ) -> Result<(), Memory>
     ensures { OnOk result (out.new.items ≡ out.old.items
-        ++ 32 ∷ item_text word.now (N.names naming.now) packet item) }
+        ++ 32 ∷ item_text word.now site.now packet item) }
 {
-    let (target, name) = naming.packet(packet);
+    let (target, name) = packet_names(site, packet);
     put_pair_words(out, word, target)?;
-    put_pair_words(out, name, naming.item(packet, item))
+    put_pair_words(out, name, item_name(site, packet, item))
 }
 
 fn switch(enabled: bool) -> &'static [u8]

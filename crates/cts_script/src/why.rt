@@ -1,7 +1,8 @@
 // The text of why a connection was closed, and of what was lost.
 ghost use Rattle.std.specs.Prelude.{◌≡◌, ◌++◌, ◌∷◌, [], OnOk};
 ghost use Rattle.std.specs.Fmt.{decimal};
-ghost use Rattle.cts_script.specs.Lines.{cause_text, closed_text, held_text, loss_text, spaced, why_text};
+ghost use Rattle.cts_script.specs.Spacing.{spaced};
+ghost use Rattle.cts_script.specs.Lines.{cause_text, closed_text, held_text, loss_text, why_text};
 
 use crate::texts::{put_number_word, put_signed_word, put_word};
 use cts_base::Memory;

@@ -1,5 +1,4 @@
 pub mod Lines
-pub mod Names
 pub mod Postings
 pub mod WorldSteps
 pub mod LastLines

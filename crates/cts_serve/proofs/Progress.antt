@@ -12,13 +12,12 @@ use Rattle.cts_core.proofs.OneRun.{has_run}
 use Rattle.cts_outside.specs.Causes.{Rose}
 use Rattle.cts_outside.specs.Contents.{appended, IsPartPut}
 use Rattle.cts_outside.proofs.Putting.{whole_then, part_first, part_then}
-use Rattle.cts_script.specs.Lines.{entry_lines}
 use Rattle.cts_def.specs.Sites.{SiteData}
-use Rattle.cts_serve.specs.Grounds.{site_ground, site_names}
+use Rattle.cts_serve.specs.Grounds.{site_ground}
 use Rattle.cts_serve.specs.Worlds.{Held, Stands, shut}
 use Rattle.cts_serve.proofs.WorldSteps.{stands_first}
 use Rattle.cts_serve.specs.Texts.{memory_line, refused_line, full_line, end_line}
-use Rattle.cts_serve.specs.Outcomes.{events_of, all_entries, transcript, next_line, replay_outcome, IsReplay}
+use Rattle.cts_serve.specs.Outcomes.{events_of, all_entries, lines_of, transcript, next_line, replay_outcome, IsReplay}
 use Rattle.cts_serve.specs.Printing.{Puts, Printed, FailsWithin}
 use Rattle.cts_serve.specs.Replays.{DoesEvent, StopPuts, SaysOrWants, EndPuts, ReplayPuts, Replays}
 use Rattle.cts_serve.specs.declared.refusal.Refusal.TheVariants.{NotEnabled as RefusedEvent, HistoryFull as FullHistory, Memory as NoMemory}
@@ -33,7 +32,7 @@ pub record IsProgress (site : SiteData) (events left : List (ℕ × Event)) (w :
   pub prior : List Did
   pub stands : Stands site w state
   pub history : state.history ≡ all_entries prior
-  pub text_is : text ≡ transcript site 0 prior
+  pub text_is : text ≡ transcript site [] prior
   pub runs : (dids : List Did) (ending : Ending) → Runs (site_ground site) state (events_of left) dids ending → Runs (site_ground site) opening (events_of events) (prior ++ dids) ending
   pub lines : (dids : List Did) → next_line (prior ++ dids) events ≡ next_line dids left
 
@@ -44,29 +43,29 @@ all_entries_append : (ds es : List Did) → all_entries (ds ++ es) ≡ all_entri
 all_entries_append [] es = refl
 all_entries_append (d ∷ ds) es = ap (λ (t : List Entry). d.entries ++ t) (all_entries_append ds es) ∙ sym (append_assoc d.entries (all_entries ds) (all_entries es))
 
-transcript_append : (site : SiteData) (n : ℕ) (ds es : List Did) → transcript site n (ds ++ es) ≡ transcript site n ds ++ transcript site (n + length (all_entries ds)) es
-transcript_append site n [] es = ap (λ (m : ℕ). transcript site m es) (omega arith)
-transcript_append site n (d ∷ ds) es =
-    ap (λ (t : List ℕ). entry_lines (site_names site) n d.entries ++ t) (transcript_append site (n + length d.entries) ds es)
-    ∙ (ap (λ (m : ℕ). entry_lines (site_names site) n d.entries ++ (transcript site (n + length d.entries) ds ++ transcript site m es)) (omega (arith, length-append d.entries (all_entries ds)))
-    ∙ sym (append_assoc (entry_lines (site_names site) n d.entries) (transcript site (n + length d.entries) ds) (transcript site (n + length (d.entries ++ all_entries ds)) es)))
+transcript_append : (site : SiteData) (history : List Entry) (ds es : List Did) → transcript site history (ds ++ es) ≡ transcript site history ds ++ transcript site (history ++ all_entries ds) es
+transcript_append site history [] es = ap (λ (h : List Entry). transcript site h es) (sym (append-nil history))
+transcript_append site history (d ∷ ds) es =
+    ap (λ (t : List ℕ). lines_of site history d.entries ++ t) (transcript_append site (history ++ d.entries) ds es)
+    ∙ (sym (append_assoc (lines_of site history d.entries) (transcript site (history ++ d.entries) ds) (transcript site ((history ++ d.entries) ++ all_entries ds) es))
+    ∙ ap (λ (h : List Entry). (lines_of site history d.entries ++ transcript site (history ++ d.entries) ds) ++ transcript site h es) (append_assoc history d.entries (all_entries ds)))
 
 -- the transcript with one more event
 transcript_more : (site : SiteData) (ds es : List Did) (s : State) (d : Did) → s.history ≡ all_entries ds
-    → transcript site 0 (ds ++ d ∷ es) ≡ transcript site 0 ds ++ (entry_lines (site_names site) (length s.history) d.entries ++ transcript site (length s.history + length d.entries) es)
+    → transcript site [] (ds ++ d ∷ es) ≡ transcript site [] ds ++ (lines_of site s.history d.entries ++ transcript site (s.history ++ d.entries) es)
 transcript_more site ds es s d h =
-    transcript_append site 0 ds (d ∷ es)
-    ∙ ap (λ (m : ℕ). transcript site 0 ds ++ (entry_lines (site_names site) m d.entries ++ transcript site (m + length d.entries) es)) (omega (arith, ap length h))
+    transcript_append site [] ds (d ∷ es)
+    ∙ ap (λ (t : List Entry). transcript site [] ds ++ (lines_of site t d.entries ++ transcript site (t ++ d.entries) es)) (sym h)
 
 pub goes_on : (site : SiteData) (events rest : List (ℕ × Event)) (x : ℕ × Event) (w new : Held) (text : List ℕ) (p : IsProgress site events (x ∷ rest) w text) (did : Did) → Does (site_ground site) p.state x.1 did → Stands site new (after p.state x.1 did)
-    → IsProgress site events rest new (text ++ entry_lines (site_names site) (length p.state.history) did.entries)
+    → IsProgress site events rest new (text ++ lines_of site p.state.history did.entries)
 goes_on site events rest x w new text p did d h = record {
   state = after p.state x.1 did;
   prior = p.prior ++ did ∷ [];
   stands = h;
   history = ap (λ (t : List Entry). t ++ did.entries) p.history ∙ (ap (λ (t : List Entry). all_entries p.prior ++ t) (sym (append-nil did.entries)) ∙ sym (all_entries_append p.prior (did ∷ [])));
-  text_is = ap (λ (t : List ℕ). t ++ entry_lines (site_names site) (length p.state.history) did.entries) p.text_is
-      ∙ (ap (λ (t : List ℕ). transcript site 0 p.prior ++ t) (sym (append-nil (entry_lines (site_names site) (length p.state.history) did.entries))) ∙ sym (transcript_more site p.prior [] p.state did p.history));
+  text_is = ap (λ (t : List ℕ). t ++ lines_of site p.state.history did.entries) p.text_is
+      ∙ (ap (λ (t : List ℕ). transcript site [] p.prior ++ t) (sym (append-nil (lines_of site p.state.history did.entries))) ∙ sym (transcript_more site p.prior [] p.state did p.history));
   runs = λ dids ending r. subst (λ (t : List Did). Runs (site_ground site) opening (events_of events) t ending) (sym (append_assoc p.prior (did ∷ []) dids)) (p.runs (did ∷ dids) ending (inr (did, dids, refl, d, r)));
   lines = λ dids. ap (λ (t : List Did). next_line t events) (append_assoc p.prior (did ∷ []) dids) ∙ p.lines (did ∷ dids);
 }
@@ -89,11 +88,11 @@ body_tail script events dids Finished = end_line (length (all_entries dids))
 body_tail script events dids NotEnabled = []
 body_tail script events dids HistoryFull = []
 
-body_is : (site : SiteData) (script : List ℕ) (events : List (ℕ × Event)) (dids : List Did) (ending : Ending) → (replay_outcome site script events dids ending).body ≡ transcript site 0 dids ++ body_tail script events dids ending
+body_is : (site : SiteData) (script : List ℕ) (events : List (ℕ × Event)) (dids : List Did) (ending : Ending) → (replay_outcome site script events dids ending).body ≡ transcript site [] dids ++ body_tail script events dids ending
 unfolding body_tail
 body_is site script events dids Finished = refl
-body_is site script events dids NotEnabled = sym (append-nil (transcript site 0 dids))
-body_is site script events dids HistoryFull = sym (append-nil (transcript site 0 dids))
+body_is site script events dids NotEnabled = sym (append-nil (transcript site [] dids))
+body_is site script events dids HistoryFull = sym (append-nil (transcript site [] dids))
 
 -- a run that goes on from here
 pub record WholeRun (site : SiteData) (events left : List (ℕ × Event)) (w : Held) (text : List ℕ) (p : IsProgress site events left w text) : Type 0 where
@@ -110,11 +109,11 @@ whole_run site events left w text p =
 text_front : (site : SiteData) (script : List ℕ) (events left : List (ℕ × Event)) (w : Held) (text : List ℕ) (p : IsProgress site events left w text) (dids : List Did) (ending : Ending)
     → (more : List ℕ) × ((replay_outcome site script events (p.prior ++ dids) ending).body ≡ text ++ more)
 text_front site script events left w text p dids ending = (
-  transcript site (0 + length (all_entries p.prior)) dids ++ body_tail script events (p.prior ++ dids) ending,
+  transcript site ([] ++ all_entries p.prior) dids ++ body_tail script events (p.prior ++ dids) ending,
   body_is site script events (p.prior ++ dids) ending
-      ∙ (ap (λ (t : List ℕ). t ++ body_tail script events (p.prior ++ dids) ending) (transcript_append site 0 p.prior dids)
-      ∙ (append_assoc (transcript site 0 p.prior) (transcript site (0 + length (all_entries p.prior)) dids) (body_tail script events (p.prior ++ dids) ending)
-      ∙ ap (λ (t : List ℕ). t ++ (transcript site (0 + length (all_entries p.prior)) dids ++ body_tail script events (p.prior ++ dids) ending)) (sym p.text_is))),
+      ∙ (ap (λ (t : List ℕ). t ++ body_tail script events (p.prior ++ dids) ending) (transcript_append site [] p.prior dids)
+      ∙ (append_assoc (transcript site [] p.prior) (transcript site ([] ++ all_entries p.prior) dids) (body_tail script events (p.prior ++ dids) ending)
+      ∙ ap (λ (t : List ℕ). t ++ (transcript site ([] ++ all_entries p.prior) dids ++ body_tail script events (p.prior ++ dids) ending)) (sym p.text_is))),
 )
 
 -- memory was wanted after this text
@@ -156,18 +155,18 @@ begins_so (x ∷ a) b h = λ e. absurd (cc)
 
 -- a put failed within the lines of an event that was done
 faulted : (site : SiteData) (script : List ℕ) (events rest : List (ℕ × Event)) (x : ℕ × Event) (w : Held) (text : List ℕ) (p : IsProgress site events (x ∷ rest) w text) (did : Did) → Does (site_ground site) p.state x.1 did
-    → (old mid new : Option (List ℕ)) (before now : ℕ) (status : Status) → status ≡ WriteFault → mid ≡ appended old text → FailsWithin (record { old = mid; new = new; before = before; now = now }) (entry_lines (site_names site) (length p.state.history) did.entries)
+    → (old mid new : Option (List ℕ)) (before now : ℕ) (status : Status) → status ≡ WriteFault → mid ≡ appended old text → FailsWithin (record { old = mid; new = new; before = before; now = now }) (lines_of site p.state.history did.entries)
     → Replays site script events status (record { old = old; new = new; before = before; now = now })
 faulted site script events rest x w text p did d old mid new before now status e m fails =
     let r = has_run (site_ground site) (after p.state x.1 did) (events_of rest) (site_sound site) in
     let dids = p.prior ++ did ∷ r.0 in
     let o = replay_outcome site script events dids r.1 in
-    let lines = entry_lines (site_names site) (length p.state.history) did.entries in
-    let more = transcript site (length p.state.history + length did.entries) r.0 ++ body_tail script events dids r.1 in
+    let lines = lines_of site p.state.history did.entries in
+    let more = transcript site (p.state.history ++ did.entries) r.0 ++ body_tail script events dids r.1 in
     let text_begins : o.body ≡ (text ++ lines) ++ more =
     body_is site script events dids r.1 ∙ ap (λ (t : List ℕ). t ++ body_tail script events dids r.1) (transcript_more site p.prior r.0 p.state did p.history)
-    ∙ (ap (λ (t : List ℕ). (t ++ (lines ++ transcript site (length p.state.history + length did.entries) r.0)) ++ body_tail script events dids r.1) (sym p.text_is)
-    ∙ regroup text lines (transcript site (length p.state.history + length did.entries) r.0) (body_tail script events dids r.1)) in
+    ∙ (ap (λ (t : List ℕ). (t ++ (lines ++ transcript site (p.state.history ++ did.entries) r.0)) ++ body_tail script events dids r.1) (sym p.text_is)
+    ∙ regroup text lines (transcript site (p.state.history ++ did.entries) r.0) (body_tail script events dids r.1)) in
     let puts : Puts = record { old = old; new = new; before = before; now = now } in
     record {
       outcome = o;
@@ -184,8 +183,8 @@ refused : (site : SiteData) (script : List ℕ) (events rest : List (ℕ × Even
     → IsReplay site script events (replay_outcome site script events (p.prior ++ []) ending)
 refused site script events rest x w text p ending r = record { dids = p.prior ++ []; ending = ending; runs = p.runs [] ending (inl (refl, r)); outcome = refl }
 
-nothing_more : (site : SiteData) (script : List ℕ) (events left : List (ℕ × Event)) (w : Held) (text : List ℕ) (p : IsProgress site events left w text) → transcript site 0 (p.prior ++ []) ≡ text
-nothing_more site script events left w text p = ap (transcript site 0) (append-nil p.prior) ∙ sym p.text_is
+nothing_more : (site : SiteData) (script : List ℕ) (events left : List (ℕ × Event)) (w : Held) (text : List ℕ) (p : IsProgress site events left w text) → transcript site [] (p.prior ++ []) ≡ text
+nothing_more site script events left w text p = ap (transcript site []) (append-nil p.prior) ∙ sym p.text_is
 
 -- the last line of a refused event, or want of memory for it
 said_refused : (site : SiteData) (script : List ℕ) (events rest : List (ℕ × Event)) (x : ℕ × Event) (w : Held) (text : List ℕ) (p : IsProgress site events (x ∷ rest) w text) (old mid new : Option (List ℕ)) (before now : ℕ) (status : Status)
@@ -228,7 +227,7 @@ pub stops : (site : SiteData) (script : List ℕ) (events rest : List (ℕ × Ev
     → StopPuts script x.0 stop stopped status (record { old = mid'; new = new; before = between; now = now })
     → Replays site script events status (record { old = old; new = new; before = before; now = now })
 stops site script events rest x w stopped text p old mid mid' new before between now PutFault status m d s =
-    let lines = entry_lines (site_names site) (length p.state.history) d.0.entries in
+    let lines = lines_of site p.state.history d.0.entries in
     faulted site script events rest x w text p d.0 d.1 old mid new before now status s.0 m
     (subst (Rose before) (sym s.1.0) d.2.0, d.2.1, subst (λ (t : Option (List ℕ)). IsPartPut mid t lines) (sym s.1.1) d.2.2)
 stops site script events rest x w stopped text p old mid mid' new before between now (Refused NoMemory) status m d s =

@@ -1,13 +1,11 @@
--- What a site gives to events: the ground on which they stand, and the names that are printed.
-use Rattle.std.specs.Prelude.{ℕ, nat_lt, List, [], ◌∷◌, length, map, slice_index_or, Option, Some, None}
+-- What a site gives to events: the ground on which they stand.
+use Rattle.std.specs.Prelude.{ℕ, nat_lt, List, [], ◌∷◌, length, Option, Some, None}
 use Rattle.cts_core.specs.States.{Ground}
-use Rattle.cts_def.specs.Packets.{PacketData}
-use Rattle.cts_def.specs.Sites.{InterfaceData, SiteData}
+use Rattle.cts_def.specs.Sites.{SiteData}
 use Rattle.cts_def.specs.declared.ident.Ident.{Ident}
 use Rattle.cts_ident.specs.Identification.{identified, named}
 use Rattle.cts_proto.specs.Framing.{Heading, Output}
 use Rattle.cts_proto.specs.LengthRow.{length_framing}
-use Rattle.cts_script.specs.Lines.{Names}
 
 -- the most entries of a history, and the most bytes
 abbrev pub entries_limit : ℕ
@@ -32,22 +30,4 @@ site_ground site = record {
   ident = ident_of site;
   most_entries = entries_limit;
   most_bytes = bytes_limit;
-}
-
--- the name of the interface of this number
-abbrev pub interface_name : List InterfaceData → ℕ → List ℕ
-interface_name interfaces number = slice_index_or (map (λ (i : InterfaceData). i.name) interfaces) number []
-
--- the target and the name of the packet of this number
-abbrev pub packet_name : List PacketData → ℕ → List ℕ × List ℕ
-packet_name packets number = slice_index_or (map (λ (p : PacketData). (p.target, p.name)) packets) number ([], [])
-
--- The names of a site's interfaces and packets. Nothing is printed yet that has another name.
-abbrev pub site_names : SiteData → Names
-site_names site = record {
-  interface = interface_name site.interfaces;
-  router = λ number. [];
-  packet = packet_name site.definitions.telemetry;
-  command = λ number. ([], []);
-  item = λ packet number. [];
 }

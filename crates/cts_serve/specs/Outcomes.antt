@@ -1,5 +1,5 @@
 -- What a command answers and prints, from the content of the files alone.
-use Rattle.std.specs.Prelude.{◌≡◌, ℕ, ◌+◌, nat_eq, List, [], ◌∷◌, ◌++◌, Bool, ◌||◌, length, map, codes, Option, Some, None, is_none, MatchOption, unwrap_or, if◌then◌else◌}
+use Rattle.std.specs.Prelude.{◌≡◌, ℕ, nat_eq, List, [], ◌∷◌, ◌++◌, Bool, ◌||◌, length, map, codes, Option, Some, None, is_none, MatchOption, unwrap_or, if◌then◌else◌}
 use Rattle.std.specs.Cmp.Lexicographic.{pointwise}
 use Rattle.cts_entry.specs.declared.entry.Entry.{Entry}
 use Rattle.cts_entry.specs.declared.event.Event.{Event}
@@ -7,10 +7,11 @@ use Rattle.std.specs.Option.{option_or}
 use Rattle.cts_entry.specs.Histories.{entries_in, bytes_in}
 use Rattle.cts_core.specs.States.{opening}
 use Rattle.cts_core.specs.Runs.{Did, Ending, Finished, NotEnabled, HistoryFull, Runs}
-use Rattle.cts_script.specs.Lines.{entry_lines}
+use Rattle.cts_script.specs.declared.limits_event.LimitsEvent.{LimitsEvent}
+use Rattle.cts_script.specs.Transcripts.{lines_behind}
 use Rattle.cts_def.specs.Packets.{DefinitionsData}
 use Rattle.cts_def.specs.Sites.{SiteData}
-use Rattle.cts_serve.specs.Grounds.{site_ground, site_names}
+use Rattle.cts_serve.specs.Grounds.{site_ground}
 use Rattle.cts_serve.specs.Texts.{usage_line, absent_line, refused_line, full_line, end_line, counts_line}
 use Rattle.cts_serve.specs.Forms.{are_built_definitions, is_built_site}
 use Rattle.cts_serve.specs.Judging.{Outcome, refusal, judge_definitions, judge_site, judge_script, definitions_in, site_in, events_in}
@@ -80,11 +81,19 @@ abbrev pub all_entries : List Did → List Entry
 all_entries [] = []
 all_entries (did ∷ dids) = did.entries ++ all_entries dids
 
--- The transcript: the lines of the entries of each event, where so many entries stand before. The events so far give
--- nothing else.
-abbrev pub transcript : SiteData → ℕ → List Did → List ℕ
-transcript site n [] = []
-transcript site n (did ∷ dids) = entry_lines (site_names site) n did.entries ++ transcript site (n + length did.entries) dids
+-- The limits events that an entry has behind a history. Limits are not built yet, and no entry has any.
+abbrev pub limits_events : SiteData → List Entry → Entry → List LimitsEvent
+limits_events site history e = []
+
+-- the lines of entries that stand behind a history
+abbrev pub lines_of : SiteData → List Entry → List Entry → List ℕ
+lines_of site history entries = lines_behind site (limits_events site) history entries
+
+-- The transcript: the lines of the entries of each event, behind the history before it. The events so far give nothing
+-- else.
+abbrev pub transcript : SiteData → List Entry → List Did → List ℕ
+transcript site history [] = []
+transcript site history (did ∷ dids) = lines_of site history did.entries ++ transcript site (history ++ did.entries) dids
 
 -- the line of the event after those that were done
 abbrev pub next_line : List Did → List (ℕ × Event) → ℕ
@@ -95,11 +104,11 @@ next_line (did ∷ dids) (event ∷ events) = next_line dids events
 
 -- what is answered and printed where the events did this and ended so
 abbrev pub replay_outcome : SiteData → List ℕ → List (ℕ × Event) → List Did → Ending → Outcome
-replay_outcome site script events dids Finished = record { status = Fine; body = transcript site 0 dids ++ end_line (length (all_entries dids)); last = [] }
+replay_outcome site script events dids Finished = record { status = Fine; body = transcript site [] dids ++ end_line (length (all_entries dids)); last = [] }
 replay_outcome site script events dids NotEnabled =
-    record { status = ScriptRefused; body = transcript site 0 dids; last = refused_line script (next_line dids events) (codes "NotEnabled") }
+    record { status = ScriptRefused; body = transcript site [] dids; last = refused_line script (next_line dids events) (codes "NotEnabled") }
 replay_outcome site script events dids HistoryFull =
-    record { status = FullHistory; body = transcript site 0 dids; last = full_line (entries_in (all_entries dids)) (bytes_in (all_entries dids)) }
+    record { status = FullHistory; body = transcript site [] dids; last = full_line (entries_in (all_entries dids)) (bytes_in (all_entries dids)) }
 
 -- The outcome of a run of the script's events.
 pub record IsReplay (site : SiteData) (script : List ℕ) (events : List (ℕ × Event)) (o : Outcome) : Type 0 where

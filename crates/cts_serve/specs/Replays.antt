@@ -6,13 +6,12 @@ use Rattle.cts_core.specs.States.{State}
 use Rattle.cts_core.specs.Runs.{Did, Does, after, Refuses, NotEnabled, HistoryFull}
 use Rattle.cts_entry.specs.Histories.{entries_in, bytes_in}
 use Rattle.cts_outside.specs.Contents.{appended}
-use Rattle.cts_script.specs.Lines.{entry_lines}
 use Rattle.cts_def.specs.Sites.{SiteData}
-use Rattle.cts_serve.specs.Grounds.{site_ground, site_names}
+use Rattle.cts_serve.specs.Grounds.{site_ground}
 use Rattle.cts_serve.specs.Worlds.{Held, Stands}
 use Rattle.cts_serve.specs.Texts.{memory_line, refused_line, full_line, end_line}
 use Rattle.cts_serve.specs.Judging.{Outcome}
-use Rattle.cts_serve.specs.Outcomes.{IsReplay}
+use Rattle.cts_serve.specs.Outcomes.{lines_of, IsReplay}
 use Rattle.cts_serve.specs.Printing.{Puts, Printed, FailsWithin}
 use Rattle.cts_serve.specs.declared.refusal.Refusal.TheVariants.{NotEnabled as RefusedEvent, HistoryFull as FullHistory, Memory as NoMemory}
 use Rattle.cts_serve.specs.declared.stop.Stop.{Stop}
@@ -24,20 +23,20 @@ use Rattle.cts_serve.specs.declared.status.Status.TheVariants.{Ok as Fine, Memor
 abbrev pub IsUntouched : Puts → Type 0
 IsUntouched p = (p.now ≡ p.before) × (p.new ≡ p.old)
 
--- the lines of entries were put, of which the first has number n
-abbrev pub PutsEntries : SiteData → ℕ → List Entry → Result (Unit {0}) Stop → Puts → Type 0
-PutsEntries site n entries (Ok done) p = (p.now ≡ p.before) × (p.new ≡ appended p.old (entry_lines (site_names site) n entries))
-PutsEntries site n entries (Err PutFault) p = FailsWithin p (entry_lines (site_names site) n entries)
-PutsEntries site n entries (Err (Refused NoMemory)) p = IsUntouched p
-PutsEntries site n entries (Err (Refused RefusedEvent)) p = ⊥
-PutsEntries site n entries (Err (Refused FullHistory)) p = ⊥
+-- the lines of entries that stand behind a history were put
+abbrev pub PutsEntries : SiteData → List Entry → List Entry → Result (Unit {0}) Stop → Puts → Type 0
+PutsEntries site history entries (Ok done) p = (p.now ≡ p.before) × (p.new ≡ appended p.old (lines_of site history entries))
+PutsEntries site history entries (Err PutFault) p = FailsWithin p (lines_of site history entries)
+PutsEntries site history entries (Err (Refused NoMemory)) p = IsUntouched p
+PutsEntries site history entries (Err (Refused RefusedEvent)) p = ⊥
+PutsEntries site history entries (Err (Refused FullHistory)) p = ⊥
 
 -- An event was done and its lines were put, or why not.
 abbrev pub DoesEvent : SiteData → State → Event → Result (Unit {0}) Stop → Held → Puts → Type 0
 DoesEvent site s event (Ok done) w p =
-    (did : Did) × Does (site_ground site) s event did × Stands site w (after s event did) × (p.now ≡ p.before) × (p.new ≡ appended p.old (entry_lines (site_names site) (length s.history) did.entries))
+    (did : Did) × Does (site_ground site) s event did × Stands site w (after s event did) × (p.now ≡ p.before) × (p.new ≡ appended p.old (lines_of site s.history did.entries))
 DoesEvent site s event (Err PutFault) w p =
-    (did : Did) × Does (site_ground site) s event did × FailsWithin p (entry_lines (site_names site) (length s.history) did.entries)
+    (did : Did) × Does (site_ground site) s event did × FailsWithin p (lines_of site s.history did.entries)
 DoesEvent site s event (Err (Refused RefusedEvent)) w p = Refuses (site_ground site) s event NotEnabled × IsUntouched p
 DoesEvent site s event (Err (Refused FullHistory)) w p =
     Refuses (site_ground site) s event HistoryFull × (w.entries ≡ entries_in s.history) × (w.bytes ≡ bytes_in s.history) × IsUntouched p

@@ -1,13 +1,14 @@
 // One event of a script: done, and its lines put.
-ghost use Rattle.std.specs.Prelude.{◌≡◌, drop, min, length, vec_len};
+ghost use Rattle.std.specs.Prelude.{◌≡◌, take, drop, length, vec_len, IfOk};
 ghost use Rattle.cts_core.specs.States.{State};
+ghost use Rattle.cts_serve.specs.Outcomes.{lines_of};
 ghost use Rattle.cts_serve.specs.Replays.{PutsEntries, DoesEvent};
 ghost use Rattle.cts_serve.specs.Worlds.{Stands, held_in};
 
-use crate::naming::SiteNames;
 use crate::refusal::Refusal;
 use crate::stop::Stop;
 use crate::world::World;
+use cts_base::Memory;
 use cts_def::Site;
 use cts_entry::{Entry, Event};
 use cts_outside::Sink;
@@ -33,7 +34,7 @@ pub fn do_event<O: Sink>(
     }
 }
 
-// Puts the lines of the entries from this number on.
+// Puts the lines of the entries from this number on, in one piece if there are any.
 fn put_entries<O: Sink>(
     alloc: Global,
     site: &Site,
@@ -41,15 +42,28 @@ fn put_entries<O: Sink>(
     from: usize,
     out: &mut O,
 ) -> Result<(), Stop>
-    ensures { PutsEntries site.now (min from (length history.now)) (drop (min from (length history.now)) history.now) result (record { old = O.told out.old; new = O.told out.new; before = O.faults out.old; now = O.faults out.new }) }
+    ensures { PutsEntries site.now (take from history.now) (drop from history.now) result (record { old = O.told out.old; new = O.told out.new; before = O.faults out.old; now = O.faults out.new }) }
 {
-    let first = from.min(history.len());
-    match entry_lines(alloc, &SiteNames { site }, first as u64, &history[first..]) {
-        Ok(lines) if lines.as_slice().is_empty() => Ok(()),
-        Ok(lines) => match out.put(lines.as_slice()) {
+    match lines_from(alloc, site, history, from) {
+        Ok(lines) if lines.is_empty() => Ok(()),
+        Ok(lines) => match out.put(&lines) {
             Ok(()) => Ok(()),
             Err(_) => Err(Stop::WriteFault),
         },
         Err(_) => Err(Stop::Refused(Refusal::Memory)),
     }
+}
+
+// The lines of the entries from this number on, which have no limits events yet.
+fn lines_from(alloc: Global, site: &Site, history: &[Entry], from: usize) -> Result<Vec<u8>, Memory>
+    ensures { IfOk result (λ v. v.items ≡ lines_of site.now (take from history.now) (drop from history.now)) }
+{
+    let mut n = from.min(history.len());
+    let mut lines = Vec::new(alloc);
+    'entries: for entry in &history[n..] {
+        let text = entry_lines(alloc, site, n as u64, entry, &[])?;
+        lines.extend_from_slice(text.as_slice())?;
+        n += 1;
+    }
+    Ok(lines)
 }

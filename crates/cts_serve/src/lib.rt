@@ -9,7 +9,6 @@ mod form;
 mod last;
 mod laws;
 mod loading;
-mod naming;
 mod posting;
 mod reading;
 mod refusal;
@@ -28,6 +27,8 @@ pub use status::Status;
 
 #[cfg(test)]
 mod ident_tests;
+#[cfg(test)]
+mod lines_tests;
 #[cfg(test)]
 mod loading_tests;
 #[cfg(test)]

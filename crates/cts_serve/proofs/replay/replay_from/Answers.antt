@@ -2,9 +2,8 @@ use Rattle.std.proofs.Common.{rules, ◌≡◌, ◌∷◌, ◌++◌, [], ℕ, Li
 use Rattle.std.proofs.lemmas.List.{length-map}
 use Rattle.cts_entry.specs.declared.event.Event.{Event}
 use Rattle.cts_outside.proofs.Putting.{appended-nil, whole_then}
-use Rattle.cts_script.specs.Lines.{entry_lines}
 use Rattle.cts_serve.specs.Worlds.{held_in, line_in}
-use Rattle.cts_serve.specs.Grounds.{site_names}
+use Rattle.cts_serve.specs.Outcomes.{lines_of}
 use Rattle.cts_serve.specs.Replays.{Replays, EndPuts}
 use Rattle.cts_serve.proofs.Progress.{IsProgress, begun, goes_on, stops, ends}
 use Rattle.cts_serve.proofs.replay.replay_from.Goals as goal
@@ -18,7 +17,7 @@ events-preserved g c =
     let left : c.events.left.now ≡ c.in-Some.next.now ∷ c.in-Some.after.now = search rules in
     let progress = subst (λ (t : List (ℕ × Event)). IsProgress c.args.site.now c.args.events.now t (held_in c.events.world) so_far.0) left so_far.1 in
     let did = c.in-Ok.ensures progress.state progress.stands in
-    let lines = entry_lines (site_names c.args.site.now) (length progress.state.history) did.0.entries in
+    let lines = lines_of c.args.site.now progress.state.history did.0.entries in
     record {
       progress = (so_far.0 ++ lines, goes_on c.args.site.now c.args.events.now c.in-Some.after.now c.in-Some.next.now (held_in c.events.world) (held_in c.do_event.new.world) so_far.0 progress did.0 did.1 did.2, whole_then _ _ _ so_far.0 lines so_far.2 did.4);
       steady = did.3 ∙ c.events.invariant.steady;
