@@ -31,7 +31,7 @@ no_word_at (x ∷ ws) zero e = absurd (cc)
 no_word_at (x ∷ ws) (suc k) e = no_word_at ws k e
 
 -- a word that passes the test of all fields passes that of its own
-fits_at : (fails : Field → List ℕ → Bool) (fields : List Field) (ws : List (List ℕ)) (k : ℕ) (f : Field) (w : List ℕ)
+pub fits_at : (fails : Field → List ℕ → Bool) (fields : List Field) (ws : List (List ℕ)) (k : ℕ) (f : Field) (w : List ℕ)
     → list_any (λ p. fails p.0 p.1) (zip fields ws) ≡ false → slice_get fields k ≡ Some f → slice_get ws k ≡ Some w → fails f w ≡ false
 fits_at fails [] ws k f w none here there = absurd (cc)
 fits_at fails (g ∷ fields) [] k f w none here there = absurd (cc)

@@ -171,9 +171,10 @@ SitesAreOfTheirStatements = (d : DefinitionsData) (all : List Statement) (s : Si
 abbrev pub SitesAreSound : Type 0
 SitesAreSound = (d : DefinitionsData) (all : List Statement) (s : SiteData) → site_of d all ≡ Ok s → IsSoundSite s
 
--- An INTERFACE or ROUTER statement gives a name, and the words behind a protocol fit its parameters.
+-- An INTERFACE or ROUTER statement gives a name and a port, and the words behind a protocol fit its parameters.
 pub record Fits (k : Keyword) (ws : List (List ℕ)) : Type 0 where
   pub named : opening k ≡ true → (name : List ℕ) × (name_of (word ws 0) ≡ Some name)
+  pub ported : opening k ≡ true → (port : ℕ) × (port_of (word ws (port_at (role_of k ws))) ≡ Some port)
   pub fit : (kind : Kind) → protocol_of k ws ≡ Some kind → Fit kind (parameters k ws)
 
 -- Each statement of a site has fitting words.
