@@ -5,11 +5,11 @@ use Rattle.cts_serve.specs.declared.file_kind.FileKind.TheVariants.{Configuratio
 use Rattle.cts_serve.proofs.loading.site_of.Goals as goal
 
 pub returns-in-Ok : goal.returns-in-Ok
-returns-in-Ok c = site_ok c.args.definitions c.args.found.now c.in-Ok.site c.in-Ok.ensures
+returns-in-Ok c = site_ok c.args.definitions c.args.found.now c.in-Ok.site c.in-Ok.ensures.said
 
 pub returns-in-Err-Refused : goal.returns-in-Err-Refused
 returns-in-Err-Refused c =
     let is_cause = c.as_bytes.ensures.value ∙ c.name.ensures in
     let told = subst (λ (t : List ℕ). IsRefusedAt Configuration c.args.name.now c.in-Err-Refused.line t c.refused_at.result) is_cause c.refused_at.ensures in
-    let e = rw c.in-Err-Refused.field-0-is at c.in-Err-Refused.ensures in
+    let e = rw c.in-Err-Refused.field-0-is at c.in-Err-Refused.ensures.said in
     refused_gives c.args.name.now _ c.in-Err-Refused.line _ c.refused_at.result (site_err c.args.definitions c.args.found.now c.in-Err-Refused.line c.in-Err-Refused.cause e) told
