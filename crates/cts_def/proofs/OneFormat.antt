@@ -1,5 +1,5 @@
 -- A format is written of one set of parts.
-use Rattle.std.proofs.Common.{◌≡◌, ℕ, ◌+◌, ◌<◌, Bool, true, false, ◌&&◌, ◌==◌, nat_le, List, [], ◌∷◌, ◌++◌, Option, Some, None, length, take, drop, refl, sym, ap, ◌∙◌, arith}
+use Rattle.std.proofs.Common.{◌≡◌, ℕ, true, ◌&&◌, ◌==◌, nat_le, List, [], ◌∷◌, ◌++◌, Option, Some, None, length, take, drop, refl, sym, ap, ◌∙◌, arith}
 use Rattle.std.specs.Prelude.{not, ◌||◌, nat_eq}
 use Rattle.std.proofs.Math.Seq.{drop-append_seam, take-append_seam}
 use Rattle.std.proofs.lemmas.Bool.{eqb-true}
@@ -7,16 +7,15 @@ use Rattle.std.proofs.lemmas.List.{length-append}
 use Rattle.std.specs.Char.{is_ascii_digit}
 use Rattle.std.specs.List.{list_all, list_any, prefix_len}
 use Rattle.cts_def.specs.FormatParts.{AreFormatParts, FormatParts, FormatsHaveOneSetOfParts, are_flags, begins_with_zero, fits_letter, is_precision, is_width, written, written_tail}
-use Rattle.cts_def.specs.Formats.{behind_percent, flags_len, is_above_twelve, is_flag, is_letter}
+use Rattle.cts_def.specs.Formats.{behind_percent, flags_len, is_above_twelve}
 use Rattle.cts_def.proofs.Directives.{behind_first, behind_plain, both, digits_then, flags_counted, letter_is, no_digit, no_flag}
 
 -- equal lists whose fronts have one length
 front_same : (xs ys r s : List ℕ) → length xs ≡ length ys → xs ++ r ≡ ys ++ s → (xs ≡ ys) × (r ≡ s)
-front_same xs ys r s len e =
-    (
-      sym (take-append_seam xs r) ∙ ap (λ (n : ℕ). take n (xs ++ r)) len ∙ ap (take (length ys)) e ∙ take-append_seam ys s,
-      sym (drop-append_seam xs r) ∙ ap (λ (n : ℕ). drop n (xs ++ r)) len ∙ ap (drop (length ys)) e ∙ drop-append_seam ys s,
-    )
+front_same xs ys r s len e = (
+  sym (take-append_seam xs r) ∙ ap (λ (n : ℕ). take n (xs ++ r)) len ∙ ap (take (length ys)) e ∙ take-append_seam ys s,
+  sym (drop-append_seam xs r) ∙ ap (λ (n : ℕ). drop n (xs ++ r)) len ∙ ap (drop (length ys)) e ∙ drop-append_seam ys s,
+)
 
 -- what follows the percent sign
 abbrev directive : FormatParts → List ℕ

@@ -1,9 +1,8 @@
 -- Each thing that a statement says is said by its own word.
-use Rattle.std.proofs.Common.{◌≡◌, ℕ, Bool, true, false, cond, List, [], ◌∷◌, Option, Some, None, refl, ap, ◌∙◌}
+use Rattle.std.proofs.Common.{◌≡◌, ℕ, Bool, true, false, List, ◌∷◌, Option, Some, ap, ◌∙◌}
 use Rattle.std.specs.Prelude.{option_map, if◌then◌else◌}
 use Rattle.cts_defline.specs.declared.keyword.Keyword.{Keyword}
 use Rattle.cts_defline.specs.declared.keyword.Keyword.TheVariants as keyword
-use Rattle.cts_defline.specs.declared.line.Line.{Line}
 use Rattle.cts_defline.specs.declared.line.Line.TheVariants as line
 use Rattle.cts_defline.specs.Forms.{keyword_of}
 use Rattle.cts_defline.specs.Lines.{line_in, line_of, number_parameter, text_parameter}

@@ -1,5 +1,5 @@
 -- Which word of a statement says what.
-use Rattle.std.specs.Prelude.{◌≡◌, ℕ, ℤ, Bool, true, false, List, [], ◌∷◌, map, codes, Option, Some, None, option_map, unwrap_or}
+use Rattle.std.specs.Prelude.{◌≡◌, ℕ, ℤ, true, false, List, [], ◌∷◌, map, codes, Option, Some, None, option_map, unwrap_or}
 use Rattle.std.specs.List.{slice_get}
 use Rattle.cts_base.specs.Names.{in_upper_case}
 use Rattle.cts_base.specs.declared.decimal.Decimal.{Decimal}
