@@ -12,9 +12,9 @@ use Rattle.cts_entry.specs.declared.event.Event.TheVariants.{SetTime, Opens, Pie
 use Rattle.cts_entry.specs.declared.event.Effect.{Effect}
 use Rattle.cts_entry.specs.Histories.{packets_from, commands_to}
 use Rattle.cts_core.specs.States.{Environment, State, opening, is_enabled, log_ahead, packets_log, commands_log}
-use Rattle.cts_core.specs.Runs.{Did, Does, after, log_cursor_after, effect_of, Ending, Runs}
+use Rattle.cts_core.specs.Runs.{Did, Does, after, drained, effect_of, Ending, Runs}
 use Rattle.cts_core.specs.Told.{history_of}
-use Rattle.cts_core.specs.Logs.{drained, drained_by, packets_in, commands_in}
+use Rattle.cts_core.specs.Logs.{drained_by, packets_in, commands_in}
 use Rattle.cts_core.specs.Laws.{CoreIsLogged}
 use Rattle.cts_told.specs.Routing.{names_in}
 use Rattle.cts_told.specs.Streams.{lay_out}
@@ -33,17 +33,6 @@ drained_within env s (DrainLog count) e within =
     omega (arith, within, enough_of count (length (log_ahead s)) enough, length-drop s.log_cursor s.history)
 drained_within env s (DrainSlot by count) e within = omega (arith, within)
 drained_within env s Stop e within = omega (arith, within)
-
-cursor_is : (event : Event) (cursor : ℕ) → log_cursor_after event cursor ≡ cursor + drained event
-cursor_is (SetTime time) cursor = omega arith
-cursor_is (Opens by) cursor = omega arith
-cursor_is (Piece by piece) cursor = omega arith
-cursor_is (Finish by why) cursor = omega arith
-cursor_is (Write by count) cursor = omega arith
-cursor_is (Call desk body) cursor = omega arith
-cursor_is (DrainLog count) cursor = omega arith
-cursor_is (DrainSlot by count) cursor = omega arith
-cursor_is Stop cursor = omega arith
 
 module _ (env : Environment) (keep : Entry → Bool) (tells : Effect → List ℕ) where
   abbrev log_of : List Entry → List ℕ
@@ -81,16 +70,15 @@ module _ (env : Environment) (keep : Entry → Bool) (tells : Effect → List �
   log_run drains s (event ∷ events) dids ending within (inr h) =
       let next = after s event h.0 in
       let e : Did = h.0 in
-      let moved : next.log_cursor ≡ s.log_cursor + drained event = cursor_is event s.log_cursor in
       let still = drained_within env s event h.3.enabled within in
-      let inside : next.log_cursor ≤ length next.history = omega (arith, moved, still, length-append s.history e.entries) in
+      let inside : next.log_cursor ≤ length next.history = omega (arith, still, length-append s.history e.entries) in
       let more = log_run drains next events h.1 ending inside h.4 in
       let step = log_step drains s event e h.3 within in
       let rest = all_told h.1 in
-      let places : next.log_cursor + drained_by events h.1 ≡ s.log_cursor + (drained event + drained_by events h.1) = omega (arith, moved) in
+      let places : next.log_cursor + drained_by events h.1 ≡ s.log_cursor + (drained event + drained_by events h.1) = omega arith in
       subst (λ (l : List Did). log_of (take s.log_cursor s.history) ++ all_told l ≡ log_of (take (s.log_cursor + drained_by (event ∷ events) l) (s.history ++ history_of l))) (sym h.2)
       (sym (append_assoc (log_of (take s.log_cursor s.history)) (tells e.effect) rest)
-      ∙ (ap (λ (l : List ℕ). l ++ rest) (step ∙ ap (λ (k : ℕ). log_of (take k next.history)) (sym moved))
+      ∙ (ap (λ (l : List ℕ). l ++ rest) step
       ∙ (more ∙ (ap (λ (k : ℕ). log_of (take k (next.history ++ history_of h.1))) places
       ∙ ap (λ (l : List Entry). log_of (take (s.log_cursor + (drained event + drained_by events h.1)) l)) (append_assoc s.history e.entries (history_of h.1))))))
 

@@ -2,24 +2,11 @@
 use Rattle.std.specs.Prelude.{ℕ, ◌+◌, List, [], ◌∷◌}
 use Rattle.std.specs.List.{flat_map}
 use Rattle.cts_entry.specs.declared.event.Event.{Event}
-use Rattle.cts_entry.specs.declared.event.Event.TheVariants.{SetTime, Opens, Piece, Finish, Write, Call, DrainLog, DrainSlot, Stop}
 use Rattle.cts_entry.specs.declared.event.Effect.{Effect}
 use Rattle.cts_entry.specs.declared.event.Effect.TheVariants.{Posted, Reply, Written, Logged, Routed}
-use Rattle.cts_core.specs.Runs.{Did}
+use Rattle.cts_core.specs.Runs.{Did, drained}
 
--- how many entries an event gives to the logs
-abbrev pub drained : Event → ℕ
-drained (SetTime time) = 0
-drained (Opens by) = 0
-drained (Piece by piece) = 0
-drained (Finish by why) = 0
-drained (Write by count) = 0
-drained (Call desk body) = 0
-drained (DrainLog count) = count
-drained (DrainSlot by count) = 0
-drained Stop = 0
-
--- and how many those did that were done
+-- how many entries the events gave to the logs that were done
 abbrev pub drained_by : List Event → List Did → ℕ
 drained_by [] dids = 0
 drained_by (event ∷ events) [] = 0

@@ -128,16 +128,17 @@ pieces_after event entries pieces by = kept (latest (connects_maker by) entries)
 abbrev pub cursor_after : Event → List Entry → (ℕ → ℕ) → ℕ → ℕ
 cursor_after event entries cursor by = kept (latest (connects_maker by) entries) 0 (cursor by + passed_for by event)
 
-abbrev pub log_cursor_after : Event → ℕ → ℕ
-log_cursor_after (SetTime time) cursor = cursor
-log_cursor_after (Opens by) cursor = cursor
-log_cursor_after (Piece by piece) cursor = cursor
-log_cursor_after (Finish by why) cursor = cursor
-log_cursor_after (Write by count) cursor = cursor
-log_cursor_after (Call desk body) cursor = cursor
-log_cursor_after (DrainLog count) cursor = cursor + count
-log_cursor_after (DrainSlot by count) cursor = cursor
-log_cursor_after Stop cursor = cursor
+-- how many entries an event gives to the logs
+abbrev pub drained : Event → ℕ
+drained (SetTime time) = 0
+drained (Opens by) = 0
+drained (Piece by piece) = 0
+drained (Finish by why) = 0
+drained (Write by count) = 0
+drained (Call desk body) = 0
+drained (DrainLog count) = count
+drained (DrainSlot by count) = 0
+drained Stop = 0
 
 -- what the core holds after an event that did this
 abbrev pub after : State → Event → Did → State
@@ -146,7 +147,7 @@ after s event did = record {
   time = time_after event s.time;
   pieces = pieces_after event did.entries s.pieces;
   cursor = cursor_after event did.entries s.cursor;
-  log_cursor = log_cursor_after event s.log_cursor;
+  log_cursor = s.log_cursor + drained event;
 }
 
 -- how a list of events ends: all are done, or the next one is refused

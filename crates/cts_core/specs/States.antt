@@ -53,7 +53,7 @@ opening = record { history = []; time = record { seconds = 0; micros = 0 }; piec
 
 -- ---- what goes out
 
--- those that it has passed since its connection was opened, and those that are ahead
+-- the entries that a maker has passed since its connection was opened, and those that are ahead of it
 abbrev pub passed : Environment → State → ℕ → List Entry
 passed env s by = take (s.cursor by) (walk env.routing by (since by s.history))
 

@@ -1,6 +1,6 @@
 // Events that no script can ask for yet, and a history that is full.
 ghost use Rattle.std.specs.Prelude.{◌≡◌, true, length, vec_len, IfOk};
-ghost use Rattle.cts_serve.specs.Forms.{is_built_site};
+ghost use Rattle.cts_serve.specs.Forms.{are_built_events, is_built_event, is_built_site};
 
 use crate::Status;
 use crate::events::do_event;
@@ -25,6 +25,28 @@ fn world_of(alloc: Global, site: &Site) -> Result<World, Fail>
         Ok(world) => Ok(world),
         Err(_) => Err(Fail::new("out of memory")),
     }
+}
+
+fn is_built_event(event: &Event) -> bool
+    ensures { result ≡ is_built_event event.now }
+{
+    match event {
+        Event::SetTime(_) => true,
+        Event::Opens(_) => true,
+        Event::Piece(_, _) => true,
+        Event::Finish(_, _) => true,
+        Event::Write(_, _) => false,
+        Event::Call(_, _) => false,
+        Event::DrainLog(_) => false,
+        Event::DrainSlot(_, _) => false,
+        Event::Stop => true,
+    }
+}
+
+fn are_built_events(events: &[(u32, Event)]) -> bool
+    ensures { result ≡ are_built_events events.now }
+{
+    events.iter().all(|event| is_built_event(&event.1))
 }
 
 fn built_site(alloc: Global) -> Result<Site, Fail>
@@ -70,6 +92,9 @@ fn the_clock_is_set_and_nothing_opens_after_a_stop(rt: HostRuntime) -> Result<()
         (3, Event::Stop),
         (5, Event::Opens(0)),
     ];
+    if !are_built_events(&events) {
+        return Err(Fail::new("not built"));
+    }
     let mut sink = MemSink::new(alloc, Vec::new(alloc));
     let status = replay(alloc, &site, "p", &events, &mut sink);
     assert_eq!(rt; status, Status::ScriptRefused);
