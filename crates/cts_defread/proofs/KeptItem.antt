@@ -1,12 +1,12 @@
 -- One more item keeps its own rules, and what the draft keeps.
 use Rattle.std.proofs.Common.{◌≡◌, ℕ, ℤ, ◌+◌, ◌≤◌, ◌<◌, max, Bool, true, false, not, ◌||◌, ◌&&◌, List, [], ◌∷◌, ◌++◌, length, Option, Some, None, refl, sym, ap, ◌∙◌, subst, arith}
-use Rattle.std.specs.Prelude.{nat_le, nat_lt, is_some, is_none, unsigned_abs}
+use Rattle.std.specs.Prelude.{nat_le, is_some, unsigned_abs}
 use Rattle.std.specs.BTreeSet.{BTreeSet, IsEmpty}
 use Rattle.std.specs.Cmp.Lexicographic.{slice_cmp}
 use Rattle.std.specs.Int.{is_negative}
 use Rattle.std.specs.List.{list_any, list_all, IsDistinct}
 use Rattle.std.specs.Ordering.{nat_cmp}
-use Rattle.std.proofs.lemmas.Bool.{leb-false, ltb-false, and_from, or_parts, not_from_false}
+use Rattle.std.proofs.lemmas.Bool.{leb-false, and_from, or_parts, not_from_false}
 use Rattle.std.proofs.lemmas.List.{map-append, length-append}
 use Rattle.cts_base.specs.Known.{Knows, pair_cmp}
 use Rattle.cts_base.proofs.Known.{knows_none}

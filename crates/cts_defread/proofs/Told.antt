@@ -1,5 +1,5 @@
 -- Answered definitions are those of their lines.
-use Rattle.std.proofs.Common.{◌≡◌, ℕ, max, Bool, true, false, cond, List, [], ◌∷◌, ◌++◌, map, length, Option, Some, None, Ok, refl, sym, ap, subst, ◌∙◌}
+use Rattle.std.proofs.Common.{◌≡◌, ℕ, max, Bool, true, false, cond, List, [], ◌∷◌, ◌++◌, map, Option, Some, None, Ok, refl, sym, ap, subst, ◌∙◌}
 use Rattle.std.specs.Prelude.{is_some}
 use Rattle.std.specs.List.{filter, filter_map, cons_option}
 use Rattle.cts_bits.specs.declared.order.Order.{Order}
@@ -16,7 +16,6 @@ use Rattle.cts_defline.specs.declared.open.PacketKind.TheVariants.{Telemetry, Co
 use Rattle.cts_defread.specs.declared.drafted.Drafted.{Drafted}
 use Rattle.cts_defread.specs.Defined.{BeginsAtHead, DefinitionsAreOfTheirLines, HasItemLine, HasPacketLine, IsBlock, IsDefinedBy, names_of_head, names_of_packet, names_said}
 use Rattle.cts_defread.specs.Definitions.{lines_of, refusal, at_end, unless_refused}
-use Rattle.cts_defread.specs.Laws.{end_behind}
 use Rattle.cts_defread.specs.Standing.{are_same_kind, definitions_at, end_from, item_at, item_in, items_from, items_of, offset_or, packet_in, packet_of, packets_of, standing}
 use Rattle.cts_defread.proofs.InOrder.{end_behind_first}
 use Rattle.cts_words.specs.Blocks.{HasNoHead, begin_block, blocks, cut_at_heads}

@@ -1,5 +1,5 @@
 -- What answered definitions say, of the lines from which they were read.
-use Rattle.std.specs.Prelude.{◌≡◌, ℕ, Bool, List, [], ◌∷◌, ◌++◌, map, Option, Some, None, Ok, is_some, unwrap_or, IsTrue, if◌then◌else◌}
+use Rattle.std.specs.Prelude.{◌≡◌, ℕ, List, [], ◌∷◌, ◌++◌, map, Option, Some, None, Ok, is_some, unwrap_or, IsTrue, if◌then◌else◌}
 use Rattle.std.specs.List.{filter_map, list_any}
 use Rattle.cts_bits.specs.declared.order.Order.{Order}
 use Rattle.cts_def.specs.declared.item_kind.Overflow.TheVariants.{Error}
