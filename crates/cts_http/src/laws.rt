@@ -1,0 +1,18 @@
+//! Laws of the requests in the bytes of a connection.
+
+ghost use Rattle.cts_http.specs.Laws.{HaveOneRequests, RequestsGrow, RefusalsStay, ClosedStays, WaitingIsBounded};
+
+/// The bytes of a connection have one list of requests and one ending, but that a target which no UTF-8 can become may be
+/// refused before its end. More bytes only add requests, and change nothing behind a refusal or behind a request that ends
+/// the connection.
+pub fn connections_have_one_list_of_requests()
+    ensures one { HaveOneRequests }
+    ensures grow { RequestsGrow }
+    ensures refusals_stay { RefusalsStay }
+    ensures closed_stays { ClosedStays }
+{}
+
+/// What is neither accepted nor refused has at most 1,064,960 bytes.
+pub fn waiting_is_bounded()
+    ensures { WaitingIsBounded }
+{}
