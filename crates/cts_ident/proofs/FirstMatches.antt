@@ -14,8 +14,8 @@ use Rattle.cts_def.specs.Packets.{DefinitionsData, PacketData, have_same_names, 
 use Rattle.cts_def.specs.Sites.{SiteData, targets_at}
 use Rattle.cts_def.specs.declared.ident.Ident.{Ident}
 use Rattle.cts_def.specs.declared.ident.Ident.TheVariants.{Known, Unknown}
-use Rattle.cts_def.specs.Makers.{first_slot}
-use Rattle.cts_ident.specs.Identification.{IsFirstMatch, IsMatch, first_of, is_named, router_of, router_targets, worker_packets, worker_targets}
+use Rattle.cts_def.specs.Makers.{first_slot, router_of}
+use Rattle.cts_ident.specs.Identification.{IsFirstMatch, IsMatch, first_of, is_named, router_targets, worker_packets, worker_targets}
 use Rattle.cts_ident.specs.Matches.{at_place}
 use Rattle.cts_ident.proofs.Firsts.{first_is_place, passes}
 

@@ -1,13 +1,13 @@
 -- Which packet or command some bytes, or some names, are: the first that fits, in order of definition, among those of
 -- the targets that a connection reaches.
-use Rattle.std.specs.Prelude.{ℕ, ◌≡◌, ◌+◌, ◌-◌, ◌/◌, ◌<◌, Bool, ◌&&◌, nat_lt, List, [], ◌∷◌, map, length, Option, Some, None, IsTrue, slice_get, slice_index_or, if◌then◌else◌}
+use Rattle.std.specs.Prelude.{ℕ, ◌≡◌, ◌+◌, ◌<◌, Bool, ◌&&◌, nat_lt, List, [], ◌∷◌, map, length, Option, Some, None, IsTrue, slice_get, slice_index_or, if◌then◌else◌}
 use Rattle.std.specs.List.{filter, find}
 use Rattle.cts_base.specs.Names.{spells}
 use Rattle.cts_def.specs.Beginnings.{begins_with, start_of}
 use Rattle.cts_def.specs.Packets.{DefinitionsData, PacketData, is_of}
 use Rattle.cts_def.specs.Sites.{RouterData, SiteData, routed_targets, targets_at}
 use Rattle.cts_def.specs.declared.ident.Ident.{Ident}
-use Rattle.cts_def.specs.Makers.{first_slot}
+use Rattle.cts_def.specs.Makers.{first_slot, router_of}
 use Rattle.cts_def.specs.declared.ident.Ident.TheVariants.{Known, Unknown}
 
 -- ---- candidates
@@ -60,9 +60,6 @@ identified_command s router bytes = first_of (router_targets s router) s.definit
 -- a worker below the first slot is the interface of this number, and each router has two slots
 abbrev pub is_interface : ℕ → Bool
 is_interface worker = nat_lt worker first_slot
-
-abbrev pub router_of : ℕ → ℕ
-router_of worker = (worker - first_slot) / 2
 
 abbrev pub is_worker : SiteData → ℕ → Bool
 is_worker s worker =

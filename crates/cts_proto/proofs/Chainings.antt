@@ -6,11 +6,11 @@ use native.Mathlib.Decide.{dec_lt}
 use Rattle.std.proofs.lemmas.List.{get_or_past, length-map}
 use Rattle.std.proofs.lemmas.Option.{slice_get-map, get_or_from_slice_get}
 use Rattle.cts_bits.specs.declared.order.Order.TheVariants.{Big}
-use Rattle.cts_def.specs.Makers.{first_slot, first_desk}
+use Rattle.cts_def.specs.Makers.{first_slot, first_desk, router_of}
 use Rattle.cts_def.specs.Protocols.{LengthData, Length, UseData, reads, are_packets_last}
 use Rattle.cts_def.specs.Sites.{InterfaceData, RouterData, SiteData}
 use Rattle.cts_proto.specs.ChainLaws.{AllMakersHaveTheirChains, ChainsHaveStages}
-use Rattle.cts_proto.specs.Chains.{use_framing, framings_of, interface_chains, router_chains, router_of, framings_at}
+use Rattle.cts_proto.specs.Chains.{use_framing, framings_of, interface_chains, router_chains, framings_at}
 use Rattle.cts_proto.specs.LengthRow.{length_framing}
 use Rattle.cts_proto.specs.Rows.{framing_of}
 use Rattle.cts_proto.proofs.Fronts.{and_tells, le_tells, lt_test, not_lt_test}

@@ -1,6 +1,6 @@
 -- The framings of the chains of a site.
-use Rattle.std.specs.Prelude.{ℕ, ◌-◌, ◌/◌, nat_lt, List, [], map, filter, slice_index_or, if◌then◌else◌}
-use Rattle.cts_def.specs.Makers.{first_slot, first_desk}
+use Rattle.std.specs.Prelude.{ℕ, nat_lt, List, [], map, filter, slice_index_or, if◌then◌else◌}
+use Rattle.cts_def.specs.Makers.{first_slot, first_desk, router_of}
 use Rattle.cts_def.specs.Protocols.{UseData, reads}
 use Rattle.cts_def.specs.Sites.{InterfaceData, RouterData, SiteData}
 use Rattle.cts_proto.specs.Framing.{Framing}
@@ -19,10 +19,6 @@ interface_chains site = map (λ (i : InterfaceData). i.chain) site.interfaces
 
 abbrev pub router_chains : SiteData → List (List UseData)
 router_chains site = map (λ (r : RouterData). r.chain) site.routers
-
--- the router whose slot has this number: slot s of router r is first_slot + 2r + s
-abbrev pub router_of : ℕ → ℕ
-router_of slot = (slot - first_slot) / 2
 
 -- the protocols of the interface or of the slot's router of this number, and none where there is no such maker
 abbrev pub uses_at : SiteData → ℕ → List UseData

@@ -7,11 +7,11 @@ use Rattle.std.proofs.lemmas.Bool.Decides.{nat_tests, Decides-int_eq}
 use Rattle.std.proofs.lemmas.List.{nil_from_length}
 use Rattle.cts_bits.specs.declared.order.Order.{Order}
 use Rattle.cts_bits.specs.declared.order.Order.TheVariants.{Big, Little}
-use Rattle.cts_def.specs.Makers.{first_slot}
+use Rattle.cts_def.specs.Makers.{first_slot, router_of}
 use Rattle.cts_def.specs.Protocols.{SpecData, Burst, Fixed, Length, Terminated, Preidentified, LengthData, UseData}
 use Rattle.cts_def.specs.Sites.{InterfaceData, SiteData}
 use Rattle.cts_def.specs.Spans.{is_little}
-use Rattle.cts_ident.specs.Identification.{identified, identified_command, router_of}
+use Rattle.cts_ident.specs.Identification.{identified, identified_command}
 use Rattle.cts_proto.specs.Chains.{interface_chains, use_framing, framings_of, framings_at}
 use Rattle.cts_proto.specs.Framing.{Framing, plain}
 use Rattle.cts_proto.specs.LengthRow.{length_framing}

@@ -3,14 +3,14 @@ use Rattle.std.specs.Prelude.{ℕ, false, Bool, ◌==◌, ◌&&◌, nat_le, nat_
 use Rattle.std.specs.List.{list_any, position}
 use Rattle.cts_core.specs.States.{Answer, Environment}
 use Rattle.cts_def.specs.Items.{is_same}
-use Rattle.cts_def.specs.Makers.{first_slot}
+use Rattle.cts_def.specs.Makers.{first_slot, router_of}
 use Rattle.cts_def.specs.Packets.{PacketData, unknown}
 use Rattle.cts_def.specs.Sites.{InterfaceData, SiteData}
 use Rattle.cts_def.specs.declared.ident.Ident.{Ident}
 use Rattle.cts_def.specs.declared.ident.Ident.TheVariants.{Known, Unknown}
 use Rattle.cts_def.specs.declared.time.Time.{Time}
 use Rattle.cts_entry.specs.declared.entry.Entry.{Entry}
-use Rattle.cts_ident.specs.Identification.{identified, identified_command, named, router_of, routes_at}
+use Rattle.cts_ident.specs.Identification.{identified, identified_command, named, routes_at}
 use Rattle.cts_proto.specs.Chains.{framings_at}
 use Rattle.cts_proto.specs.Framing.{Heading, Output}
 use Rattle.cts_script.specs.Names.{packet_names as names_of_packet, command_names}

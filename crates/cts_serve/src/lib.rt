@@ -26,6 +26,8 @@ pub use laws::{outcomes, stand_ins};
 pub use status::Status;
 
 #[cfg(test)]
+mod history_tests;
+#[cfg(test)]
 mod ident_tests;
 #[cfg(test)]
 mod lines_tests;
