@@ -28,7 +28,7 @@ show_progress() {
 # Proves, builds and runs the program once without words, to which it answers its usage.
 build() {
     local began log said
-    echo "proving and building the program, once: this takes up to a quarter of an hour .." >&2
+    echo "proving and building the program, once: this takes up to half an hour .." >&2
     began=$(mktemp)
     log=$(mktemp)
     said=$(cd "$crate" && { rt run </dev/null 2>&1 >&3 | show_progress "$log"; } 3>&1) || true

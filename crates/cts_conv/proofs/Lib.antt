@@ -1,0 +1,12 @@
+pub mod Builds
+pub mod Choices
+pub mod Counts
+pub mod Digiting
+pub mod Held
+pub mod Horner
+pub mod Nearest
+pub mod Needed
+pub mod NumbersSeen
+pub mod Placed
+pub mod SmallFormats
+pub mod Windows
