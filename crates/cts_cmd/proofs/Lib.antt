@@ -1,0 +1,12 @@
+pub mod Runs
+pub mod Firsts
+pub mod Params
+pub mod Failing
+pub mod Behind
+pub mod Written
+pub mod Unique
+pub mod Exact
+pub mod Total
+pub mod OneCommand
+pub mod Stays
+pub mod Examples

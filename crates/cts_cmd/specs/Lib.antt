@@ -1,0 +1,8 @@
+pub mod Words
+pub mod Texts
+pub mod Seen
+pub mod Characters
+pub mod Contents
+pub mod Checks
+pub mod Builds
+pub mod Laws

@@ -1,0 +1,36 @@
+//! Commands: what a command text asks for, and the bytes of the command that is asked for.
+//!
+//! The form of the texts, `TARGET COMMAND with NAME value, ..`, and what REQUIRED, HAZARDOUS, STATE, OVERFLOW and the range of a
+//! parameter mean are those of the COSMOS 4 documentation. The order of the checks, the places at which a text is refused, and
+//! that names and states are taken in any case are this project's rules.
+#![tactic(auto)]
+
+mod build_command;
+mod built;
+mod characters;
+mod contents;
+mod hazards;
+mod laws;
+mod names;
+mod param;
+mod reading;
+mod refused;
+mod request;
+mod text_fault;
+mod values;
+mod words;
+mod write;
+
+pub use build_command::build;
+pub use built::Built;
+pub use laws::{
+    a_text_asks_for_one_request_or_fails_once, a_text_is_a_request_or_fails,
+    fields_stand_unless_written_over, request_has_one_command,
+};
+pub use reading::parse;
+pub use refused::Refused;
+pub use request::{Checks, Given, Request};
+pub use text_fault::{TextCause, TextFault};
+
+#[cfg(test)]
+mod tests;
