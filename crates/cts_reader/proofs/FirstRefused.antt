@@ -1,14 +1,14 @@
 -- Statements are refused at the first one that is refused, or at their end.
-use Rattle.std.proofs.Common.{◌≡◌, List, [], ◌++◌, ◌∷◌, Option, Some, None, Ok, Err, refl, ap, ◌∙◌, inl, inr}
+use Rattle.std.proofs.Common.{◌≡◌, ℕ, List, [], ◌++◌, ◌∷◌, Option, Some, None, Ok, Err, refl, sym, ap, ◌∙◌, inl, inr}
 use Rattle.std.specs.List.{filter_map}
 use Rattle.std.proofs.lemmas.List.Elements.{filter_map-append}
 use Rattle.cts_words.specs.declared.statement.Statement.{Statement}
-use Rattle.cts_words.specs.Refusals.{Refusal, first_refusal, NoneRefused}
+use Rattle.cts_words.specs.Refusals.{Refusal, first_refusal, NoneRefused, IsRefusedFirst, IsFirstRefusal}
 use Rattle.cts_words.proofs.Refused.{first_one_is_refused}
 use Rattle.cts_reader.specs.declared.fault.Fault.{Fault}
 use Rattle.cts_reader.specs.declared.fault.Fault.TheVariants as fault
 use Rattle.cts_reader.specs.Laws.{RefusesTheFirst, TakesTheOthers}
-use Rattle.cts_reader.specs.Reading.{IsRefused, Fails, Reads, unless_refused, said_of}
+use Rattle.cts_reader.specs.Reading.{at_line, IsRefused, Fails, Reads, unless_refused, said_of}
 
 refused_to : {C X : Type 0} (said : X) (o : Option (Refusal C)) (r : Refusal C) → unless_refused said o ≡ Err r → o ≡ Some r
 refused_to said None r e = absurd cc
@@ -23,6 +23,12 @@ refuses_the_first at end says all r =
 
 pub takes_the_others : {C X : Type 0} → TakesTheOthers C X
 takes_the_others at end says all none ends = ap (unless_refused (says all)) ((first_one_is_refused at end all None).1 (none, ends))
+
+-- Where the end is never refused, one of the statements is.
+pub never_at_end : {C : Type 0} (at : List Statement → Statement → Option (Refusal C)) (end : List Statement → Option (Refusal C)) (all : List Statement) (r : Refusal C)
+    → end all ≡ None → IsFirstRefusal at end all (Some r) → IsRefusedFirst at all r
+never_at_end at end all r e (inl w) = w
+never_at_end at end all r e (inr h) = absurd (let never : None ≡ Some r = sym e ∙ h.1 in cc)
 
 -- ---- what a pass over the statements answers
 
@@ -44,3 +50,7 @@ pub said-more : {L : Type 0} (say : Statement → Option L) (before : List State
 said-more {L = L} say before s l e =
     let one : filter_map say (s ∷ []) ≡ l ∷ [] = rw e refl in
     filter_map-append say before (s ∷ []) ∙ ap (λ (ls : List L). filter_map say before ++ ls) one
+
+pub no_cause : {C : Type 0} (line : ℕ) (o : Option C) → at_line line o ≡ None → o ≡ None
+no_cause line None e = refl
+no_cause line (Some c) e = absurd cc

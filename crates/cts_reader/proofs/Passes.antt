@@ -6,6 +6,7 @@ use Rattle.cts_words.specs.declared.statement.Statement.{Statement}
 use Rattle.cts_words.specs.Refusals.{Refusal, first_refusal, NoneRefused, IsRefusedFirst, IsFirstRefusal}
 use Rattle.cts_words.proofs.Refused as refused
 use Rattle.cts_words.proofs.Refused.{Decides, first_one_is_refused}
+use Rattle.cts_reader.proofs.FirstRefused.{never_at_end}
 use Rattle.cts_reader.specs.declared.fault.Fault.{Fault}
 use Rattle.cts_reader.specs.declared.fault.Fault.TheVariants as fault
 use Rattle.cts_reader.specs.Reading.{Takes, Reads}
@@ -41,15 +42,11 @@ module _ {C : Type 0} (at : List Statement → Statement → Option (Refusal C))
         decides = refused.goes_on at no_end (take i all) (drop (i + 1) all) all s step.0 now.decides;
       })
 
-  only_one : (all : List Statement) (r : Refusal C) → IsFirstRefusal at no_end all (Some r) → IsRefusedFirst at all r
-  only_one all r (inl w) = w
-  only_one all r (inr none) = absurd (let never = none.1 in cc)
-
   pub stops : (stood stands : List Statement → Type 0) (all : List Statement) (i : ℕ) (s : Statement) (e : Fault C) → i < length all → s ≡ get_or all i s → IsPassing stood (take i all) (drop i all) all
       → Takes at stood stands s (Err e) → Reads at stands all (Err e)
   stops stood stands all i s fault.Memory lt item so_far taken = tt
   stops stood stands all i s (fault.Refused line cause) lt item so_far taken =
-      only_one all (line, cause) ((first_one_is_refused at no_end all (Some (line, cause))).0
+      never_at_end at no_end all (line, cause) refl ((first_one_is_refused at no_end all (Some (line, cause))).0
       (refused.stops at no_end (take i all) (drop (i + 1) all) all s (line, cause) (taken (take i all) so_far.here) (next stood all i s lt item so_far).decides))
 
   -- behind the last statement

@@ -5,6 +5,11 @@ use Rattle.cts_reader.specs.declared.fault.Fault.TheVariants as fault
 use Rattle.cts_words.specs.declared.statement.Statement.{Statement}
 use Rattle.cts_words.specs.Refusals.{Refusal, first_refusal, NoneRefused, IsRefusedFirst}
 
+-- the cause of a statement that begins at this line, with the line
+abbrev pub at_line : {C : Type 0} → ℕ → Option C → Option (Refusal C)
+at_line line None = None
+at_line line (Some cause) = Some (line, cause)
+
 -- ---- answers
 
 -- there is this refusal, unless memory ran out

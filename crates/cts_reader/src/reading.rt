@@ -6,8 +6,8 @@ use crate::Fault;
 use cts_words::Statement;
 use std::alloc::Global;
 
-/// What grows statement by statement.
-pub trait Draft {
+/// What takes statements one by one, and stands for those that it has taken.
+pub trait Reader {
     ghost use Rattle.std.specs.Prelude.{List, Option};
     ghost use Rattle.cts_words.specs.declared.statement.Statement.{Statement as Said};
     ghost use Rattle.cts_words.specs.Refusals.{Refusal};
@@ -22,10 +22,10 @@ pub trait Draft {
     /// Why a statement behind these is refused, if it is.
     ghost refusal: { Self.Given → List Said → Said → Option (Refusal Self.Cause) };
 
-    /// What is held stands for these statements, none of which is refused.
+    /// It stands for these statements, none of which is refused.
     ghost stands: { Self.Given → Self → List Said → Type 0 };
 
-    /// Adds what a statement says, unless it is refused. After an `Err` the draft is of no more use.
+    /// Adds what a statement says, unless it is refused. After an `Err` the reader is of no more use.
     fn take(
         &mut self,
         alloc: Global,
@@ -37,17 +37,17 @@ pub trait Draft {
 }
 
 /// Adds what the statements say, one by one, up to the first that is refused.
-pub fn read_statements<D: Draft>(
+pub fn read_statements<R: Reader>(
     alloc: Global,
-    draft: &mut D,
-    given: &D::Given,
+    reader: &mut R,
+    given: &R::Given,
     statements: &[Statement],
-) -> Result<(), Fault<D::Cause>>
-    requires { D.stands given.now draft.old [] }
-    ensures { Reads (D.refusal given.now) (D.stands given.now draft.new) statements.now result }
+) -> Result<(), Fault<R::Cause>>
+    requires { R.stands given.now reader.old [] }
+    ensures { Reads (R.refusal given.now) (R.stands given.now reader.new) statements.now result }
 {
     for statement in statements {
-        draft.take(alloc, given, statement)?;
+        reader.take(alloc, given, statement)?;
     }
     Ok(())
 }

@@ -1,8 +1,4 @@
-ghost use Rattle.std.specs.Prelude.{Some, None};
-ghost use Rattle.cts_words.specs.declared.statement.Statement.{Statement as Said};
-
-use crate::{Draft, Fault, Spelled, first_that_holds, keyword_in, read_statements, word_at};
-use cts_base::Bytes;
+use crate::{Fault, Reader, Spelled, first_that_holds, keyword_in, read_statements, word_at};
 use cts_words::{Statement, statements};
 use std::alloc::Global;
 
@@ -19,7 +15,7 @@ struct Count {
     taken: u64,
 }
 
-impl Draft for Count {
+impl Reader for Count {
     ghost use Rattle.std.specs.Prelude.{Some, None, ◌==◌, if◌then◌else◌};
     ghost use Rattle.cts_reader.specs.declared.tests.Bad.TheVariants.{Second};
 

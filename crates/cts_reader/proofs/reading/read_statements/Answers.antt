@@ -5,9 +5,9 @@ use Rattle.cts_reader.proofs.reading.read_statements.Goals as goal
 
 pub returns-in_err-take : goal.returns-in_err-take
 returns-in_err-take g c =
-    let at = g.D.Draft.refusal c.args.given.now in
-    let stood = g.D.Draft.stands c.args.given.now c.loop-statement.draft in
-    let stands = g.D.Draft.stands c.args.given.now c.take.new.self in
+    let at = g.R.Reader.refusal c.args.given.now in
+    let stood = g.R.Reader.stands c.args.given.now c.loop-statement.reader in
+    let stands = g.R.Reader.stands c.args.given.now c.take.new.self in
     let s = c.statement-item.result in
     let all = c.args.statements.now in
     let stopped : Reads at stands all (Err c.in_err-take.field-0.0) =
@@ -16,4 +16,4 @@ returns-in_err-take g c =
     search rules
 
 pub returns : goal.returns
-returns g c = ends (g.D.Draft.refusal c.args.given.now) (g.D.Draft.stands c.args.given.now c.loop-statement.draft) c.args.statements.now c.loop-statement.statement-index c.loop-statement-test.false c.loop-statement.invariant
+returns g c = ends (g.R.Reader.refusal c.args.given.now) (g.R.Reader.stands c.args.given.now c.loop-statement.reader) c.args.statements.now c.loop-statement.statement-index c.loop-statement-test.false c.loop-statement.invariant
