@@ -24,6 +24,15 @@ refuses_the_first at end says all r =
 pub takes_the_others : {C X : Type 0} → TakesTheOthers C X
 takes_the_others at end says all none ends = ap (unless_refused (says all)) ((first_one_is_refused at end all None).1 (none, ends))
 
+taken_as : {C X : Type 0} (said x : X) (o : Option (Refusal C)) → unless_refused said o ≡ Ok x → said ≡ x
+taken_as said x None e = cc
+taken_as said x (Some r) e = absurd cc
+
+-- what is said where nothing is refused is what all say
+pub taken : {C X : Type 0} (at : List Statement → Statement → Option (Refusal C)) (end : List Statement → Option (Refusal C)) (says : List Statement → X) (all : List Statement) (x : X)
+    → said_of at end says all ≡ Ok x → says all ≡ x
+taken at end says all x e = taken_as (says all) x (first_refusal at end [] all) e
+
 -- Where the end is never refused, one of the statements is.
 pub never_at_end : {C : Type 0} (at : List Statement → Statement → Option (Refusal C)) (end : List Statement → Option (Refusal C)) (all : List Statement) (r : Refusal C)
     → end all ≡ None → IsFirstRefusal at end all (Some r) → IsRefusedFirst at all r
