@@ -1,0 +1,210 @@
+// The hall.
+ghost use Rattle.std.specs.Prelude.{◌≡◌, ◌<◌, ◌≤◌, false, length, Some, IfOk, OnOk, OnErr, slice_get, true};
+ghost use Rattle.std.specs.Arc.{arc_value};
+ghost use Rattle.cts_def.specs.Makers.{server};
+ghost use Rattle.cts_def.specs.Sites.{IsSoundSite};
+ghost use Rattle.cts_entry.specs.Histories.{is_connected, is_stopped};
+ghost use Rattle.cts_entry.specs.Legal.{has_ended, most_bytes, most_entries};
+ghost use Rattle.cts_table.specs.Keeping.{IsKept};
+ghost use Rattle.cts_table.specs.States.{added, begun, CanAdd, IsRoomAnswer, with_room};
+
+use crate::kinds::{bytes_for, connects, entries_for};
+use crate::{Basis, HallFault, History};
+use cts_base::Memory;
+use cts_def::Site;
+use cts_entry::{Entry, MOST_BYTES, MOST_ENTRIES, Stands, What};
+use std::alloc::Global;
+use std::marker::Model;
+use std::sync::Arc;
+
+/// What may be owed at most: a Closed and an Ended of each maker, and one Stop.
+const MOST_OWED: usize = 65;
+
+/// The history of a site, with its rules, and room for some more entries.
+#[derive(Drop)]
+pub struct Hall {
+    site: Arc<Site>,
+    limit_entries: u64,
+    limit_bytes: u64,
+    entries: Vec<Entry>,
+    used_entries: u64,
+    used_bytes: u64,
+    spare_entries: u64,
+    spare_bytes: u64,
+}
+
+impl Model for Hall {
+    ghost use Rattle.cts_table.specs.Inner.{IsSound, shown_of};
+    ghost use Rattle.cts_table.specs.States.{Shown};
+
+    ghost Value = { Shown };
+
+    ghost view = { shown_of };
+
+    ghost invariant = { IsSound };
+}
+
+impl Stands for Hall {
+    type Basis = Basis;
+
+    ghost list = { λ hall. hall.entries };
+
+    ghost basis = { λ hall. hall.basis };
+
+    fn count(&self) -> u64 {
+        self.entries.len() as u64
+    }
+}
+
+impl Hall {
+    /// A hall with no entries and the limits of a server. `Memory` where none was found for what is owed.
+    pub fn new(alloc: Global, site: Arc<Site>) -> Result<Hall, Memory>
+        ensures { IfOk result (λ hall. hall ≡ begun (arc_value site) most_entries most_bytes) }
+    {
+        Hall::with_limits(alloc, site, MOST_ENTRIES, MOST_BYTES)
+    }
+
+    /// A hall with no entries and these limits.
+    pub fn with_limits(
+        alloc: Global,
+        site: Arc<Site>,
+        entries: u64,
+        bytes: u64,
+    ) -> Result<Hall, Memory>
+        requires entries { entries ≤ most_entries }
+        requires bytes { bytes ≤ most_bytes }
+        ensures { IfOk result (λ hall. hall ≡ begun (arc_value site) entries bytes) }
+    {
+        let rules: &Site = &site;
+        let _desks = rules.desks;
+        let places = Vec::with_capacity(alloc, MOST_OWED)?;
+        Ok(Hall {
+            site,
+            limit_entries: entries,
+            limit_bytes: bytes,
+            entries: places,
+            used_entries: 0,
+            used_bytes: 0,
+            spare_entries: 0,
+            spare_bytes: 0,
+        })
+    }
+
+    /// Makes the room at least so much. Full comes before Memory, and after a refusal the hall is as before.
+    pub fn room(&mut self, entries: u64, bytes: u64) -> Result<(), HallFault>
+        ensures answer { IsRoomAnswer self.old entries bytes result }
+        ensures ok { OnOk result (self.new ≡ with_room self.old entries bytes) }
+        ensures err { OnErr result (self.new ≡ self.old) }
+    {
+        if entries > self.limit_entries - self.used_entries
+            || bytes > self.limit_bytes - self.used_bytes
+        {
+            return Err(HallFault::Full {
+                entries: self.used_entries,
+                bytes: self.used_bytes,
+            });
+        }
+        let spare_entries = self.spare_entries.max(entries);
+        let spare_bytes = self.spare_bytes.max(bytes);
+        if self
+            .entries
+            .reserve(MOST_OWED + 2 * spare_entries as usize)
+            .is_err()
+        {
+            return Err(HallFault::Memory);
+        }
+        self.spare_entries = spare_entries;
+        self.spare_bytes = spare_bytes;
+        Ok(())
+    }
+
+    /// Appends an entry for which there is room. It takes no memory.
+    pub fn append(&mut self, entry: Entry)
+        requires { CanAdd self.old entry }
+        ensures { self.new ≡ added self.old entry }
+    {
+        let entries = entries_for(&entry.what);
+        let bytes = bytes_for(&entry.what);
+        self.entries.push_reserved(entry);
+        self.used_entries += entries;
+        self.used_bytes += bytes;
+        self.spare_entries -= entries;
+        self.spare_bytes -= bytes;
+    }
+
+    /// The entries, in order.
+    pub(crate) fn entries(&self) -> &[Entry]
+        ensures { result.now ≡ self.now.entries }
+    {
+        self.entries.as_slice()
+    }
+
+    /// The site of the history.
+    pub fn site(&self) -> &Site
+        ensures { result.now ≡ self.now.basis.site }
+    {
+        &self.site
+    }
+
+    /// The entries are a history that the rules of the site allow, within the limits.
+    pub fn is_kept(&self)
+        ensures kept { IsKept self.now.basis self.now.entries }
+        ensures entries { self.now.basis.entries ≤ most_entries }
+        ensures bytes { self.now.basis.bytes ≤ most_bytes }
+        ensures site { IsSoundSite self.now.basis.site }
+    {
+        let _site = &self.site;
+    }
+
+    /// How many entries there are.
+    pub fn count(&self) -> u64
+        ensures { result ≡ length self.now.entries }
+    {
+        self.entries.len() as u64
+    }
+
+    /// The entry of this number, counted from 0.
+    pub fn entry(&self, n: u64) -> &Entry
+        requires { n < length self.now.entries }
+        ensures { slice_get self.now.entries n ≡ Some result.now }
+    {
+        &self.entries[n as usize]
+    }
+
+    /// Whether the maker is connected. One that is has not ended.
+    pub fn connected(&self, by: u32) -> bool
+        ensures value { result ≡ is_connected by self.now.entries }
+        ensures active { result ≡ true → has_ended by self.now.entries ≡ false }
+    {
+        self.is_kept();
+        self.is_open(by)
+    }
+
+    fn is_open(&self, by: u32) -> bool
+        ensures { result ≡ is_connected by self.now.entries }
+    {
+        let mut open = false;
+        for entry in self.entries.as_slice() {
+            open = connects(entry, by).unwrap_or(open);
+        }
+        open
+    }
+
+    /// Whether a Stop stands. The server itself, whose Stop it may be, never ends.
+    pub fn stopped(&self) -> bool
+        ensures value { result ≡ is_stopped self.now.entries }
+        ensures server { has_ended server self.now.entries ≡ false }
+    {
+        self.is_kept();
+        self.entries.iter().any(|e| matches!(e.what, What::Stop))
+    }
+
+    /// The entries that the hall keeps, in order. It takes no memory.
+    pub fn into_history(self) -> History
+        ensures { result ≡ self.entries }
+    {
+        History {
+            entries: self.entries,
+        }
+    }
+}

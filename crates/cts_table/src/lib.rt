@@ -1,0 +1,18 @@
+//! The hall: the one history of a server with its rules, the room for what comes next, and what is looked up in it.
+#![tactic(auto)]
+
+mod appending;
+mod basis;
+mod counts;
+mod fault;
+mod hall;
+mod history;
+mod kinds;
+mod looking;
+mod naming;
+
+pub use basis::Basis;
+pub use counts::Counts;
+pub use fault::{HallFault, Lookup};
+pub use hall::Hall;
+pub use history::History;
