@@ -1,10 +1,9 @@
 -- One definition and one item for each statement that says so, and the first refusal.
-use Rattle.std.proofs.Common.{◌≡◌, ◌⊎◌, ℕ, max, List, [], ◌∷◌, ◌++◌, length, map, Option, Some, None, Err, refl, ap, ◌∙◌, inl, inr, true, false, Bool, arith}
+use Rattle.std.proofs.Common.{◌≡◌, ℕ, max, List, [], ◌∷◌, ◌++◌, length, map, Option, Some, None, refl, ap, ◌∙◌, inl, true, false, Bool, arith}
 use Rattle.std.specs.Prelude.{option_map, if◌then◌else◌}
 use Rattle.cts_bits.specs.declared.order.Order.{Order}
 use Rattle.cts_def.specs.Items.{ItemData, span_of}
 use Rattle.cts_def.specs.Spans.{end_of}
-use Rattle.cts_defline.specs.declared.cause.DefCause.{DefCause}
 use Rattle.cts_defline.specs.declared.keyword.Keyword.{Keyword}
 use Rattle.cts_defline.specs.declared.line.ItemLine.{ItemLine}
 use Rattle.cts_defline.specs.declared.line.Line.{Line}
@@ -18,7 +17,6 @@ use Rattle.cts_defread.specs.Causes.{opened}
 use Rattle.cts_defread.specs.Definitions.{refusal, at_end, lines_of, cause_of_line}
 use Rattle.cts_defread.specs.Laws.{RefusesTheFirst, TakesTheOthers, StatementsSayLines, head_of, said_of, said_in, end_behind, OneForEachHead, OneForEachItem, ItemsHaveTheirOffsets}
 use Rattle.cts_defread.specs.Standing.{packet_in, item_in, item_at, end_from, items_from, offset_or, packet_of, standing, set_names_of, definitions_at}
-use Rattle.cts_words.specs.declared.statement.Statement.{Statement}
 use Rattle.cts_words.specs.Blocks.{blocks}
 use Rattle.cts_words.specs.Refusals.{or_else}
 use Rattle.cts_words.proofs.Blocks.{heads}

@@ -1,5 +1,5 @@
 -- A statement that is taken changes what stands as its line says, and one that is refused is so.
-use Rattle.std.proofs.Common.{◌≡◌, ℕ, List, ◌∷◌, [], ◌++◌, Option, Some, None, Ok, Err, refl, sym, ap, ◌∙◌}
+use Rattle.std.proofs.Common.{◌≡◌, ℕ, List, ◌∷◌, [], ◌++◌, Some, Ok, Err, sym, ap, ◌∙◌}
 use Rattle.cts_reader.specs.declared.fault.Fault.{Fault}
 use Rattle.cts_reader.specs.Reading.{Fails, Judged, TakesBehind, Reads}
 use Rattle.cts_reader.proofs.FirstRefused.{fails, said-more}
@@ -7,7 +7,6 @@ use Rattle.cts_defline.specs.declared.cause.DefCause.{DefCause}
 use Rattle.cts_defline.specs.declared.line.Line.{Line}
 use Rattle.cts_defline.specs.Lines.{line_in}
 use Rattle.cts_words.specs.declared.statement.Statement.{Statement}
-use Rattle.cts_words.specs.Refusals.{Refusal}
 use Rattle.cts_defread.specs.declared.draft.Draft.{Draft}
 use Rattle.cts_defread.specs.declared.drafted.Drafted.{Drafted}
 use Rattle.cts_defread.specs.Definitions.{lines_of, refusal_in, refusal, at_end, definitions_of}

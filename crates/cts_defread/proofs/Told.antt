@@ -1,12 +1,11 @@
 -- Answered definitions are those of their lines.
-use Rattle.std.proofs.Common.{◌≡◌, ℕ, max, Bool, true, false, cond, List, [], ◌∷◌, ◌++◌, map, Option, Some, None, Ok, refl, sym, ap, subst, ◌∙◌}
+use Rattle.std.proofs.Common.{◌≡◌, ℕ, max, Bool, true, false, cond, List, [], ◌∷◌, ◌++◌, map, Option, Some, None, refl, sym, ap, subst, ◌∙◌}
 use Rattle.std.specs.Prelude.{is_some}
 use Rattle.std.specs.List.{filter, filter_map, cons_option}
 use Rattle.cts_bits.specs.declared.order.Order.{Order}
 use Rattle.cts_def.specs.Items.{ItemData, span_of}
 use Rattle.cts_def.specs.Packets.{PacketData, DefinitionsData}
 use Rattle.cts_def.specs.Spans.{end_of}
-use Rattle.cts_defline.specs.declared.cause.DefCause.{DefCause}
 use Rattle.cts_defline.specs.declared.line.ItemLine.{ItemLine}
 use Rattle.cts_defline.specs.declared.line.Line.{Line}
 use Rattle.cts_defline.specs.declared.line.Line.TheVariants as line
@@ -19,7 +18,6 @@ use Rattle.cts_defread.specs.Definitions.{lines_of, refusal, at_end}
 use Rattle.cts_defread.specs.Standing.{are_same_kind, definitions_at, end_from, item_at, item_in, items_from, items_of, offset_or, packet_in, packet_of, packets_of, standing}
 use Rattle.cts_defread.proofs.InOrder.{end_behind_first}
 use Rattle.cts_words.specs.Blocks.{HasNoHead, begin_block, blocks, cut_at_heads}
-use Rattle.cts_words.specs.declared.statement.Statement.{Statement}
 use Rattle.cts_reader.proofs.FirstRefused.{taken}
 use Rattle.cts_words.proofs.Blocks.{heads}
 

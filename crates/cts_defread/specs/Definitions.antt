@@ -1,5 +1,5 @@
 -- What statements define, or the first of them that is refused.
-use Rattle.std.specs.Prelude.{ℕ, List, [], Option, Some, None, Result}
+use Rattle.std.specs.Prelude.{ℕ, List, Option, Some, None, Result}
 use Rattle.std.specs.List.{filter_map}
 use Rattle.cts_def.specs.Packets.{DefinitionsData}
 use Rattle.cts_defline.specs.declared.cause.DefCause.{DefCause}

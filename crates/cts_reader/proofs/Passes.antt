@@ -1,9 +1,9 @@
 -- One pass over statements ends at the first one that is refused.
-use Rattle.std.proofs.Common.{◌≡◌, ℕ, ◌+◌, ◌<◌, ◌≤◌, List, [], ◌∷◌, ◌++◌, length, get_or, take, drop, Option, Some, None, Result, Ok, Err, refl, sym, ap, ◌∙◌, subst, add-one, inl, inr}
+use Rattle.std.proofs.Common.{◌≡◌, ℕ, ◌+◌, ◌<◌, ◌≤◌, List, [], ◌∷◌, ◌++◌, length, get_or, take, drop, Option, Some, None, Ok, Err, refl, sym, ap, ◌∙◌, subst, add-one}
 use Rattle.std.proofs.lemmas.List.{take_more, take_all, drop_all}
 use Rattle.std.proofs.Math.Seq.{drop-cons}
 use Rattle.cts_words.specs.declared.statement.Statement.{Statement}
-use Rattle.cts_words.specs.Refusals.{Refusal, first_refusal, NoneRefused, IsRefusedFirst, IsFirstRefusal}
+use Rattle.cts_words.specs.Refusals.{Refusal}
 use Rattle.cts_words.proofs.Refused as refused
 use Rattle.cts_words.proofs.Refused.{Decides, first_one_is_refused}
 use Rattle.cts_reader.proofs.FirstRefused.{never_at_end}

@@ -43,7 +43,10 @@ impl Reader for Count {
 #[test]
 fn first_cause_that_holds_is_told(rt: HostRuntime) {
     let order = [Bad::First, Bad::Second, Bad::Third];
-    assert_eq!(rt; first_that_holds(&order, |c| c != Bad::First), Some(Bad::Second));
+    assert_eq!(rt;
+        first_that_holds(&order, |c| c != Bad::First),
+        Some(Bad::Second)
+    );
     assert_eq!(rt; first_that_holds(&order, |_| true), Some(Bad::First));
     assert_eq!(rt; first_that_holds(&order, |_| false), None);
 }
@@ -73,7 +76,13 @@ fn first_statement_that_is_refused_ends_the_pass(rt: HostRuntime) {
     };
     let mut count = Count { taken: 0 };
     let second = read_statements(alloc, &mut count, &3, all.as_slice());
-    assert_eq!(rt; second, Err(Fault::Refused { line: 3, cause: Bad::Second }));
+    assert_eq!(rt;
+        second,
+        Err(Fault::Refused {
+            line: 3,
+            cause: Bad::Second
+        })
+    );
     assert_eq!(rt; count.taken, 1);
     let whole = read_statements(alloc, &mut count, &2, all.as_slice());
     assert_eq!(rt; whole, Ok(()));

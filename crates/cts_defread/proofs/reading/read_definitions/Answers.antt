@@ -1,4 +1,4 @@
-use Rattle.std.proofs.Common.{rules, Ok, Err, sym, ap, ◌∙◌, subst}
+use Rattle.std.proofs.Common.{rules, Ok, sym, ap, ◌∙◌, subst}
 use Rattle.cts_reader.specs.Reading.{Fails, Reads}
 use Rattle.cts_defread.specs.Definitions.{refusal, definitions_of}
 use Rattle.cts_defread.specs.Drafts.{Stands}
