@@ -1,0 +1,11 @@
+use Rattle.std.proofs.Common.{ap}
+use Rattle.std.proofs.lemmas.Result.{err_from_is_err_and}
+use Rattle.cts_serve.specs.Request.{RequestData}
+use Rattle.cts_serve.specs.declared.load.file_kind.FileKind.TheVariants.{Site}
+use Rattle.cts_serve.proofs.LoadLemmas.{gives_none}
+use Rattle.cts_serve.proofs.load.configuration.load_plan.Goals as goal
+
+pub returns-in_err-found-clause-content : goal.returns-in_err-found-clause-content
+returns-in_err-found-clause-content g c =
+    let p = err_from_is_err_and c.from_residual.result c.from_residual.ensures.1 in
+    rw (p.1, p.2) (gives_none Site _ _ _ _ c.args.request.now.site _ (ap (λ (r : RequestData). r.site) c.request.view_is) c.in_err-found.ensures.content)

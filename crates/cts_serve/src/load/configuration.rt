@@ -1,0 +1,84 @@
+// Configuration files: definitions, and the site over them.
+ghost use Rattle.std.specs.Prelude.{◌≡◌, true, IfOk, IfSome};
+ghost use Rattle.cts_serve.specs.Forms.{are_built_definitions, is_built_site};
+ghost use Rattle.cts_serve.specs.Load.{is_taken};
+ghost use Rattle.cts_serve.specs.Load.Fetching.{GivesRead, Takes, LoadCounts};
+ghost use Rattle.cts_serve.specs.Load.Judging.{judge_definitions, judge_site, definitions_read, definitions_in, site_read, site_in};
+
+use crate::form::{are_built_definitions, is_built_site};
+use crate::load::file_kind::FileKind;
+use crate::load::statements::read_statements;
+use crate::load::unloaded::{Cause, Unloaded};
+use crate::request::Request;
+use cts_def::{Definitions, Site};
+use cts_defread::{DefFault, read_definitions};
+use cts_outside::Files;
+use cts_plan::{SiteFault, read_site};
+use cts_words::Statement;
+use std::alloc::Global;
+
+/// Reads the definitions.
+pub fn load_definitions<F: Files>(
+    alloc: Global,
+    files: &mut F,
+    request: &Request<'_>,
+) -> Result<Definitions, Unloaded>
+    ensures stays { (F.seen files.new).told ≡ (F.seen files.old).told }
+    ensures content { IfSome (F.seen files.old).told (λ all. Takes (judge_definitions (is_taken request.now are_built_definitions)) definitions_in (all request.now.definitions) result) }
+    ensures counts { LoadCounts result (F.seen files.old) (F.seen files.new) }
+{
+    let found = read_statements(alloc, files, request.definitions, FileKind::Definitions)?;
+    let definitions = definitions_of(alloc, &found)?;
+    if request.script.is_none() || are_built_definitions(&definitions) {
+        return Ok(definitions);
+    }
+    Err(Unloaded::NotBuilt)
+}
+
+/// Reads the site over its definitions.
+pub fn load_plan<F: Files>(
+    alloc: Global,
+    files: &mut F,
+    request: &Request<'_>,
+    definitions: Definitions,
+) -> Result<Site, Unloaded>
+    ensures stays { (F.seen files.new).told ≡ (F.seen files.old).told }
+    ensures content { IfSome (F.seen files.old).told (λ all. Takes (judge_site (is_taken request.now is_built_site) definitions) (site_in definitions) (all request.now.site) result) }
+    ensures built { IfOk result (λ site. is_taken request.now is_built_site site ≡ true) }
+    ensures counts { LoadCounts result (F.seen files.old) (F.seen files.new) }
+{
+    let found = read_statements(alloc, files, request.site, FileKind::Site)?;
+    let site = site_of(alloc, &found, definitions)?;
+    if request.script.is_none() || is_built_site(&site) {
+        return Ok(site);
+    }
+    Err(Unloaded::NotBuilt)
+}
+
+// What the statements of a file define, or the first that is refused.
+fn definitions_of(alloc: Global, found: &[Statement]) -> Result<Definitions, Unloaded>
+    ensures { GivesRead (definitions_read found.now) result }
+{
+    match read_definitions(alloc, found) {
+        Ok(definitions) => Ok(definitions),
+        Err(DefFault::Refused { line, cause }) => Err(Unloaded::Refused {
+            line,
+            cause: Cause::Definition(cause),
+        }),
+        Err(DefFault::Memory) => Err(Unloaded::Memory),
+    }
+}
+
+// The site that the statements of a file say, or the first that is refused.
+fn site_of(alloc: Global, found: &[Statement], definitions: Definitions) -> Result<Site, Unloaded>
+    ensures { GivesRead (site_read definitions found.now) result }
+{
+    match read_site(alloc, found, definitions) {
+        Ok(site) => Ok(site),
+        Err(SiteFault::Refused { line, cause }) => Err(Unloaded::Refused {
+            line,
+            cause: Cause::Site(cause),
+        }),
+        Err(SiteFault::Memory) => Err(Unloaded::Memory),
+    }
+}
