@@ -5,7 +5,7 @@ use Rattle.cts_def.specs.Sites.{SiteData}
 use Rattle.cts_core.specs.States.{opening}
 use Rattle.cts_core.proofs.OneRun.{has_run}
 use Rattle.cts_outside.specs.Causes.{Rose, Steady}
-use Rattle.cts_serve.specs.Environments.{site_environment}
+use Rattle.cts_core.specs.Environments.{site_environment}
 use Rattle.cts_serve.specs.Texts.{usage_line}
 use Rattle.cts_serve.specs.Judging.{Outcome, refusal, judge_script, events_in}
 use Rattle.cts_serve.specs.Outcomes.{RequestData, first_refusal, script_refusal, site_asked, events_asked, events_of, replay_outcome, check_outcome, IsReplay, IsDone, IsOutcome}

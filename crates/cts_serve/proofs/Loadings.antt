@@ -12,7 +12,8 @@ use Rattle.cts_plan.specs.Causes.{name_of_cause}
 use Rattle.cts_entry.specs.declared.event.Event.{Event}
 use Rattle.std.specs.Option.{option_or}
 use Rattle.cts_words.specs.declared.statement.Statement.{Statement}
-use Rattle.cts_serve.specs.Forms.{are_built_definitions, is_built_site, has_events}
+use Rattle.cts_core.specs.Built.{is_built_site}
+use Rattle.cts_serve.specs.Forms.{are_built_definitions, has_events}
 use Rattle.cts_serve.specs.Judging.{Outcome, refusal, judge, judge_definitions, judge_site, judge_script, verdict, unless_built, with_text, definitions_read, definitions_in, site_read, site_in, events_in}
 use Rattle.cts_serve.specs.Outcomes.{RequestData, file_refusal, first_refusal, definitions_refusal, site_refusal, script_refusal, is_taken, definitions_asked, site_asked}
 use Rattle.cts_serve.specs.Printing.{IsRead}

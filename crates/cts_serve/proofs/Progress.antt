@@ -13,14 +13,14 @@ use Rattle.cts_outside.specs.Causes.{Rose}
 use Rattle.cts_outside.specs.Contents.{appended, IsPartPut}
 use Rattle.cts_outside.proofs.Putting.{whole_then, part_first, part_then}
 use Rattle.cts_def.specs.Sites.{SiteData}
-use Rattle.cts_serve.specs.Environments.{site_environment}
-use Rattle.cts_serve.specs.Worlds.{Held, Represents, shut}
-use Rattle.cts_serve.proofs.WorldSteps.{stands_first}
+use Rattle.cts_core.specs.Environments.{site_environment}
+use Rattle.cts_core.specs.Worlds.{Held, Represents, shut}
+use Rattle.cts_core.proofs.WorldSteps.{stands_first}
 use Rattle.cts_serve.specs.Texts.{memory_line, refused_line, full_line, end_line}
 use Rattle.cts_serve.specs.Outcomes.{events_of, all_entries, lines_of, transcript, next_line, replay_outcome, IsReplay}
 use Rattle.cts_serve.specs.Printing.{Puts, Printed, FailsWithin}
 use Rattle.cts_serve.specs.Replays.{DoesEvent, StopPuts, SaysOrWants, EndPuts, ReplayPuts, Replays}
-use Rattle.cts_serve.specs.declared.refusal.Refusal.TheVariants.{NotEnabled as RefusedEvent, HistoryFull as FullHistory, Memory as NoMemory}
+use Rattle.cts_core.specs.declared.fault.WorldFault.TheVariants.{NotEnabled as RefusedEvent, Full, Memory as NoMemory}
 use Rattle.cts_serve.specs.declared.stop.Stop.{Stop}
 use Rattle.cts_serve.specs.declared.stop.Stop.TheVariants.{Refused, WriteFault as PutFault}
 use Rattle.cts_serve.specs.declared.status.Status.{Status}
@@ -224,7 +224,7 @@ said_full site script events rest x w text p old mid new before now entries byte
 
 pub stops : (site : SiteData) (script : List ℕ) (events rest : List (ℕ × Event)) (x : ℕ × Event) (w stopped : Held) (text : List ℕ) (p : IsProgress site events (x ∷ rest) w text) (old mid mid' new : Option (List ℕ)) (before between now : ℕ) (stop : Stop) (status : Status)
     → mid ≡ appended old text → DoesEvent site p.state x.1 (Err stop) stopped (record { old = mid; new = mid'; before = before; now = between })
-    → StopPuts script x.0 stop stopped status (record { old = mid'; new = new; before = between; now = now })
+    → StopPuts script x.0 stop status (record { old = mid'; new = new; before = between; now = now })
     → Replays site script events status (record { old = old; new = new; before = before; now = now })
 stops site script events rest x w stopped text p old mid mid' new before between now PutFault status m d s =
     let lines = lines_of site p.state.history d.0.entries in
@@ -237,10 +237,10 @@ stops site script events rest x w stopped text p old mid mid' new before between
     said_refused site script events rest x w text p old mid new before now status m d.0
     (subst (λ (t : Option (List ℕ)). SaysOrWants ScriptRefused (refused_line script x.0 (codes "NotEnabled")) status (record { old = t; new = new; before = before; now = now })) d.1.1
     (subst (λ (b : ℕ). SaysOrWants ScriptRefused (refused_line script x.0 (codes "NotEnabled")) status (record { old = mid'; new = new; before = b; now = now })) d.1.0 s))
-stops site script events rest x w stopped text p old mid mid' new before between now (Refused FullHistory) status m d s =
-    said_full site script events rest x w text p old mid new before now stopped.entries stopped.bytes status m d.0 d.1 d.2
-    (subst (λ (t : Option (List ℕ)). SaysOrWants FullStatus (full_line stopped.entries stopped.bytes) status (record { old = t; new = new; before = before; now = now })) d.3.1
-    (subst (λ (b : ℕ). SaysOrWants FullStatus (full_line stopped.entries stopped.bytes) status (record { old = mid'; new = new; before = b; now = now })) d.3.0 s))
+stops site script events rest x w stopped text p old mid mid' new before between now (Refused (Full entries bytes)) status m d s =
+    said_full site script events rest x w text p old mid new before now entries bytes status m d.0 d.1 d.2
+    (subst (λ (t : Option (List ℕ)). SaysOrWants FullStatus (full_line entries bytes) status (record { old = t; new = new; before = before; now = now })) d.3.1
+    (subst (λ (b : ℕ). SaysOrWants FullStatus (full_line entries bytes) status (record { old = mid'; new = new; before = b; now = now })) d.3.0 s))
 
 -- all events were done
 finished : (site : SiteData) (script : List ℕ) (events : List (ℕ × Event)) (w : Held) (text : List ℕ) (p : IsProgress site events [] w text) → IsReplay site script events (replay_outcome site script events (p.prior ++ []) Finished)

@@ -1,5 +1,3 @@
-pub mod Environments
-pub mod Worlds
 pub mod Texts
 pub mod Forms
 pub mod Judging

@@ -11,9 +11,10 @@ use Rattle.cts_script.specs.declared.limits_event.LimitsEvent.{LimitsEvent}
 use Rattle.cts_script.specs.Transcripts.{lines_behind}
 use Rattle.cts_def.specs.Packets.{DefinitionsData}
 use Rattle.cts_def.specs.Sites.{SiteData}
-use Rattle.cts_serve.specs.Environments.{site_environment}
+use Rattle.cts_core.specs.Environments.{site_environment}
 use Rattle.cts_serve.specs.Texts.{usage_line, absent_line, refused_line, full_line, end_line, counts_line}
-use Rattle.cts_serve.specs.Forms.{are_built_definitions, is_built_site}
+use Rattle.cts_core.specs.Built.{is_built_site}
+use Rattle.cts_serve.specs.Forms.{are_built_definitions}
 use Rattle.cts_serve.specs.Judging.{Outcome, refusal, judge_definitions, judge_site, judge_script, definitions_in, site_in, events_in}
 use Rattle.cts_serve.specs.declared.status.Status.TheVariants.{Ok as Fine, Usage, Absent, ScriptRefused, HistoryFull as FullHistory}
 

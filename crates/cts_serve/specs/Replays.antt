@@ -7,13 +7,13 @@ use Rattle.cts_core.specs.Runs.{Did, Does, after, Refuses, NotEnabled, HistoryFu
 use Rattle.cts_entry.specs.Histories.{entries_in, bytes_in}
 use Rattle.cts_outside.specs.Contents.{appended}
 use Rattle.cts_def.specs.Sites.{SiteData}
-use Rattle.cts_serve.specs.Environments.{site_environment}
-use Rattle.cts_serve.specs.Worlds.{Held, Represents}
+use Rattle.cts_core.specs.Environments.{site_environment}
+use Rattle.cts_core.specs.Worlds.{Held, Represents}
 use Rattle.cts_serve.specs.Texts.{memory_line, refused_line, full_line, end_line}
 use Rattle.cts_serve.specs.Judging.{Outcome}
 use Rattle.cts_serve.specs.Outcomes.{lines_of, IsReplay}
 use Rattle.cts_serve.specs.Printing.{Puts, Printed, FailsWithin}
-use Rattle.cts_serve.specs.declared.refusal.Refusal.TheVariants.{NotEnabled as RefusedEvent, HistoryFull as FullHistory, Memory as NoMemory}
+use Rattle.cts_core.specs.declared.fault.WorldFault.TheVariants.{NotEnabled as RefusedEvent, Full, Memory as NoMemory}
 use Rattle.cts_serve.specs.declared.stop.Stop.{Stop}
 use Rattle.cts_serve.specs.declared.stop.Stop.TheVariants.{Refused, WriteFault as PutFault}
 use Rattle.cts_serve.specs.declared.status.Status.{Status}
@@ -29,7 +29,7 @@ PutsEntries site history entries (Ok done) p = (p.now ≡ p.before) × (p.new �
 PutsEntries site history entries (Err PutFault) p = FailsWithin p (lines_of site history entries)
 PutsEntries site history entries (Err (Refused NoMemory)) p = IsUntouched p
 PutsEntries site history entries (Err (Refused RefusedEvent)) p = ⊥
-PutsEntries site history entries (Err (Refused FullHistory)) p = ⊥
+PutsEntries site history entries (Err (Refused (Full counted size))) p = ⊥
 
 -- An event was done and its lines were put, or why not.
 abbrev pub DoesEvent : SiteData → State → Event → Result (Unit {0}) Stop → Held → Puts → Type 0
@@ -38,8 +38,8 @@ DoesEvent site s event (Ok done) w p =
 DoesEvent site s event (Err PutFault) w p =
     (did : Did) × Does (site_environment site) s event did × FailsWithin p (lines_of site s.history did.entries)
 DoesEvent site s event (Err (Refused RefusedEvent)) w p = Refuses (site_environment site) s event NotEnabled × IsUntouched p
-DoesEvent site s event (Err (Refused FullHistory)) w p =
-    Refuses (site_environment site) s event HistoryFull × (w.entries ≡ entries_in s.history) × (w.bytes ≡ bytes_in s.history) × IsUntouched p
+DoesEvent site s event (Err (Refused (Full entries bytes))) w p =
+    Refuses (site_environment site) s event HistoryFull × (entries ≡ entries_in s.history) × (bytes ≡ bytes_in s.history) × IsUntouched p
 DoesEvent site s event (Err (Refused NoMemory)) w p = IsUntouched p
 
 -- what a replay with this outcome puts at each status
@@ -67,11 +67,11 @@ SaysOrWants status line result p =
     ((result ≡ status) × Printed p.old p.new p.before p.now [] line) ⊎ ((result ≡ Memory) × Printed p.old p.new p.before p.now [] memory_line)
 
 -- what is put after a stop
-abbrev pub StopPuts : List ℕ → ℕ → Stop → Held → Status → Puts → Type 0
-StopPuts script line PutFault w result p = (result ≡ WriteFault) × IsUntouched p
-StopPuts script line (Refused NoMemory) w result p = (result ≡ Memory) × Printed p.old p.new p.before p.now [] memory_line
-StopPuts script line (Refused RefusedEvent) w result p = SaysOrWants ScriptRefused (refused_line script line (codes "NotEnabled")) result p
-StopPuts script line (Refused FullHistory) w result p = SaysOrWants FullStatus (full_line w.entries w.bytes) result p
+abbrev pub StopPuts : List ℕ → ℕ → Stop → Status → Puts → Type 0
+StopPuts script line PutFault result p = (result ≡ WriteFault) × IsUntouched p
+StopPuts script line (Refused NoMemory) result p = (result ≡ Memory) × Printed p.old p.new p.before p.now [] memory_line
+StopPuts script line (Refused RefusedEvent) result p = SaysOrWants ScriptRefused (refused_line script line (codes "NotEnabled")) result p
+StopPuts script line (Refused (Full entries bytes)) result p = SaysOrWants FullStatus (full_line entries bytes) result p
 
 -- what is put after the last event
 abbrev pub EndPuts : ℕ → Status → Puts → Type 0

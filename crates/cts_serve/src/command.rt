@@ -2,7 +2,7 @@
 ghost use Rattle.std.specs.Prelude.{◌≡◌, ◌≢◌, ◌≤◌, ◌↔◌, [], true, map, IfSome, None, Some};
 ghost use Rattle.cts_outside.specs.Causes.{Rose, Steady};
 ghost use Rattle.cts_serve.specs.Causing.{IsCaused};
-ghost use Rattle.cts_serve.specs.Forms.{is_built_site};
+ghost use Rattle.cts_core.specs.Built.{is_built_site};
 ghost use Rattle.cts_serve.specs.Loading.{RefusedPuts, PutsCounts, LoadsSite};
 ghost use Rattle.cts_serve.specs.Outcomes.{asked};
 ghost use Rattle.cts_serve.specs.Printing.{Answers, Completes, Printed};

@@ -1,15 +1,14 @@
 // One event of a script: done, and its lines put.
 ghost use Rattle.std.specs.Prelude.{◌≡◌, true, take, drop, length, vec_len, IfOk};
 ghost use Rattle.cts_core.specs.States.{State};
-ghost use Rattle.cts_serve.specs.Forms.{is_built_event, is_built_site};
+ghost use Rattle.cts_core.specs.Built.{is_built_event, is_built_site};
 ghost use Rattle.cts_serve.specs.Outcomes.{lines_of};
 ghost use Rattle.cts_serve.specs.Replays.{PutsEntries, DoesEvent};
-ghost use Rattle.cts_serve.specs.Worlds.{Represents, held_in};
+ghost use Rattle.cts_core.specs.Worlds.{Represents, held_in};
 
-use crate::refusal::Refusal;
 use crate::stop::Stop;
-use crate::world::World;
 use cts_base::Memory;
+use cts_core::{World, WorldFault};
 use cts_def::Site;
 use cts_entry::{Entry, Event};
 use cts_outside::Sink;
@@ -24,15 +23,15 @@ pub fn do_event<O: Sink>(
     event: &Event,
     out: &mut O,
 ) -> Result<(), Stop>
-    requires count { vec_len world.old.connections ≡ length site.now.interfaces }
+    requires count { length (held_in world.old).lines ≡ length site.now.interfaces }
     requires site { is_built_site site.now ≡ true }
     requires event { is_built_event event.now ≡ true }
     ensures { (s : State) → Represents site.now (held_in world.old) s
         → DoesEvent site.now s event.now result (held_in world.new) (record { old = O.told out.old; new = O.told out.new; before = O.faults out.old; now = O.faults out.new }) }
 {
-    let before = world.history.len();
+    let before = world.history().len();
     match world.step(alloc, site, event) {
-        Ok(()) => put_entries(alloc, site, &world.history, before, out),
+        Ok(()) => put_entries(alloc, site, world.history(), before, out),
         Err(refusal) => Err(Stop::Refused(refusal)),
     }
 }
@@ -53,7 +52,7 @@ fn put_entries<O: Sink>(
             Ok(()) => Ok(()),
             Err(_) => Err(Stop::WriteFault),
         },
-        Err(_) => Err(Stop::Refused(Refusal::Memory)),
+        Err(_) => Err(Stop::Refused(WorldFault::Memory)),
     }
 }
 

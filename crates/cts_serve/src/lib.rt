@@ -2,16 +2,13 @@
 #![tactic(auto)]
 
 mod command;
-mod connection;
 mod events;
 mod file_kind;
 mod form;
 mod last;
 mod laws;
 mod loading;
-mod posting;
 mod reading;
-mod refusal;
 mod refused;
 mod replay;
 mod request;
@@ -19,7 +16,6 @@ mod script;
 mod status;
 mod stop;
 mod texts;
-mod world;
 
 pub use command::run;
 pub use laws::{outcomes, stand_ins};

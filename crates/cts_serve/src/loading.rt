@@ -1,6 +1,7 @@
 // The files of a command, read and taken.
 ghost use Rattle.std.specs.Prelude.{◌≡◌, ◌≤◌, ◌||◌, true, is_none, length, IfOk, IfSome};
-ghost use Rattle.cts_serve.specs.Forms.{are_built_definitions, are_built_events, is_built_site};
+ghost use Rattle.cts_core.specs.Built.{is_built_site};
+ghost use Rattle.cts_serve.specs.Forms.{are_built_definitions, are_built_events};
 ghost use Rattle.cts_serve.specs.Judging.{file_limit, judge_definitions, judge_site, judge_script, definitions_read, definitions_in, site_read, site_in, events_in};
 ghost use Rattle.cts_serve.specs.Outcomes.{is_taken};
 ghost use Rattle.cts_serve.specs.Fetching.{IsReadAs, GivesStatements, Takes, GivesRead, IsNotBuilt, IsRefusedAt, answer_seen};
@@ -8,13 +9,14 @@ ghost use Rattle.cts_serve.specs.Loading.{LoadsSite, LoadCause};
 ghost use Rattle.cts_serve.specs.declared.refused.Refused.TheVariants.{Memory as NoMemory};
 
 use crate::file_kind::{FileKind, fault_line};
-use crate::form::{are_built_definitions, is_built_site};
+use crate::form::are_built_definitions;
 use crate::reading::{FetchFault, fetch};
 use crate::refused::Refused;
 use crate::request::Request;
 use crate::script::script_events;
 use crate::{Status, texts};
 use cts_base::{Bytes, Memory};
+use cts_core::is_built_site;
 use cts_def::{Definitions, Site};
 use cts_defread::{DefFault, read_definitions};
 use cts_entry::Event;

@@ -1,16 +1,16 @@
 // The events of a script, one after another.
 ghost use Rattle.std.specs.Prelude.{◌≡◌, true};
-ghost use Rattle.cts_serve.specs.Forms.{are_built_events, is_built_site};
+ghost use Rattle.cts_core.specs.Built.{is_built_site};
+ghost use Rattle.cts_serve.specs.Forms.{are_built_events};
 ghost use Rattle.cts_serve.specs.Replays.{Replays, StopPuts, EndPuts};
-ghost use Rattle.cts_serve.specs.Worlds.{Represents, held_in};
+ghost use Rattle.cts_core.specs.Worlds.{Represents, held_in};
 ghost use Rattle.cts_core.specs.States.{opening};
 
 use crate::events::do_event;
 use crate::last::{put_last, put_memory};
-use crate::refusal::Refusal;
 use crate::stop::Stop;
-use crate::world::World;
 use crate::{Status, texts};
+use cts_core::{World, WorldFault};
 use cts_def::Site;
 use cts_entry::Event;
 use cts_outside::Sink;
@@ -53,10 +53,10 @@ fn replay_from<O: Sink>(
     'events: while let Some((next, after)) = left.split_first() {
         match do_event(alloc, site, &mut world, &next.1, out) {
             Ok(()) => left = after,
-            Err(stop) => return put_stop(alloc, script, next.0, stop, &world, out),
+            Err(stop) => return put_stop(alloc, script, next.0, stop, out),
         }
     }
-    put_end(alloc, world.history.len(), out)
+    put_end(alloc, world.history().len(), out)
 }
 
 /// Puts the last line of a replay that stops at the event of this line.
@@ -65,22 +65,21 @@ pub(crate) fn put_stop<O: Sink>(
     script: &str,
     line: u32,
     stop: Stop,
-    world: &World,
     out: &mut O,
 ) -> Status
-    ensures { StopPuts script.now line stop (held_in world.now) result (record { old = O.told out.old; new = O.told out.new; before = O.faults out.old; now = O.faults out.new }) }
+    ensures { StopPuts script.now line stop result (record { old = O.told out.old; new = O.told out.new; before = O.faults out.old; now = O.faults out.new }) }
 {
     match stop {
         Stop::WriteFault => Status::WriteFault,
-        Stop::Refused(Refusal::Memory) => put_memory(out),
-        Stop::Refused(Refusal::NotEnabled) => {
+        Stop::Refused(WorldFault::Memory) => put_memory(out),
+        Stop::Refused(WorldFault::NotEnabled) => {
             match texts::refused(alloc, script, line, b"NotEnabled") {
                 Ok(text) => put_last(out, &text, Status::ScriptRefused),
                 Err(_) => put_memory(out),
             }
         }
-        Stop::Refused(Refusal::HistoryFull) => {
-            match texts::history_full(alloc, world.entries, world.bytes) {
+        Stop::Refused(WorldFault::Full { entries, bytes }) => {
+            match texts::history_full(alloc, entries, bytes) {
                 Ok(text) => put_last(out, &text, Status::HistoryFull),
                 Err(_) => put_memory(out),
             }

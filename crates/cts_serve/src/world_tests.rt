@@ -1,15 +1,15 @@
 // Events that no script can ask for yet, and a history that is full.
-ghost use Rattle.std.specs.Prelude.{◌≡◌, true, length, vec_len, IfOk};
-ghost use Rattle.cts_serve.specs.Forms.{are_built_events, is_built_event, is_built_site};
+ghost use Rattle.std.specs.Prelude.{◌≡◌, true, length, IfOk};
+ghost use Rattle.cts_core.specs.Worlds.{held_in};
+ghost use Rattle.cts_core.specs.Built.{is_built_event, is_built_site};
+ghost use Rattle.cts_serve.specs.Forms.{are_built_events};
 
 use crate::Status;
 use crate::events::do_event;
-use crate::form::is_built_site;
-use crate::refusal::Refusal;
 use crate::replay::{put_stop, replay};
 use crate::site_tests::site_of;
 use crate::stop::Stop;
-use crate::world::{MOST_ENTRIES, World};
+use cts_core::{MOST_ENTRIES, World, WorldFault, is_built_site};
 use cts_def::{Site, Time};
 use cts_entry::Event;
 use cts_outside::MemSink;
@@ -19,7 +19,7 @@ use std::test::Fail;
 const SITE: &str = "INTERFACE I tcpip_client_interface.rb h 1 1 nil nil LENGTH 0 16 0 1";
 
 fn world_of(alloc: Global, site: &Site) -> Result<World, Fail>
-    ensures { IfOk result (λ w. vec_len w.connections ≡ length site.now.interfaces) }
+    ensures { IfOk result (λ w. length (held_in w).lines ≡ length site.now.interfaces) }
 {
     match World::new(alloc, site) {
         Ok(world) => Ok(world),
@@ -67,10 +67,13 @@ fn a_history_of_the_most_entries_is_full(rt: HostRuntime) -> Result<(), Fail> {
     let mut world = world_of(alloc, &site)?;
     world.entries = MOST_ENTRIES;
     let mut sink = MemSink::new(alloc, Vec::new(alloc));
-    let full = Stop::Refused(Refusal::HistoryFull);
+    let full = Stop::Refused(WorldFault::Full {
+        entries: MOST_ENTRIES,
+        bytes: 0,
+    });
     let done = do_event(alloc, &site, &mut world, &Event::Opens(0), &mut sink);
     assert_eq!(rt; done, Err(full));
-    let status = put_stop(alloc, "p", 1, full, &world, &mut sink);
+    let status = put_stop(alloc, "p", 1, full, &mut sink);
     assert_eq!(rt; status, Status::HistoryFull);
     let line = b"history full: 4000000 entries, 0 bytes\n".as_slice();
     assert_eq!(rt; sink.bytes(), line);

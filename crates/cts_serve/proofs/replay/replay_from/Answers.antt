@@ -1,12 +1,12 @@
 use Rattle.std.proofs.Common.{rules, ◌≡◌, ◌∷◌, ◌++◌, [], ℕ, List, length, refl, sym, ◌∙◌, ap, subst, arith}
-use Rattle.std.proofs.lemmas.List.{length-map}
 use Rattle.cts_entry.specs.declared.event.Event.{Event}
 use Rattle.cts_outside.proofs.Putting.{appended-nil, whole_then}
-use Rattle.cts_serve.specs.Worlds.{held_in, line_in}
+use Rattle.cts_core.specs.Worlds.{held_in}
 use Rattle.cts_serve.specs.Outcomes.{lines_of}
 use Rattle.cts_serve.specs.Replays.{Replays, EndPuts}
-use Rattle.cts_serve.specs.Forms.{are_built_events, is_built_event}
-use Rattle.cts_serve.proofs.Building.{and_tells}
+use Rattle.cts_core.specs.Built.{is_built_event}
+use Rattle.cts_serve.specs.Forms.{are_built_events}
+use Rattle.cts_core.proofs.Building.{and_tells}
 use Rattle.cts_serve.proofs.Progress.{IsProgress, begun, goes_on, stops, ends}
 use Rattle.cts_serve.proofs.replay.replay_from.Goals as goal
 
@@ -42,14 +42,14 @@ pub returns : goal.returns
 returns g c =
     let so_far = c.events.invariant.progress in
     let left : c.events.left.now ≡ [] = none_left c.events.left.now c.in_default.ensures.cases in
-    let count : c.len.result ≡ length c.events.world.history.items = omega (arith, c.len.ensures, c.events.world.history.ok.0) in
+    let count : c.len.result ≡ length c.events.world.history.items = c.len.ensures ∙ ap length c.history.ensures in
     let progress = subst (λ (t : List (ℕ × Event)). IsProgress c.args.site.now c.args.events.now t (held_in c.events.world) so_far.0) left so_far.1 in
     let ending = subst (λ (n : ℕ). EndPuts n c.put_end.result (record { old = g.O.Sink.told c.events.out; new = g.O.Sink.told c.put_end.new.out; before = g.O.Sink.faults c.events.out; now = g.O.Sink.faults c.put_end.new.out })) count c.put_end.ensures in
     subst (λ (b : ℕ). Replays c.args.site.now c.args.script.now c.args.events.now c.put_end.result (record { old = g.O.Sink.told c.args.out.now; new = g.O.Sink.told c.put_end.new.out; before = b; now = g.O.Sink.faults c.put_end.new.out })) c.events.invariant.steady
     (ends c.args.site.now c.args.script.now c.args.events.now (held_in c.events.world) so_far.0 progress _ _ _ _ _ c.put_end.result so_far.2 ending)
 
 pub do_event-requires-clause-count : goal.do_event-requires-clause-count
-do_event-requires-clause-count g c = omega (arith, c.events.invariant.progress.1.stands.count, length-map c.events.world.connections.items line_in, c.events.world.connections.ok.0)
+do_event-requires-clause-count g c = c.events.invariant.progress.1.stands.count
 
 pub do_event-requires-clause-event : goal.do_event-requires-clause-event
 do_event-requires-clause-event g c =
