@@ -5,7 +5,7 @@ use Rattle.cts_core.specs.States.{opening}
 use Rattle.cts_core.specs.Runs.{Did, Ending}
 use Rattle.cts_core.proofs.OneRun.{has_one_run}
 use Rattle.cts_def.specs.Sites.{SiteData}
-use Rattle.cts_serve.specs.Environments.{site_environment}
+use Rattle.cts_core.specs.Environments.{site_environment}
 use Rattle.cts_serve.specs.Command.{Outcome, refusal, first_refusal, replay_outcome, IsReplay, IsDone}
 use Rattle.cts_serve.specs.Ending.{usage_ending}
 use Rattle.cts_serve.specs.Load.{site_asked, events_asked}

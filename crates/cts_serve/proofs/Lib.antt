@@ -1,7 +1,3 @@
-pub mod Lines
-pub mod Postings
-pub mod Building
-pub mod WorldSteps
 pub mod Undefining
 pub mod ScriptLemmas
 pub mod LoadLemmas

@@ -11,7 +11,8 @@ use Rattle.cts_plan.specs.declared.fault.SiteCause.{SiteCause}
 use Rattle.cts_plan.specs.SiteFiles.{site_of}
 use Rattle.cts_entry.specs.declared.event.Event.{Event}
 use Rattle.cts_words.specs.declared.statement.Statement.{Statement}
-use Rattle.cts_serve.specs.Forms.{are_built_definitions, is_built_site}
+use Rattle.cts_core.specs.Built.{is_built_site}
+use Rattle.cts_serve.specs.Load.Built.{are_built_definitions}
 use Rattle.cts_serve.specs.Load.{is_taken, definitions_asked, site_asked, unloaded, IsNext, LoadsSite}
 use Rattle.cts_serve.specs.Load.Causes.{fetch_unloaded, or_unloaded}
 use Rattle.cts_serve.specs.Load.Fetching.{FetchGives, IsWhy, GivesStatements, GivesRead, Takes}

@@ -1,5 +1,5 @@
 -- How far a replay has come, and what it has put when it ends.
-use Rattle.std.proofs.Common.{◌≡◌, ◌≢◌, ℕ, List, [], ◌∷◌, ◌++◌, length, take, Option, Result, Ok, Err, refl, sym, ◌∙◌, ap, subst, append_assoc, inl, inr, false, replicate}
+use Rattle.std.proofs.Common.{◌≡◌, ◌≢◌, ℕ, List, [], ◌∷◌, ◌++◌, length, take, Option, Result, Ok, Err, refl, sym, ◌∙◌, ap, subst, append_assoc, inl, inr}
 use Rattle.std.proofs.lemmas.List.{append-nil, take_at}
 use Rattle.cts_entry.specs.declared.entry.Entry.{Entry}
 use Rattle.cts_entry.specs.declared.event.Event.{Event}
@@ -13,9 +13,8 @@ use Rattle.cts_outside.specs.Contents.{appended, IsPartPut}
 use Rattle.cts_outside.specs.Seen.{SinkSeen}
 use Rattle.cts_outside.proofs.Putting.{appended-nil, whole_then, part_first, part_then}
 use Rattle.cts_def.specs.Sites.{SiteData}
-use Rattle.cts_serve.specs.Environments.{site_environment}
-use Rattle.cts_serve.specs.Worlds.{Held, Represents, shut}
-use Rattle.cts_serve.proofs.WorldSteps.{stands_first}
+use Rattle.cts_core.specs.Environments.{site_environment}
+use Rattle.cts_core.specs.Worlds.{Held, Represents}
 use Rattle.cts_serve.specs.Ending.Lines.{end_line}
 use Rattle.cts_serve.specs.Putting.{IsPut, FailsWithin}
 use Rattle.cts_serve.specs.Replay.Transcript.{events_of, all_entries, lines_of, transcript, next_line, replay_body, replay_answer}
@@ -144,13 +143,11 @@ wants site events left w text p old new h =
       puts = (length text, subst (λ (t : List ℕ). IsPut t old new) (sym (body_front site events left w text p r.0 r.1)) h);
     }
 
-abbrev first_held : SiteData → Held
-first_held site = record { time = opening.time; history = []; lines = replicate (length site.interfaces) shut; stopped = false; entries = 0; bytes = 0 }
-
 -- memory was wanted before anything was done
 pub wants_first : (site : SiteData) (events : List (ℕ × Event)) (out : SinkSeen) → Replays site events (Err halt.Memory) out out
 wants_first site events out =
-    wants site events events (first_held site) [] (begun site events (first_held site) (stands_first site (first_held site) refl refl refl refl refl refl)) out out (refl, sym (appended-nil out.told))
+    let r = has_run (site_environment site) opening (events_of events) (site_sound site) in
+    record { dids = r.0; ending = r.1; runs = r.2; puts = (0, (refl, sym (appended-nil out.told))) }
 
 -- a put failed within the lines of an event that was done
 faulted : (site : SiteData) (events rest : List (ℕ × Event)) (x : ℕ × Event) (w : Held) (text : List ℕ) (p : IsProgress site events (x ∷ rest) w text) (did : Did) (old mid new : SinkSeen)

@@ -13,7 +13,8 @@ use Rattle.cts_entry.specs.declared.why.Why.TheVariants.{PeerEnded}
 use Rattle.cts_entry.specs.declared.event.Event.{Event}
 use Rattle.cts_words.specs.declared.statement.Statement.{Statement}
 use Rattle.cts_def.specs.Sites.{SiteData}
-use Rattle.cts_serve.specs.Forms.{are_built_events, has_events, is_built_event, maker_named, piece_of, script_events, words_event}
+use Rattle.cts_core.specs.Built.{is_built_event}
+use Rattle.cts_serve.specs.Load.Scripts.{are_built_events, has_events, maker_named, piece_of, script_events, words_event}
 
 -- what holds as the statements are read: these are the events of those that were read, and each of those has one
 pub record IsReading (site : SiteData) (done : List (ℕ × Event)) (left all : List Statement) : Type 0 where

@@ -10,7 +10,7 @@ use Rattle.cts_outside.specs.Contents.{appended}
 use Rattle.cts_outside.specs.Seen.{FilesSeen, SinkSeen}
 use Rattle.cts_serve.specs.Ending.{EndingData, usage_ending, unloaded_ending, halt_ending}
 use Rattle.cts_serve.specs.Ending.Lines.{memory_line, read_fault_line, counts_line}
-use Rattle.cts_serve.specs.Environments.{site_environment}
+use Rattle.cts_core.specs.Environments.{site_environment}
 use Rattle.cts_serve.specs.Load.{IsNext, unloaded, site_asked, events_asked}
 use Rattle.cts_serve.specs.Putting.{Printed, FailsWithin}
 use Rattle.cts_serve.specs.Replay.Transcript.{events_of, replay_body, replay_answer}

@@ -1,6 +1,3 @@
-pub mod Environments
-pub mod Worlds
-pub mod Forms
 pub mod Request
 pub mod Load
 pub mod Putting

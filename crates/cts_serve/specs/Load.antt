@@ -4,13 +4,16 @@ use Rattle.cts_def.specs.Packets.{DefinitionsData}
 use Rattle.cts_def.specs.Sites.{SiteData}
 use Rattle.cts_entry.specs.declared.event.Event.{Event}
 use Rattle.cts_outside.specs.Seen.{FilesSeen}
-use Rattle.cts_serve.specs.Forms.{are_built_definitions, is_built_site}
+use Rattle.cts_core.specs.Built.{is_built_site}
+use Rattle.cts_serve.specs.Load.Built.{are_built_definitions}
 use Rattle.cts_serve.specs.Load.Fetching.{IsFound, IsWhy, LoadCounts}
 use Rattle.cts_serve.specs.Load.Judging.{judge_definitions, judge_site, judge_script, definitions_in, site_in, events_in, file_unloaded, bytes_of}
 use Rattle.cts_serve.specs.Request.{RequestData}
 use Rattle.cts_serve.specs.declared.load.file_kind.FileKind.{FileKind}
 use Rattle.cts_serve.specs.declared.load.file_kind.FileKind.TheVariants.{Definitions, Site, Script}
 use Rattle.cts_serve.specs.declared.load.unloaded.Unloaded.{Unloaded}
+pub mod Built
+pub mod Scripts
 pub mod Causes
 pub mod Judging
 pub mod Fetching

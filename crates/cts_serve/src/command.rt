@@ -3,7 +3,7 @@ ghost use Rattle.std.specs.Prelude.{◌≡◌, ◌≢◌, ◌≤◌, ◌↔◌, 
 ghost use Rattle.cts_outside.specs.Causes.{Rose, Steady};
 ghost use Rattle.cts_serve.specs.Command.{Answers, Completes, IsCaused};
 ghost use Rattle.cts_serve.specs.Ending.Lines.{usage_line};
-ghost use Rattle.cts_serve.specs.Forms.{is_built_site};
+ghost use Rattle.cts_core.specs.Built.{is_built_site};
 ghost use Rattle.cts_serve.specs.Load.{LoadsSite};
 ghost use Rattle.cts_serve.specs.Putting.{Printed};
 ghost use Rattle.cts_serve.specs.Request.{asked};

@@ -1,16 +1,17 @@
 // The events of a script, one after another.
 ghost use Rattle.std.specs.Prelude.{◌≡◌, true};
 ghost use Rattle.cts_core.specs.States.{opening};
-ghost use Rattle.cts_serve.specs.Forms.{are_built_events, is_built_site};
+ghost use Rattle.cts_core.specs.Built.{is_built_site};
+ghost use Rattle.cts_serve.specs.Load.Scripts.{are_built_events};
 ghost use Rattle.cts_serve.specs.Replay.Steps.{Replays};
-ghost use Rattle.cts_serve.specs.Worlds.{Represents, held_in};
+ghost use Rattle.cts_core.specs.Worlds.{Represents, held_in};
 
 pub mod halt;
 pub mod printing;
 pub mod steps;
 
 use crate::putting::Unput;
-use crate::world::World;
+use cts_core::World;
 use cts_def::Site;
 use cts_entry::Event;
 use cts_outside::Sink;
@@ -57,7 +58,7 @@ fn replay_from<O: Sink>(
             Err(halt) => return Err(halt),
         }
     }
-    match put_end(alloc, world.history.len(), out) {
+    match put_end(alloc, world.history().len(), out) {
         Ok(()) => Ok(()),
         Err(Unput::WriteFault) => Err(Halt::WriteFault),
         Err(Unput::Memory) => Err(Halt::Memory),

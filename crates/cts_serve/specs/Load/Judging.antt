@@ -9,7 +9,7 @@ use Rattle.cts_def.specs.Sites.{SiteData}
 use Rattle.cts_defread.specs.Definitions.{definitions_of}
 use Rattle.cts_entry.specs.declared.event.Event.{Event}
 use Rattle.cts_plan.specs.SiteFiles.{site_of}
-use Rattle.cts_serve.specs.Forms.{has_events, script_events}
+use Rattle.cts_serve.specs.Load.Scripts.{has_events, script_events}
 use Rattle.cts_serve.specs.Load.Causes.{words_unloaded, or_unloaded}
 use Rattle.cts_serve.specs.declared.load.file_kind.FileKind.{FileKind}
 use Rattle.cts_serve.specs.declared.load.file_kind.FileKind.TheVariants.{Definitions, Site, Script}

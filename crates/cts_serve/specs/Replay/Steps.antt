@@ -6,10 +6,10 @@ use Rattle.cts_def.specs.Sites.{SiteData}
 use Rattle.cts_entry.specs.declared.event.Event.{Event}
 use Rattle.cts_entry.specs.Histories.{entries_in, bytes_in}
 use Rattle.cts_outside.specs.Seen.{SinkSeen}
-use Rattle.cts_serve.specs.Environments.{site_environment}
+use Rattle.cts_core.specs.Environments.{site_environment}
 use Rattle.cts_serve.specs.Putting.{IsPut, FailsWithin}
 use Rattle.cts_serve.specs.Replay.Transcript.{events_of, lines_of, replay_answer, replay_body}
-use Rattle.cts_serve.specs.Worlds.{Held, Represents}
+use Rattle.cts_core.specs.Worlds.{Held, Represents}
 use Rattle.cts_serve.specs.declared.replay.halt.Halt.{Halt}
 use Rattle.cts_serve.specs.declared.replay.halt.Halt.TheVariants as halt
 

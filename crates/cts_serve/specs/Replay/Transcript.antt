@@ -8,7 +8,7 @@ use Rattle.cts_entry.specs.declared.entry.Entry.{Entry}
 use Rattle.cts_entry.specs.declared.event.Event.{Event}
 use Rattle.cts_script.specs.declared.limits_event.LimitsEvent.{LimitsEvent}
 use Rattle.cts_script.specs.Transcripts.{lines_behind}
-use Rattle.cts_serve.specs.Environments.{site_environment}
+use Rattle.cts_core.specs.Environments.{site_environment}
 use Rattle.cts_serve.specs.Ending.Lines.{end_line}
 use Rattle.cts_serve.specs.declared.replay.halt.Halt.{Halt}
 use Rattle.cts_serve.specs.declared.replay.halt.Halt.TheVariants as halt

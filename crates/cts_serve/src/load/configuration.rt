@@ -1,15 +1,17 @@
 // Configuration files: definitions, and the site over them.
 ghost use Rattle.std.specs.Prelude.{◌≡◌, true, IfOk, IfSome};
-ghost use Rattle.cts_serve.specs.Forms.{are_built_definitions, is_built_site};
+ghost use Rattle.cts_core.specs.Built.{is_built_site};
+ghost use Rattle.cts_serve.specs.Load.Built.{are_built_definitions};
 ghost use Rattle.cts_serve.specs.Load.{is_taken};
 ghost use Rattle.cts_serve.specs.Load.Fetching.{GivesRead, Takes, LoadCounts};
 ghost use Rattle.cts_serve.specs.Load.Judging.{judge_definitions, judge_site, definitions_read, definitions_in, site_read, site_in};
 
-use crate::form::{are_built_definitions, is_built_site};
+use crate::load::built::are_built_definitions;
 use crate::load::file_kind::FileKind;
 use crate::load::statements::read_statements;
 use crate::load::unloaded::{Cause, Unloaded};
 use crate::request::Request;
+use cts_core::is_built_site;
 use cts_def::{Definitions, Site};
 use cts_defread::{DefFault, read_definitions};
 use cts_outside::Files;

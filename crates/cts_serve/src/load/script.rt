@@ -1,6 +1,6 @@
 // Scripts: the events that their statements say.
 ghost use Rattle.std.specs.Prelude.{◌≡◌, ◌<◌, ◌≤◌, ◌∷◌, [], true, is_some, length, option_and_then, IfOk, IfSome};
-ghost use Rattle.cts_serve.specs.Forms.{are_built_events, has_events, maker_in, maker_named, piece_of, script_events, words_event};
+ghost use Rattle.cts_serve.specs.Load.Scripts.{are_built_events, has_events, maker_in, maker_named, piece_of, script_events, words_event};
 ghost use Rattle.cts_serve.specs.Load.Fetching.{Takes, LoadCounts, answer_seen};
 ghost use Rattle.cts_serve.specs.Load.Judging.{judge_script, events_in};
 

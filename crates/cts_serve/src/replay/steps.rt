@@ -1,15 +1,14 @@
 // One event of a script: done, and its lines put.
-ghost use Rattle.std.specs.Prelude.{◌≡◌, true, length, vec_len};
+ghost use Rattle.std.specs.Prelude.{◌≡◌, true, length};
 ghost use Rattle.cts_core.specs.States.{State};
-ghost use Rattle.cts_serve.specs.Forms.{is_built_event, is_built_site};
+ghost use Rattle.cts_core.specs.Built.{is_built_event, is_built_site};
 ghost use Rattle.cts_serve.specs.Replay.Steps.{DoesEvent};
-ghost use Rattle.cts_serve.specs.Worlds.{Represents, held_in};
+ghost use Rattle.cts_core.specs.Worlds.{Represents, held_in};
 
 use crate::putting::Unput;
-use crate::refusal::Refusal;
 use crate::replay::halt::Halt;
 use crate::replay::printing::put_entries;
-use crate::world::World;
+use cts_core::{World, WorldFault};
 use cts_def::Site;
 use cts_entry::Event;
 use cts_outside::Sink;
@@ -24,24 +23,21 @@ pub fn do_event<O: Sink>(
     event: &Event,
     out: &mut O,
 ) -> Result<(), Halt>
-    requires count { vec_len world.old.connections ≡ length site.now.interfaces }
+    requires count { length (held_in world.old).lines ≡ length site.now.interfaces }
     requires site { is_built_site site.now ≡ true }
     requires event { is_built_event event.now ≡ true }
     ensures { (s : State) → Represents site.now (held_in world.old) s
         → DoesEvent site.now s line event.now result (held_in world.new) (O.seen out.old) (O.seen out.new) }
 {
-    let before = world.history.len();
+    let before = world.history().len();
     match world.step(alloc, site, event) {
-        Ok(()) => match put_entries(alloc, site, &world.history, before, out) {
+        Ok(()) => match put_entries(alloc, site, world.history(), before, out) {
             Ok(()) => Ok(()),
             Err(Unput::WriteFault) => Err(Halt::WriteFault),
             Err(Unput::Memory) => Err(Halt::Memory),
         },
-        Err(Refusal::NotEnabled) => Err(Halt::NotEnabled { line }),
-        Err(Refusal::HistoryFull) => Err(Halt::HistoryFull {
-            entries: world.entries,
-            bytes: world.bytes,
-        }),
-        Err(Refusal::Memory) => Err(Halt::Memory),
+        Err(WorldFault::NotEnabled) => Err(Halt::NotEnabled { line }),
+        Err(WorldFault::Full { entries, bytes }) => Err(Halt::HistoryFull { entries, bytes }),
+        Err(WorldFault::Memory) => Err(Halt::Memory),
     }
 }

@@ -1,13 +1,13 @@
 use Rattle.std.proofs.Common.{rules, ◌≡◌, ◌∷◌, ◌++◌, [], ℕ, List, length, refl, sym, ◌∙◌, ap, subst, arith}
-use Rattle.std.proofs.lemmas.List.{length-map}
 use Rattle.cts_entry.specs.declared.event.Event.{Event}
 use Rattle.cts_outside.proofs.Putting.{appended-nil}
 use Rattle.cts_serve.specs.Ending.Lines.{end_line}
-use Rattle.cts_serve.specs.Forms.{are_built_events, is_built_event}
+use Rattle.cts_core.specs.Built.{is_built_event}
+use Rattle.cts_serve.specs.Load.Scripts.{are_built_events}
 use Rattle.cts_serve.specs.Putting.{IsPut, FailsWithin}
 use Rattle.cts_serve.specs.Replay.Transcript.{lines_of}
-use Rattle.cts_serve.specs.Worlds.{held_in, line_in}
-use Rattle.cts_serve.proofs.Building.{and_tells}
+use Rattle.cts_core.specs.Worlds.{held_in}
+use Rattle.cts_core.proofs.Building.{and_tells}
 use Rattle.cts_serve.proofs.ReplayLemmas.{IsProgress, begun, goes_on, put_then, halts, wants, ends_well, ends_within}
 use Rattle.cts_serve.proofs.replay.replay_from.Goals as goal
 
@@ -38,7 +38,7 @@ none_left [] h = refl
 none_left (x ∷ xs) h = absurd (omega (arith, h))
 
 pub do_event-requires-clause-count : goal.do_event-requires-clause-count
-do_event-requires-clause-count g c = omega (arith, c.events.invariant.progress.1.stands.count, length-map c.events.world.connections.items line_in, c.events.world.connections.ok.0)
+do_event-requires-clause-count g c = c.events.invariant.progress.1.stands.count
 
 pub do_event-requires-clause-event : goal.do_event-requires-clause-event
 do_event-requires-clause-event g c =

@@ -1,7 +1,7 @@
 use Rattle.std.proofs.Common.{◌≡◌, ℕ, true, List, length}
-use Rattle.cts_serve.specs.Forms.{are_built_events}
+use Rattle.cts_serve.specs.Load.Scripts.{are_built_events}
 use Rattle.cts_serve.specs.Putting.{IsPut}
-use Rattle.cts_serve.specs.Worlds.{held_in}
+use Rattle.cts_core.specs.Worlds.{held_in}
 use Rattle.cts_serve.proofs.ReplayLemmas.{IsProgress}
 use Rattle.cts_serve.proofs.replay.replay_from.Given as goal
 
