@@ -1,7 +1,7 @@
 -- What is read of the files, and what it means for the command.
 use Rattle.std.proofs.Common.{◌≡◌, ℕ, ◌≤◌, ◌<◌, Bool, true, false, List, [], length, take, Option, Some, None, option_map, Result, Ok, Err, IfSome, IsSomeAnd, refl, sym, ◌∙◌, ap, subst, arith}
 use Rattle.std.specs.Prelude.{nat_lt}
-use Rattle.std.specs.Option.{option_or}
+use Rattle.std.specs.Result.{result_unwrap_or}
 use Rattle.std.proofs.lemmas.Bool.Decides.{nat_tests}
 use Rattle.cts_def.specs.Packets.{DefinitionsData}
 use Rattle.cts_def.specs.Sites.{SiteData}
@@ -15,8 +15,8 @@ use Rattle.cts_core.specs.Built.{is_built_site}
 use Rattle.cts_serve.specs.Load.Built.{are_built_definitions}
 use Rattle.cts_serve.specs.Load.{is_taken, definitions_asked, site_asked, unloaded, IsNext, LoadsSite}
 use Rattle.cts_serve.specs.Load.Causes.{fetch_unloaded, or_unloaded}
-use Rattle.cts_serve.specs.Load.Fetching.{FetchGives, IsWhy, GivesStatements, GivesRead, Takes}
-use Rattle.cts_serve.specs.Load.Judging.{file_limit, judge, judge_said, verdict, judge_definitions, judge_site, judge_script, file_unloaded, definitions_read, definitions_in, site_read, site_in, events_in}
+use Rattle.cts_serve.specs.Load.Fetching.{FetchGives, IsWhy, GivesStatements, Takes}
+use Rattle.cts_serve.specs.Load.Judging.{file_limit, judge, judge_said, verdict, unless_built, statements_in, bytes_of, judge_definitions, judge_site, judge_script, file_unloaded, definitions_read, definitions_in, site_read, site_in, events_in}
 use Rattle.cts_serve.specs.Request.{RequestData}
 use Rattle.cts_serve.specs.declared.load.fetch.FetchFault.{FetchFault}
 use Rattle.cts_serve.specs.declared.load.fetch.FetchFault.TheVariants as fetch
@@ -54,6 +54,44 @@ pub gives_none : {T : Type 0} (kind : FileKind) (v : List Statement → Option U
     → IfSome told (λ all. GivesStatements kind (all name) (Err why)) → IfSome told (λ all. Takes (judge kind v) reads (all name') (Err why))
 gives_none kind v reads None name name' why same h = tt
 gives_none kind v reads (Some all) name name' why same h = subst (λ (n : List ℕ). IsWhy (file_unloaded (judge kind v) (all n)) why) same (h v)
+
+-- what is said of a file's statements is said of the file
+judged_so : (kind : FileKind) (v : List Statement → Option Unloaded) (file : Option (List ℕ)) (statements : List Statement)
+    → GivesStatements kind file (Ok statements) → file_unloaded (judge kind v) file ≡ v statements
+judged_so kind v None statements h = absurd h
+judged_so kind v (Some bytes) statements h = let small : nat_lt file_limit (length bytes) ≡ false = grind (arith, nat_tests, h.0) in rw (small, h.1) refl
+
+-- what is read of them is read of the file
+value_so : {X : Type 0} (kind : FileKind) (reads : List Statement → Result X Unloaded) (none x : X) (file : Option (List ℕ)) (statements : List Statement)
+    → GivesStatements kind file (Ok statements) → reads statements ≡ Ok x → x ≡ result_unwrap_or (reads (statements_in (bytes_of file))) none
+value_so kind reads none x None statements h e = absurd h
+value_so kind reads none x (Some bytes) statements h e = rw (h.1, e) refl
+
+module _ {X : Type 0} (kind : FileKind) (is_built : X → Bool) (reads : List Statement → Result X Unloaded) (none : X) (told : Option (List ℕ → Option (List ℕ))) (name name' : List ℕ) (same : name ≡ name') where
+  abbrev judges : List ℕ → Option Unloaded
+  judges bytes = judge kind (λ statements. verdict is_built (reads statements)) bytes
+
+  pub refuses : (statements : List Statement) (why : Unloaded) → IfSome told (λ all. GivesStatements kind (all name) (Ok statements)) → reads statements ≡ Err why → IfSome told (λ all. file_unloaded judges (all name') ≡ Some why)
+  refuses statements why h e = on told h
+    where
+      on : (t : Option (List ℕ → Option (List ℕ))) → IfSome t (λ all. GivesStatements kind (all name) (Ok statements)) → IfSome t (λ all. file_unloaded judges (all name') ≡ Some why)
+      on None h = tt
+      on (Some all) h = subst (λ (n : List ℕ). file_unloaded judges (all n) ≡ Some why) same (judged_so kind (λ s. verdict is_built (reads s)) (all name) statements h ∙ ap (verdict is_built) e)
+
+  pub lacks : (statements : List Statement) (x : X) → IfSome told (λ all. GivesStatements kind (all name) (Ok statements)) → reads statements ≡ Ok x → is_built x ≡ false → IfSome told (λ all. file_unloaded judges (all name') ≡ Some NotBuilt)
+  lacks statements x h e b = on told h
+    where
+      on : (t : Option (List ℕ → Option (List ℕ))) → IfSome t (λ all. GivesStatements kind (all name) (Ok statements)) → IfSome t (λ all. file_unloaded judges (all name') ≡ Some NotBuilt)
+      on None h = tt
+      on (Some all) h = subst (λ (n : List ℕ). file_unloaded judges (all n) ≡ Some NotBuilt) same (judged_so kind (λ s. verdict is_built (reads s)) (all name) statements h ∙ (ap (verdict is_built) e ∙ ap unless_built b))
+
+  pub takes : (statements : List Statement) (x : X) → IfSome told (λ all. GivesStatements kind (all name) (Ok statements)) → reads statements ≡ Ok x → is_built x ≡ true → IfSome told (λ all. Takes judges (λ bytes. result_unwrap_or (reads (statements_in bytes)) none) (all name') (Ok x))
+  takes statements x h e b = on told h
+    where
+      on : (t : Option (List ℕ → Option (List ℕ))) → IfSome t (λ all. GivesStatements kind (all name) (Ok statements)) → IfSome t (λ all. Takes judges (λ bytes. result_unwrap_or (reads (statements_in bytes)) none) (all name') (Ok x))
+      on None h = tt
+      on (Some all) h = subst (λ (n : List ℕ). Takes judges (λ bytes. result_unwrap_or (reads (statements_in bytes)) none) (all n) (Ok x)) same
+          (judged_so kind (λ s. verdict is_built (reads s)) (all name) statements h ∙ (ap (verdict is_built) e ∙ ap unless_built b), value_so kind reads none x (all name) statements h e)
 
 -- ---- the files in their order
 

@@ -45,11 +45,6 @@ abbrev pub GivesStatements : FileKind → Option (List ℕ) → Result (List Sta
 GivesStatements kind file (Ok statements) = IsSomeAnd file (λ bytes. (length bytes ≤ file_limit) × (said bytes ≡ Ok statements))
 GivesStatements kind file (Err why) = (verdict : List Statement → Option Unloaded) → IsWhy (file_unloaded (judge kind verdict) file) why
 
--- what is read from a file's statements, or why nothing is; want of memory says nothing
-abbrev pub GivesRead : {X : Type 0} → Result X Unloaded → Result X Unloaded → Type 0
-GivesRead read (Err Memory) = Unit {0}
-GivesRead read answer = read ≡ answer
-
 -- what a file says, as it is judged and read so, or why it gives nothing
 abbrev pub Takes : {T : Type 0} → (List ℕ → Option Unloaded) → (List ℕ → T) → Option (List ℕ) → Result T Unloaded → Type 0
 Takes judges reads file (Ok x) = (file_unloaded judges file ≡ None) × (x ≡ reads (bytes_of file))

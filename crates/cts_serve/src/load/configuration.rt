@@ -3,8 +3,8 @@ ghost use Rattle.std.specs.Prelude.{◌≡◌, true, IfOk, IfSome};
 ghost use Rattle.cts_core.specs.Built.{is_built_site};
 ghost use Rattle.cts_serve.specs.Load.Built.{are_built_definitions};
 ghost use Rattle.cts_serve.specs.Load.{is_taken};
-ghost use Rattle.cts_serve.specs.Load.Fetching.{GivesRead, Takes, LoadCounts};
-ghost use Rattle.cts_serve.specs.Load.Judging.{judge_definitions, judge_site, definitions_read, definitions_in, site_read, site_in};
+ghost use Rattle.cts_serve.specs.Load.Fetching.{Takes, LoadCounts};
+ghost use Rattle.cts_serve.specs.Load.Judging.{judge_definitions, judge_site, definitions_in, site_in};
 
 use crate::load::built::are_built_definitions;
 use crate::load::file_kind::FileKind;
@@ -16,7 +16,6 @@ use cts_def::{Definitions, Site};
 use cts_defread::{DefFault, read_definitions};
 use cts_outside::Files;
 use cts_plan::{SiteFault, read_site};
-use cts_words::Statement;
 use std::alloc::Global;
 
 /// Reads the definitions.
@@ -30,11 +29,19 @@ pub fn load_definitions<F: Files>(
     ensures counts { LoadCounts result (F.seen files.old) (F.seen files.new) }
 {
     let found = read_statements(alloc, files, request.definitions, FileKind::Definitions)?;
-    let definitions = definitions_of(alloc, &found)?;
-    if request.script.is_none() || are_built_definitions(&definitions) {
-        return Ok(definitions);
+    match read_definitions(alloc, &found) {
+        Ok(definitions) => {
+            if takes_definitions(request, &definitions) {
+                return Ok(definitions);
+            }
+            Err(Unloaded::NotBuilt)
+        }
+        Err(DefFault::Refused { line, cause }) => Err(Unloaded::Refused {
+            line,
+            cause: Cause::Definition(cause),
+        }),
+        Err(DefFault::Memory) => Err(Unloaded::Memory),
     }
-    Err(Unloaded::NotBuilt)
 }
 
 /// Reads the site over its definitions.
@@ -50,37 +57,30 @@ pub fn load_plan<F: Files>(
     ensures counts { LoadCounts result (F.seen files.old) (F.seen files.new) }
 {
     let found = read_statements(alloc, files, request.site, FileKind::Site)?;
-    let site = site_of(alloc, &found, definitions)?;
-    if request.script.is_none() || is_built_site(&site) {
-        return Ok(site);
-    }
-    Err(Unloaded::NotBuilt)
-}
-
-// What the statements of a file define, or the first that is refused.
-fn definitions_of(alloc: Global, found: &[Statement]) -> Result<Definitions, Unloaded>
-    ensures { GivesRead (definitions_read found.now) result }
-{
-    match read_definitions(alloc, found) {
-        Ok(definitions) => Ok(definitions),
-        Err(DefFault::Refused { line, cause }) => Err(Unloaded::Refused {
-            line,
-            cause: Cause::Definition(cause),
-        }),
-        Err(DefFault::Memory) => Err(Unloaded::Memory),
-    }
-}
-
-// The site that the statements of a file say, or the first that is refused.
-fn site_of(alloc: Global, found: &[Statement], definitions: Definitions) -> Result<Site, Unloaded>
-    ensures { GivesRead (site_read definitions found.now) result }
-{
-    match read_site(alloc, found, definitions) {
-        Ok(site) => Ok(site),
+    match read_site(alloc, &found, definitions) {
+        Ok(site) => {
+            if takes_site(request, &site) {
+                return Ok(site);
+            }
+            Err(Unloaded::NotBuilt)
+        }
         Err(SiteFault::Refused { line, cause }) => Err(Unloaded::Refused {
             line,
             cause: Cause::Site(cause),
         }),
         Err(SiteFault::Memory) => Err(Unloaded::Memory),
     }
+}
+
+// A check takes all definitions, and a replay those that are built.
+fn takes_definitions(request: &Request<'_>, definitions: &Definitions) -> bool
+    ensures { result ≡ is_taken request.now are_built_definitions definitions.now }
+{
+    request.script.is_none() || are_built_definitions(definitions)
+}
+
+fn takes_site(request: &Request<'_>, site: &Site) -> bool
+    ensures { result ≡ is_taken request.now is_built_site site.now }
+{
+    request.script.is_none() || is_built_site(site)
 }

@@ -8,4 +8,4 @@ returns-in-Err-clause-transcript g c =
 pub returns-in-Ok-clause-transcript : goal.returns-in-Ok-clause-transcript
 returns-in-Ok-clause-transcript g c =
     replay_answers _ c.args.request.now c.args.site.now c.args.script.now c.in-Ok.events.items _ _ _ _ _ c.requires.asked c.requires.taken c.in-Ok.ensures.content
-    (rw c.as_slice.ensures.value at c.replay.ensures) c.end_replay.ensures
+    (rw c.as_slice.ensures.value at c.replay-replayed.ensures) c.end_replay.ensures

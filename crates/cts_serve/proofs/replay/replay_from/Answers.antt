@@ -37,6 +37,25 @@ none_left : (xs : List (ℕ × Event)) → length xs ≡ 0 → xs ≡ []
 none_left [] h = refl
 none_left (x ∷ xs) h = absurd (omega (arith, h))
 
+pub returns-in-Ok-put_end : goal.returns-in-Ok-put_end
+returns-in-Ok-put_end g c =
+    let so_far = c.events.invariant.progress in
+    let progress = subst (λ (t : List (ℕ × Event)). IsProgress c.args.site.now c.args.events.now t (held_in c.events.world) so_far.0) (none_left c.events.left.now c.in_default.ensures.cases) so_far.1 in
+    ends_well c.args.site.now c.args.events.now (held_in c.events.world) so_far.0 progress _ _ _ so_far.2 (rw c.history.ensures at c.in-Ok-put_end.ensures)
+
+pub returns-in-Err-WriteFault : goal.returns-in-Err-WriteFault
+returns-in-Err-WriteFault g c =
+    let so_far = c.events.invariant.progress in
+    let progress = subst (λ (t : List (ℕ × Event)). IsProgress c.args.site.now c.args.events.now t (held_in c.events.world) so_far.0) (none_left c.events.left.now c.in_default.ensures.cases) so_far.1 in
+    let fails = rw c.in-Err-WriteFault.field-0-is at c.in-Err-WriteFault.ensures in
+    ends_within c.args.site.now c.args.events.now (held_in c.events.world) so_far.0 progress _ _ _ so_far.2 (rw c.history.ensures at fails)
+
+pub returns : goal.returns
+returns g c =
+    let so_far = c.events.invariant.progress in
+    let same = rw c.in-Err-Memory.field-0-is at c.in-Err-Memory.ensures in
+    wants c.args.site.now c.args.events.now c.events.left.now (held_in c.events.world) so_far.0 so_far.1 _ _ (subst (IsPut so_far.0 (g.O.Sink.seen c.args.out.now)) (sym same) so_far.2)
+
 pub do_event-requires-clause-count : goal.do_event-requires-clause-count
 do_event-requires-clause-count g c = c.events.invariant.progress.1.stands.count
 
