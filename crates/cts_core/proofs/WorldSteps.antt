@@ -37,7 +37,7 @@ use Rattle.cts_told.proofs.Walks.{posted_packets}
 use Rattle.cts_proto.specs.Chains.{framings_at}
 use Rattle.cts_core.specs.Environments.{bytes_limit, entries_limit, site_environment}
 use Rattle.cts_core.specs.Kept.{Bounds, Kept, CanAdd, GivesRoom, is_within}
-use Rattle.cts_core.specs.Worlds.{Held, HeldConnection, Represents, Steps, Takes, IsConnection, IsRest, connection_at, shut, lost, opened, closed, extended, posted, settled, shortened, packets_cut}
+use Rattle.cts_core.specs.Worlds.{Held, HeldConnection, Represents, Steps, Takes, IsConnection, IsRest, connection_at, first_held, shut, lost, opened, closed, extended, posted, settled, shortened, packets_cut}
 use Rattle.cts_core.specs.declared.fault.WorldFault.{WorldFault}
 use Rattle.cts_core.specs.declared.fault.WorldFault.TheVariants.{NotEnabled as RefusedEvent, Full, Memory}
 use Rattle.cts_core.specs.Built.{is_built_site}
@@ -128,16 +128,15 @@ rest_of_none = ([], record { taken = taken_none length_framing []; ends = ends_n
 nothing_left : (by : ℕ) (t : State) → t.pieces by ≡ [] → IsRest (t.pieces by) []
 nothing_left by t none = subst (λ (pieces : List (List ℕ)). IsRest pieces []) (sym none) rest_of_none
 
-pub stands_first : (site : SiteData) (w : Held) → w.time ≡ opening.time → w.history ≡ [] → w.bounds ≡ record { entries = entries_limit; bytes = bytes_limit } → w.connections ≡ replicate (length site.interfaces) shut → Represents site w opening
-stands_first site w time history bounds connections = record {
-  history = history;
-  time = time;
-  bounds = bounds;
+pub stands_first : (site : SiteData) (w : Held) → w ≡ first_held site entries_limit bytes_limit → Represents site w opening
+stands_first site w e = subst (λ (x : Held). Represents site x opening) (sym e) (record {
+  history = refl;
+  time = refl;
+  bounds = refl;
   uncommanded = refl;
-  count = ap length connections ∙ length-replicate (length site.interfaces) shut;
-  connections = λ by m. subst (λ (x : HeldConnection). IsConnection opening by x)
-      (sym (ap (λ (cs : List HeldConnection). connection_at cs by) connections ∙ get_or-replicate (length site.interfaces) by shut shut m)) (record { connected = refl; rest = rest_of_none });
-}
+  count = length-replicate (length site.interfaces) shut;
+  connections = λ by m. subst (λ (x : HeldConnection). IsConnection opening by x) (sym (get_or-replicate (length site.interfaces) by shut shut m)) (record { connected = refl; rest = rest_of_none });
+})
 
 -- ---- the clock and the Stop
 

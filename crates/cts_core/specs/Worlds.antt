@@ -1,5 +1,5 @@
 -- What the running core holds, and the states of the defined core that it represents.
-use Rattle.std.specs.Prelude.{◌≡◌, ℕ, ◌-◌, ◌<◌, Bool, true, false, List, [], ◌∷◌, ◌++◌, map, length, take, drop, slice_index_or, slice_set, ℤ, Option, None, Some, Result, Ok, Err}
+use Rattle.std.specs.Prelude.{◌≡◌, ℕ, ◌-◌, ◌<◌, Bool, true, false, List, [], ◌∷◌, ◌++◌, map, length, take, drop, replicate, slice_index_or, slice_set, ℤ, Option, None, Some, Result, Ok, Err}
 use Rattle.cts_def.specs.Sites.{SiteData}
 use Rattle.cts_def.specs.declared.bad_cause.BadCause.TheVariants.{Short}
 use Rattle.cts_def.specs.declared.time.Time.{Time}
@@ -53,6 +53,14 @@ pub record Held : Type 0 where
 
 abbrev pub held_in : World → Held
 held_in w = record { time = w.time; history = w.history.entries; bounds = w.history.bounds; connections = connections_in w.connections.items }
+
+-- it has not ended: its history was not full at any event so far, and memory did not run out
+abbrev pub goes_on : World → Type 0
+goes_on w = w.ended ≡ None
+
+-- what is held before anything has happened
+abbrev pub first_held : SiteData → ℕ → ℕ → Held
+first_held site entries bytes = record { time = record { seconds = 0; micros = 0 }; history = []; bounds = record { entries = entries; bytes = bytes }; connections = replicate (length site.interfaces) shut }
 
 -- these bytes are what the cut of the pieces leaves, and no error stands there
 abbrev pub IsRest : List (List ℕ) → List ℕ → Type 0

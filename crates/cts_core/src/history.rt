@@ -1,6 +1,6 @@
 // The history of a running core.
 ghost use Rattle.std.specs.Prelude.{◌≡◌, ◌≤◌, ◌<◌, [], ◌∷◌, OnOk, OnErr};
-ghost use Rattle.cts_core.specs.Environments.{bytes_limit, entries_limit};
+ghost use Rattle.cts_core.specs.Environments.{entries_limit};
 ghost use Rattle.cts_core.specs.Kept.{CanAdd, GivesRoom, added, begun, with_places};
 ghost use Rattle.cts_entry.specs.Histories.{is_stopped};
 
@@ -41,13 +41,6 @@ impl Model for History {
 }
 
 impl History {
-    /// A history with no entries, and the limits of a server.
-    pub fn new(alloc: Global) -> History
-        ensures { result ≡ begun entries_limit bytes_limit }
-    {
-        History::with_limits(alloc, MOST_ENTRIES, MOST_BYTES)
-    }
-
     /// A history with no entries, and these limits.
     pub fn with_limits(alloc: Global, entries: u64, bytes: u64) -> History
         requires { entries ≤ entries_limit }

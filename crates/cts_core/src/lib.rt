@@ -15,6 +15,6 @@ mod world;
 pub use built::is_built_site;
 pub use enabling::{is_piece, may_close, takes_room};
 pub use fault::WorldFault;
-pub use laws::{core_is_legal, core_is_logged, core_is_told, cursors, runs};
 pub use history::{History, MOST_BYTES, MOST_ENTRIES};
+pub use laws::{core_is_legal, core_is_logged, core_is_told, cursors, runs};
 pub use world::World;

@@ -5,7 +5,7 @@ ghost use Rattle.cts_core.specs.Worlds.{lasting};
 use crate::connection::Connection;
 use crate::enabling::{is_piece, may_close};
 use crate::fault::WorldFault;
-use crate::history::History;
+use crate::history::{History, MOST_BYTES, MOST_ENTRIES};
 use crate::posting::packets;
 use cts_base::Memory;
 use cts_def::{BadCause, Loss, Site, Time};
@@ -27,20 +27,35 @@ pub struct World {
 }
 
 impl World {
-    ghost use Rattle.std.specs.Prelude.{◌≡◌, ◌&&◌, ◌<◌, ◌≤◌, ◌+◌, ◌^◌, nat_lt, not, length, [], ◌∷◌, true, None, Some, Err, vec_len, IfOk, OnOk, OnErr};
+    ghost use Rattle.std.specs.Prelude.{◌≡◌, ◌&&◌, ◌<◌, ◌≤◌, ◌+◌, ◌^◌, nat_lt, not, length, [], ◌∷◌, true, Some, Err, vec_len, IfOk, OnOk, OnErr};
     ghost use Rattle.cts_core.specs.Built.{is_built_event, is_built_site};
+    ghost use Rattle.cts_core.specs.Environments.{entries_limit};
     ghost use Rattle.cts_core.specs.Kept.{CanAdd};
     ghost use Rattle.cts_core.specs.States.{State, is_piece, may_close, opening};
-    ghost use Rattle.cts_core.specs.Worlds.{Represents, Steps, Takes, closed, connection_at, extended, held_in, lasting, opened, posted, settled, shortened};
+    ghost use Rattle.cts_core.specs.Worlds.{Represents, Steps, Takes, closed, connection_at, extended, first_held, goes_on, held_in, lasting, opened, posted, settled, shortened};
     ghost use Rattle.cts_core.specs.declared.fault.WorldFault.{WorldFault};
     ghost use Rattle.cts_def.specs.Sites.{SiteData};
     ghost use Rattle.cts_entry.specs.declared.event.Event.TheVariants as event;
     ghost use Rattle.cts_entry.specs.Histories.{is_stopped};
 
-    /// A world of a site in which nothing has happened.
+    /// A world of a site in which nothing has happened, with the limits of a server.
     pub fn new(alloc: Global, site: &Site) -> Result<World, Memory>
         ensures stands { IfOk result (λ world. Represents site.now (held_in world) opening) }
-        ensures going { IfOk result (λ world. world.ended ≡ None) }
+        ensures going { IfOk result (λ world. goes_on world) }
+    {
+        World::with_limits(alloc, site, MOST_ENTRIES, MOST_BYTES)
+    }
+
+    /// A world of a site in which nothing has happened, with these limits.
+    pub fn with_limits(
+        alloc: Global,
+        site: &Site,
+        entries: u64,
+        bytes: u64,
+    ) -> Result<World, Memory>
+        requires { entries ≤ entries_limit }
+        ensures held { IfOk result (λ world. held_in world ≡ first_held site.now entries bytes) }
+        ensures going { IfOk result (λ world. goes_on world) }
     {
         let connections = Connection::none_stands(alloc, site.interfaces.len())?;
         Ok(World {
@@ -48,7 +63,7 @@ impl World {
                 seconds: 0,
                 micros: 0,
             },
-            history: History::new(alloc),
+            history: History::with_limits(alloc, entries, bytes),
             connections,
             ended: None,
         })
@@ -68,8 +83,8 @@ impl World {
         requires count { length (held_in self.old).connections ≡ length site.now.interfaces }
         requires site { is_built_site site.now ≡ true }
         requires event { is_built_event event.now ≡ true }
-        ensures step { (s : State) → self.old.ended ≡ None → Represents site.now (held_in self.old) s → Steps site.now s event.now (held_in self.old) result (held_in self.new) }
-        ensures lasts { self.old.ended ≡ None → self.new.ended ≡ lasting result }
+        ensures step { (s : State) → goes_on self.old → Represents site.now (held_in self.old) s → Steps site.now s event.now (held_in self.old) result (held_in self.new) }
+        ensures lasts { goes_on self.old → self.new.ended ≡ lasting result }
         ensures ended { (fault : WorldFault) → self.old.ended ≡ Some fault → (result ≡ Err fault) × (self.new ≡ self.old) }
     {
         if let Some(fault) = self.ended {
@@ -146,7 +161,13 @@ impl World {
         Ok(())
     }
 
-    fn receive(&mut self, alloc: Global, site: &Site, by: u32, piece: &[u8]) -> Result<(), WorldFault>
+    fn receive(
+        &mut self,
+        alloc: Global,
+        site: &Site,
+        by: u32,
+        piece: &[u8],
+    ) -> Result<(), WorldFault>
         requires count { vec_len self.old.connections ≡ length site.now.interfaces }
         requires site { is_built_site site.now ≡ true }
         ensures { (s : State) → Represents site.now (held_in self.old) s → Steps site.now s (event.Piece by piece.now) (held_in self.old) result (held_in self.new) }

@@ -1,12 +1,16 @@
-use Rattle.std.proofs.Common.{ℕ, refl, ap, ◌∙◌, length, replicate}
-use Rattle.cts_def.specs.Sites.{SiteData}
-use Rattle.cts_core.specs.Kept.{Kept}
-use Rattle.cts_core.specs.Worlds.{Held, connections_in, shut}
+use Rattle.std.proofs.Common.{◌≡◌, Result, Ok, Err, IfOk}
+use Rattle.cts_core.specs.Environments.{entries_limit, bytes_limit}
+use Rattle.cts_core.specs.States.{opening}
+use Rattle.cts_core.specs.Worlds.{Represents, first_held, held_in}
+use Rattle.cts_core.specs.declared.world.World.{World}
 use Rattle.cts_core.proofs.WorldSteps.{stands_first}
 use Rattle.cts_core.proofs.world.World.new.Goals as goal
 
+each : {T E : Type 0} (r : Result T E) (P Q : T → Type 0) → ((x : T) → P x → Q x) → IfOk r P → IfOk r Q
+each (Ok x) P Q f h = f x h
+each (Err e) P Q f h = tt
+
 pub returns-clause-stands : goal.returns-clause-stands
 returns-clause-stands c =
-    let w : Held = record { time = record { seconds = 0; micros = 0 }; history = c.new.result.entries; bounds = c.new.result.bounds; connections = connections_in c.in_ok-connections.connections.items } in
-    stands_first c.args.site.now w refl (ap (λ (k : Kept). k.entries) c.new.ensures) (ap (λ (k : Kept). k.bounds) c.new.ensures)
-    (c.in_ok-connections.ensures ∙ ap (λ (n : ℕ). replicate n shut) (c.len.ensures ∙ ap (λ (s : SiteData). length s.interfaces) c.site.view_is))
+    let site = c.args.site.now in
+    each c.with_limits.result (λ (w : World). held_in w ≡ first_held site entries_limit bytes_limit) (λ (w : World). Represents site (held_in w) opening) (λ (w : World) h. stands_first site (held_in w) h) c.with_limits.ensures.held

@@ -31,5 +31,5 @@ returns-in-Err c =
     λ s h.
     let t = sym (may_receive_is c.args.site.now w s c.args.by c.args.piece.now c.requires.site h) ∙ (sym c.may_receive.ensures.test ∙ on) in
     let back = c.take_back.ensures
-        ∙ taken_back c.args.by w (held_in c.take.new.self) c.args.piece.now (there_of c.args.site.now w s c.args.by c.args.piece.now c.requires.site t h) (nothing_taken c.args.site.now c.args.by _ _ fault taken) in
+    ∙ taken_back c.args.by w (held_in c.take.new.self) c.args.piece.now (there_of c.args.site.now w s c.args.by c.args.piece.now c.requires.site t h) (nothing_taken c.args.site.now c.args.by _ _ fault taken) in
     piece_refused c.args.site.now w (held_in c.take.new.self) (held_in c.take_back.new.self) s c.args.by c.args.piece.now fault c.requires.site c.may_receive.ensures.few t taken back h

@@ -19,6 +19,6 @@ returns c =
     let off : c.is_stopped.result ≡ false = search rules in
     let placed = c.in_ok-place.ensures.ok.1 in
     let done = ap (λ (k : Kept). held_with w.time k w.connections) c.append.ensures
-        ∙ (ap (λ (k : Kept). held_with w.time (record k { entries = k.entries ++ c.stop.result ∷ [] }) w.connections) placed
-        ∙ ap (λ (e : Entry). held_with w.time (record c.args.self.now.history { entries = w.history ++ e ∷ [] }) w.connections) c.stop.ensures) in
+    ∙ (ap (λ (k : Kept). held_with w.time (record k { entries = k.entries ++ c.stop.result ∷ [] }) w.connections) placed
+    ∙ ap (λ (e : Entry). held_with w.time (record c.args.self.now.history { entries = w.history ++ e ∷ [] }) w.connections) c.stop.ensures) in
     λ site s h. stopped site w _ s (sym c.is_stopped.ensures ∙ off) done h

@@ -57,6 +57,6 @@ returns-clause-takes c =
     let entries : c.in_ok-entries.entries.items ≡ packets_cut c.args.site.now c.args.by w cut =
     c.in_ok-entries.ensures ∙ ap (λ (b : List ℕ). packet_entries (site_environment c.args.site.now).routing w.time c.args.by (frames_at b cut.frames)) (c.deref-2.ensures.value ∙ (sym c.deref.ensures.value ∙ rest)) in
     let done = c.post.ensures.posted
-        ∙ (ap (λ (x : Held). posted c.args.by x c.in_ok-entries.entries.items cut.rest) (room_made w.time k c.room.new.self w.connections (length cut.frames) cut.rest room)
-        ∙ ap (λ (es : List Entry). posted c.args.by w es cut.rest) entries) in
+    ∙ (ap (λ (x : Held). posted c.args.by x c.in_ok-entries.entries.items cut.rest) (room_made w.time k c.room.new.self w.connections (length cut.frames) cut.rest room)
+    ∙ ap (λ (es : List Entry). posted c.args.by w es cut.rest) entries) in
     (cut, subst (λ (bytes : List ℕ). IsCutting bytes cut) rest c.in_ok-cutting.ensures, room.0, c.settle.ensures ∙ ap (λ (x : Held). settled c.args.by x cut.short) done)
