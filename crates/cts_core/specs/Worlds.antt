@@ -55,8 +55,8 @@ abbrev pub held_in : World → Held
 held_in w = record { time = w.time; history = w.history.entries; bounds = w.history.bounds; connections = connections_in w.connections.items }
 
 -- it has not ended: its history was not full at any event so far, and memory did not run out
-abbrev pub goes_on : World → Type 0
-goes_on w = w.ended ≡ None
+abbrev pub GoesOn : World → Type 0
+GoesOn w = w.ended ≡ None
 
 -- what is held before anything has happened
 abbrev pub first_held : SiteData → ℕ → ℕ → Held

@@ -32,7 +32,7 @@ impl World {
     ghost use Rattle.cts_core.specs.Environments.{entries_limit};
     ghost use Rattle.cts_core.specs.Kept.{CanAdd};
     ghost use Rattle.cts_core.specs.States.{State, is_piece, may_close, opening};
-    ghost use Rattle.cts_core.specs.Worlds.{Represents, Steps, Takes, closed, connection_at, extended, first_held, goes_on, held_in, lasting, opened, posted, settled, shortened};
+    ghost use Rattle.cts_core.specs.Worlds.{Represents, Steps, Takes, closed, connection_at, extended, first_held, GoesOn, held_in, lasting, opened, posted, settled, shortened};
     ghost use Rattle.cts_core.specs.declared.fault.WorldFault.{WorldFault};
     ghost use Rattle.cts_def.specs.Sites.{SiteData};
     ghost use Rattle.cts_entry.specs.declared.event.Event.TheVariants as event;
@@ -41,7 +41,7 @@ impl World {
     /// A world of a site in which nothing has happened, with the limits of a server.
     pub fn new(alloc: Global, site: &Site) -> Result<World, Memory>
         ensures stands { IfOk result (λ world. Represents site.now (held_in world) opening) }
-        ensures going { IfOk result (λ world. goes_on world) }
+        ensures going { IfOk result (λ world. GoesOn world) }
     {
         World::with_limits(alloc, site, MOST_ENTRIES, MOST_BYTES)
     }
@@ -55,7 +55,7 @@ impl World {
     ) -> Result<World, Memory>
         requires { entries ≤ entries_limit }
         ensures held { IfOk result (λ world. held_in world ≡ first_held site.now entries bytes) }
-        ensures going { IfOk result (λ world. goes_on world) }
+        ensures going { IfOk result (λ world. GoesOn world) }
     {
         let connections = Connection::none_stands(alloc, site.interfaces.len())?;
         Ok(World {
@@ -83,8 +83,8 @@ impl World {
         requires count { length (held_in self.old).connections ≡ length site.now.interfaces }
         requires site { is_built_site site.now ≡ true }
         requires event { is_built_event event.now ≡ true }
-        ensures step { (s : State) → goes_on self.old → Represents site.now (held_in self.old) s → Steps site.now s event.now (held_in self.old) result (held_in self.new) }
-        ensures lasts { goes_on self.old → self.new.ended ≡ lasting result }
+        ensures step { (s : State) → GoesOn self.old → Represents site.now (held_in self.old) s → Steps site.now s event.now (held_in self.old) result (held_in self.new) }
+        ensures lasts { GoesOn self.old → self.new.ended ≡ lasting result }
         ensures ended { (fault : WorldFault) → self.old.ended ≡ Some fault → (result ≡ Err fault) × (self.new ≡ self.old) }
     {
         if let Some(fault) = self.ended {
