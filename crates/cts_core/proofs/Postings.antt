@@ -1,5 +1,5 @@
 -- What the history says when the entries of an event are appended.
-use Rattle.std.proofs.Common.{◌≡◌, ℕ, ◌+◌, ◌-◌, ◌≤◌, Bool, true, false, ◌&&◌, ◌||◌, List, [], ◌∷◌, ◌++◌, length, drop, slice_range, None, refl, sym, ◌∙◌, ap, arith, unwrap_or}
+use Rattle.std.proofs.Common.{◌≡◌, ℕ, suc, ◌+◌, ◌-◌, ◌≤◌, Bool, true, false, ◌&&◌, ◌||◌, List, [], ◌∷◌, ◌++◌, length, drop, slice_range, None, refl, sym, ◌∙◌, ap, arith, unwrap_or}
 use Rattle.std.specs.Prelude.{nat_le, ◌==◌, ◌≢◌, Option, is_some, if◌then◌else◌}
 use Rattle.std.proofs.lemmas.List.Folds.{list_any-append}
 use Rattle.std.proofs.lemmas.List.Sums.{sum_by-cons}
@@ -19,14 +19,6 @@ use Rattle.cts_entry.specs.declared.what.What.TheVariants.{Packet}
 use Rattle.cts_def.specs.Sites.{SiteData}
 use Rattle.cts_core.specs.Environments.{bytes_limit, entries_limit, ident_of, site_environment}
 
-or_false : (b : Bool) → (b || false) ≡ b
-or_false true = refl
-or_false false = refl
-
--- entries that have no Stop leave it as it is
-pub stopped_kept : (history entries : List Entry) → is_stopped entries ≡ false → is_stopped (history ++ entries) ≡ is_stopped history
-stopped_kept history entries h = stopped-append history entries ∙ (ap (λ b. is_stopped history || b) h ∙ or_false (is_stopped history))
-
 -- entries that open and close nothing leave a maker connected or not
 pub connected_kept : (by : ℕ) (history entries : List Entry) → latest (connects_maker by) entries ≡ None → is_connected by (history ++ entries) ≡ is_connected by history
 connected_kept by history entries h = connected-append by history entries ∙ ap (λ t. unwrap_or (or_earlier t (latest (connects_maker by) history)) false) h
@@ -41,9 +33,6 @@ entries_grow history entries n h = entries-append history entries ∙ ap (λ t. 
 pub bytes_grow : (history entries : List Entry) (n : ℕ) → bytes_in entries ≡ n → bytes_in (history ++ entries) ≡ bytes_in history + n
 bytes_grow history entries n h = bytes-append history entries ∙ ap (λ t. bytes_in history + t) h
 
-both_within : (a b m n : ℕ) → a ≤ m → b ≤ n → (nat_le a m && nat_le b n) ≡ true
-both_within a b m n h k = grind (arith, nat_tests)
-
 -- an entry tells its own maker whether it is connected, and no other
 
 pub tells_maker : (by : ℕ) (e : Entry) → e.by ≡ by → connects_maker by e ≡ connects e.what
@@ -51,10 +40,6 @@ tells_maker by e same = ap (λ (b : Bool). if b then connects e.what else None) 
 
 pub tells_no_other : (k : ℕ) (e : Entry) → k ≢ e.by → connects_maker k e ≡ None
 tells_no_other k e other = ap (λ (b : Bool). if b then connects e.what else None) (ne_eqb e.by k (λ same. other (sym same)))
-
--- the limits are kept
-pub room_holds : (site : SiteData) (s : State) (entries : List Entry) (n m : ℕ) → entries_in entries ≡ n → bytes_in entries ≡ m → entries_in s.history + n ≤ entries_limit → bytes_in s.history + m ≤ bytes_limit → has_room (site_environment site) s entries ≡ true
-room_holds site s entries n m h k a b = both_within (entries_in (s.history ++ entries)) (bytes_in (s.history ++ entries)) entries_limit bytes_limit (omega (arith, entries_grow s.history entries n h, a)) (omega (arith, bytes_grow s.history entries m k, b))
 
 -- packets alone
 
@@ -69,10 +54,6 @@ pub packets_connect_none : (site : SiteData) (k by : ℕ) (now : Time) (outs : L
 packets_connect_none site k by now [] = refl
 packets_connect_none site k by now (o ∷ outs) = ap (λ t. or_earlier t (connects_maker k (packet_entry site by now o))) (packets_connect_none site k by now outs) ∙ either_way (by == k) None
 
-pub packets_stop_none : (site : SiteData) (by : ℕ) (now : Time) (outs : List Output) → is_stopped (packet_entries (site_environment site).routing now by outs) ≡ false
-packets_stop_none site by now [] = refl
-packets_stop_none site by now (o ∷ outs) = packets_stop_none site by now outs
-
 pub packets_command_none : (site : SiteData) (by : ℕ) (now : Time) (outs : List Output) → has_command (packet_entries (site_environment site).routing now by outs) ≡ false
 packets_command_none site by now [] = refl
 packets_command_none site by now (o ∷ outs) = packets_command_none site by now outs
@@ -82,6 +63,10 @@ packets_count site by now [] = refl
 packets_count site by now (o ∷ outs) =
     let more : entries_in (packet_entries (site_environment site).routing now by (o ∷ outs)) ≡ 1 + entries_in (packet_entries (site_environment site).routing now by outs) = sum_by-cons (λ (e : Entry). entries_for e.what) (packet_entry site by now o) (packet_entries (site_environment site).routing now by outs) in
     omega (arith, more, packets_count site by now outs)
+
+pub packets_length : (site : SiteData) (by : ℕ) (now : Time) (outs : List Output) → length (packet_entries (site_environment site).routing now by outs) ≡ length outs
+packets_length site by now [] = refl
+packets_length site by now (o ∷ outs) = ap suc (packets_length site by now outs)
 
 span_length : (bytes : List ℕ) (from end : ℕ) → from ≤ end → end ≤ length bytes → length (slice_range bytes from end) ≡ end - from
 span_length bytes from end h k = length-take-le (end - from) (drop from bytes) (omega (arith, length-drop from bytes))

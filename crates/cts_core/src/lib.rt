@@ -4,15 +4,17 @@
 
 mod built;
 mod connection;
+mod counting;
 mod enabling;
 mod fault;
+mod history;
 mod laws;
 mod posting;
 mod world;
 
 pub use built::is_built_site;
-pub use connection::Connection;
 pub use enabling::{is_piece, may_close, takes_room};
 pub use fault::WorldFault;
+pub use history::{History, MOST_BYTES, MOST_ENTRIES};
 pub use laws::{core_is_legal, core_is_logged, core_is_told, cursors, runs};
-pub use world::{MOST_ENTRIES, World};
+pub use world::World;

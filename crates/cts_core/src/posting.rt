@@ -1,5 +1,5 @@
 // The entries of packets that a cutting has found.
-ghost use Rattle.std.specs.Prelude.{◌≡◌, ◌<◌, ◌≤◌, drop, length, vec_len, IfOk};
+ghost use Rattle.std.specs.Prelude.{◌≡◌, ◌<◌, ◌≤◌, length, IfOk};
 ghost use Rattle.cts_entry.specs.declared.what.What.TheVariants.{Packet};
 ghost use Rattle.cts_proto.specs.Cuttings.{Tiles, frames_at};
 ghost use Rattle.cts_proto.specs.Framing.{plain};
@@ -48,18 +48,4 @@ fn packet(alloc: Global, site: &Site, by: u32, time: Time, bytes: &[u8]) -> Resu
             bytes: Bytes::copy(alloc, bytes)?,
         },
     })
-}
-
-/// Gives up the first bytes and keeps the room for more. Where there is nothing to give up it
-/// touches no byte, so that a long frame may come in small pieces.
-pub fn drop_front(bytes: &mut Vec<u8>, count: usize)
-    requires { count ≤ vec_len bytes.old }
-    ensures { bytes.new.items ≡ drop count bytes.old.items }
-{
-    if count == 0 {
-        return;
-    }
-    let left = bytes.len() - count;
-    bytes.copy_within(count.., 0);
-    bytes.truncate(left);
 }

@@ -4,7 +4,7 @@ ghost use Rattle.cts_core.specs.States.{opening};
 ghost use Rattle.cts_core.specs.Built.{is_built_site};
 ghost use Rattle.cts_serve.specs.Load.Scripts.{are_built_events};
 ghost use Rattle.cts_serve.specs.Replay.Steps.{Replays};
-ghost use Rattle.cts_core.specs.Worlds.{Represents, held_in};
+ghost use Rattle.cts_core.specs.Worlds.{GoesOn, Represents, held_in};
 
 pub mod halt;
 pub mod printing;
@@ -49,6 +49,7 @@ fn replay_from<O: Sink>(
     requires site { is_built_site site.now ≡ true }
     requires events { are_built_events events.now ≡ true }
     requires world { Represents site.now (held_in world) opening }
+    requires going { GoesOn world }
     ensures { Replays site.now events.now result (O.seen out.old) (O.seen out.new) }
 {
     let mut left = events;

@@ -1,9 +1,9 @@
 // One event of a script: done, and its lines put.
-ghost use Rattle.std.specs.Prelude.{◌≡◌, true, length};
+ghost use Rattle.std.specs.Prelude.{◌≡◌, true, length, OnOk};
 ghost use Rattle.cts_core.specs.States.{State};
 ghost use Rattle.cts_core.specs.Built.{is_built_event, is_built_site};
 ghost use Rattle.cts_serve.specs.Replay.Steps.{DoesEvent};
-ghost use Rattle.cts_core.specs.Worlds.{Represents, held_in};
+ghost use Rattle.cts_core.specs.Worlds.{GoesOn, Represents, held_in};
 
 use crate::putting::Unput;
 use crate::replay::halt::Halt;
@@ -23,11 +23,13 @@ pub fn do_event<O: Sink>(
     event: &Event,
     out: &mut O,
 ) -> Result<(), Halt>
-    requires count { length (held_in world.old).lines ≡ length site.now.interfaces }
+    requires count { length (held_in world.old).connections ≡ length site.now.interfaces }
     requires site { is_built_site site.now ≡ true }
     requires event { is_built_event event.now ≡ true }
-    ensures { (s : State) → Represents site.now (held_in world.old) s
+    requires going { GoesOn world.old }
+    ensures does { (s : State) → Represents site.now (held_in world.old) s
         → DoesEvent site.now s line event.now result (held_in world.new) (O.seen out.old) (O.seen out.new) }
+    ensures going { OnOk result (GoesOn world.new) }
 {
     let before = world.history().len();
     match world.step(alloc, site, event) {

@@ -12,18 +12,19 @@ use Rattle.cts_serve.proofs.ReplayLemmas.{IsProgress, begun, goes_on, put_then, 
 use Rattle.cts_serve.proofs.replay.replay_from.Goals as goal
 
 pub events-init : goal.events-init
-events-init g c = record { progress = ([], begun c.args.site.now c.args.events.now (held_in c.args.world) c.requires.world, (refl, sym (appended-nil _))); built = c.requires.events }
+events-init g c = record { progress = ([], begun c.args.site.now c.args.events.now (held_in c.args.world) c.requires.world, (refl, sym (appended-nil _))); built = c.requires.events; going = c.requires.going }
 
 pub events-preserved : goal.events-preserved
 events-preserved g c =
     let so_far = c.events.invariant.progress in
     let left : c.events.left.now ≡ c.in-Some.next.now ∷ c.in-Some.after.now = search rules in
     let progress = subst (λ (t : List (ℕ × Event)). IsProgress c.args.site.now c.args.events.now t (held_in c.events.world) so_far.0) left so_far.1 in
-    let did = c.in-Ok.ensures progress.state progress.stands in
+    let did = c.in-Ok.ensures.does progress.state progress.stands in
     let lines = lines_of c.args.site.now progress.state.history did.0.entries in
     record {
       progress = (so_far.0 ++ lines, goes_on c.args.site.now c.args.events.now c.in-Some.after.now c.in-Some.next.now (held_in c.events.world) (held_in c.do_event.new.world) so_far.0 progress did.0 did.1 did.2, put_then _ _ _ so_far.0 lines so_far.2 did.3);
       built = (and_tells (is_built_event c.in-Some.next.now.1) (are_built_events c.in-Some.after.now) (sym (ap are_built_events left) ∙ c.events.invariant.built)).1;
+      going = c.in-Ok.ensures.going;
     }
 
 pub returns-in-Err : goal.returns-in-Err
@@ -31,7 +32,7 @@ returns-in-Err g c =
     let so_far = c.events.invariant.progress in
     let left : c.events.left.now ≡ c.in-Some.next.now ∷ c.in-Some.after.now = search rules in
     let progress = subst (λ (t : List (ℕ × Event)). IsProgress c.args.site.now c.args.events.now t (held_in c.events.world) so_far.0) left so_far.1 in
-    halts c.args.site.now c.args.events.now c.in-Some.after.now c.in-Some.next.now (held_in c.events.world) (held_in c.do_event.new.world) so_far.0 progress _ _ _ c.in-Err.halt so_far.2 (c.in-Err.ensures progress.state progress.stands)
+    halts c.args.site.now c.args.events.now c.in-Some.after.now c.in-Some.next.now (held_in c.events.world) (held_in c.do_event.new.world) so_far.0 progress _ _ _ c.in-Err.halt so_far.2 (c.in-Err.ensures.does progress.state progress.stands)
 
 none_left : (xs : List (ℕ × Event)) → length xs ≡ 0 → xs ≡ []
 none_left [] h = refl

@@ -1,10 +1,16 @@
-use Rattle.std.proofs.Common.{ℕ, false, replicate, length, refl, ap, ◌∙◌}
-use Rattle.cts_def.specs.Sites.{SiteData}
-use Rattle.cts_core.specs.Worlds.{Held, lines_in, shut}
+use Rattle.std.proofs.Common.{◌≡◌, Result, Ok, Err, IfOk}
+use Rattle.cts_core.specs.Environments.{entries_limit, bytes_limit}
+use Rattle.cts_core.specs.States.{opening}
+use Rattle.cts_core.specs.Worlds.{Represents, first_held, held_in}
+use Rattle.cts_core.specs.declared.world.World.{World}
 use Rattle.cts_core.proofs.WorldSteps.{stands_first}
 use Rattle.cts_core.proofs.world.World.new.Goals as goal
 
-pub returns : goal.returns
-returns c =
-    let w : Held = record { time = record { seconds = 0; micros = 0 }; history = c.new.result.items; lines = lines_in c.in_ok-connections.connections.items; stopped = false; entries = 0; bytes = 0 } in
-    stands_first c.args.site.now w refl c.new.ensures.items refl refl refl (c.in_ok-connections.ensures ∙ ap (λ (n : ℕ). replicate n shut) (c.len.ensures ∙ ap (λ (s : SiteData). length s.interfaces) c.site.view_is))
+each : {T E : Type 0} (r : Result T E) (P Q : T → Type 0) → ((x : T) → P x → Q x) → IfOk r P → IfOk r Q
+each (Ok x) P Q f h = f x h
+each (Err e) P Q f h = tt
+
+pub returns-clause-stands : goal.returns-clause-stands
+returns-clause-stands c =
+    let site = c.args.site.now in
+    each c.with_limits.result (λ (w : World). held_in w ≡ first_held site entries_limit bytes_limit) (λ (w : World). Represents site (held_in w) opening) (λ (w : World) h. stands_first site (held_in w) h) c.with_limits.ensures.held
