@@ -13,4 +13,3 @@ mod request;
 pub use command::run;
 pub use ending::status::Status;
 pub use laws::{outcomes, stand_ins};
-

@@ -21,7 +21,10 @@ fn repeated(alloc: Global, front: &str, part: &str, count: u32) -> Result<String
 fn a_piece_has_65536_bytes_at_most(rt: HostRuntime) -> Result<(), Fail> {
     let mut script = repeated(rt.alloc(), "BYTES I ", "a5", 65_536)?;
     let found = said(rt.alloc(), "replay d s c", "", SITE, script.as_str())?;
-    assert_eq!(rt; found.as_slice(), b"ScriptRefused refused: c line 1: NotEnabled\n".as_slice());
+    assert_eq!(rt;
+        found.as_slice(),
+        b"ScriptRefused refused: c line 1: NotEnabled\n".as_slice()
+    );
     script.push_str("a5")?;
     let found = said(rt.alloc(), "replay d s c", "", SITE, script.as_str())?;
     assert_eq!(rt; found.as_slice(), b"NotBuilt not built: c\n".as_slice());
@@ -30,7 +33,12 @@ fn a_piece_has_65536_bytes_at_most(rt: HostRuntime) -> Result<(), Fail> {
 
 #[test]
 fn a_file_has_67108864_bytes_at_most(rt: HostRuntime) -> Result<(), Fail> {
-    let mut text = repeated(rt.alloc(), "", "aaaaaaaaaaaaaaaaaaaaaaaaaaaaaaaaaaaaaaaaaaaaaaaaaaaaaaaaaaaaaaaa", 1_048_576)?;
+    let mut text = repeated(
+        rt.alloc(),
+        "",
+        "aaaaaaaaaaaaaaaaaaaaaaaaaaaaaaaaaaaaaaaaaaaaaaaaaaaaaaaaaaaaaaaa",
+        1_048_576,
+    )?;
     assert_eq!(rt;
         said_of(rt.alloc(), text.as_str())?.as_slice(),
         b"ConfigRefused refused: d line 1: UnknownKeyword\n".as_slice()

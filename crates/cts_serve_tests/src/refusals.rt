@@ -8,7 +8,15 @@ use std::test::Fail;
 #[test]
 fn words_that_fit_no_command(rt: HostRuntime) -> Result<(), Fail> {
     for words in [
-        "", "check d", "check d s c", "replay d s", "replay d s c c", "CHECK d s", "rehearse 5", "dump x", "serve d s",
+        "",
+        "check d",
+        "check d s c",
+        "replay d s",
+        "replay d s c c",
+        "CHECK d s",
+        "rehearse 5",
+        "dump x",
+        "serve d s",
     ] {
         let row = format!(in rt.alloc();
             "{words}||{SITE}||Usage usage: check DEFS SITE | replay DEFS SITE SCRIPT | rehearse N | dump LOG | serve DEFS SITE;"
@@ -107,8 +115,14 @@ fn ended_over(alloc: Global, definitions: &[u8], script: &[u8]) -> Result<Vec<u8
 #[test]
 fn a_file_that_is_no_text_is_refused_as_a_whole(rt: HostRuntime) -> Result<(), Fail> {
     let found = ended_over(rt.alloc(), b"A\n\xff '", b"")?;
-    assert_eq!(rt; found.as_slice(), b"ConfigRefused refused: d line 0: NotText\n".as_slice());
+    assert_eq!(rt;
+        found.as_slice(),
+        b"ConfigRefused refused: d line 0: NotText\n".as_slice()
+    );
     let found = ended_over(rt.alloc(), b"", b"OPEN I\n\x80")?;
-    assert_eq!(rt; found.as_slice(), b"ScriptRefused refused: c line 0: WrongCount\n".as_slice());
+    assert_eq!(rt;
+        found.as_slice(),
+        b"ScriptRefused refused: c line 0: WrongCount\n".as_slice()
+    );
     Ok(())
 }

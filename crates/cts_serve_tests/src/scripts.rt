@@ -24,7 +24,8 @@ fn connections_open_bring_packets_and_close(rt: HostRuntime) -> Result<(), Fail>
     replays_end_so(&rt, SITE, CONNECTIONS)
 }
 
-const TWO: &str = "INTERFACE I tcpip_client_interface.rb h 8080 8080 10.0 nil LENGTH 0 16 0 1;INTERFACE j tcpip_client_interface.rb h 8081 8081 10.0 nil LENGTH 0 16 0 1";
+const TWO: &str =
+    "INTERFACE I tcpip_client_interface.rb h 8080 8080 10.0 nil LENGTH 0 16 0 1;INTERFACE j tcpip_client_interface.rb h 8081 8081 10.0 nil LENGTH 0 16 0 1";
 
 // What a script may say, with the lines at which its statements begin, and what no statement says yet.
 const STATEMENTS: &str = "\
@@ -70,7 +71,8 @@ fn script_with_cuts(alloc: Global, digits: &str, cuts: u32) -> Result<String, Al
 
 #[test]
 fn every_cut_of_a_connection_gives_one_text(rt: HostRuntime) -> Result<(), Fail> {
-    let want = b"Ok 0 0.000000 I OPENED\n1 0.000000 I PACKET UNKNOWN UNKNOWN 0003aa\n2 0.000000 I PACKET UNKNOWN UNKNOWN 0002\n3 0.000000 I PACKET UNKNOWN UNKNOWN 0004bbcc\n4 0.000000 I CLOSED PEER held 2 0 0 0 skipped 0 empty 0 unposted 0 unsent 0\nEND 5\n".as_slice();
+    let want =
+        b"Ok 0 0.000000 I OPENED\n1 0.000000 I PACKET UNKNOWN UNKNOWN 0003aa\n2 0.000000 I PACKET UNKNOWN UNKNOWN 0002\n3 0.000000 I PACKET UNKNOWN UNKNOWN 0004bbcc\n4 0.000000 I CLOSED PEER held 2 0 0 0 skipped 0 empty 0 unposted 0 unsent 0\nEND 5\n".as_slice();
     for cuts in 0..1024u32 {
         let script = script_with_cuts(rt.alloc(), "0003aa00020004bbcc0006", cuts)?;
         let found = said(rt.alloc(), "replay d s c", "", SITE, script.as_str())?;
