@@ -1,9 +1,20 @@
-//! The definition of the server's core: what each event does, and what a list of events does, with
-//! its laws and tests of what is enabled. The core that runs events stands above it.
+//! The server's core. Its definition: what each event does, and what a list of events does, with its laws and tests of what is
+//! enabled. And the core that runs events, of which each step is what the definition says: the `World`.
 #![tactic(auto)]
 
+mod built;
+mod connection;
+mod counting;
 mod enabling;
+mod fault;
+mod history;
 mod laws;
+mod posting;
+mod world;
 
+pub use built::is_built_site;
 pub use enabling::{is_piece, may_close, takes_room};
+pub use fault::WorldFault;
+pub use history::{History, MOST_BYTES, MOST_ENTRIES};
 pub use laws::{core_is_legal, core_is_logged, core_is_told, cursors, runs};
+pub use world::World;

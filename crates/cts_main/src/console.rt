@@ -27,9 +27,7 @@ impl<W: Write> Console<W> {
 }
 
 impl<W: Write> Sink for Console<W> {
-    ghost told = { λ _. None };
-
-    ghost faults = { λ s. s.faults };
+    ghost seen = { λ s. record { told = None; faults = s.faults } };
 
     fn put(&mut self, bytes: &[u8]) -> Result<(), PutFailed>
         ensures content { Puts None None bytes.now result }

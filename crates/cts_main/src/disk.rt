@@ -83,11 +83,7 @@ impl<'a, R: std::rt::Files<File = File> + AllocGlobal> DiskFiles<'a, R> {
 }
 
 impl<'a, R: std::rt::Files<File = File> + AllocGlobal> Files for DiskFiles<'a, R> {
-    ghost told = { λ _. None };
-
-    ghost faults = { λ s. s.faults };
-
-    ghost absences = { λ s. s.absences };
+    ghost seen = { λ s. record { told = None; faults = s.faults; absences = s.absences } };
 
     fn read(&mut self, name: &str, from: u64, buffer: &mut [u8]) -> FileGot {
         let opened = match self.open(name) {

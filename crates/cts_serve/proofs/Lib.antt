@@ -1,11 +1,7 @@
-pub mod Lines
-pub mod Postings
-pub mod Building
-pub mod WorldSteps
 pub mod Undefining
-pub mod LastLines
-pub mod Progress
-pub mod Loadings
-pub mod Commands
-pub mod Scripts
-pub mod OneOutcome
+pub mod ScriptLemmas
+pub mod LoadLemmas
+pub mod EndingLemmas
+pub mod ReplayLemmas
+pub mod CommandLemmas
+pub mod LawLemmas

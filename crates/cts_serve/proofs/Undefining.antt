@@ -15,11 +15,11 @@ use Rattle.std.specs.List.{list_all}
 use Rattle.cts_core.specs.States.{State, opening, is_enabled, unsent}
 use Rattle.cts_core.specs.Runs.{Did, Does, Receives, Closes, Appends, Refuses, Runs, Ending, Finished, NotEnabled, HistoryFull, after, closing, closed_entry, effect_of}
 use Rattle.cts_core.proofs.Passing.{nothing_unsent}
-use Rattle.cts_serve.specs.Environments.{Undefined, environment_with}
-use Rattle.cts_serve.specs.Forms.{is_built_event, is_built_site}
+use Rattle.cts_core.specs.Environments.{Undefined, environment_with}
+use Rattle.cts_core.specs.Built.{is_built_event, is_built_site}
 use Rattle.cts_serve.specs.Laws.{RestsOnNoStandIn}
-use Rattle.cts_serve.proofs.Building.{and_tells, below, enabled_line}
-use Rattle.cts_serve.proofs.Postings.{uncommanded_kept, packets_command_none}
+use Rattle.cts_core.proofs.Building.{and_tells, below, enabled_line}
+use Rattle.cts_core.proofs.Postings.{uncommanded_kept, packets_command_none}
 
 module _ (u v : Undefined) (site : SiteData) (built : is_built_site site ≡ true) where
   -- nothing waits for an interface's device, whatever is spelled

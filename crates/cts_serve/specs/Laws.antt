@@ -5,10 +5,10 @@ use Rattle.cts_core.specs.Runs.{Did, Ending, Runs}
 use Rattle.cts_core.specs.States.{opening}
 use Rattle.cts_def.specs.Sites.{SiteData}
 use Rattle.cts_entry.specs.declared.event.Event.{Event}
-use Rattle.cts_serve.specs.Environments.{Undefined, environment_with}
-use Rattle.cts_serve.specs.Forms.{is_built_event, is_built_site}
-use Rattle.cts_serve.specs.Judging.{Outcome}
-use Rattle.cts_serve.specs.Outcomes.{RequestData, IsOutcome}
+use Rattle.cts_core.specs.Environments.{Undefined, environment_with}
+use Rattle.cts_core.specs.Built.{is_built_event, is_built_site}
+use Rattle.cts_serve.specs.Command.{Outcome, IsOutcome}
+use Rattle.cts_serve.specs.Request.{RequestData}
 
 -- a command has one outcome, for files with this content
 abbrev pub HasOneOutcome : Type 0

@@ -1,20 +1,21 @@
 // The top call.
-ghost use Rattle.std.specs.Prelude.{◌≡◌, ◌≢◌, ◌≤◌, ◌↔◌, [], true, map, IfSome, None, Some};
+ghost use Rattle.std.specs.Prelude.{◌≡◌, ◌≢◌, ◌≤◌, ◌↔◌, [], true, map, IfSome, None, Some, Ok};
 ghost use Rattle.cts_outside.specs.Causes.{Rose, Steady};
-ghost use Rattle.cts_serve.specs.Causing.{IsCaused};
-ghost use Rattle.cts_serve.specs.Forms.{is_built_site};
-ghost use Rattle.cts_serve.specs.Loading.{RefusedPuts, PutsCounts, LoadsSite};
-ghost use Rattle.cts_serve.specs.Outcomes.{asked};
-ghost use Rattle.cts_serve.specs.Printing.{Answers, Completes, Printed};
-ghost use Rattle.cts_serve.specs.Texts.{usage_line};
+ghost use Rattle.cts_serve.specs.Command.{Answers, Completes, IsCaused};
+ghost use Rattle.cts_serve.specs.Ending.Lines.{usage_line};
+ghost use Rattle.cts_core.specs.Built.{is_built_site};
+ghost use Rattle.cts_serve.specs.Load.{LoadsSite};
+ghost use Rattle.cts_serve.specs.Putting.{Printed};
+ghost use Rattle.cts_serve.specs.Request.{asked};
 
-use crate::last::{put_last, put_memory};
-use crate::loading::{load_script, load_site};
-use crate::refused::Refused;
+use crate::check::put_counts;
+use crate::ending::status::Status;
+use crate::ending::{end_check, end_replay, end_unloaded, end_usage};
+use crate::load::file_kind::FileKind;
+use crate::load::load_site;
+use crate::load::script::load_script;
 use crate::replay::replay;
-use crate::request::Request;
-use crate::texts::usage_text;
-use crate::{Status, texts};
+use crate::request::{Request, read_words};
 use cts_def::Site;
 use cts_outside::{Files, Sink};
 use std::alloc::Global;
@@ -29,48 +30,28 @@ pub fn run<F: Files, O: Sink>(alloc: Global, words: &[&str], files: &mut F, out:
     // Exactly where the words fit no command.
     ensures usage { result ≡ Status.Usage ↔ (asked (map (λ w. w.now) words.now) ≡ None) }
     // Only where a read failed in this call.
-    ensures read { result ≡ Status.ReadFault → Rose (F.faults files.old) (F.faults files.new) }
+    ensures read { result ≡ Status.ReadFault → Rose (F.seen files.old).faults (F.seen files.new).faults }
     // Only where a file was not there in this call.
-    ensures absent { result ≡ Status.Absent → Rose (F.absences files.old) (F.absences files.new) }
+    ensures absent { result ≡ Status.Absent → Rose (F.seen files.old).absences (F.seen files.new).absences }
     // Only where a put failed in this call.
-    ensures write { result ≡ Status.WriteFault → Rose (O.faults out.old) (O.faults out.new) }
+    ensures write { result ≡ Status.WriteFault → Rose (O.seen out.old).faults (O.seen out.new).faults }
     // Only where nothing failed.
-    ensures fine { result ≡ Status.Ok → (F.faults files.new ≡ F.faults files.old) × (F.absences files.new ≡ F.absences files.old) × (O.faults out.new ≡ O.faults out.old) }
+    ensures fine { result ≡ Status.Ok → ((F.seen files.new).faults ≡ (F.seen files.old).faults) × ((F.seen files.new).absences ≡ (F.seen files.old).absences) × ((O.seen out.new).faults ≡ (O.seen out.old).faults) }
     // No count falls.
-    ensures later { (F.faults files.old ≤ F.faults files.new) × (F.absences files.old ≤ F.absences files.new) × (O.faults out.old ≤ O.faults out.new) }
+    ensures later { ((F.seen files.old).faults ≤ (F.seen files.new).faults) × ((F.seen files.old).absences ≤ (F.seen files.new).absences) × ((O.seen out.old).faults ≤ (O.seen out.new).faults) }
     // The files stay.
-    ensures stays { F.told files.new ≡ F.told files.old }
+    ensures stays { (F.seen files.new).told ≡ (F.seen files.old).told }
     // Where the words fit no command, the line that says which ones do, whatever the files are.
-    ensures misused { asked (map (λ w. w.now) words.now) ≡ None → Printed (O.told out.old) (O.told out.new) (O.faults out.old) (O.faults out.new) [] usage_line }
+    ensures misused { asked (map (λ w. w.now) words.now) ≡ None → Printed (O.seen out.old) (O.seen out.new) [] usage_line }
     // The outcome that the content of the files has, and what was put for it.
-    ensures transcript { IfSome (F.told files.old) (λ all. Answers all (asked (map (λ w. w.now) words.now)) result
-        (record { old = O.told out.old; new = O.told out.new; before = O.faults out.old; now = O.faults out.new })) }
+    ensures transcript { IfSome (F.seen files.old).told (λ all. Answers all (asked (map (λ w. w.now) words.now)) result (O.seen out.old) (O.seen out.new)) }
     // Where no count rose, the outcome's status comes, or want of memory.
-    ensures complete { Steady (F.faults files.old) (F.faults files.new) → Steady (O.faults out.old) (O.faults out.new)
-        → IfSome (F.told files.old) (λ all. Completes all (asked (map (λ w. w.now) words.now)) result) }
+    ensures complete { Steady (F.seen files.old).faults (F.seen files.new).faults → Steady (O.seen out.old).faults (O.seen out.new).faults
+        → IfSome (F.seen files.old).told (λ all. Completes all (asked (map (λ w. w.now) words.now)) result) }
 {
     match read_words(words) {
-        None => put_last(out, usage_text(), Status::Usage),
+        None => end_usage(out),
         Some(request) => do_request(alloc, &request, files, out),
-    }
-}
-
-// What the words ask for.
-fn read_words<'a>(words: &[&'a str]) -> Option<Request<'a>>
-    ensures { result ≡ asked (map (λ w. w.now) words.now) }
-{
-    match words {
-        [command, definitions, site] if *command == "check" => Some(Request {
-            definitions: *definitions,
-            site: *site,
-            script: None,
-        }),
-        [command, definitions, site, script] if *command == "replay" => Some(Request {
-            definitions: *definitions,
-            site: *site,
-            script: Some(*script),
-        }),
-        _ => None,
     }
 }
 
@@ -82,17 +63,19 @@ fn do_request<F: Files, O: Sink>(
     out: &mut O,
 ) -> Status
     ensures usage { result ≢ Status.Usage }
-    ensures stays { F.told files.new ≡ F.told files.old }
-    ensures caused { IsCaused result (record { faults = F.faults files.old; faults_now = F.faults files.new; absences = F.absences files.old; absences_now = F.absences files.new; put_faults = O.faults out.old; put_faults_now = O.faults out.new }) }
-    ensures transcript { IfSome (F.told files.old) (λ all. Answers all (Some request.now) result
-        (record { old = O.told out.old; new = O.told out.new; before = O.faults out.old; now = O.faults out.new })) }
+    ensures stays { (F.seen files.new).told ≡ (F.seen files.old).told }
+    ensures caused { IsCaused result (F.seen files.old) (F.seen files.new) (O.seen out.old) (O.seen out.new) }
+    ensures transcript { IfSome (F.seen files.old).told (λ all. Answers all (Some request.now) result (O.seen out.old) (O.seen out.new)) }
 {
     match load_site(alloc, files, request) {
         Ok(site) => match request.script {
-            None => put_counts(alloc, &site, out),
+            None => {
+                let checked = put_counts(alloc, &site, out);
+                end_check(checked, out)
+            }
             Some(script) => replay_script(alloc, request, script, &site, files, out),
         },
-        Err(refused) => put_refused(out, &refused),
+        Err((kind, why)) => end_unloaded(alloc, request.name_of(kind), kind, why, out),
     }
 }
 
@@ -106,38 +89,18 @@ fn replay_script<F: Files, O: Sink>(
     out: &mut O,
 ) -> Status
     requires asked { request.now.script ≡ Some script.now }
-    requires taken { IfSome (F.told files.old) (λ all. LoadsSite all request.now (Ok site.now)) }
+    requires taken { IfSome (F.seen files.old).told (λ all. LoadsSite all request.now (Ok site.now)) }
     requires built { is_built_site site.now ≡ true }
     ensures usage { result ≢ Status.Usage }
-    ensures stays { F.told files.new ≡ F.told files.old }
-    ensures caused { IsCaused result (record { faults = F.faults files.old; faults_now = F.faults files.new; absences = F.absences files.old; absences_now = F.absences files.new; put_faults = O.faults out.old; put_faults_now = O.faults out.new }) }
-    ensures transcript { IfSome (F.told files.old) (λ all. Answers all (Some request.now) result
-        (record { old = O.told out.old; new = O.told out.new; before = O.faults out.old; now = O.faults out.new })) }
+    ensures stays { (F.seen files.new).told ≡ (F.seen files.old).told }
+    ensures caused { IsCaused result (F.seen files.old) (F.seen files.new) (O.seen out.old) (O.seen out.new) }
+    ensures transcript { IfSome (F.seen files.old).told (λ all. Answers all (Some request.now) result (O.seen out.old) (O.seen out.new)) }
 {
     match load_script(alloc, files, script, site) {
-        Ok(events) => replay(alloc, site, script, events.as_slice(), out),
-        Err(refused) => put_refused(out, &refused),
-    }
-}
-
-// Puts how much a site has. A check is done only where this is put.
-fn put_counts<O: Sink>(alloc: Global, site: &Site, out: &mut O) -> Status
-    ensures { PutsCounts site.now result (record { old = O.told out.old; new = O.told out.new; before = O.faults out.old; now = O.faults out.new }) }
-{
-    match texts::counts(alloc, site) {
-        Ok(line) => match out.put(&line) {
-            Ok(()) => Status::Ok,
-            Err(_) => Status::WriteFault,
-        },
-        Err(_) => put_memory(out),
-    }
-}
-
-fn put_refused<O: Sink>(out: &mut O, refused: &Refused) -> Status
-    ensures { RefusedPuts refused.now result (record { old = O.told out.old; new = O.told out.new; before = O.faults out.old; now = O.faults out.new }) }
-{
-    match refused {
-        Refused::Said { status, line } => put_last(out, line, *status),
-        Refused::Memory => put_memory(out),
+        Ok(events) => {
+            let replayed = replay(alloc, site, events.as_slice(), out);
+            end_replay(alloc, script, replayed, out)
+        }
+        Err(why) => end_unloaded(alloc, script, FileKind::Script, why, out),
     }
 }

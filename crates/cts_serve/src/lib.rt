@@ -1,41 +1,15 @@
 //! The top call of the program: `run`, from the words of the command line to the last printed line.
 #![tactic(auto)]
 
+mod check;
 mod command;
-mod connection;
-mod events;
-mod file_kind;
-mod form;
-mod last;
+mod ending;
 mod laws;
-mod loading;
-mod posting;
-mod reading;
-mod refusal;
-mod refused;
+mod load;
+mod putting;
 mod replay;
 mod request;
-mod script;
-mod status;
-mod stop;
-mod texts;
-mod world;
 
 pub use command::run;
+pub use ending::status::Status;
 pub use laws::{outcomes, stand_ins};
-pub use status::Status;
-
-#[cfg(test)]
-mod history_tests;
-#[cfg(test)]
-mod ident_tests;
-#[cfg(test)]
-mod lines_tests;
-#[cfg(test)]
-mod loading_tests;
-#[cfg(test)]
-mod site_tests;
-#[cfg(test)]
-mod tests;
-#[cfg(test)]
-mod world_tests;

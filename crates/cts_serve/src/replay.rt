@@ -1,37 +1,40 @@
 // The events of a script, one after another.
 ghost use Rattle.std.specs.Prelude.{◌≡◌, true};
-ghost use Rattle.cts_serve.specs.Forms.{are_built_events, is_built_site};
-ghost use Rattle.cts_serve.specs.Replays.{Replays, StopPuts, EndPuts};
-ghost use Rattle.cts_serve.specs.Worlds.{Represents, held_in};
 ghost use Rattle.cts_core.specs.States.{opening};
+ghost use Rattle.cts_core.specs.Built.{is_built_site};
+ghost use Rattle.cts_serve.specs.Load.Scripts.{are_built_events};
+ghost use Rattle.cts_serve.specs.Replay.Steps.{Replays};
+ghost use Rattle.cts_core.specs.Worlds.{GoesOn, Represents, held_in};
 
-use crate::events::do_event;
-use crate::last::{put_last, put_memory};
-use crate::refusal::Refusal;
-use crate::stop::Stop;
-use crate::world::World;
-use crate::{Status, texts};
+pub mod halt;
+pub mod printing;
+pub mod steps;
+
+use crate::putting::Unput;
+use cts_core::World;
 use cts_def::Site;
 use cts_entry::Event;
 use cts_outside::Sink;
+use halt::Halt;
+use printing::put_end;
 use std::alloc::Global;
+use steps::do_event;
 
-/// Does the events of a script on a site, both of which have to be built, in order, each with its line, and puts the lines of each when it is done; then
-/// `END n`, or the line that says why the replay stops there.
+/// Does the events of a script on a site, both of which have to be built, in order, each with its line, and puts the lines
+/// of each when it is done; then `END n`, or why the replay halts before it.
 pub fn replay<O: Sink>(
     alloc: Global,
     site: &Site,
-    script: &str,
     events: &[(u32, Event)],
     out: &mut O,
-) -> Status
+) -> Result<(), Halt>
     requires site { is_built_site site.now ≡ true }
     requires events { are_built_events events.now ≡ true }
-    ensures { Replays site.now script.now events.now result (record { old = O.told out.old; new = O.told out.new; before = O.faults out.old; now = O.faults out.new }) }
+    ensures { Replays site.now events.now result (O.seen out.old) (O.seen out.new) }
 {
     match World::new(alloc, site) {
-        Ok(world) => replay_from(alloc, site, script, events, world, out),
-        Err(_) => put_memory(out),
+        Ok(world) => replay_from(alloc, site, events, world, out),
+        Err(_) => Err(Halt::Memory),
     }
 }
 
@@ -39,64 +42,26 @@ pub fn replay<O: Sink>(
 fn replay_from<O: Sink>(
     alloc: Global,
     site: &Site,
-    script: &str,
     events: &[(u32, Event)],
     mut world: World,
     out: &mut O,
-) -> Status
+) -> Result<(), Halt>
     requires site { is_built_site site.now ≡ true }
     requires events { are_built_events events.now ≡ true }
     requires world { Represents site.now (held_in world) opening }
-    ensures { Replays site.now script.now events.now result (record { old = O.told out.old; new = O.told out.new; before = O.faults out.old; now = O.faults out.new }) }
+    requires going { GoesOn world }
+    ensures { Replays site.now events.now result (O.seen out.old) (O.seen out.new) }
 {
     let mut left = events;
     'events: while let Some((next, after)) = left.split_first() {
-        match do_event(alloc, site, &mut world, &next.1, out) {
+        match do_event(alloc, site, &mut world, next.0, &next.1, out) {
             Ok(()) => left = after,
-            Err(stop) => return put_stop(alloc, script, next.0, stop, &world, out),
+            Err(halt) => return Err(halt),
         }
     }
-    put_end(alloc, world.history.len(), out)
-}
-
-/// Puts the last line of a replay that stops at the event of this line.
-pub(crate) fn put_stop<O: Sink>(
-    alloc: Global,
-    script: &str,
-    line: u32,
-    stop: Stop,
-    world: &World,
-    out: &mut O,
-) -> Status
-    ensures { StopPuts script.now line stop (held_in world.now) result (record { old = O.told out.old; new = O.told out.new; before = O.faults out.old; now = O.faults out.new }) }
-{
-    match stop {
-        Stop::WriteFault => Status::WriteFault,
-        Stop::Refused(Refusal::Memory) => put_memory(out),
-        Stop::Refused(Refusal::NotEnabled) => {
-            match texts::refused(alloc, script, line, b"NotEnabled") {
-                Ok(text) => put_last(out, &text, Status::ScriptRefused),
-                Err(_) => put_memory(out),
-            }
-        }
-        Stop::Refused(Refusal::HistoryFull) => {
-            match texts::history_full(alloc, world.entries, world.bytes) {
-                Ok(text) => put_last(out, &text, Status::HistoryFull),
-                Err(_) => put_memory(out),
-            }
-        }
-    }
-}
-
-// Puts the number of entries. A replay is done only where this is put too.
-fn put_end<O: Sink>(alloc: Global, entries: usize, out: &mut O) -> Status
-    ensures { EndPuts entries result (record { old = O.told out.old; new = O.told out.new; before = O.faults out.old; now = O.faults out.new }) }
-{
-    match texts::end(alloc, entries as u64) {
-        Ok(text) => match out.put(&text) {
-            Ok(()) => Status::Ok,
-            Err(_) => Status::WriteFault,
-        },
-        Err(_) => put_memory(out),
+    match put_end(alloc, world.history().len(), out) {
+        Ok(()) => Ok(()),
+        Err(Unput::WriteFault) => Err(Halt::WriteFault),
+        Err(Unput::Memory) => Err(Halt::Memory),
     }
 }

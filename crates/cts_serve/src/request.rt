@@ -1,5 +1,8 @@
-// The files that a command asks for.
+// What the words of the command line ask for.
+ghost use Rattle.std.specs.Prelude.{◌≡◌, map};
+ghost use Rattle.cts_serve.specs.Request.{asked};
 
+use crate::load::file_kind::FileKind;
 use std::marker::Model;
 
 /// The files that a command asks for, by their names. One that only checks has no script.
@@ -15,9 +18,43 @@ pub struct Request<'a> {
 
 impl<'a> Model for Request<'a> {
     ghost use Rattle.std.specs.Prelude.{option_map};
-    ghost use Rattle.cts_serve.specs.Outcomes.{RequestData};
+    ghost use Rattle.cts_serve.specs.Request.{RequestData};
 
     ghost Value = { RequestData };
 
     ghost view = { λ r. record { definitions = r.definitions.now; site = r.site.now; script = option_map (λ s. s.now) r.script } };
+}
+
+impl<'a> Request<'a> {
+    ghost use Rattle.cts_serve.specs.Load.{name_of};
+
+    /// The name of the file of a kind, which is empty where none is asked for.
+    pub fn name_of(&self, kind: FileKind) -> &'a str
+        ensures { result.now ≡ name_of self.now kind }
+    {
+        match kind {
+            FileKind::Definitions => self.definitions,
+            FileKind::Site => self.site,
+            FileKind::Script => self.script.unwrap_or(""),
+        }
+    }
+}
+
+/// What the words ask for, if they fit a command.
+pub fn read_words<'a>(words: &[&'a str]) -> Option<Request<'a>>
+    ensures { result ≡ asked (map (λ w. w.now) words.now) }
+{
+    match words {
+        [command, definitions, site] if *command == "check" => Some(Request {
+            definitions: *definitions,
+            site: *site,
+            script: None,
+        }),
+        [command, definitions, site, script] if *command == "replay" => Some(Request {
+            definitions: *definitions,
+            site: *site,
+            script: Some(*script),
+        }),
+        _ => None,
+    }
 }

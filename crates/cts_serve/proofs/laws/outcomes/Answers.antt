@@ -1,4 +1,4 @@
-use Rattle.cts_serve.proofs.OneOutcome.{has_outcome, has_one_outcome}
+use Rattle.cts_serve.proofs.LawLemmas.{has_outcome, has_one_outcome}
 use Rattle.cts_serve.proofs.laws.outcomes.Goals as goal
 
 pub returns : goal.returns

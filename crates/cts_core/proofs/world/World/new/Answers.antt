@@ -1,0 +1,16 @@
+use Rattle.std.proofs.Common.{◌≡◌, Result, Ok, Err, IfOk}
+use Rattle.cts_core.specs.Environments.{entries_limit, bytes_limit}
+use Rattle.cts_core.specs.States.{opening}
+use Rattle.cts_core.specs.Worlds.{Represents, first_held, held_in}
+use Rattle.cts_core.specs.declared.world.World.{World}
+use Rattle.cts_core.proofs.WorldSteps.{stands_first}
+use Rattle.cts_core.proofs.world.World.new.Goals as goal
+
+each : {T E : Type 0} (r : Result T E) (P Q : T → Type 0) → ((x : T) → P x → Q x) → IfOk r P → IfOk r Q
+each (Ok x) P Q f h = f x h
+each (Err e) P Q f h = tt
+
+pub returns-clause-stands : goal.returns-clause-stands
+returns-clause-stands c =
+    let site = c.args.site.now in
+    each c.with_limits.result (λ (w : World). held_in w ≡ first_held site entries_limit bytes_limit) (λ (w : World). Represents site (held_in w) opening) (λ (w : World) h. stands_first site (held_in w) h) c.with_limits.ensures.held

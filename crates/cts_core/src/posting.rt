@@ -1,0 +1,51 @@
+// The entries of packets that a cutting has found.
+ghost use Rattle.std.specs.Prelude.{◌≡◌, ◌<◌, ◌≤◌, length, IfOk};
+ghost use Rattle.cts_entry.specs.declared.what.What.TheVariants.{Packet};
+ghost use Rattle.cts_proto.specs.Cuttings.{Tiles, frames_at};
+ghost use Rattle.cts_proto.specs.Framing.{plain};
+ghost use Rattle.cts_told.specs.Routing.{packet_entries};
+ghost use Rattle.cts_core.specs.Environments.{ident_of, site_environment};
+
+use cts_base::{Bytes, Memory};
+use cts_def::{Site, Time};
+use cts_entry::{Entry, What};
+use cts_ident::identify;
+use cts_proto::Cutting;
+use std::alloc::Global;
+
+/// An entry for each frame of a cutting of what came by an interface, in order, with the definition that it is.
+pub fn packets(
+    alloc: Global,
+    site: &Site,
+    by: u32,
+    time: Time,
+    bytes: &[u8],
+    cutting: &Cutting,
+) -> Result<Vec<Entry>, Memory>
+    requires interface { by < length site.now.interfaces }
+    requires tiles { Tiles 0 cutting.now.frames cutting.now.rest }
+    requires within { cutting.now.rest ≤ length bytes.now }
+    ensures { IfOk result (λ v. v.items ≡ packet_entries (site_environment site.now).routing time by (frames_at bytes.now cutting.now.frames)) }
+{
+    let mut left = cutting.frames.as_slice();
+    let mut entries = Vec::with_capacity(alloc, left.len())?;
+    'frames: while let Some((frame, after)) = left.split_first() {
+        entries.push(packet(alloc, site, by, time, &bytes[frame.0..frame.1])?)?;
+        left = after;
+    }
+    Ok(entries)
+}
+
+fn packet(alloc: Global, site: &Site, by: u32, time: Time, bytes: &[u8]) -> Result<Entry, Memory>
+    requires { by < length site.now.interfaces }
+    ensures { IfOk result (λ e. (e.by ≡ by) × (e.time ≡ time) × (e.what ≡ Packet (ident_of site.now by (plain bytes.now)) bytes.now)) }
+{
+    Ok(Entry {
+        by,
+        time,
+        what: What::Packet {
+            ident: identify(site, by, bytes),
+            bytes: Bytes::copy(alloc, bytes)?,
+        },
+    })
+}

@@ -1,6 +1,0 @@
-use Rattle.std.proofs.Common.{◌≡◌, replicate}
-use Rattle.cts_serve.specs.Worlds.{lines_in, shut}
-use Rattle.cts_serve.proofs.connection.Connection.none_stands.Given as goal
-
-abbrev pub invariant-loop : goal.invariant-loop
-invariant-loop l = lines_in l.connections.items ≡ replicate l.counter shut

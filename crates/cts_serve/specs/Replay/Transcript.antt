@@ -1,0 +1,55 @@
+-- What a replay prints, and how it ends.
+use Rattle.std.specs.Prelude.{◌≡◌, ℕ, List, [], ◌∷◌, ◌++◌, length, map, Result, Ok, Err}
+use Rattle.cts_core.specs.States.{opening}
+use Rattle.cts_core.specs.Runs.{Did, Ending, Finished, NotEnabled, HistoryFull, Runs}
+use Rattle.cts_def.specs.Sites.{SiteData}
+use Rattle.cts_entry.specs.Histories.{entries_in, bytes_in}
+use Rattle.cts_entry.specs.declared.entry.Entry.{Entry}
+use Rattle.cts_entry.specs.declared.event.Event.{Event}
+use Rattle.cts_script.specs.declared.limits_event.LimitsEvent.{LimitsEvent}
+use Rattle.cts_script.specs.Transcripts.{lines_behind}
+use Rattle.cts_core.specs.Environments.{site_environment}
+use Rattle.cts_serve.specs.Ending.Lines.{end_line}
+use Rattle.cts_serve.specs.declared.replay.halt.Halt.{Halt}
+use Rattle.cts_serve.specs.declared.replay.halt.Halt.TheVariants as halt
+
+abbrev pub events_of : List (ℕ × Event) → List Event
+events_of events = map (λ e. e.1) events
+
+-- all entries that events appended
+abbrev pub all_entries : List Did → List Entry
+all_entries [] = []
+all_entries (did ∷ dids) = did.entries ++ all_entries dids
+
+-- The limits events that an entry has behind a history. Limits are not built yet, and no entry has any.
+abbrev pub limits_events : SiteData → List Entry → Entry → List LimitsEvent
+limits_events site history e = []
+
+-- the lines of entries that stand behind a history
+abbrev pub lines_of : SiteData → List Entry → List Entry → List ℕ
+lines_of site history entries = lines_behind site (limits_events site) history entries
+
+-- The transcript: the lines of the entries of each event, behind the history before it. The events so far give nothing
+-- else.
+abbrev pub transcript : SiteData → List Entry → List Did → List ℕ
+transcript site history [] = []
+transcript site history (did ∷ dids) = lines_of site history did.entries ++ transcript site (history ++ did.entries) dids
+
+-- the line of the event after those that were done
+abbrev pub next_line : List Did → List (ℕ × Event) → ℕ
+next_line [] [] = 0
+next_line [] (event ∷ events) = event.0
+next_line (did ∷ dids) [] = 0
+next_line (did ∷ dids) (event ∷ events) = next_line dids events
+
+-- what is printed before the last line; where all was done the number of entries stands behind the transcript
+abbrev pub replay_body : SiteData → List Did → Ending → List ℕ
+replay_body site dids Finished = transcript site [] dids ++ end_line (length (all_entries dids))
+replay_body site dids NotEnabled = transcript site [] dids
+replay_body site dids HistoryFull = transcript site [] dids
+
+-- what a replay answers where the events did this and ended so
+abbrev pub replay_answer : List (ℕ × Event) → List Did → Ending → Result (Unit {0}) Halt
+replay_answer events dids Finished = Ok tt
+replay_answer events dids NotEnabled = Err (halt.NotEnabled (next_line dids events))
+replay_answer events dids HistoryFull = Err (halt.HistoryFull (entries_in (all_entries dids)) (bytes_in (all_entries dids)))

@@ -1,0 +1,12 @@
+// The kinds of files that a command reads.
+
+/// What a file is for.
+#[derive(Clone, Copy, Debug, PartialEq, Eq)]
+pub enum FileKind {
+    /// Definitions.
+    Definitions,
+    /// A site.
+    Site,
+    /// A script.
+    Script,
+}

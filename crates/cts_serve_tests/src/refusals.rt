@@ -1,0 +1,128 @@
+// Commands that end before they do anything, and checks: one line, or none.
+use crate::table::{SITE, commands_end_so, ended};
+use cts_base::Bytes;
+use cts_outside::{MemFiles, MemSink};
+use std::alloc::Global;
+use std::test::Fail;
+
+#[test]
+fn words_that_fit_no_command(rt: HostRuntime) -> Result<(), Fail> {
+    for words in [
+        "",
+        "check d",
+        "check d s c",
+        "replay d s",
+        "replay d s c c",
+        "CHECK d s",
+        "rehearse 5",
+        "dump x",
+        "serve d s",
+    ] {
+        let row = format!(in rt.alloc();
+            "{words}||{SITE}||Usage usage: check DEFS SITE | replay DEFS SITE SCRIPT | rehearse N | dump LOG | serve DEFS SITE;"
+        )?;
+        commands_end_so(&rt, row.as_str())?;
+    }
+    Ok(())
+}
+
+// A check says how much there is, and takes limits and routers. Each file has its refusals before the next one is read.
+const FILES: &str = "\
+check d s||||Ok telemetry 0 commands 0 items 0 interfaces 0 routers 0;
+check d s|TELEMETRY T A BIG_ENDIAN;APPEND_ITEM X 8 UINT;LIMITS DEFAULT 1 ENABLED 1 2 3 4|INTERFACE I tcpip_client_interface.rb h 1 1 nil nil LENGTH 0 16 0 1;ROUTER R tcpip_server_interface.rb 2 2 nil nil BURST|x|Ok telemetry 1 commands 0 items 1 interfaces 1 routers 1;
+check d s|TELEMETRY T A BIG_ENDIAN;  APPEND_ITEM X 32 FLOAT|x||ConfigRefused refused: d line 2: FloatItem;
+check d s||INTERFACE I tcpip_client_interface.rb h 1 2 10.0 nil BURST||ConfigRefused refused: s line 1: TwoPorts;
+check d s|TELEMETRY INST A BIG_ENDIAN|INTERFACE I tcpip_client_interface.rb h 1 1 10.0 nil BURST;TARGET INST;TARGET PUMP||ConfigRefused refused: s line 3: UnknownTarget;
+check e f||||Absent absent: e;
+replay e s c||||Absent absent: e;
+replay d e f||||Absent absent: e;
+replay d s c|-|-|-|Absent absent: d;
+replay d s c|A 'b|-|-|ConfigRefused refused: d line 1: OpenQuote;
+replay d s c|;A &|-|-|ConfigRefused refused: d line 2: DanglingJoin;
+replay d s c|x|x|'|ConfigRefused refused: d line 1: UnknownKeyword;
+replay d s c|TELEMETRY T A BIG_ENDIAN;ITEM A 0 12 UINT \"\" LITTLE_ENDIAN|-|-|ConfigRefused refused: d line 2: BadPlace;
+replay d s c|TELEMETRY T A BIG_ENDIAN;APPEND_ITEM X 8 UINT;LIMITS DEFAULT 1 ENABLED 1 2 3 4;|x|'|NotBuilt not built: d;
+replay d s c|TELEMETRY T A BIG_ENDIAN;APPEND_ITEM X 8 UINT;STATE ON 1 GREEN;|x|-|NotBuilt not built: d;
+replay d s c|; # no statement;|-|-|Absent absent: s;
+replay d s c||\"|-|ConfigRefused refused: s line 1: OpenQuote;
+replay d s c||INTERFACE I &|'|ConfigRefused refused: s line 1: DanglingJoin;
+replay d s c||;x|-|ConfigRefused refused: s line 2: UnknownKeyword;
+replay d s c||INTERFACE I tcpip_client_interface.rb h 1 1 nil nil LENGTH 0 16 0 1;ROUTER R tcpip_server_interface.rb 2 2 nil nil BURST;|'|NotBuilt not built: s;
+replay d s c||INTERFACE I tcpip_client_interface.rb h 1 1 nil nil TERMINATED 0x0A 0x0A;|-|NotBuilt not built: s;
+replay d s c||INTERFACE I tcpip_client_interface.rb h 1 1 nil nil LENGTH 0 16 2 1;|-|NotBuilt not built: s;
+replay d s c||INTERFACE I tcpip_client_interface.rb h 1 1 nil nil;PROTOCOL READ LENGTH 0 16 0 1;|-|NotBuilt not built: s;
+replay d s c|||-|Absent absent: c;
+replay d s c||INTERFACE I tcpip_client_interface.rb h 1 1 nil nil LENGTH 0 16 0 1|-|Absent absent: c;
+replay d s c||# one; INTERFACE I tcpip_client_interface.rb h 1 &\r;\t1 nil 'nil' LENGTH 0 16 0 1;;|OPEN I;x ';|ScriptRefused refused: c line 2: WrongCount;
+replay d s c||INTERFACE I tcpip_client_interface.rb h 1 1 nil nil LENGTH 0 16 0 1|x|NotBuilt not built: c;
+replay d s c|||OPEN I|NotBuilt not built: c;
+replay d s c||INTERFACE I tcpip_client_interface.rb h 1 1 nil nil LENGTH 0 16 0 1|OPEN I|Ok 0 0.000000 I OPENED;END 1;";
+
+#[test]
+fn each_file_has_its_refusals_before_the_next(rt: HostRuntime) -> Result<(), Fail> {
+    commands_end_so(&rt, FILES)
+}
+
+// Two packets, one command and six items.
+const DEFINITIONS: &str = "\
+TELEMETRY INST HS BIG_ENDIAN \"Health and status\";\
+APPEND_ID_ITEM PKTID 8 UINT 1 \"Packet id\";\
+APPEND_ITEM TEMP1 16 UINT \"Temperature\";\
+POLY_READ_CONVERSION -100.0 0.00305;\
+LIMITS DEFAULT 1 ENABLED -80.0 -70.0 60.0 80.0;\
+LIMITS TVAC 1 ENABLED -80.0 -70.0 0.0 80.0;\
+UNITS CELSIUS C;\
+FORMAT_STRING \"%0.3f\";\
+APPEND_ITEM MODE 8 UINT;\
+STATE OFF 0;\
+STATE ON 1;\
+TELEMETRY AUX LINE BIG_ENDIAN \"A line of text\";\
+APPEND_ITEM TEXT 0 STRING;\
+COMMAND INST COLLECT BIG_ENDIAN \"Start a collect\";\
+APPEND_ID_PARAMETER OPCODE 8 UINT 7 7 7 \"Opcode\";\
+APPEND_PARAMETER DURATION 16 UINT 0 10 5 \"Duration\"";
+
+// Two interfaces and a router for them.
+const INSTRUMENT: &str = "\
+TITLE \"Demo\";\
+INTERFACE INST_INT tcpip_client_interface.rb localhost 8080 8080 10.0 nil LENGTH 0 16 0 1 BIG_ENDIAN 2 nil nil true;\
+TARGET INST;\
+INTERFACE AUX_INT tcpip_client_interface.rb localhost 8081 8081 10.0 nil TERMINATED 0x0A 0x0A;\
+TARGET AUX;\
+ROUTER OUT tcpip_server_interface.rb 2950 2950 10.0 nil PREIDENTIFIED;\
+ROUTE INST_INT";
+
+#[test]
+fn a_check_counts_what_there_is(rt: HostRuntime) -> Result<(), Fail> {
+    let row = format!(in rt.alloc();
+        "check d s|{DEFINITIONS}|{INSTRUMENT}||Ok telemetry 2 commands 1 items 6 interfaces 2 routers 1;"
+    )?;
+    commands_end_so(&rt, row.as_str())
+}
+
+// How a replay ends whose definitions and script are these bytes.
+fn ended_over(alloc: Global, definitions: &[u8], script: &[u8]) -> Result<Vec<u8>, Fail> {
+    let mut held = Vec::new(alloc);
+    for (name, content) in [("d", definitions), ("s", SITE.as_bytes()), ("c", script)] {
+        let name = Bytes::copy(alloc, name.as_bytes())?;
+        held.push((name, Bytes::copy(alloc, content)?))?;
+    }
+    let mut files = MemFiles::new(held, Vec::new(alloc));
+    let mut sink = MemSink::new(alloc, Vec::new(alloc));
+    ended(alloc, "replay d s c", &mut files, &mut sink)
+}
+
+#[test]
+fn a_file_that_is_no_text_is_refused_as_a_whole(rt: HostRuntime) -> Result<(), Fail> {
+    let found = ended_over(rt.alloc(), b"A\n\xff '", b"")?;
+    assert_eq!(rt;
+        found.as_slice(),
+        b"ConfigRefused refused: d line 0: NotText\n".as_slice()
+    );
+    let found = ended_over(rt.alloc(), b"", b"OPEN I\n\x80")?;
+    assert_eq!(rt;
+        found.as_slice(),
+        b"ScriptRefused refused: c line 0: WrongCount\n".as_slice()
+    );
+    Ok(())
+}

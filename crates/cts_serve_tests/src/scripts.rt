@@ -1,0 +1,133 @@
+// Replays of scripts.
+use crate::table::{SITE, replays_end_so, said};
+use std::alloc::{AllocError, Global};
+use std::test::Fail;
+
+// A packet in one piece and in pieces of one byte; bytes in no packet; a length within its own field, after which no bytes may
+// follow; a packet before such an error; a second connection; any case; no events; bytes before a connection; a connection that
+// is opened twice, and closed twice.
+const CONNECTIONS: &str = "\
+OPEN I;BYTES I 0004AABB;|Ok 0 0.000000 I OPENED;1 0.000000 I PACKET UNKNOWN UNKNOWN 0004aabb;END 2;
+OPEN I;BYTES I 00;BYTES I 04;BYTES I AA;BYTES I BB|Ok 0 0.000000 I OPENED;1 0.000000 I PACKET UNKNOWN UNKNOWN 0004aabb;END 2;
+OPEN I;BYTES I 0004AABB0005CC;CLOSE I PEER;|Ok 0 0.000000 I OPENED;1 0.000000 I PACKET UNKNOWN UNKNOWN 0004aabb;2 0.000000 I CLOSED PEER held 3 0 0 0 skipped 0 empty 0 unposted 0 unsent 0;END 3;
+OPEN I;BYTES I 0001FFFFFF;BYTES I 00;|ScriptRefused 0 0.000000 I OPENED;1 0.000000 I CLOSED BAD 1 SHORT 1 held 5 0 0 0 skipped 0 empty 0 unposted 0 unsent 0;refused: c line 3: NotEnabled;
+OPEN I;BYTES I 0002;BYTES I 00030700;BYTES I 00ff;|Ok 0 0.000000 I OPENED;1 0.000000 I PACKET UNKNOWN UNKNOWN 0002;2 0.000000 I PACKET UNKNOWN UNKNOWN 000307;3 0.000000 I CLOSED BAD 1 SHORT 0 held 3 0 0 0 skipped 0 empty 0 unposted 0 unsent 0;END 4;
+OPEN I;BYTES I 0005AA;CLOSE I PEER;OPEN I;BYTES I 0003BB;|Ok 0 0.000000 I OPENED;1 0.000000 I CLOSED PEER held 3 0 0 0 skipped 0 empty 0 unposted 0 unsent 0;2 0.000000 I OPENED;3 0.000000 I PACKET UNKNOWN UNKNOWN 0003bb;END 4;
+open i;Bytes I 0003aa;|Ok 0 0.000000 I OPENED;1 0.000000 I PACKET UNKNOWN UNKNOWN 0003aa;END 2;
+|Ok END 0;
+BYTES I 00;|ScriptRefused refused: c line 1: NotEnabled;
+OPEN I;OPEN I;|ScriptRefused 0 0.000000 I OPENED;refused: c line 2: NotEnabled;
+OPEN I;CLOSE I PEER;CLOSE I PEER;|ScriptRefused 0 0.000000 I OPENED;1 0.000000 I CLOSED PEER held 0 0 0 0 skipped 0 empty 0 unposted 0 unsent 0;refused: c line 3: NotEnabled;";
+
+#[test]
+fn connections_open_bring_packets_and_close(rt: HostRuntime) -> Result<(), Fail> {
+    replays_end_so(&rt, SITE, CONNECTIONS)
+}
+
+const TWO: &str =
+    "INTERFACE I tcpip_client_interface.rb h 8080 8080 10.0 nil LENGTH 0 16 0 1;INTERFACE j tcpip_client_interface.rb h 8081 8081 10.0 nil LENGTH 0 16 0 1";
+
+// What a script may say, with the lines at which its statements begin, and what no statement says yet.
+const STATEMENTS: &str = "\
+;;# nothing;|Ok END 0;
+;OPEN J\r;|Ok 0 0.000000 J OPENED;END 1;
+OPEN I # first;;BYTES J &; 0003fF;\t'CLOSE' I \"PEER\"|ScriptRefused 0 0.000000 I OPENED;refused: c line 3: NotEnabled;
+OPEN I # first;OPEN J;BYTES J &; 0003fF;\t'CLOSE' I \"PEER\";CLOSE I PEER|ScriptRefused 0 0.000000 I OPENED;1 0.000000 J OPENED;2 0.000000 J PACKET UNKNOWN UNKNOWN 0003ff;3 0.000000 I CLOSED PEER held 0 0 0 0 skipped 0 empty 0 unposted 0 unsent 0;refused: c line 6: NotEnabled;
+open i;ByTeS i 00;close J PEER|ScriptRefused 0 0.000000 I OPENED;refused: c line 3: NotEnabled;
+OPEN K|NotBuilt not built: c;
+OPEN|NotBuilt not built: c;
+OPEN I I|NotBuilt not built: c;
+CLOSE I|NotBuilt not built: c;
+CLOSE I READ|NotBuilt not built: c;
+CLOSE I peer|NotBuilt not built: c;
+BYTES I|NotBuilt not built: c;
+BYTES I ''|NotBuilt not built: c;
+BYTES I 0|NotBuilt not built: c;
+BYTES I 0g|NotBuilt not built: c;
+BYTES I 00 11|NotBuilt not built: c;
+BYTES K 00|NotBuilt not built: c;
+OPEN I;TIME 5|NotBuilt not built: c;
+TRY OPEN I|NotBuilt not built: c;
+STOP|NotBuilt not built: c;
+OPEN I;;'|ScriptRefused refused: c line 3: WrongCount;";
+
+#[test]
+fn each_statement_of_a_script_has_one_event(rt: HostRuntime) -> Result<(), Fail> {
+    replays_end_so(&rt, TWO, STATEMENTS)
+}
+
+// A script that brings the bytes of a connection in pieces: a cut after byte k where bit k is set.
+fn script_with_cuts(alloc: Global, digits: &str, cuts: u32) -> Result<String, AllocError> {
+    let mut script = String::from_str(alloc, "OPEN I;BYTES I ")?;
+    for (at, digit) in digits.chars().enumerate() {
+        if at > 0 && at % 2 == 0 && (cuts >> ((at / 2 - 1) % 32)) % 2 == 1 {
+            script.push_str(";BYTES I ")?;
+        }
+        script.push(digit)?;
+    }
+    script.push_str(";CLOSE I PEER")?;
+    Ok(script)
+}
+
+#[test]
+fn every_cut_of_a_connection_gives_one_text(rt: HostRuntime) -> Result<(), Fail> {
+    let want =
+        b"Ok 0 0.000000 I OPENED\n1 0.000000 I PACKET UNKNOWN UNKNOWN 0003aa\n2 0.000000 I PACKET UNKNOWN UNKNOWN 0002\n3 0.000000 I PACKET UNKNOWN UNKNOWN 0004bbcc\n4 0.000000 I CLOSED PEER held 2 0 0 0 skipped 0 empty 0 unposted 0 unsent 0\nEND 5\n".as_slice();
+    for cuts in 0..1024u32 {
+        let script = script_with_cuts(rt.alloc(), "0003aa00020004bbcc0006", cuts)?;
+        let found = said(rt.alloc(), "replay d s c", "", SITE, script.as_str())?;
+        assert_eq!(rt; found.as_slice(), want, "cuts {cuts}");
+    }
+    Ok(())
+}
+
+// A power supply with two packets that are told by a number, and a pump with one packet.
+const UNITS: &str = "\
+TELEMETRY POWER STATUS BIG_ENDIAN \"State of the power supply\";\
+APPEND_ITEM LENGTH 16 UINT \"Bytes in the packet\";\
+APPEND_ID_ITEM KIND 8 UINT 1 \"1 for this packet\";\
+APPEND_ITEM VOLTS 8 UINT \"Volts\";\
+TELEMETRY POWER FAULT BIG_ENDIAN \"A fault of the power supply\";\
+APPEND_ITEM LENGTH 16 UINT \"Bytes in the packet\";\
+APPEND_ID_ITEM KIND 8 UINT 2 \"2 for this packet\";\
+APPEND_ITEM CODE 8 UINT \"What is wrong\";\
+TELEMETRY PUMP STATUS BIG_ENDIAN \"State of the pump\";\
+APPEND_ITEM LENGTH 16 UINT \"Bytes in the packet\";\
+APPEND_ITEM FLOW 16 UINT \"Litres an hour\"";
+
+const TWO_UNITS: &str = "\
+INTERFACE POWER_INT tcpip_client_interface.rb localhost 8080 8080 10.0 nil LENGTH 0 16 0 1;\
+TARGET POWER;\
+INTERFACE PUMP_INT tcpip_client_interface.rb localhost 8081 8081 10.0 nil LENGTH 0 16 0 1;\
+TARGET PUMP";
+
+const DAY: &str = "\
+OPEN POWER_INT;\
+OPEN PUMP_INT;\
+BYTES POWER_INT 000401;\
+BYTES POWER_INT 0C0004;\
+BYTES PUMP_INT 00040190;\
+BYTES POWER_INT 0207;\
+BYTES POWER_INT 000463FF000501;\
+CLOSE POWER_INT PEER;\
+OPEN POWER_INT;\
+BYTES POWER_INT 0004010D";
+
+const DAY_PRINTED: &[u8] = b"\
+Ok 0 0.000000 POWER_INT OPENED\n\
+1 0.000000 PUMP_INT OPENED\n\
+2 0.000000 POWER_INT PACKET POWER STATUS 0004010c\n\
+3 0.000000 PUMP_INT PACKET PUMP STATUS 00040190\n\
+4 0.000000 POWER_INT PACKET POWER FAULT 00040207\n\
+5 0.000000 POWER_INT PACKET UNKNOWN UNKNOWN 000463ff\n\
+6 0.000000 POWER_INT CLOSED PEER held 3 0 0 0 skipped 0 empty 0 unposted 0 unsent 0\n\
+7 0.000000 POWER_INT OPENED\n\
+8 0.000000 POWER_INT PACKET POWER STATUS 0004010d\n\
+END 9\n";
+
+#[test]
+fn packets_of_two_interfaces_have_their_names(rt: HostRuntime) -> Result<(), Fail> {
+    let found = said(rt.alloc(), "replay d s c", UNITS, TWO_UNITS, DAY)?;
+    assert_eq!(rt; found.as_slice(), DAY_PRINTED);
+    Ok(())
+}
