@@ -22,8 +22,6 @@ pub use laws::{outcomes, stand_ins};
 pub use status::Status;
 
 #[cfg(test)]
-mod history_tests;
-#[cfg(test)]
 mod ident_tests;
 #[cfg(test)]
 mod lines_tests;
@@ -33,5 +31,3 @@ mod loading_tests;
 mod site_tests;
 #[cfg(test)]
 mod tests;
-#[cfg(test)]
-mod world_tests;

@@ -1,6 +1,7 @@
-// What histories say of commands, and what outputs say in their entries: the calls on which the program does not stand yet.
-use cts_base::Bytes;
-use cts_core::takes_room;
+// What a history has room for; and what histories say of commands, and outputs in their entries: calls on which the program
+// does not stand yet.
+use crate::{History, WorldFault, takes_room};
+use cts_base::{Bytes, Memory};
 use cts_def::{Ident, Time};
 use cts_entry::{Entry, Event, NotSent, What, commands_for, is_command_for, place_behind};
 use cts_told::said_of;
@@ -91,5 +92,32 @@ fn an_opened_and_a_piece_take_room(rt: HostRuntime) -> Result<(), Fail> {
     let piece = Bytes::copy(rt.alloc(), b"\x00")?;
     assert!(rt; takes_room(&Event::Opens(0)) && takes_room(&Event::Piece(0, piece)));
     assert!(rt; !takes_room(&Event::Stop) && !takes_room(&Event::Write(0, 1)));
+    Ok(())
+}
+
+fn open(history: &mut History) -> Result<(), WorldFault> {
+    history.room(1, 0)?;
+    history.append(Entry::opened(0, NOON));
+    Ok(())
+}
+
+fn stop(history: &mut History) -> Result<(), Memory> {
+    history.place()?;
+    history.append(Entry::stop(NOON));
+    Ok(())
+}
+
+#[test]
+fn a_history_is_full_at_its_limits_and_still_takes_a_stop(rt: HostRuntime) -> Result<(), Fail> {
+    let mut history = History::with_limits(rt.alloc(), 2, 3);
+    let full = |entries| { Err(WorldFault::Full { entries, bytes: 0 }) };
+    assert_eq!(rt; open(&mut history), Ok(()));
+    assert_eq!(rt; history.room(2, 0), full(1));
+    assert_eq!(rt; history.room(1, 4), full(1));
+    assert_eq!(rt; history.room(1, 3), Ok(()));
+    assert_eq!(rt; open(&mut history), Ok(()));
+    assert_eq!(rt; open(&mut history), full(2));
+    assert_eq!(rt; stop(&mut history), Ok(()));
+    assert!(rt; history.is_stopped() && history.entries().len() == 3);
     Ok(())
 }
