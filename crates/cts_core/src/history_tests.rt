@@ -107,10 +107,13 @@ fn stop(history: &mut History) -> Result<(), Memory> {
     Ok(())
 }
 
+fn full(entries: u64) -> Result<(), WorldFault> {
+    Err(WorldFault::Full { entries, bytes: 0 })
+}
+
 #[test]
 fn a_history_is_full_at_its_limits_and_still_takes_a_stop(rt: HostRuntime) -> Result<(), Fail> {
     let mut history = History::with_limits(rt.alloc(), 2, 3);
-    let full = |entries| { Err(WorldFault::Full { entries, bytes: 0 }) };
     assert_eq!(rt; open(&mut history), Ok(()));
     assert_eq!(rt; history.room(2, 0), full(1));
     assert_eq!(rt; history.room(1, 4), full(1));

@@ -21,5 +21,3 @@ pub use world::World;
 
 #[cfg(test)]
 mod history_tests;
-#[cfg(test)]
-mod world_tests;
