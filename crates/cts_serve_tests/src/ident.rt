@@ -2,7 +2,7 @@
 ghost use Rattle.std.specs.Prelude.{◌≡◌};
 ghost use Rattle.cts_ident.specs.Identification.{is_worker};
 
-use crate::table::site_of;
+use crate::table::{bytes_of, site_of};
 use cts_def::{FIRST_SLOT, Ident, Site};
 use cts_ident::{identify, identify_command, named};
 use std::alloc::{AllocError, Global};
@@ -125,14 +125,6 @@ fn parts(row: &str) -> Result<(u32, &str, &str), Fail> {
     match number.parse::<u32>() {
         Ok(number) => Ok((number, front, last)),
         Err(_) => Err(Fail::new("no number")),
-    }
-}
-
-/// The bytes of pairs of hexadecimal digits.
-fn bytes_of(alloc: Global, digits: &str) -> Result<Vec<u8>, Fail> {
-    match hex::decode(alloc, digits.as_bytes()) {
-        Ok(bytes) => Ok(bytes),
-        Err(_) => Err(Fail::new("no bytes")),
     }
 }
 

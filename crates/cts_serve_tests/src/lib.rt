@@ -3,7 +3,11 @@
 #![tactic(auto)]
 
 #[cfg(test)]
+mod commands;
+#[cfg(test)]
 mod faults;
+#[cfg(test)]
+mod halls;
 #[cfg(test)]
 mod history;
 #[cfg(test)]
@@ -15,8 +19,12 @@ mod lines;
 #[cfg(test)]
 mod refusals;
 #[cfg(test)]
+mod room;
+#[cfg(test)]
 mod scripts;
 #[cfg(test)]
 mod site;
 #[cfg(test)]
 mod table;
+#[cfg(test)]
+mod values;

@@ -1,0 +1,139 @@
+// Commands built from texts, over definitions that were read.
+use crate::table::{cut, site_of};
+use cts_cmd::{Checks, Refused, TextFault, build, parse};
+use cts_def::Definitions;
+use std::alloc::Global;
+use std::process::Abort;
+use std::test::Fail;
+
+/// The command of the demo.
+const COLLECT: &str = "\
+COMMAND INST COLLECT BIG_ENDIAN;\
+APPEND_ID_PARAMETER OPCODE 8 UINT 7 7 7;\
+APPEND_PARAMETER DURATION 16 UINT 0 10 5";
+
+/// Numbers that overflow, states, texts and blocks; and a hazardous command.
+const FIELDS: &str = "\
+COMMAND T A BIG_ENDIAN;\
+APPEND_PARAMETER N 4 UINT 0 15 1;OVERFLOW TRUNCATE;\
+APPEND_PARAMETER S 4 INT -8 7 -1;OVERFLOW SATURATE;\
+APPEND_PARAMETER M 8 UINT 0 255 0;STATE OFF 0;STATE ARM 1 HAZARDOUS;REQUIRED;\
+APPEND_PARAMETER NAME 24 STRING 'ab';OVERFLOW TRUNCATE;\
+APPEND_PARAMETER RAW 16 BLOCK 0x0102;\
+APPEND_PARAMETER REST 0 BLOCK '';\
+COMMAND T B LITTLE_ENDIAN;HAZARDOUS;\
+APPEND_PARAMETER W 16 UINT 0 65535 258";
+
+/// What is answered, `all` or `none` of the checks, and the text.
+const COLLECTS: &str = "\
+0 07000a|all|INST COLLECT with DURATION 10
+0 07000a|all|inst collect WITH duration 0x0A
+0 070005|all|INST COLLECT
+0 090001|none|INST COLLECT with OPCODE 9, DURATION 1
+OutOfRange DURATION 11 0 10|all|INST COLLECT with DURATION 11
+0 07000b|none|INST COLLECT with DURATION 11
+Overflow DURATION|none|INST COLLECT with DURATION 70000
+Overflow DURATION|none|INST COLLECT with DURATION -1
+OutOfRange DURATION 70000 0 10|all|INST COLLECT with DURATION 70000
+Twice DURATION|all|INST COLLECT with DURATION 1, DURATION 2
+WrongType DURATION|all|INST COLLECT with DURATION x
+WrongType DURATION|all|INST COLLECT with DURATION '5'
+UnknownParameter x|all|INST COLLECT with DURATION 1, x 2, y 3, DURATION 4
+UnknownCommand|all|INST OTHER with x 2
+UnknownTarget|all|AUX COLLECT
+26 NoValue|all|INST COLLECT with DURATION";
+
+const FIELD_ROWS: &str = "\
+0 1f006162000102|all|T A with M OFF
+0 27006162000102|none|T A with M off, N 18, S 100
+0 f8006162000102|none|T A with M 0, N -1, S -100
+0 1f016162000102|none|T A with M ARM
+Hazardous|all|T A with M ARM
+Hazardous|all|T A with M 1
+0 1f026162000102|all|T A with M 2
+UnknownState M|all|T A with M ON
+WrongType S|all|T A with M ON, S x
+Missing M|all|T A with N 1
+0 1f006162630102|all|T A with M 0, NAME abcd
+0 1f000000000102|all|T A with M 0, NAME ''
+WrongType NAME|all|T A with M 0, NAME 5
+0 1f00616200ff00|all|T A with M 0, RAW '0xff'
+WrongType RAW|all|T A with M 0, RAW 0xff
+Overflow RAW|all|T A with M 0, RAW '0xfff'
+0 1f006162007800|all|T A with M 0, RAW 'x'
+0 1f0061620001020a0b0c|all|T A with M 0, REST '0x0a0b0c'
+Hazardous|all|T B
+1 0201|none|T B
+1 0100|none|T B with W 1";
+
+fn with_name(alloc: Global, what: &str, name: &[u8]) -> Result<String, Fail> {
+    Ok(format!(in alloc; "{what} {}", str::from_utf8(name)?)?)
+}
+
+fn refusal_text(alloc: Global, refused: &Refused) -> Result<String, Fail> {
+    match refused {
+        Refused::UnknownParameter(name) => with_name(alloc, "UnknownParameter", name.as_slice()),
+        Refused::Twice(name) => with_name(alloc, "Twice", name.as_slice()),
+        Refused::Missing(name) => with_name(alloc, "Missing", name.as_slice()),
+        Refused::WrongType(name) => with_name(alloc, "WrongType", name.as_slice()),
+        Refused::UnknownState(name) => with_name(alloc, "UnknownState", name.as_slice()),
+        Refused::Overflow(name) => with_name(alloc, "Overflow", name.as_slice()),
+        Refused::OutOfRange {
+            name,
+            value,
+            min,
+            max,
+        } => {
+            let name = with_name(alloc, "OutOfRange", name.as_slice())?;
+            Ok(format!(in alloc; "{name} {value} {min} {max}")?)
+        }
+        other => Ok(format!(in alloc; "{other:?}")?),
+    }
+}
+
+/// The number and the bytes of the command that a text builds, or why it does not.
+fn answer(alloc: Global, definitions: &Definitions, text: &str, all: bool) -> Result<String, Fail> {
+    let request = match parse(alloc, text.as_bytes()) {
+        Ok(request) => request,
+        Err(TextFault::Refused { place, cause }) => {
+            return Ok(format!(in alloc; "{place} {cause:?}")?);
+        }
+        Err(TextFault::Memory) => return Err(Fail::new("no memory")),
+    };
+    let checks = Checks {
+        range: all,
+        hazardous: all,
+    };
+    match build(alloc, definitions, &request, checks) {
+        Ok(built) => {
+            let digits = hex::encode(alloc, built.bytes.as_slice())?;
+            Ok(format!(in alloc; "{} {digits}", built.command)?)
+        }
+        Err(refused) => refusal_text(alloc, &refused),
+    }
+}
+
+fn texts_are_answered_so<R: Abort + AllocGlobal>(
+    rt: &R,
+    definitions: &str,
+    rows: &str,
+) -> Result<(), Fail> {
+    let site = site_of(rt.alloc(), definitions, "")?;
+    for row in rows.lines() {
+        let (want, rest) = cut(row)?;
+        let (checks, text) = cut(rest)?;
+        let answer = answer(rt.alloc(), &site.definitions, text, checks == "all")?;
+        assert_eq!(rt; answer.as_str(), want, "of {text}");
+    }
+    Ok(())
+}
+
+#[test]
+fn commands_of_the_demo_are_built(rt: HostRuntime) -> Result<(), Fail> {
+    texts_are_answered_so(&rt, COLLECT, COLLECTS)
+}
+
+#[test]
+fn fields_hold_what_is_given_for_them(rt: HostRuntime) -> Result<(), Fail> {
+    texts_are_answered_so(&rt, FIELDS, FIELD_ROWS)
+}
