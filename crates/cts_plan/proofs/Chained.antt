@@ -1,29 +1,17 @@
--- The protocols of connections that are without fault.
+-- The protocols of interfaces and routers that are without fault.
 use Rattle.std.proofs.Common.{◌≡◌, ℕ, ◌≤◌, ◌+◌, Bool, true, false, not, cond, ◌&&◌, ◌||◌, List, [], ◌∷◌, ◌++◌, length, map, Option, Some, None, refl, ap, ◌∙◌, arith, nat_lt}
 use Rattle.std.specs.Prelude.{IsTrue, nat_le}
 use Rattle.std.specs.List.{list_any}
 use Rattle.std.proofs.lemmas.List.{length-map}
-use Rattle.cts_words.specs.Refusals.{Refusal, or_else}
 use Rattle.cts_def.specs.Packets.{DefinitionsData}
-use Rattle.cts_def.specs.Protocols.{UseData, reads, reads_packets, is_packet_kind, is_chain}
+use Rattle.cts_def.specs.Protocols.{SpecData, UseData, reads, reads_packets, is_packet_kind, is_chain}
 use Rattle.cts_def.specs.Protocols as uses
-use Rattle.cts_plan.specs.declared.step.Step.{Step}
-use Rattle.cts_plan.specs.declared.step.Step.TheVariants.{Ready, Fixed}
 use Rattle.cts_plan.specs.declared.fault.SiteCause.{SiteCause}
-use Rattle.cts_plan.specs.Chains.{step_reads, step_reads_packets, are_packets_last, added, whole_chain}
-use Rattle.cts_plan.specs.Connections.{ConnectionData}
-use Rattle.cts_plan.specs.Completing.{step_fault, first_step_fault, fault_of}
-use Rattle.cts_plan.specs.SiteFiles.{use_of}
+use Rattle.cts_plan.specs.declared.fault.SiteCause.TheVariants.{ChainTooLong}
+use Rattle.cts_plan.specs.Steps.{StepData, step_reads, step_reads_packets, are_packets_last, added, whole_chain}
+use Rattle.cts_plan.specs.Standing.{spec_with, use_of}
+use Rattle.cts_plan.specs.Completing.{Refused, first_step_fault, fault_of}
 use Rattle.cts_plan.proofs.Lists.{both, and_true, neither, any_snoc}
-
-none_first : {R : Type 0} (a b : Option R) → or_else a b ≡ None → (a ≡ None) × (b ≡ None)
-none_first None b e = (refl, e)
-none_first (Some r) b e = absurd cc
-
--- where no protocol is wrong, the first one is not, and no other
-pub first_is_right : (d : DefinitionsData) (targets : List (List ℕ)) (s : Step) (ss : List Step) → first_step_fault d targets (s ∷ ss) ≡ None
-    → (step_fault d targets s ≡ None) × (first_step_fault d targets ss ≡ None)
-first_is_right d targets s ss e = none_first (step_fault d targets s) (first_step_fault d targets ss) e
 
 -- ---- none reads behind one that reads packets
 
@@ -41,7 +29,7 @@ others_fit p true true fits = absurd (fits_not p fits) where
 others_fit p true false fits = refl
 others_fit p false q fits = refl
 
-pub packets_last_more : (ss : List Step) (s : Step) → IsTrue (are_packets_last ss) → (step_reads s && list_any step_reads_packets ss) ≡ false → IsTrue (are_packets_last (ss ++ s ∷ []))
+pub packets_last_more : (ss : List StepData) (s : StepData) → IsTrue (are_packets_last ss) → (step_reads s && list_any step_reads_packets ss) ≡ false → IsTrue (are_packets_last (ss ++ s ∷ []))
 packets_last_more [] s last fits = alone (step_reads_packets s) where
   alone : (b : Bool) → (not (b && false) && true) ≡ true
   alone true = refl
@@ -57,15 +45,14 @@ packets_last_more (t ∷ ss) s last fits =
 -- ---- the whole chain
 
 -- what reads packets reads
-no_packets_at : (s : Step) → step_reads s ≡ false → step_reads_packets s ≡ false
-no_packets_at (Ready u) e = ap (λ b. b && is_packet_kind u.spec) e
-no_packets_at (Fixed f) e = e
+no_packets_at : (s : StepData) → step_reads s ≡ false → step_reads_packets s ≡ false
+no_packets_at s e = ap (λ b. b && is_packet_kind s.used.spec) e
 
 none_of : (a b : Bool) → a ≡ false → b ≡ false → (a || b) ≡ false
 none_of true b e f = absurd cc
 none_of false b e f = f
 
-no_packets : (ss : List Step) → list_any step_reads ss ≡ false → list_any step_reads_packets ss ≡ false
+no_packets : (ss : List StepData) → list_any step_reads ss ≡ false → list_any step_reads_packets ss ≡ false
 no_packets [] e = refl
 no_packets (s ∷ ss) e =
     let parts = neither (step_reads s) (list_any step_reads ss) e in
@@ -75,33 +62,31 @@ or_true : (a : Bool) → (a || true) ≡ true
 or_true true = refl
 or_true false = refl
 
-with_added_reads : (b : Bool) (ss : List Step) → list_any step_reads ss ≡ b → list_any step_reads (cond b ss (ss ++ added ∷ [])) ≡ true
+with_added_reads : (b : Bool) (ss : List StepData) → list_any step_reads ss ≡ b → list_any step_reads (cond b ss (ss ++ added ∷ [])) ≡ true
 with_added_reads true ss e = e
 with_added_reads false ss e = any_snoc step_reads ss added ∙ or_true (list_any step_reads ss)
 
-with_added_last : (b : Bool) (ss : List Step) → list_any step_reads ss ≡ b → IsTrue (are_packets_last ss) → IsTrue (are_packets_last (cond b ss (ss ++ added ∷ [])))
+with_added_last : (b : Bool) (ss : List StepData) → list_any step_reads ss ≡ b → IsTrue (are_packets_last ss) → IsTrue (are_packets_last (cond b ss (ss ++ added ∷ [])))
 with_added_last true ss e last = last
 with_added_last false ss e last = packets_last_more ss added last (no_packets ss e)
 
 -- ---- as uses
 
-use_reads : (d : DefinitionsData) (targets : List (List ℕ)) (s : Step) → reads (use_of d targets s) ≡ step_reads s
-use_reads d targets (Ready u) = refl
-use_reads d targets (Fixed f) = refl
+same_kind : (d : DefinitionsData) (targets : List (List ℕ)) (s : SpecData) → is_packet_kind (spec_with d targets s) ≡ is_packet_kind s
+same_kind d targets (uses.Burst b) = refl
+same_kind d targets (uses.Fixed f) = refl
+same_kind d targets (uses.Length l) = refl
+same_kind d targets (uses.Terminated t) = refl
+same_kind d targets (uses.Preidentified p) = refl
 
-and_true_end : (b : Bool) → (b && true) ≡ b
-and_true_end true = refl
-and_true_end false = refl
+use_reads_packets : (d : DefinitionsData) (targets : List (List ℕ)) (s : StepData) → reads_packets (use_of d targets s) ≡ step_reads_packets s
+use_reads_packets d targets s = ap (λ b. s.used.reads && b) (same_kind d targets s.used.spec)
 
-use_reads_packets : (d : DefinitionsData) (targets : List (List ℕ)) (s : Step) → reads_packets (use_of d targets s) ≡ step_reads_packets s
-use_reads_packets d targets (Ready u) = refl
-use_reads_packets d targets (Fixed f) = and_true_end f.reads
-
-any_use_reads : (d : DefinitionsData) (targets : List (List ℕ)) (ss : List Step) → list_any reads (map (use_of d targets) ss) ≡ list_any step_reads ss
+any_use_reads : (d : DefinitionsData) (targets : List (List ℕ)) (ss : List StepData) → list_any reads (map (use_of d targets) ss) ≡ list_any step_reads ss
 any_use_reads d targets [] = refl
-any_use_reads d targets (s ∷ ss) = rw (use_reads d targets s) (ap (λ b. step_reads s || b) (any_use_reads d targets ss))
+any_use_reads d targets (s ∷ ss) = ap (λ b. step_reads s || b) (any_use_reads d targets ss)
 
-uses_last : (d : DefinitionsData) (targets : List (List ℕ)) (ss : List Step) → uses.are_packets_last (map (use_of d targets) ss) ≡ are_packets_last ss
+uses_last : (d : DefinitionsData) (targets : List (List ℕ)) (ss : List StepData) → uses.are_packets_last (map (use_of d targets) ss) ≡ are_packets_last ss
 uses_last d targets [] = refl
 uses_last d targets (s ∷ ss) =
     ap (λ b. not (b && list_any reads (map (use_of d targets) ss)) && uses.are_packets_last (map (use_of d targets) ss)) (use_reads_packets d targets s)
@@ -112,7 +97,7 @@ not_above : (n : ℕ) → nat_lt 4 n ≡ false → nat_le n 4 ≡ true
 not_above n e = grind arith
 
 -- a chain that is not too long, and in which none reads behind one that reads packets
-pub sound_chain : (d : DefinitionsData) (targets : List (List ℕ)) (ss : List Step) → nat_lt 4 (length (whole_chain ss)) ≡ false → IsTrue (are_packets_last ss)
+pub sound_chain : (d : DefinitionsData) (targets : List (List ℕ)) (ss : List StepData) → nat_lt 4 (length (whole_chain ss)) ≡ false → IsTrue (are_packets_last ss)
     → IsTrue (is_chain (map (use_of d targets) (whole_chain ss)))
 sound_chain d targets ss few last =
     let chain = whole_chain ss in
@@ -123,13 +108,13 @@ sound_chain d targets ss few last =
     (any_use_reads d targets chain ∙ with_added_reads (list_any step_reads ss) ss refl))
     (uses_last d targets chain ∙ with_added_last (list_any step_reads ss) ss refl last)
 
-long_or_not : (b : Bool) (o : Option (Refusal SiteCause)) (r : Refusal SiteCause) → cond b (Some r) o ≡ None → b ≡ false
+long_or_not : (b : Bool) (o : Option Refused) (r : Refused) → cond b (Some r) o ≡ None → b ≡ false
 long_or_not true o r e = absurd cc
 long_or_not false o r e = refl
 
--- a connection without fault has no chain that is too long
-pub not_too_long : (d : DefinitionsData) (targets : List (List ℕ)) (c : ConnectionData) → fault_of d targets c ≡ None → nat_lt 4 (length (whole_chain c.steps)) ≡ false
-not_too_long d targets c none = long_or_not (nat_lt 4 (length (whole_chain c.steps))) (first_step_fault d targets c.steps) _ none
+-- an interface or router without fault has no chain that is too long
+pub not_too_long : (d : DefinitionsData) (targets : List (List ℕ)) (n : ℕ) (ss : List StepData) → fault_of d targets n ss ≡ None → nat_lt 4 (length (whole_chain ss)) ≡ false
+not_too_long d targets n ss none = long_or_not (nat_lt 4 (length (whole_chain ss))) (first_step_fault d targets ss) (n, ChainTooLong) none
 
 -- a chain of fewer than four has room for one more
 pub room_for : (n : ℕ) → nat_le 4 n ≡ false → n + 1 ≤ 4

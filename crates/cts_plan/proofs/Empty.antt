@@ -4,7 +4,7 @@ use Rattle.std.specs.List.{list_all, IsDistinct}
 use Rattle.cts_def.specs.Items.{is_same}
 use Rattle.cts_def.specs.Most.{most_items_in_all, most_packets, most_sets}
 use Rattle.cts_def.specs.Packets.{PacketData, DefinitionsData, AreSoundDefinitions, have_same_names, items_in, is_command, is_telemetry, default_set, begins_with_set}
-use Rattle.cts_plan.proofs.Keeps.{no_two}
+use Rattle.cts_plan.proofs.Kept.{no_two}
 use Rattle.cts_plan.proofs.Lists.{distinct_snoc}
 
 pub no_packets : (d : DefinitionsData) → d.telemetry ≡ [] → d.commands ≡ [] → d.set_names ≡ default_set ∷ [] → AreSoundDefinitions d

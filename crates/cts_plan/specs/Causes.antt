@@ -1,17 +1,16 @@
 -- Each cause, judged by what stands before a statement and by the statement.
 use Rattle.std.specs.Prelude.{ℕ, ◌+◌, Bool, true, false, not, ◌||◌, ◌&&◌, nat_eq, nat_lt, nat_le, List, [], ◌∷◌, length, Option, Some, None, is_none, codes, if◌then◌else◌}
-use Rattle.std.specs.List.{list_any, filter}
+use Rattle.std.specs.List.{list_any}
 use Rattle.std.specs.Option.{option_eq}
-use Rattle.cts_base.specs.Names.{spells}
 use Rattle.cts_def.specs.declared.proto_spec.Kind.{Kind}
 use Rattle.cts_def.specs.declared.proto_spec.Kind.TheVariants as kind
 use Rattle.cts_def.specs.Items.{is_same}
-use Rattle.cts_def.specs.Packets.{DefinitionsData}
-use Rattle.cts_def.specs.Sites.{is_known_target}
-use Rattle.cts_words.specs.Blocks.{last_of}
+use Rattle.cts_def.specs.Sites.{InterfaceData, RouterData, is_known_target}
+use Rattle.cts_plan.specs.declared.draft.Draft.{Draft}
+use Rattle.cts_plan.specs.declared.opened.Current.{Current}
+use Rattle.cts_plan.specs.declared.opened.Current.TheVariants as current
 use Rattle.cts_plan.specs.declared.keyword.Keyword.{Keyword}
 use Rattle.cts_plan.specs.declared.keyword.Keyword.TheVariants as keyword
-use Rattle.cts_plan.specs.declared.step.Step.{Step}
 use Rattle.cts_plan.specs.declared.line.Line.{Line}
 use Rattle.cts_plan.specs.declared.line.Line.TheVariants as line
 use Rattle.cts_plan.specs.declared.line.Detail.TheVariants as detail
@@ -19,59 +18,49 @@ use Rattle.cts_plan.specs.declared.fault.SiteCause.{SiteCause}
 use Rattle.cts_plan.specs.declared.fault.SiteCause.TheVariants.{UnknownKeyword, WrongCount, BadName, NotNumber, DoubleName, OutsideInterface, UnknownTarget, TargetTwice, UnknownInterface, TwoPorts, ProtocolKind, ChainTooLong, NotLast, MinIdSize, VariableLength, EmptySync, TooMany}
 use Rattle.cts_plan.specs.Words.{word, is_nil, port_of}
 use Rattle.cts_plan.specs.Forms.{role_of, head_fields, required, parameter_fields, has_protocol, protocol_of, parameters, is_other_choice, is_bad_name, is_no_number, is_empty_sync, any_field}
-use Rattle.cts_plan.specs.Chains.{step_reads, step_reads_packets}
-use Rattle.cts_plan.specs.Connections.{ConnectionData}
+use Rattle.cts_plan.specs.Steps.{StepData, step_reads, step_reads_packets}
 use Rattle.cts_plan.specs.Lines.{port_at, is_bad_length}
+use Rattle.cts_plan.specs.Standing.{has_name, number_of}
 
--- ---- what stands
+-- ---- what is read
 
--- the last interface or router, to which further lines belong
-abbrev pub is_router_open : Option ConnectionData → Bool
-is_router_open None = false
-is_router_open (Some c) = c.is_router
+abbrev pub is_nothing : Current → Bool
+is_nothing current.Nothing = true
+is_nothing _ = false
 
-abbrev pub is_interface_open : Option ConnectionData → Bool
-is_interface_open None = false
-is_interface_open (Some c) = not c.is_router
+abbrev pub is_interface : Current → Bool
+is_interface (current.Interface i) = true
+is_interface _ = false
 
-abbrev pub steps_in : Option ConnectionData → List Step
-steps_in None = []
-steps_in (Some c) = c.steps
+abbrev pub is_router : Current → Bool
+is_router (current.Router r) = true
+is_router _ = false
 
-abbrev pub routes_in : Option ConnectionData → List (List ℕ)
-routes_in None = []
-routes_in (Some c) = c.routes
+abbrev pub chain_in : Current → List StepData
+chain_in current.Nothing = []
+chain_in (current.Interface i) = i.chain
+chain_in (current.Router r) = r.chain
 
-abbrev pub open_steps : List ConnectionData → List Step
-open_steps cs = steps_in (last_of cs)
+abbrev pub targets_in : Current → List (List ℕ)
+targets_in (current.Interface i) = i.targets
+targets_in _ = []
 
-abbrev pub open_routes : List ConnectionData → List (List ℕ)
-open_routes cs = routes_in (last_of cs)
-
-abbrev pub is_interface : ConnectionData → Bool
-is_interface c = not c.is_router
-
-abbrev pub is_router : ConnectionData → Bool
-is_router c = c.is_router
-
-abbrev pub interfaces_in : List ConnectionData → List ConnectionData
-interfaces_in cs = filter is_interface cs
-
-abbrev pub routers_in : List ConnectionData → List ConnectionData
-routers_in cs = filter is_router cs
+abbrev pub routes_in : Current → List ℕ
+routes_in (current.Router r) = r.routes
+routes_in _ = []
 
 -- ---- causes by the words
 
 -- a line that needs an interface, a router or one of them before it
-abbrev pub is_outside : List ConnectionData → Keyword → Bool
-is_outside cs keyword.Title = false
-is_outside cs keyword.Port = false
-is_outside cs keyword.Desks = false
-is_outside cs keyword.Interface = false
-is_outside cs keyword.Router = false
-is_outside cs keyword.Protocol = is_none (last_of cs)
-is_outside cs keyword.Route = not (is_router_open (last_of cs))
-is_outside cs _ = not (is_interface_open (last_of cs))
+abbrev pub is_outside : Current → Keyword → Bool
+is_outside c keyword.Title = false
+is_outside c keyword.Port = false
+is_outside c keyword.Desks = false
+is_outside c keyword.Interface = false
+is_outside c keyword.Router = false
+is_outside c keyword.Protocol = is_nothing c
+is_outside c keyword.Route = not (is_router c)
+is_outside c _ = not (is_interface c)
 
 abbrev pub is_wrong_protocol_count : Option Kind → List (List ℕ) → Bool
 is_wrong_protocol_count None ws = false
@@ -98,15 +87,6 @@ abbrev pub is_wrong_count : Keyword → List (List ℕ) → Bool
 is_wrong_count k ws =
     nat_lt (length ws) (length (head_fields k ws)) || is_protocol_missing k ws || has_wrong_rest k ws || any_field is_other_choice k ws
 
--- an interface whose name this word is, in any case
-abbrev pub is_spelled : List ℕ → ConnectionData → Bool
-is_spelled word c = not c.is_router && spells word c.name
-
--- the file name, or the interface that ROUTE names
-abbrev pub is_unknown_interface : List ConnectionData → Keyword → List (List ℕ) → Bool
-is_unknown_interface cs keyword.Route ws = not (list_any (is_spelled (word ws 0)) cs)
-is_unknown_interface cs k ws = is_file_unknown k ws
-
 abbrev pub is_length : Option Kind → Bool
 is_length (Some kind.Length) = true
 is_length _ = false
@@ -131,70 +111,85 @@ is_other_kind k ws = has_protocol k ws && is_none (protocol_of k ws)
 
 -- ---- causes by what is said
 
-abbrev pub is_same_kind : ConnectionData → ConnectionData → Bool
-is_same_kind c d = if c.is_router then d.is_router else not d.is_router
+abbrev pub is_unknown_name : List InterfaceData → Option (List ℕ) → Bool
+is_unknown_name interfaces None = true
+is_unknown_name interfaces (Some name) = not (list_any (has_name name) interfaces)
 
--- another interface, or another router, has the name
-abbrev pub has_name_of : ConnectionData → ConnectionData → Bool
-has_name_of c d = is_same_kind c d && is_same d.name c.name
+-- ROUTE names no interface that is complete
+abbrev pub is_unrouted : Draft → Line → Bool
+is_unrouted s (line.Detail (detail.Route name)) = is_unknown_name s.site.interfaces name
+is_unrouted s _ = false
+
+-- the file name, or the interface that ROUTE names
+abbrev pub is_unknown_interface : Draft → Keyword → List (List ℕ) → Line → Bool
+is_unknown_interface s k ws l = is_file_unknown k ws || is_unrouted s l
+
+abbrev pub is_router_named : List ℕ → RouterData → Bool
+is_router_named name r = is_same r.name name
+
+abbrev pub has_route : List InterfaceData → List ℕ → Option (List ℕ) → Bool
+has_route interfaces routes None = false
+has_route interfaces routes (Some name) = list_any (λ route. nat_eq route (number_of interfaces name)) routes
 
 -- a name of an interface or router, or a route, that stands already
-abbrev pub is_double : List ConnectionData → Line → Bool
-is_double cs (line.Opening c) = list_any (has_name_of c) cs
-is_double cs (line.Detail (detail.Route name)) = list_any (λ route. is_same route name) (open_routes cs)
-is_double cs _ = false
+abbrev pub is_double : Draft → Line → Bool
+is_double s (line.Interface i) = list_any (has_name i.name) s.site.interfaces
+is_double s (line.Router r) = list_any (is_router_named r.name) s.site.routers
+is_double s (line.Detail (detail.Route name)) = has_route s.site.interfaces (routes_in s.current) name
+is_double s _ = false
 
 -- neither a packet nor a command has the target
-abbrev pub is_unknown_target : DefinitionsData → Line → Bool
-is_unknown_target d (line.Detail (detail.Target name)) = not (is_known_target d name)
-is_unknown_target d _ = false
+abbrev pub is_unknown_target : Draft → Line → Bool
+is_unknown_target s (line.Detail (detail.Target name)) = not (is_known_target s.site.definitions name)
+is_unknown_target s _ = false
 
-abbrev pub maps : List ℕ → ConnectionData → Bool
-maps name c = not c.is_router && list_any (λ target. is_same target name) c.targets
+abbrev pub is_in : List (List ℕ) → List ℕ → Bool
+is_in names name = list_any (λ other. is_same other name) names
+
+abbrev pub maps : List ℕ → InterfaceData → Bool
+maps name i = is_in i.targets name
 
 -- an interface has the target
-abbrev pub is_target_twice : List ConnectionData → Line → Bool
-is_target_twice cs (line.Detail (detail.Target name)) = list_any (maps name) cs
-is_target_twice cs _ = false
+abbrev pub is_target_twice : Draft → Line → Bool
+is_target_twice s (line.Detail (detail.Target name)) = list_any (maps name) s.site.interfaces || is_in (targets_in s.current) name
+is_target_twice s _ = false
 
 -- a fifth protocol
-abbrev pub is_chain_too_long : List ConnectionData → Line → Bool
-is_chain_too_long cs (line.Detail (detail.Step step)) = nat_le 4 (length (open_steps cs))
-is_chain_too_long cs _ = false
+abbrev pub is_chain_too_long : Draft → Line → Bool
+is_chain_too_long s (line.Detail (detail.Step step)) = nat_le 4 (length (chain_in s.current))
+is_chain_too_long s _ = false
 
 -- a reading protocol behind one that reads packets
-abbrev pub is_not_last : List ConnectionData → Line → Bool
-is_not_last cs (line.Detail (detail.Step step)) = step_reads step && list_any step_reads_packets (open_steps cs)
-is_not_last cs _ = false
-
-abbrev pub most : ConnectionData → ℕ
-most c = if c.is_router then 4 else 16
+abbrev pub is_not_last : Draft → Line → Bool
+is_not_last s (line.Detail (detail.Step step)) = step_reads step && list_any step_reads_packets (chain_in s.current)
+is_not_last s _ = false
 
 -- a 17th interface or a 5th router
-abbrev pub is_too_many : List ConnectionData → Line → Bool
-is_too_many cs (line.Opening c) = nat_le (most c) (length (filter (is_same_kind c) cs))
-is_too_many cs _ = false
+abbrev pub is_too_many : Draft → Line → Bool
+is_too_many s (line.Interface i) = nat_le 16 (length s.site.interfaces)
+is_too_many s (line.Router r) = nat_le 4 (length s.site.routers)
+is_too_many s _ = false
 
 -- ---- all of them
 
-abbrev pub holds : SiteCause → DefinitionsData → List ConnectionData → Keyword → List (List ℕ) → Line → Bool
-holds UnknownKeyword d cs k ws l = false
-holds OutsideInterface d cs k ws l = is_outside cs k
-holds WrongCount d cs k ws l = is_wrong_count k ws
-holds UnknownInterface d cs k ws l = is_unknown_interface cs k ws
-holds BadName d cs k ws l = any_field is_bad_name k ws
-holds NotNumber d cs k ws l = is_not_number k ws
-holds DoubleName d cs k ws l = is_double cs l
-holds TwoPorts d cs k ws l = is_two_ports k ws
-holds UnknownTarget d cs k ws l = is_unknown_target d l
-holds TargetTwice d cs k ws l = is_target_twice cs l
-holds ProtocolKind d cs k ws l = is_other_kind k ws
-holds EmptySync d cs k ws l = any_field is_empty_sync k ws
-holds ChainTooLong d cs k ws l = is_chain_too_long cs l
-holds NotLast d cs k ws l = is_not_last cs l
-holds MinIdSize d cs k ws l = false
-holds VariableLength d cs k ws l = false
-holds TooMany d cs k ws l = is_too_many cs l
+abbrev pub holds : SiteCause → Draft → Keyword → List (List ℕ) → Line → Bool
+holds UnknownKeyword s k ws l = false
+holds OutsideInterface s k ws l = is_outside s.current k
+holds WrongCount s k ws l = is_wrong_count k ws
+holds UnknownInterface s k ws l = is_unknown_interface s k ws l
+holds BadName s k ws l = any_field is_bad_name k ws
+holds NotNumber s k ws l = is_not_number k ws
+holds DoubleName s k ws l = is_double s l
+holds TwoPorts s k ws l = is_two_ports k ws
+holds UnknownTarget s k ws l = is_unknown_target s l
+holds TargetTwice s k ws l = is_target_twice s l
+holds ProtocolKind s k ws l = is_other_kind k ws
+holds EmptySync s k ws l = any_field is_empty_sync k ws
+holds ChainTooLong s k ws l = is_chain_too_long s l
+holds NotLast s k ws l = is_not_last s l
+holds MinIdSize s k ws l = false
+holds VariableLength s k ws l = false
+holds TooMany s k ws l = is_too_many s l
 
 -- the order in which the causes of a known keyword are tried
 abbrev pub order : List SiteCause

@@ -8,20 +8,18 @@ use Rattle.cts_bits.specs.declared.order.Order.TheVariants.{Big}
 use Rattle.cts_def.specs.declared.proto_spec.Kind.{Kind}
 use Rattle.cts_def.specs.declared.proto_spec.Kind.TheVariants as kind
 use Rattle.cts_def.specs.Starts.{PlaceData}
-use Rattle.cts_def.specs.Protocols.{SpecData, Burst, Length, Terminated, Preidentified}
+use Rattle.cts_def.specs.Protocols.{FixedData, SpecData, Burst, Fixed, Length, Terminated, Preidentified}
 use Rattle.cts_plan.specs.declared.keyword.Keyword.{Keyword}
 use Rattle.cts_plan.specs.declared.keyword.Keyword.TheVariants as keyword
 use Rattle.cts_plan.specs.declared.keyword.Role.{Role}
 use Rattle.cts_plan.specs.declared.keyword.Role.TheVariants.{Client, Server}
 use Rattle.cts_plan.specs.declared.words.Way.{Way}
 use Rattle.cts_plan.specs.declared.words.Way.TheVariants.{ReadWrite}
-use Rattle.cts_plan.specs.declared.step.Step.{Step}
-use Rattle.cts_plan.specs.declared.step.Step.TheVariants as step
 use Rattle.cts_plan.specs.declared.line.Line.{Line}
 use Rattle.cts_plan.specs.declared.line.Line.TheVariants as line
 use Rattle.cts_plan.specs.declared.line.Detail.TheVariants as detail
-use Rattle.cts_plan.specs.Connections.{ConnectionData}
-use Rattle.cts_plan.specs.Steps.{FixedStepData}
+use Rattle.cts_plan.specs.Steps.{StepData}
+use Rattle.cts_plan.specs.Drafts.{InterfaceDraftData, RouterDraftData}
 use Rattle.cts_plan.specs.Words.{word, flag_of, order_of, way_of, way_reads, way_writes, port_of, desks_of, size_of, bits_of, per_count_of, max_of, signed_of, delay_of, pattern_of}
 use Rattle.cts_plan.specs.Forms.{role_of, protocol_of, parameters}
 
@@ -60,17 +58,16 @@ is_bad_length ws = is_none (length_place ws)
 abbrev pub burst_of : List (List ℕ) → SpecData
 burst_of ws = Burst (record { discard = size_or_zero (word ws 0); sync = pattern_of (word ws 1); fill = flag_or false (word ws 2) })
 
-abbrev pub fixed_of : ℕ → Way → List (List ℕ) → FixedStepData
-fixed_of n way ws = record {
-  line = n;
+-- its packets are known when all targets are
+abbrev pub fixed_of : List (List ℕ) → FixedData
+fixed_of ws = record {
   min_id = size_or_zero (word ws 0);
   discard = size_or_zero (word ws 1);
   sync = pattern_of (word ws 2);
   telemetry = flag_or true (word ws 3);
   fill = flag_or false (word ws 4);
   raise = flag_or false (word ws 5);
-  reads = way_reads way;
-  writes = way_writes way;
+  starts = [];
 }
 
 abbrev pub length_with : List (List ℕ) → PlaceData → SpecData
@@ -103,30 +100,26 @@ terminated_of ws = if nat_eq (length (pattern_of (word ws 1))) 0 then None else 
 abbrev pub preidentified_of : List (List ℕ) → SpecData
 preidentified_of ws = Preidentified (record { sync = pattern_of (word ws 0); max = max_of (word ws 1) })
 
-abbrev pub ready : Way → SpecData → Step
-ready way spec = step.Ready (record { spec = spec; reads = way_reads way; writes = way_writes way })
+abbrev pub step_with : ℕ → Way → SpecData → StepData
+step_with n way spec = record { line = n; used = record { spec = spec; reads = way_reads way; writes = way_writes way } }
 
 -- the protocol of a statement of this number, used this way, with these parameters
-abbrev pub step_of : ℕ → Way → Kind → List (List ℕ) → Option Step
-step_of n way kind.Burst ws = Some (ready way (burst_of ws))
-step_of n way kind.Fixed ws = Some (step.Fixed (fixed_of n way ws))
-step_of n way kind.Length ws = option_map (ready way) (length_of ws)
-step_of n way kind.Terminated ws = option_map (ready way) (terminated_of ws)
-step_of n way kind.Preidentified ws = Some (ready way (preidentified_of ws))
+abbrev pub step_of : ℕ → Way → Kind → List (List ℕ) → Option StepData
+step_of n way kind.Burst ws = Some (step_with n way (burst_of ws))
+step_of n way kind.Fixed ws = Some (step_with n way (Fixed (fixed_of ws)))
+step_of n way kind.Length ws = option_map (step_with n way) (length_of ws)
+step_of n way kind.Terminated ws = option_map (step_with n way) (terminated_of ws)
+step_of n way kind.Preidentified ws = Some (step_with n way (preidentified_of ws))
 
-abbrev pub step_in : ℕ → Way → List (List ℕ) → Option Kind → Option Step
+abbrev pub step_in : ℕ → Way → List (List ℕ) → Option Kind → Option StepData
 step_in n way ws None = None
 step_in n way ws (Some kind) = step_of n way kind ws
 
 -- the protocol of an INTERFACE, ROUTER or PROTOCOL statement
-abbrev pub step_at : ℕ → Way → Keyword → List (List ℕ) → Option Step
+abbrev pub step_at : ℕ → Way → Keyword → List (List ℕ) → Option StepData
 step_at n way k ws = step_in n way (parameters k ws) (protocol_of k ws)
 
 -- ---- interfaces and routers
-
-abbrev pub opens_router : Keyword → Bool
-opens_router keyword.Router = true
-opens_router _ = false
 
 abbrev pub is_server : Option Role → Bool
 is_server (Some Server) = true
@@ -144,24 +137,32 @@ host_of _ ws = []
 abbrev pub port_or_one : List ℕ → ℕ
 port_or_one word = unwrap_or (port_of word) 1
 
--- an interface or router as its own statement gives it
-abbrev pub opening_of : ℕ → Keyword → List (List ℕ) → List ℕ → ConnectionData
-opening_of n k ws name =
-    let role = role_of k ws in
+-- an interface as its own statement gives it
+abbrev pub interface_by : ℕ → List (List ℕ) → List ℕ → InterfaceDraftData
+interface_by n ws name =
+    let role = role_of keyword.Interface ws in
     record {
       line = n;
       name = name;
-      is_router = opens_router k;
       host = host_of role ws;
       serves = is_server role;
       port = port_or_one (word ws (port_at role));
-      steps = option_to_list (step_at n ReadWrite k ws);
+      chain = option_to_list (step_at n ReadWrite keyword.Interface ws);
       targets = [];
-      routes = [];
       delay = record { parts = pos 5000000000000 };
       reconnect = true;
       logged = true;
     }
+
+-- a router as its own statement gives it
+abbrev pub router_by : ℕ → List (List ℕ) → List ℕ → RouterDraftData
+router_by n ws name = record {
+  line = n;
+  name = name;
+  port = port_or_one (word ws (port_at (role_of keyword.Router ws)));
+  chain = option_to_list (step_at n ReadWrite keyword.Router ws);
+  routes = [];
+}
 
 -- ---- all statements
 
@@ -175,8 +176,11 @@ port_line ws = said_or_nothing (λ port. line.ApiPort port) (port_of (word ws 1)
 abbrev pub desks_line : List (List ℕ) → Line
 desks_line ws = said_or_nothing (λ desks. line.Desks desks) (desks_of (word ws 0))
 
-abbrev pub opening_line : ℕ → Keyword → List (List ℕ) → Line
-opening_line n k ws = said_or_nothing (λ name. line.Opening (opening_of n k ws name)) (name_of (word ws 0))
+abbrev pub interface_line : ℕ → List (List ℕ) → Line
+interface_line n ws = said_or_nothing (λ name. line.Interface (interface_by n ws name)) (name_of (word ws 0))
+
+abbrev pub router_line : ℕ → List (List ℕ) → Line
+router_line n ws = said_or_nothing (λ name. line.Router (router_by n ws name)) (name_of (word ws 0))
 
 abbrev pub target_line : List (List ℕ) → Line
 target_line ws = said_or_nothing (λ name. line.Detail (detail.Target name)) (name_of (word ws 0))
@@ -188,20 +192,17 @@ protocol_line n ws =
 abbrev pub delay_line : List (List ℕ) → Line
 delay_line ws = said_or_nothing (λ delay. line.Detail (detail.Delay delay)) (delay_of (word ws 0))
 
-abbrev pub route_line : List (List ℕ) → Line
-route_line ws = said_or_nothing (λ name. line.Detail (detail.Route name)) (name_of (word ws 0))
-
 -- What a statement of this number says.
 abbrev pub line_of : ℕ → Keyword → List (List ℕ) → Line
 line_of n keyword.Title ws = line.Nothing
 line_of n keyword.Port ws = port_line ws
 line_of n keyword.Desks ws = desks_line ws
-line_of n keyword.Interface ws = opening_line n keyword.Interface ws
-line_of n keyword.Router ws = opening_line n keyword.Router ws
+line_of n keyword.Interface ws = interface_line n ws
+line_of n keyword.Router ws = router_line n ws
 line_of n keyword.Target ws = target_line ws
 line_of n keyword.Protocol ws = protocol_line n ws
 line_of n keyword.ReconnectDelay ws = delay_line ws
 line_of n keyword.DontReconnect ws = line.Detail detail.DontReconnect
 line_of n keyword.Log ws = line.Detail (detail.Logged true)
 line_of n keyword.DontLog ws = line.Detail (detail.Logged false)
-line_of n keyword.Route ws = route_line ws
+line_of n keyword.Route ws = line.Detail (detail.Route (name_of (word ws 0)))

@@ -1,26 +1,24 @@
 // The causes for which a statement is refused.
-ghost use Rattle.std.specs.Prelude.{◌≡◌, ◌≤◌, ◌==◌, find, length};
-ghost use Rattle.std.specs.List.{list_any, filter};
-ghost use Rattle.std.specs.Option.{option_copied};
-ghost use Rattle.cts_words.specs.Blocks.{last_of};
-ghost use Rattle.cts_def.specs.Items.{is_same};
+ghost use Rattle.std.specs.Prelude.{◌≡◌, ◌≤◌, Some, find, length, nat_eq};
+ghost use Rattle.std.specs.List.{list_any};
 ghost use Rattle.cts_def.specs.Sites.{has_target, is_known_target};
-ghost use Rattle.cts_def.specs.Protocols.{reads_packets, is_packet_kind, spec_data};
-ghost use Rattle.cts_plan.specs.Chains.{step_reads, step_reads_packets};
-ghost use Rattle.cts_plan.specs.Causes.{is_router_open, is_interface_open, is_spelled, steps_in, routes_in, open_steps, open_routes, is_outside, is_wrong_protocol_count, is_file_unknown, is_protocol_missing, has_wrong_rest, is_wrong_count, is_unknown_interface, is_length, is_not_number, are_two, are_two_at, is_two_ports, is_other_kind, is_same_kind, has_name_of, is_double, is_unknown_target, maps, is_target_twice, is_chain_too_long, is_not_last, most, is_too_many, holds, order};
+ghost use Rattle.cts_def.specs.Protocols.{is_packet_kind, spec_data};
+ghost use Rattle.cts_plan.specs.Steps.{spec_in, step_reads_packets};
+ghost use Rattle.cts_plan.specs.Standing.{has_name};
+ghost use Rattle.cts_plan.specs.Causes.{is_nothing, is_interface, is_router, chain_in, targets_in, routes_in, is_outside, is_wrong_protocol_count, is_file_unknown, is_protocol_missing, has_wrong_rest, is_wrong_count, is_unrouted, is_unknown_interface, is_length, is_not_number, are_two, are_two_at, is_two_ports, is_other_kind, is_router_named, has_route, is_double, is_unknown_target, is_in, maps, is_target_twice, is_chain_too_long, is_not_last, is_too_many, holds, order};
 
-use crate::connection::Connection;
+use crate::draft::{Draft, number_of};
 use crate::fault::SiteCause;
 use crate::keyword::{
     Keyword, has_bad_name, has_empty_sync, has_no_number, has_other_choice, has_protocol,
     head_fields, parameter_fields, parameters, protocol_of, required, role_of,
 };
 use crate::line::{Detail, Line, is_bad_length, port_at};
-use crate::step::Step;
+use crate::opened::Current;
+use crate::step::{Parameters, Step};
 use crate::words::{is_nil, port_of, word};
-use cts_base::{Bytes, Name, spells};
-use cts_def::{Definitions, Kind, Packet, ProtoSpec, ProtoUse};
-use cts_words::last;
+use cts_base::{Bytes, Name};
+use cts_def::{Definitions, Interface, Kind, Packet, ProtoSpec, Router};
 
 /// The causes of a statement with a known keyword, in the order in which they are tried.
 const ORDER: [SiteCause; 14] = [
@@ -40,56 +38,68 @@ const ORDER: [SiteCause; 14] = [
     SiteCause::TooMany,
 ];
 
-fn is_router_open(connection: Option<&Connection>) -> bool
-    ensures { result ≡ is_router_open (option_copied connection.entry) }
+fn is_nothing(current: &Current) -> bool
+    ensures { result ≡ is_nothing current.now }
 {
-    match connection {
-        Some(connection) => connection.is_router,
-        None => false,
+    match current {
+        Current::Nothing => true,
+        Current::Interface(_) => false,
+        Current::Router(_) => false,
     }
 }
 
-fn is_interface_open(connection: Option<&Connection>) -> bool
-    ensures { result ≡ is_interface_open (option_copied connection.entry) }
+fn is_interface(current: &Current) -> bool
+    ensures { result ≡ is_interface current.now }
 {
-    match connection {
-        Some(connection) => !connection.is_router,
-        None => false,
+    match current {
+        Current::Interface(_) => true,
+        Current::Nothing => false,
+        Current::Router(_) => false,
     }
 }
 
-fn steps_in(connection: Option<&Connection>) -> &[Step]
-    ensures { result.now ≡ steps_in (option_copied connection.entry) }
+fn is_router(current: &Current) -> bool
+    ensures { result ≡ is_router current.now }
 {
-    match connection {
-        Some(connection) => connection.steps.as_slice(),
-        None => &[],
+    match current {
+        Current::Router(_) => true,
+        Current::Nothing => false,
+        Current::Interface(_) => false,
     }
 }
 
-fn routes_in(connection: Option<&Connection>) -> &[Name]
-    ensures { result.now ≡ routes_in (option_copied connection.entry) }
+fn chain_in(current: &Current) -> &[Step]
+    ensures { result.now ≡ chain_in current.now }
 {
-    match connection {
-        Some(connection) => connection.routes.as_slice(),
-        None => &[],
+    match current {
+        Current::Nothing => &[],
+        Current::Interface(draft) => draft.chain.as_slice(),
+        Current::Router(draft) => draft.chain.as_slice(),
     }
 }
 
-fn open_steps(connections: &[Connection]) -> &[Step]
-    ensures { result.now ≡ open_steps connections.now }
+fn targets_in(current: &Current) -> &[Name]
+    ensures { result.now ≡ targets_in current.now }
 {
-    steps_in(last(connections))
+    match current {
+        Current::Interface(draft) => draft.targets.as_slice(),
+        Current::Nothing => &[],
+        Current::Router(_) => &[],
+    }
 }
 
-fn open_routes(connections: &[Connection]) -> &[Name]
-    ensures { result.now ≡ open_routes connections.now }
+fn routes_in(current: &Current) -> &[u32]
+    ensures { result.now ≡ routes_in current.now }
 {
-    routes_in(last(connections))
+    match current {
+        Current::Router(draft) => draft.routes.as_slice(),
+        Current::Nothing => &[],
+        Current::Interface(_) => &[],
+    }
 }
 
-fn is_outside(connections: &[Connection], keyword: Keyword) -> bool
-    ensures { result ≡ is_outside connections.now keyword }
+fn is_outside(current: &Current, keyword: Keyword) -> bool
+    ensures { result ≡ is_outside current.now keyword }
 {
     match keyword {
         Keyword::Title => false,
@@ -97,9 +107,9 @@ fn is_outside(connections: &[Connection], keyword: Keyword) -> bool
         Keyword::Desks => false,
         Keyword::Interface => false,
         Keyword::Router => false,
-        Keyword::Protocol => last(connections).is_none(),
-        Keyword::Route => !is_router_open(last(connections)),
-        _ => !is_interface_open(last(connections)),
+        Keyword::Protocol => is_nothing(current),
+        Keyword::Route => !is_router(current),
+        _ => !is_interface(current),
     }
 }
 
@@ -150,25 +160,28 @@ fn is_wrong_count(keyword: Keyword, words: &[Bytes]) -> bool
         || has_other_choice(keyword, words)
 }
 
-fn is_spelled(word: &[u8], connection: &Connection) -> bool
-    ensures { result ≡ is_spelled word.now connection.now }
+fn has_interface(interfaces: &[Interface], name: &Name) -> bool
+    ensures { result ≡ list_any (has_name name.now) interfaces.now }
 {
-    !connection.is_router && spells(word, connection.name.as_slice())
+    interfaces.iter().any(|interface| interface.name == *name)
 }
 
-fn has_spelled(connections: &[Connection], word: &[u8]) -> bool
-    ensures { result ≡ list_any (is_spelled word.now) connections.now }
+fn is_unrouted(draft: &Draft, line: &Line) -> bool
+    ensures { result ≡ is_unrouted draft.now line.now }
 {
-    connections.iter().any(|c| is_spelled(word, c))
-}
-
-fn is_unknown_interface(connections: &[Connection], keyword: Keyword, words: &[Bytes]) -> bool
-    ensures { result ≡ is_unknown_interface connections.now keyword words.now }
-{
-    match keyword {
-        Keyword::Route => !has_spelled(connections, word(words, 0)),
-        _ => is_file_unknown(keyword, words),
+    match line {
+        Line::Detail(Detail::Route(Some(name))) => {
+            !has_interface(draft.site.interfaces.as_slice(), name)
+        }
+        Line::Detail(Detail::Route(None)) => true,
+        _ => false,
     }
+}
+
+fn is_unknown_interface(draft: &Draft, keyword: Keyword, words: &[Bytes], line: &Line) -> bool
+    ensures { result ≡ is_unknown_interface draft.now keyword words.now line.now }
+{
+    is_file_unknown(keyword, words) || is_unrouted(draft, line)
 }
 
 fn is_length(kind: Option<Kind>) -> bool
@@ -216,40 +229,33 @@ fn is_other_kind(keyword: Keyword, words: &[Bytes]) -> bool
     has_protocol(keyword, words) && protocol_of(keyword, words).is_none()
 }
 
-fn is_same_kind(one: &Connection, other: &Connection) -> bool
-    ensures { result ≡ is_same_kind one.now other.now }
+fn has_router(routers: &[Router], name: &Name) -> bool
+    ensures { result ≡ list_any (is_router_named name.now) routers.now }
 {
-    if one.is_router {
-        other.is_router
-    } else {
-        !other.is_router
-    }
+    routers.iter().any(|router| router.name == *name)
 }
 
-fn has_name_of(one: &Connection, other: &Connection) -> bool
-    ensures { result ≡ has_name_of one.now other.now }
+fn has_number(routes: &[u32], number: u32) -> bool
+    ensures { result ≡ list_any (λ route. nat_eq route number) routes.now }
 {
-    is_same_kind(one, other) && other.name == one.name
+    routes.iter().any(|route| *route == number)
 }
 
-fn has_double(connections: &[Connection], new: &Connection) -> bool
-    ensures { result ≡ list_any (has_name_of new.now) connections.now }
+fn has_route(draft: &Draft, name: &Name) -> bool
+    ensures { result ≡ has_route draft.now.site.interfaces (routes_in draft.now.current) (Some name.now) }
 {
-    connections.iter().any(|c| has_name_of(new, c))
+    let number = number_of(draft.site.interfaces.as_slice(), name);
+    has_number(routes_in(&draft.current), number)
 }
 
-fn has_name(names: &[Name], name: &Name) -> bool
-    ensures { result ≡ list_any (λ other. is_same other name.now) names.now }
-{
-    names.iter().any(|other| *other == *name)
-}
-
-fn is_double(connections: &[Connection], line: &Line) -> bool
-    ensures { result ≡ is_double connections.now line.now }
+fn is_double(draft: &Draft, line: &Line) -> bool
+    ensures { result ≡ is_double draft.now line.now }
 {
     match line {
-        Line::Opening(new) => has_double(connections, new),
-        Line::Detail(Detail::Route(name)) => has_name(open_routes(connections), name),
+        Line::Interface(new) => has_interface(draft.site.interfaces.as_slice(), &new.name),
+        Line::Router(new) => has_router(draft.site.routers.as_slice(), &new.name),
+        Line::Detail(Detail::Route(Some(name))) => has_route(draft, name),
+        Line::Detail(Detail::Route(None)) => false,
         _ => false,
     }
 }
@@ -267,52 +273,51 @@ fn is_known_target(definitions: &Definitions, name: &Name) -> bool
         || has_target(definitions.commands.as_slice(), name)
 }
 
-fn is_unknown_target(definitions: &Definitions, line: &Line) -> bool
-    ensures { result ≡ is_unknown_target definitions.now line.now }
+fn is_unknown_target(draft: &Draft, line: &Line) -> bool
+    ensures { result ≡ is_unknown_target draft.now line.now }
 {
     match line {
-        Line::Detail(Detail::Target(name)) => !is_known_target(definitions, name),
+        Line::Detail(Detail::Target(name)) => !is_known_target(&draft.site.definitions, name),
         _ => false,
     }
 }
 
-fn maps(name: &Name, connection: &Connection) -> bool
-    ensures { result ≡ maps name.now connection.now }
+fn is_in(names: &[Name], name: &Name) -> bool
+    ensures { result ≡ is_in names.now name.now }
 {
-    !connection.is_router && has_name(connection.targets.as_slice(), name)
+    names.iter().any(|other| *other == *name)
 }
 
-fn is_mapped(connections: &[Connection], name: &Name) -> bool
-    ensures { result ≡ list_any (maps name.now) connections.now }
+fn maps(name: &Name, interface: &Interface) -> bool
+    ensures { result ≡ maps name.now interface.now }
 {
-    connections.iter().any(|connection| maps(name, connection))
+    is_in(interface.targets.as_slice(), name)
 }
 
-fn is_target_twice(connections: &[Connection], line: &Line) -> bool
-    ensures { result ≡ is_target_twice connections.now line.now }
+fn is_mapped(interfaces: &[Interface], name: &Name) -> bool
+    ensures { result ≡ list_any (maps name.now) interfaces.now }
+{
+    interfaces.iter().any(|interface| maps(name, interface))
+}
+
+fn is_target_twice(draft: &Draft, line: &Line) -> bool
+    ensures { result ≡ is_target_twice draft.now line.now }
 {
     match line {
-        Line::Detail(Detail::Target(name)) => is_mapped(connections, name),
+        Line::Detail(Detail::Target(name)) => {
+            is_mapped(draft.site.interfaces.as_slice(), name)
+                || is_in(targets_in(&draft.current), name)
+        }
         _ => false,
     }
 }
 
-fn is_chain_too_long(connections: &[Connection], line: &Line) -> bool
-    ensures { result ≡ is_chain_too_long connections.now line.now }
+fn is_chain_too_long(draft: &Draft, line: &Line) -> bool
+    ensures { result ≡ is_chain_too_long draft.now line.now }
 {
     match line {
-        Line::Detail(Detail::Step(_)) => 4 <= open_steps(connections).len(),
+        Line::Detail(Detail::Step(_)) => 4 <= chain_in(&draft.current).len(),
         _ => false,
-    }
-}
-
-/// Whether a protocol cuts what is read.
-pub fn step_reads(step: &Step) -> bool
-    ensures { result ≡ step_reads step.now }
-{
-    match step {
-        Step::Ready(ready) => ready.reads,
-        Step::Fixed(fixed) => fixed.reads,
     }
 }
 
@@ -328,19 +333,19 @@ fn is_packet_kind(spec: &ProtoSpec) -> bool
     }
 }
 
-fn reads_packets(ready: &ProtoUse) -> bool
-    ensures { result ≡ reads_packets ready.now }
+fn is_packet_kind_in(parameters: &Parameters) -> bool
+    ensures { result ≡ is_packet_kind (spec_in parameters.now) }
 {
-    ready.reads && is_packet_kind(&ready.spec)
+    match parameters {
+        Parameters::Ready(spec) => is_packet_kind(spec),
+        Parameters::Fixed(_) => true,
+    }
 }
 
 fn step_reads_packets(step: &Step) -> bool
     ensures { result ≡ step_reads_packets step.now }
 {
-    match step {
-        Step::Ready(ready) => reads_packets(ready),
-        Step::Fixed(fixed) => fixed.reads,
-    }
+    step.reads && is_packet_kind_in(&step.parameters)
 }
 
 fn any_reads_packets(steps: &[Step]) -> bool
@@ -349,98 +354,74 @@ fn any_reads_packets(steps: &[Step]) -> bool
     steps.iter().any(|step| step_reads_packets(step))
 }
 
-fn is_not_last(connections: &[Connection], line: &Line) -> bool
-    ensures { result ≡ is_not_last connections.now line.now }
+fn is_not_last(draft: &Draft, line: &Line) -> bool
+    ensures { result ≡ is_not_last draft.now line.now }
 {
     match line {
         Line::Detail(Detail::Step(step)) => {
-            step_reads(step) && any_reads_packets(open_steps(connections))
+            step.reads && any_reads_packets(chain_in(&draft.current))
         }
         _ => false,
     }
 }
 
-fn most(new: &Connection) -> usize
-    ensures { result ≡ most new.now }
-{
-    if new.is_router { 4 } else { 16 }
-}
-
-fn count_of_kind(connections: &[Connection], new: &Connection) -> usize
-    ensures { result ≡ length (filter (is_same_kind new.now) connections.now) }
-{
-    connections.iter().filter(|c| is_same_kind(new, c)).count()
-}
-
-fn is_too_many(connections: &[Connection], line: &Line) -> bool
-    ensures { result ≡ is_too_many connections.now line.now }
+fn is_too_many(draft: &Draft, line: &Line) -> bool
+    ensures { result ≡ is_too_many draft.now line.now }
 {
     match line {
-        Line::Opening(new) => most(new) <= count_of_kind(connections, new),
+        Line::Interface(_) => 16 <= draft.site.interfaces.len(),
+        Line::Router(_) => 4 <= draft.site.routers.len(),
         _ => false,
     }
 }
 
-fn holds(
-    cause: SiteCause,
-    definitions: &Definitions,
-    connections: &[Connection],
-    keyword: Keyword,
-    words: &[Bytes],
-    line: &Line,
-) -> bool
-    ensures { result ≡ holds cause definitions.now connections.now keyword words.now line.now }
+fn holds(cause: SiteCause, draft: &Draft, keyword: Keyword, words: &[Bytes], line: &Line) -> bool
+    ensures { result ≡ holds cause draft.now keyword words.now line.now }
 {
     match cause {
         SiteCause::UnknownKeyword => false,
-        SiteCause::OutsideInterface => is_outside(connections, keyword),
+        SiteCause::OutsideInterface => is_outside(&draft.current, keyword),
         SiteCause::WrongCount => is_wrong_count(keyword, words),
-        SiteCause::UnknownInterface => is_unknown_interface(connections, keyword, words),
+        SiteCause::UnknownInterface => is_unknown_interface(draft, keyword, words, line),
         SiteCause::BadName => has_bad_name(keyword, words),
         SiteCause::NotNumber => is_not_number(keyword, words),
-        SiteCause::DoubleName => is_double(connections, line),
+        SiteCause::DoubleName => is_double(draft, line),
         SiteCause::TwoPorts => is_two_ports(keyword, words),
-        SiteCause::UnknownTarget => is_unknown_target(definitions, line),
-        SiteCause::TargetTwice => is_target_twice(connections, line),
+        SiteCause::UnknownTarget => is_unknown_target(draft, line),
+        SiteCause::TargetTwice => is_target_twice(draft, line),
         SiteCause::ProtocolKind => is_other_kind(keyword, words),
         SiteCause::EmptySync => has_empty_sync(keyword, words),
-        SiteCause::ChainTooLong => is_chain_too_long(connections, line),
-        SiteCause::NotLast => is_not_last(connections, line),
+        SiteCause::ChainTooLong => is_chain_too_long(draft, line),
+        SiteCause::NotLast => is_not_last(draft, line),
         SiteCause::MinIdSize => false,
         SiteCause::VariableLength => false,
-        SiteCause::TooMany => is_too_many(connections, line),
+        SiteCause::TooMany => is_too_many(draft, line),
     }
 }
 
 fn first_of(
     causes: &[SiteCause],
-    definitions: &Definitions,
-    connections: &[Connection],
+    draft: &Draft,
     keyword: Keyword,
     words: &[Bytes],
     line: &Line,
 ) -> Option<SiteCause>
-    ensures { result ≡ find (λ c. holds c definitions.now connections.now keyword words.now line.now) causes.now }
+    ensures { result ≡ find (λ c. holds c draft.now keyword words.now line.now) causes.now }
 {
-    causes.iter().copied().find(|cause| holds(
-        *cause,
-        definitions,
-        connections,
-        keyword,
-        words,
-        line,
-    ))
+    causes
+        .iter()
+        .copied()
+        .find(|cause| holds(*cause, draft, keyword, words, line))
 }
 
 /// The first cause that holds.
 pub fn first_cause(
-    definitions: &Definitions,
-    connections: &[Connection],
+    draft: &Draft,
     keyword: Keyword,
     words: &[Bytes],
     line: &Line,
 ) -> Option<SiteCause>
-    ensures { result ≡ find (λ c. holds c definitions.now connections.now keyword words.now line.now) order }
+    ensures { result ≡ find (λ c. holds c draft.now keyword words.now line.now) order }
 {
-    first_of(&ORDER, definitions, connections, keyword, words, line)
+    first_of(&ORDER, draft, keyword, words, line)
 }

@@ -1,28 +1,29 @@
-// What is judged when an interface or router is complete.
-ghost use Rattle.std.specs.Prelude.{◌≡◌, ◌≤◌, ◌++◌, length, find, IfOk, IsTrue, OnOk};
-ghost use Rattle.std.specs.List.{list_any, list_all, flat_map};
-ghost use Rattle.std.specs.Option.{option_copied};
+// What is judged when an interface or router is complete, and what is made of it.
+ghost use Rattle.std.specs.Prelude.{◌≡◌, ◌≤◌, ◌++◌, ◌||◌, length, map, IfOk, IsTrue, OnOk};
+ghost use Rattle.std.specs.List.{list_any, list_all};
+ghost use Rattle.cts_def.specs.Protocols as spec;
 ghost use Rattle.cts_def.specs.Protocols.{is_id_within, is_start_within};
-ghost use Rattle.cts_def.specs.Sites.{packets_of};
+ghost use Rattle.cts_def.specs.Sites.{packets_of, targets_at, routed_targets};
 ghost use Rattle.cts_def.specs.Starts.{has_places, id_field_data, id_fields};
 ghost use Rattle.cts_def.specs.Packets.{is_of};
-ghost use Rattle.cts_plan.specs.Chains.{step_reads, whole_chain};
-ghost use Rattle.cts_plan.specs.Placing.{Settles};
-ghost use Rattle.cts_plan.specs.Completing.{starts_of, is_bad_min_id, have_variable, cause_of_fixed, step_fault, first_step_fault, fault_of, is_named, targets_named, targets_for, due};
+ghost use Rattle.cts_plan.specs.declared.opened.Current.TheVariants as current;
+ghost use Rattle.cts_plan.specs.Steps.{step_reads, added, whole_chain};
+ghost use Rattle.cts_plan.specs.Standing.{starts_of, spec_with, use_of, chain_of, interface_of, router_of, completed};
+ghost use Rattle.cts_plan.specs.Completing.{is_bad_min_id, have_variable, cause_of_fixed, at_number, step_fault, first_step_fault, fault_of, fault_in};
+ghost use Rattle.cts_plan.specs.Keeping.{Settles, IsNewInterface, IsNewRouter};
 
-use crate::causes::step_reads;
-use crate::connection::Connection;
 use crate::fault::{SiteCause, SiteFault};
-use crate::step::{FixedStep, Step};
+use crate::fixed::FixedParameters;
+use crate::opened::{Chain, InterfaceDraft, RouterDraft};
+use crate::step::{Parameters, Step};
 use crate::targets::Targets;
-use cts_base::{List, Memory, Name};
+use cts_base::{Bytes, List, Memory, Name};
 use cts_bits::Place;
-use cts_def::{Definitions, Packet, Start};
-use cts_words::last;
+use cts_def::{Definitions, Interface, Packet, ProtoSpec, ProtoUse, Router, Site, Start};
 use std::alloc::Global;
 
-/// The packets among which FIXED looks: telemetry packets or commands.
-pub fn packets_of(definitions: &Definitions, telemetry: bool) -> &[Packet]
+// The packets among which FIXED looks: telemetry packets or commands.
+fn packets_of(definitions: &Definitions, telemetry: bool) -> &[Packet]
     ensures { result.now ≡ packets_of definitions.now telemetry }
 {
     if telemetry {
@@ -38,8 +39,8 @@ fn is_of(targets: &Targets, packet: &Packet) -> bool
     targets.has(&packet.target)
 }
 
-/// How the packets of these targets begin.
-pub fn starts_of(alloc: Global, targets: &Targets, packets: &[Packet]) -> Result<Vec<Start>, Memory>
+// How the packets of these targets begin.
+fn starts_of(alloc: Global, targets: &Targets, packets: &[Packet]) -> Result<Vec<Start>, Memory>
     ensures value { IfOk result (λ starts. starts.items ≡ starts_of targets.now packets.now) }
     ensures placed { IfOk result (λ starts. IsTrue (list_all has_places starts.items)) }
 {
@@ -76,7 +77,7 @@ fn are_starts_within(min_id: u32, starts: &[Start]) -> bool
     starts.iter().all(|start| is_start_within(min_id, start))
 }
 
-fn is_bad_min_id(fixed: &FixedStep, starts: &[Start]) -> bool
+fn is_bad_min_id(fixed: &FixedParameters, starts: &[Start]) -> bool
     ensures { result ≡ is_bad_min_id fixed.now starts.now }
 {
     fixed.min_id == 0
@@ -93,120 +94,203 @@ fn have_variable(targets: &Targets, packets: &[Packet]) -> bool
 }
 
 fn cause_of_fixed(
-    alloc: Global,
     targets: &Targets,
     packets: &[Packet],
-    fixed: &FixedStep,
-) -> Result<Option<SiteCause>, Memory>
-    ensures { IfOk result (λ cause. cause ≡ cause_of_fixed targets.now packets.now fixed.now) }
+    fixed: &FixedParameters,
+    starts: &[Start],
+) -> Option<SiteCause>
+    requires { starts.now ≡ starts_of targets.now packets.now }
+    ensures { result ≡ cause_of_fixed targets.now packets.now fixed.now }
 {
-    let starts = starts_of(alloc, targets, packets)?;
-    if is_bad_min_id(fixed, &starts) {
-        return Ok(Some(SiteCause::MinIdSize));
+    if is_bad_min_id(fixed, starts) {
+        Some(SiteCause::MinIdSize)
+    } else if have_variable(targets, packets) {
+        Some(SiteCause::VariableLength)
+    } else {
+        None
     }
-    if have_variable(targets, packets) {
-        return Ok(Some(SiteCause::VariableLength));
-    }
-    Ok(None)
 }
 
-fn judge_step(
+// FIXED of the packets of these targets, or why it is refused at this line.
+fn fixed_use(
     alloc: Global,
     definitions: &Definitions,
     targets: &Targets,
-    step: &Step,
-) -> Result<(), SiteFault>
-    ensures { Settles result (step_fault definitions.now targets.now step.now) }
+    line: u32,
+    fixed: FixedParameters,
+    reads: bool,
+    writes: bool,
+) -> Result<ProtoUse, SiteFault>
+    requires used { IsTrue (reads || writes) }
+    ensures settled { Settles result (at_number line (cause_of_fixed targets.now (packets_of definitions.now fixed.telemetry) fixed)) }
+    ensures value { IfOk result (λ u. u ≡ record { spec = spec_with definitions.now targets.now (spec.Fixed fixed); reads = reads; writes = writes }) }
 {
-    match step {
-        Step::Ready(_) => Ok(()),
-        Step::Fixed(fixed) => {
-            let packets = packets_of(definitions, fixed.telemetry);
-            match cause_of_fixed(alloc, targets, packets, fixed)? {
-                Some(cause) => Err(SiteFault::Refused {
-                    line: fixed.line,
-                    cause,
-                }),
-                None => Ok(()),
-            }
+    let packets = packets_of(definitions, fixed.telemetry);
+    let starts = starts_of(alloc, targets, packets)?;
+    if let Some(cause) = cause_of_fixed(targets, packets, &fixed, &starts) {
+        return Err(SiteFault::Refused { line, cause });
+    }
+    let FixedParameters {
+        min_id,
+        discard,
+        sync,
+        telemetry,
+        fill,
+        raise,
+    } = fixed;
+    Ok(ProtoUse {
+        spec: ProtoSpec::Fixed {
+            min_id,
+            discard,
+            sync,
+            telemetry,
+            fill,
+            raise,
+            starts: List::of(starts),
+        },
+        reads,
+        writes,
+    })
+}
+
+fn use_of(
+    alloc: Global,
+    definitions: &Definitions,
+    targets: &Targets,
+    step: Step,
+) -> Result<ProtoUse, SiteFault>
+    ensures settled { Settles result (step_fault definitions.now targets.now step) }
+    ensures value { IfOk result (λ u. u ≡ use_of definitions.now targets.now step) }
+{
+    let Step {
+        line,
+        parameters,
+        reads,
+        writes,
+    } = step;
+    match parameters {
+        Parameters::Ready(spec) => Ok(ProtoUse {
+            spec,
+            reads,
+            writes,
+        }),
+        Parameters::Fixed(fixed) => {
+            fixed_use(alloc, definitions, targets, line, fixed, reads, writes)
         }
     }
 }
 
-fn judge_steps(
+// The protocols in use, or the first that is refused.
+fn uses_of(
     alloc: Global,
     definitions: &Definitions,
     targets: &Targets,
-    steps: &[Step],
-) -> Result<(), SiteFault>
-    ensures { Settles result (first_step_fault definitions.now targets.now steps.now) }
+    steps: List<Step>,
+) -> Result<List<ProtoUse>, SiteFault>
+    ensures settled { Settles result (first_step_fault definitions.now targets.now steps) }
+    ensures value { IfOk result (λ uses. uses ≡ map (use_of definitions.now targets.now) steps) }
 {
-    for step in steps {
-        judge_step(alloc, definitions, targets, step)?;
+    let mut uses = List::new(alloc);
+    for step in steps.into_vec() {
+        uses.push(use_of(alloc, definitions, targets, step)?)?;
     }
-    Ok(())
+    Ok(uses)
 }
 
-/// Whether one of these protocols cuts what is read.
-pub fn any_reads(steps: &[Step]) -> bool
+// Whether one of these protocols cuts what is read.
+fn any_reads(steps: &[Step]) -> bool
     ensures { result ≡ list_any step_reads steps.now }
 {
-    steps.iter().any(|step| step_reads(step))
+    steps.iter().any(|step| step.reads)
 }
 
-// How many protocols there are with the one that is added where none reads.
-fn whole_length(steps: &[Step]) -> usize
-    requires { length steps.now ≤ 4 }
-    ensures { result ≡ length (whole_chain steps.now) }
+// A BURST that reads, with its defaults.
+fn added(alloc: Global) -> Result<ProtoUse, Memory>
+    ensures { IfOk result (λ u. u ≡ added.used) }
 {
-    if any_reads(steps) {
-        steps.len()
-    } else {
-        steps.len() + 1
-    }
+    Ok(ProtoUse {
+        spec: ProtoSpec::Burst {
+            discard: 0,
+            sync: Bytes::copy(alloc, b"")?,
+            fill: false,
+        },
+        reads: true,
+        writes: false,
+    })
 }
 
-fn judge_with(
+// The protocols of an interface or router of this line, with the one that is added where none reads.
+fn chain_of(
     alloc: Global,
     definitions: &Definitions,
     targets: &Targets,
-    connection: &Connection,
-) -> Result<(), SiteFault>
-    ensures { Settles result (fault_of definitions.now targets.now connection.now) }
+    line: u32,
+    chain: Chain,
+) -> Result<List<ProtoUse>, SiteFault>
+    ensures settled { Settles result (fault_of definitions.now targets.now line chain) }
+    ensures value { IfOk result (λ uses. uses ≡ chain_of definitions.now targets.now chain) }
 {
-    let steps = connection.steps.as_slice();
-    if 4 < whole_length(steps) {
+    let steps = chain.into_steps();
+    let reads = any_reads(steps.as_slice());
+    if !reads && 4 <= steps.len() {
         return Err(SiteFault::Refused {
-            line: connection.line,
+            line,
             cause: SiteCause::ChainTooLong,
         });
     }
-    judge_steps(alloc, definitions, targets, steps)
+    let mut uses = uses_of(alloc, definitions, targets, steps)?;
+    if !reads {
+        uses.push(added(alloc)?)?;
+    }
+    Ok(uses)
 }
 
-fn is_named(name: &Name, connection: &Connection) -> bool
-    ensures { result ≡ is_named name.now connection.now }
+fn interface_of(
+    alloc: Global,
+    definitions: &Definitions,
+    draft: InterfaceDraft,
+) -> Result<Interface, SiteFault>
+    ensures settled { Settles result (fault_of definitions.now draft.targets draft.line draft.chain) }
+    ensures value { IfOk result (λ i. i ≡ interface_of definitions.now draft) }
 {
-    !connection.is_router && *name == connection.name
+    let InterfaceDraft {
+        line,
+        name,
+        host,
+        serves,
+        port,
+        chain,
+        targets,
+        delay,
+        reconnect,
+        logged,
+    } = draft;
+    let targets = Targets::of(alloc, targets)?;
+    let chain = chain_of(alloc, definitions, &targets, line, chain)?;
+    Ok(Interface {
+        name,
+        aim_host: host,
+        port,
+        serves,
+        targets: targets.into_names(),
+        chain,
+        reconnect,
+        delay,
+        logged,
+    })
 }
 
-fn named<'a>(connections: &'a [Connection], name: &Name) -> Option<&'a Connection>
-    ensures { option_copied result ≡ find (is_named name.now) connections.now }
+fn targets_at(interfaces: &[Interface], number: u32) -> &[Name]
+    ensures { result.now ≡ targets_at interfaces.now number }
 {
-    connections.iter().find(|c| is_named(name, c))
-}
-
-fn targets_named<'a>(connections: &'a [Connection], name: &Name) -> &'a [Name]
-    ensures { result.now ≡ targets_named connections.now name.now }
-{
-    match named(connections, name) {
-        Some(connection) => connection.targets.as_slice(),
+    match interfaces.get(number as usize) {
+        Some(interface) => interface.targets.as_slice(),
         None => &[],
     }
 }
 
-/// Puts copies of some targets behind others.
-pub fn append(targets: &mut List<Name>, more: &[Name]) -> Result<(), Memory>
+// Puts copies of some targets behind others.
+fn append(targets: &mut List<Name>, more: &[Name]) -> Result<(), Memory>
     ensures { OnOk result (targets.new ≡ targets.old ++ more.now) }
 {
     for name in more {
@@ -215,60 +299,61 @@ pub fn append(targets: &mut List<Name>, more: &[Name]) -> Result<(), Memory>
     Ok(())
 }
 
-// The targets of all interfaces of these names.
+// The targets of the interfaces of these numbers.
 fn routed_targets(
     alloc: Global,
-    connections: &[Connection],
-    routes: &[Name],
+    interfaces: &[Interface],
+    numbers: &[u32],
 ) -> Result<List<Name>, Memory>
-    ensures { IfOk result (λ targets. targets ≡ flat_map (targets_named connections.now) routes.now) }
+    ensures { IfOk result (λ targets. targets ≡ routed_targets interfaces.now numbers.now) }
 {
     let mut targets = List::new(alloc);
-    for name in routes {
-        append(&mut targets, targets_named(connections, name))?;
+    for number in numbers {
+        append(&mut targets, targets_at(interfaces, *number))?;
     }
     Ok(targets)
 }
 
-fn targets_for(
-    alloc: Global,
-    connections: &[Connection],
-    connection: &Connection,
-) -> Result<Targets, Memory>
-    ensures { IfOk result (λ targets. targets ≡ targets_for connections.now connection.now) }
+fn router_of(alloc: Global, site: &Site, draft: RouterDraft) -> Result<Router, SiteFault>
+    ensures settled { Settles result (fault_of site.now.definitions (routed_targets site.now.interfaces draft.routes) draft.line draft.chain) }
+    ensures value { IfOk result (λ r. r ≡ router_of site.now draft) }
 {
-    if connection.is_router {
-        let names = routed_targets(alloc, connections, connection.routes.as_slice())?;
-        Targets::of(alloc, names)
-    } else {
-        let mut names = List::new(alloc);
-        append(&mut names, connection.targets.as_slice())?;
-        Targets::of(alloc, names)
-    }
+    let RouterDraft {
+        line,
+        name,
+        port,
+        chain,
+        routes,
+    } = draft;
+    let names = routed_targets(alloc, site.interfaces.as_slice(), routes.as_slice())?;
+    let targets = Targets::of(alloc, names)?;
+    let chain = chain_of(alloc, &site.definitions, &targets, line, chain)?;
+    Ok(Router {
+        name,
+        port,
+        routes,
+        chain,
+    })
 }
 
-fn judge_among(
-    alloc: Global,
-    definitions: &Definitions,
-    connections: &[Connection],
-    connection: &Connection,
-) -> Result<(), SiteFault>
-    ensures { Settles result (fault_of definitions.now (targets_for connections.now connection.now) connection.now) }
+/// Adds an interface that is complete, or says why it is refused.
+pub fn add_interface(alloc: Global, site: &mut Site, draft: InterfaceDraft) -> Result<(), SiteFault>
+    requires new { IsNewInterface site.old.definitions site.old.interfaces draft.name draft.targets }
+    ensures settled { Settles result (fault_in site.old (current.Interface draft)) }
+    ensures added { OnOk result (site.new ≡ completed site.old (current.Interface draft)) }
 {
-    let targets = targets_for(alloc, connections, connection)?;
-    judge_with(alloc, definitions, &targets, connection)
+    let interface = interface_of(alloc, &site.definitions, draft)?;
+    site.interfaces.push(interface)?;
+    Ok(())
 }
 
-/// Judges the last interface or router, which is complete now.
-pub fn judge_last(
-    alloc: Global,
-    definitions: &Definitions,
-    connections: &[Connection],
-) -> Result<(), SiteFault>
-    ensures { Settles result (due definitions.now connections.now) }
+/// Adds a router that is complete, or says why it is refused.
+pub fn add_router(alloc: Global, site: &mut Site, draft: RouterDraft) -> Result<(), SiteFault>
+    requires new { IsNewRouter site.old.interfaces site.old.routers draft.name draft.routes }
+    ensures settled { Settles result (fault_in site.old (current.Router draft)) }
+    ensures added { OnOk result (site.new ≡ completed site.old (current.Router draft)) }
 {
-    match last(connections) {
-        Some(connection) => judge_among(alloc, definitions, connections, connection),
-        None => Ok(()),
-    }
+    let router = router_of(alloc, site, draft)?;
+    site.routers.push(router)?;
+    Ok(())
 }

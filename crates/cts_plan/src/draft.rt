@@ -1,94 +1,160 @@
 // The site as it grows, statement by statement.
-ghost use Rattle.std.specs.Prelude.{◌≡◌, [], OnOk};
-ghost use Rattle.cts_plan.specs.Placing.{change_connection, place, Fits, FitsLast, FitsIn, seen};
-ghost use Rattle.cts_words.specs.Blocks.{last_of};
-ghost use Rattle.cts_plan.specs.declared.line.Line.TheVariants as line;
+ghost use Rattle.std.specs.Prelude.{◌≡◌, ◌≤◌, length, Some, OnOk, IfOk};
+ghost use Rattle.cts_plan.specs.Standing.{start, closed, number_of, change_interface, change_router, change, with_port, with_desks, place};
+ghost use Rattle.cts_plan.specs.Completing.{due};
+ghost use Rattle.cts_plan.specs.Keeping.{KeepsRules, FitsInterface, IsNewRoute, FitsRouter, FitsCurrent, Fits, Settles};
 ghost use Rattle.cts_plan.specs.declared.line.Detail.TheVariants as detail;
 
-use crate::connection::Connection;
+use crate::completing::{add_interface, add_router};
+use crate::fault::SiteFault;
 use crate::line::{Detail, Line};
-use crate::step::Step;
-use cts_base::{Memory, Name};
+use crate::opened::{Current, InterfaceDraft, RouterDraft};
+use cts_base::{List, Memory, Name};
+use cts_def::{Definitions, Interface, Site};
 use std::alloc::Global;
+use std::mem;
 
 /// What stands so far.
 #[derive(Drop)]
 pub struct Draft {
-    /// The interfaces and routers, in order of their statements.
-    pub connections: Vec<Connection>,
-    /// The port of the desks.
-    pub api_port: u16,
-    /// The number of desks.
-    pub desks: u32,
+    /// The interfaces and routers that are complete, and the desks.
+    pub site: Site,
+    /// The interface or router that is read.
+    pub current: Current,
 }
 
-fn add_step(connection: &mut Connection, step: Step) -> Result<(), Memory>
-    requires fits { Fits (detail.Step step) connection.old }
-    ensures { OnOk result (connection.new ≡ change_connection (detail.Step step) connection.old) }
-{
-    connection.steps.push(step)?;
-    Ok(())
-}
-
-fn add_route(connection: &mut Connection, name: Name) -> Result<(), Memory>
-    requires fits { Fits (detail.Route name) connection.old }
-    ensures { OnOk result (connection.new ≡ change_connection (detail.Route name) connection.old) }
-{
-    connection.routes.push(name)?;
-    Ok(())
-}
-
-fn change_connection(connection: &mut Connection, detail: Detail) -> Result<(), Memory>
-    requires fits { Fits detail connection.old }
-    ensures { OnOk result (connection.new ≡ change_connection detail connection.old) }
+fn change_interface(site: &Site, draft: &mut InterfaceDraft, detail: Detail) -> Result<(), Memory>
+    requires fits { FitsInterface site.now detail draft.old }
+    ensures { OnOk result (draft.new ≡ change_interface detail draft.old) }
 {
     match detail {
-        Detail::Target(name) => connection.targets.push(name)?,
-        Detail::Step(step) => add_step(connection, step)?,
-        Detail::Route(name) => add_route(connection, name)?,
-        Detail::Delay(delay) => connection.delay = delay,
-        Detail::DontReconnect => connection.reconnect = false,
-        Detail::Logged(logged) => connection.logged = logged,
+        Detail::Target(name) => draft.targets.push(name)?,
+        Detail::Step(step) => draft.chain.push(step)?,
+        Detail::Route(_name) => {}
+        Detail::Delay(delay) => draft.delay = delay,
+        Detail::DontReconnect => draft.reconnect = false,
+        Detail::Logged(logged) => draft.logged = logged,
     }
     Ok(())
+}
+
+/// The number of the interface of this name, counted from 0.
+pub fn number_of(interfaces: &[Interface], name: &Name) -> u32
+    requires few { length interfaces.now ≤ 16 }
+    ensures { result ≡ number_of interfaces.now name.now }
+{
+    let mut number: u32 = 0;
+    for interface in interfaces {
+        if interface.name == *name {
+            return number;
+        }
+        number += 1;
+    }
+    number
+}
+
+fn add_route(site: &Site, draft: &mut RouterDraft, name: Name) -> Result<(), Memory>
+    requires new { IsNewRoute site.now.interfaces (Some name) draft.old.routes }
+    ensures { OnOk result (draft.new ≡ change_router site.now.interfaces (detail.Route (Some name)) draft.old) }
+{
+    let number = number_of(site.interfaces.as_slice(), &name);
+    draft.routes.push(number)?;
+    Ok(())
+}
+
+fn change_router(site: &Site, draft: &mut RouterDraft, detail: Detail) -> Result<(), Memory>
+    requires fits { FitsRouter site.now detail draft.old }
+    ensures { OnOk result (draft.new ≡ change_router site.now.interfaces detail draft.old) }
+{
+    match detail {
+        Detail::Step(step) => draft.chain.push(step)?,
+        Detail::Route(Some(name)) => add_route(site, draft, name)?,
+        Detail::Route(None) => {}
+        Detail::Target(_name) => {}
+        Detail::Delay(_delay) => {}
+        Detail::DontReconnect => {}
+        Detail::Logged(_logged) => {}
+    }
+    Ok(())
+}
+
+fn change(site: &Site, current: Current, detail: Detail) -> Result<Current, Memory>
+    requires fits { FitsCurrent site.now detail current }
+    ensures { IfOk result (λ new. new ≡ change site.now.interfaces detail current) }
+{
+    match current {
+        Current::Nothing => Ok(Current::Nothing),
+        Current::Interface(mut draft) => {
+            change_interface(site, &mut draft, detail)?;
+            Ok(Current::Interface(draft))
+        }
+        Current::Router(mut draft) => {
+            change_router(site, &mut draft, detail)?;
+            Ok(Current::Router(draft))
+        }
+    }
+}
+
+fn set_port(site: &mut Site, port: u16)
+    requires some { 1 ≤ port }
+    ensures { site.new ≡ with_port port site.old }
+{
+    site.api_port = port;
+}
+
+fn set_desks(site: &mut Site, desks: u32)
+    requires some { 1 ≤ desks }
+    requires few { desks ≤ 4 }
+    ensures { site.new ≡ with_desks desks site.old }
+{
+    site.desks = desks;
 }
 
 impl Draft {
     /// The draft before the first statement.
-    pub fn new(alloc: Global) -> Draft
-        ensures connections { result.connections.items ≡ [] }
-        ensures api_port { result.api_port ≡ 7777 }
-        ensures desks { result.desks ≡ 4 }
+    pub fn new(alloc: Global, definitions: Definitions) -> Draft
+        ensures { result ≡ start definitions }
     {
         Draft {
-            connections: Vec::new(alloc),
-            api_port: 7777,
-            desks: 4,
+            site: Site {
+                definitions,
+                interfaces: List::new(alloc),
+                routers: List::new(alloc),
+                api_port: 7777,
+                desks: 4,
+            },
+            current: Current::Nothing,
         }
     }
 
-    fn add_detail(&mut self, detail: Detail) -> Result<(), Memory>
-        requires fits { FitsLast detail (last_of self.old.connections.items) }
-        ensures { OnOk result (seen self.new ≡ place (line.Detail detail) (seen self.old)) }
+    /// Completes what is read, or says why it is refused. After an error the draft is of no use.
+    pub fn complete(&mut self, alloc: Global) -> Result<(), SiteFault>
+        requires { KeepsRules self.old }
+        ensures settled { Settles result (due self.old) }
+        ensures closed { OnOk result (self.new ≡ closed self.old) }
     {
-        if let Some(mut connection) = self.connections.pop() {
-            change_connection(&mut connection, detail)?;
-            self.connections.push(connection)?;
+        match mem::replace(&mut self.current, Current::Nothing) {
+            Current::Nothing => Ok(()),
+            Current::Interface(draft) => add_interface(alloc, &mut self.site, draft),
+            Current::Router(draft) => add_router(alloc, &mut self.site, draft),
         }
-        Ok(())
     }
 
     /// Adds what a statement without a cause says. After `Memory` the draft is of no use.
     pub fn add(&mut self, line: Line) -> Result<(), Memory>
-        requires fits { FitsIn line self.old.connections.items }
-        ensures { OnOk result (seen self.new ≡ place line (seen self.old)) }
+        requires fits { Fits line self.old }
+        ensures { OnOk result (self.new ≡ place line self.old) }
     {
         match line {
             Line::Nothing => {}
-            Line::ApiPort(port) => self.api_port = port,
-            Line::Desks(desks) => self.desks = desks,
-            Line::Opening(connection) => self.connections.push(connection)?,
-            Line::Detail(detail) => self.add_detail(detail)?,
+            Line::ApiPort(port) => set_port(&mut self.site, port),
+            Line::Desks(desks) => set_desks(&mut self.site, desks),
+            Line::Interface(draft) => self.current = Current::Interface(draft),
+            Line::Router(draft) => self.current = Current::Router(draft),
+            Line::Detail(detail) => {
+                let current = mem::replace(&mut self.current, Current::Nothing);
+                self.current = change(&self.site, current, detail)?;
+            }
         }
         Ok(())
     }

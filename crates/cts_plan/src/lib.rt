@@ -6,23 +6,18 @@
 
 mod causes;
 mod completing;
-mod connection;
 mod draft;
 mod fault;
-mod finishing;
+mod fixed;
 mod keyword;
-mod laws;
 mod line;
+mod opened;
 mod reading;
 mod step;
 mod targets;
 mod words;
 
 pub use fault::{SiteCause, SiteFault};
-pub use laws::{
-    connections_are_of_their_lines, first_statement_is_refused, parameters_are_of_their_words,
-    sites_are_of_their_statements, sites_are_sound,
-};
 pub use reading::read_site;
 
 #[cfg(test)]

@@ -1,21 +1,24 @@
 // What a statement says.
-ghost use Rattle.std.specs.Prelude.{◌≡◌, ◌≤◌, length, option_to_list, option_map, unwrap_or, pos, IfOk, IfSome, IsTrue};
-ghost use Rattle.cts_plan.specs.Chains.{are_packets_last};
-ghost use Rattle.cts_plan.specs.Words.{word, signed_of, per_count_of};
-ghost use Rattle.cts_plan.specs.Lines.{flag_or, size_or_zero, name_of, length_offset, length_bits, length_order, length_place, is_bad_length, burst_of, fixed_of, length_of, terminated_of, preidentified_of, ready, step_of, step_in, step_at, opens_router, is_server, port_at, host_of, port_or_one, opening_of, place_at, opening_line, target_line, protocol_line, route_line, port_line, desks_line, delay_line, line_of};
+ghost use Rattle.std.specs.Prelude.{◌≡◌, ◌≤◌, false, option_to_list, option_map, unwrap_or, pos, IfOk, IfSome, IsTrue};
+ghost use Rattle.cts_def.specs.Protocols as spec;
+ghost use Rattle.cts_def.specs.Protocols.{spec_data, is_sound_spec};
 ghost use Rattle.cts_def.specs.Starts.{is_place, place_data};
-ghost use Rattle.cts_plan.specs.Sound.{IsSoundLine};
+ghost use Rattle.cts_plan.specs.declared.words.Way.TheVariants.{ReadWrite};
+ghost use Rattle.cts_plan.specs.Words.{signed_of, per_count_of};
+ghost use Rattle.cts_plan.specs.Steps.{is_fixed};
+ghost use Rattle.cts_plan.specs.Lines.{flag_or, size_or_zero, name_of, length_offset, length_bits, length_order, length_place, is_bad_length, burst_of, fixed_of, length_of, terminated_of, preidentified_of, step_with, step_of, step_at, is_server, port_at, host_of, port_or_one, interface_by, router_by, place_at, interface_line, router_line, target_line, protocol_line, port_line, desks_line, delay_line, line_of};
 
-use crate::connection::Connection;
+use crate::fixed::FixedParameters;
 use crate::keyword::{Keyword, Role, parameters, protocol_of, role_of};
-use crate::step::{FixedStep, Step};
+use crate::opened::{Chain, InterfaceDraft, RouterDraft};
+use crate::step::{Parameters, Step};
 use crate::words::{
     Way, bits_of, delay_of, desks_of, flag_of, max_of, order_of, pattern_of, per_count_of, port_of,
     signed_of, size_of, way_of, word,
 };
 use cts_base::{Bytes, Decimal, List, Memory, Name, NameFault};
 use cts_bits::{Order, Place, PlaceFault, places_are_not_refused};
-use cts_def::{Kind, ProtoSpec, ProtoUse};
+use cts_def::{Kind, ProtoSpec};
 use std::alloc::Global;
 
 /// Five seconds, in parts of 10^-12.
@@ -30,8 +33,10 @@ pub enum Line {
     ApiPort(u16),
     /// The number of desks.
     Desks(u32),
-    /// An interface or router.
-    Opening(Connection),
+    /// An interface.
+    Interface(InterfaceDraft),
+    /// A router.
+    Router(RouterDraft),
     /// Something of the last interface or router.
     Detail(Detail),
 }
@@ -43,8 +48,8 @@ pub enum Detail {
     Target(Name),
     /// A further protocol.
     Step(Step),
-    /// The name of an interface that is routed to the router.
-    Route(Name),
+    /// The name of an interface that is routed to the router, if the word is a name.
+    Route(Option<Name>),
     /// How many seconds the interface waits.
     Delay(Decimal),
     /// The interface does not connect again.
@@ -79,31 +84,47 @@ fn name_of(alloc: Global, word: &[u8]) -> Result<Option<Name>, Memory>
     }
 }
 
-fn burst_of(alloc: Global, way: Way, words: &[Bytes]) -> Result<Step, Memory>
-    ensures { IfOk result (λ s. s ≡ ready way (burst_of words.now)) }
+// The protocol of a statement of this line, used this way, which needs no packets.
+fn step_with(line: u32, way: Way, spec: ProtoSpec) -> Step
+    requires fixed { is_fixed (spec_data spec) ≡ false }
+    requires sound { IsTrue (is_sound_spec (spec_data spec)) }
+    ensures { result ≡ step_with line way (spec_data spec) }
 {
-    Ok(Step::Ready(ProtoUse {
-        spec: ProtoSpec::Burst {
+    Step {
+        line,
+        parameters: Parameters::Ready(spec),
+        reads: way.reads(),
+        writes: way.writes(),
+    }
+}
+
+fn burst_of(alloc: Global, line: u32, way: Way, words: &[Bytes]) -> Result<Step, Memory>
+    ensures { IfOk result (λ s. s ≡ step_with line way (burst_of words.now)) }
+{
+    Ok(step_with(
+        line,
+        way,
+        ProtoSpec::Burst {
             discard: size_or_zero(word(words, 0)),
             sync: pattern_of(alloc, word(words, 1))?,
             fill: flag_or(false, word(words, 2)),
         },
-        reads: way.reads(),
-        writes: way.writes(),
-    }))
+    ))
 }
 
-fn fixed_of(alloc: Global, line: u32, way: Way, words: &[Bytes]) -> Result<FixedStep, Memory>
-    ensures { IfOk result (λ f. f ≡ fixed_of line way words.now) }
+fn fixed_of(alloc: Global, line: u32, way: Way, words: &[Bytes]) -> Result<Step, Memory>
+    ensures { IfOk result (λ s. s ≡ step_with line way (spec.Fixed (fixed_of words.now))) }
 {
-    Ok(FixedStep {
+    Ok(Step {
         line,
-        min_id: size_or_zero(word(words, 0)),
-        discard: size_or_zero(word(words, 1)),
-        sync: pattern_of(alloc, word(words, 2))?,
-        telemetry: flag_or(true, word(words, 3)),
-        fill: flag_or(false, word(words, 4)),
-        raise: flag_or(false, word(words, 5)),
+        parameters: Parameters::Fixed(FixedParameters {
+            min_id: size_or_zero(word(words, 0)),
+            discard: size_or_zero(word(words, 1)),
+            sync: pattern_of(alloc, word(words, 2))?,
+            telemetry: flag_or(true, word(words, 3)),
+            fill: flag_or(false, word(words, 4)),
+            raise: flag_or(false, word(words, 5)),
+        }),
         reads: way.reads(),
         writes: way.writes(),
     })
@@ -185,14 +206,16 @@ fn per_count(word: &[u8]) -> u32
     }
 }
 
-fn length_of(alloc: Global, way: Way, words: &[Bytes]) -> Result<Option<Step>, Memory>
-    ensures { IfOk result (λ s. s ≡ option_map (ready way) (length_of words.now)) }
+fn length_of(alloc: Global, line: u32, way: Way, words: &[Bytes]) -> Result<Option<Step>, Memory>
+    ensures { IfOk result (λ s. s ≡ option_map (step_with line way) (length_of words.now)) }
 {
     let Some(place) = length_place(words) else {
         return Ok(None);
     };
-    Ok(Some(Step::Ready(ProtoUse {
-        spec: ProtoSpec::Length {
+    Ok(Some(step_with(
+        line,
+        way,
+        ProtoSpec::Length {
             place,
             value_offset: signed_or_zero(word(words, 2)),
             per_count: per_count(word(words, 3)),
@@ -201,20 +224,25 @@ fn length_of(alloc: Global, way: Way, words: &[Bytes]) -> Result<Option<Step>, M
             max: max_of(word(words, 7)),
             fill: flag_or(false, word(words, 8)),
         },
-        reads: way.reads(),
-        writes: way.writes(),
-    })))
+    )))
 }
 
-fn terminated_of(alloc: Global, way: Way, words: &[Bytes]) -> Result<Option<Step>, Memory>
-    ensures { IfOk result (λ s. s ≡ option_map (ready way) (terminated_of words.now)) }
+fn terminated_of(
+    alloc: Global,
+    line: u32,
+    way: Way,
+    words: &[Bytes],
+) -> Result<Option<Step>, Memory>
+    ensures { IfOk result (λ s. s ≡ option_map (step_with line way) (terminated_of words.now)) }
 {
     let read = pattern_of(alloc, word(words, 1))?;
     if read.as_slice().is_empty() {
         return Ok(None);
     }
-    Ok(Some(Step::Ready(ProtoUse {
-        spec: ProtoSpec::Terminated {
+    Ok(Some(step_with(
+        line,
+        way,
+        ProtoSpec::Terminated {
             write: pattern_of(alloc, word(words, 0))?,
             read,
             strip: flag_or(true, word(words, 2)),
@@ -222,22 +250,20 @@ fn terminated_of(alloc: Global, way: Way, words: &[Bytes]) -> Result<Option<Step
             sync: pattern_of(alloc, word(words, 4))?,
             fill: flag_or(false, word(words, 5)),
         },
-        reads: way.reads(),
-        writes: way.writes(),
-    })))
+    )))
 }
 
-fn preidentified_of(alloc: Global, way: Way, words: &[Bytes]) -> Result<Step, Memory>
-    ensures { IfOk result (λ s. s ≡ ready way (preidentified_of words.now)) }
+fn preidentified_of(alloc: Global, line: u32, way: Way, words: &[Bytes]) -> Result<Step, Memory>
+    ensures { IfOk result (λ s. s ≡ step_with line way (preidentified_of words.now)) }
 {
-    Ok(Step::Ready(ProtoUse {
-        spec: ProtoSpec::Preidentified {
+    Ok(step_with(
+        line,
+        way,
+        ProtoSpec::Preidentified {
             sync: pattern_of(alloc, word(words, 0))?,
             max: max_of(word(words, 1)),
         },
-        reads: way.reads(),
-        writes: way.writes(),
-    }))
+    ))
 }
 
 // The protocol of a statement of this line, used this way, with these parameters.
@@ -251,11 +277,11 @@ fn step_of(
     ensures { IfOk result (λ s. s ≡ step_of line way kind words.now) }
 {
     match kind {
-        Kind::Burst => Ok(Some(burst_of(alloc, way, words)?)),
-        Kind::Fixed => Ok(Some(Step::Fixed(fixed_of(alloc, line, way, words)?))),
-        Kind::Length => length_of(alloc, way, words),
-        Kind::Terminated => terminated_of(alloc, way, words),
-        Kind::Preidentified => Ok(Some(preidentified_of(alloc, way, words)?)),
+        Kind::Burst => Ok(Some(burst_of(alloc, line, way, words)?)),
+        Kind::Fixed => Ok(Some(fixed_of(alloc, line, way, words)?)),
+        Kind::Length => length_of(alloc, line, way, words),
+        Kind::Terminated => terminated_of(alloc, line, way, words),
+        Kind::Preidentified => Ok(Some(preidentified_of(alloc, line, way, words)?)),
     }
 }
 
@@ -317,48 +343,34 @@ fn port_or_one(word: &[u8]) -> u16
     }
 }
 
-fn steps_of(alloc: Global, step: Option<Step>) -> Result<List<Step>, Memory>
-    ensures value { IfOk result (λ steps. steps ≡ option_to_list step) }
-    ensures few { IfOk result (λ steps. length steps ≤ 1) }
-    ensures packets_last { IfOk result (λ steps. IsTrue (are_packets_last steps)) }
+// The chain of an INTERFACE or ROUTER statement: its own protocol, if it has one.
+fn chain_of(alloc: Global, line: u32, keyword: Keyword, words: &[Bytes]) -> Result<Chain, Memory>
+    ensures { IfOk result (λ c. c ≡ option_to_list (step_at line ReadWrite keyword words.now)) }
 {
-    let mut steps = List::new(alloc);
-    if let Some(step) = step {
-        steps.push(step)?;
+    let mut chain = Chain::new(alloc);
+    if let Some(step) = step_at(alloc, line, Way::ReadWrite, keyword, words)? {
+        chain.push(step)?;
     }
-    Ok(steps)
+    Ok(chain)
 }
 
-fn opens_router(keyword: Keyword) -> bool
-    ensures { result ≡ opens_router keyword }
-{
-    match keyword {
-        Keyword::Router => true,
-        _ => false,
-    }
-}
-
-fn opening_of(
+fn interface_by(
     alloc: Global,
     line: u32,
-    keyword: Keyword,
     words: &[Bytes],
     name: Name,
-) -> Result<Connection, Memory>
-    ensures { IfOk result (λ c. c ≡ opening_of line keyword words.now name) }
+) -> Result<InterfaceDraft, Memory>
+    ensures { IfOk result (λ i. i ≡ interface_by line words.now name) }
 {
-    let role = role_of(keyword, words);
-    let step = step_at(alloc, line, Way::ReadWrite, keyword, words)?;
-    Ok(Connection {
+    let role = role_of(Keyword::Interface, words);
+    Ok(InterfaceDraft {
         line,
         name,
-        is_router: opens_router(keyword),
         host: host_of(alloc, role, words)?,
         serves: is_server(role),
         port: port_or_one(word(words, port_at(role))),
-        steps: steps_of(alloc, step)?,
+        chain: chain_of(alloc, line, Keyword::Interface, words)?,
         targets: List::new(alloc),
-        routes: List::new(alloc),
         delay: Decimal {
             parts: FIVE_SECONDS,
         },
@@ -367,19 +379,39 @@ fn opening_of(
     })
 }
 
-fn opening_line(alloc: Global, line: u32, keyword: Keyword, words: &[Bytes]) -> Result<Line, Memory>
-    ensures value { IfOk result (λ l. l ≡ opening_line line keyword words.now) }
-    ensures sound { IfOk result (λ l. IsSoundLine l) }
+fn router_by(alloc: Global, line: u32, words: &[Bytes], name: Name) -> Result<RouterDraft, Memory>
+    ensures { IfOk result (λ r. r ≡ router_by line words.now name) }
+{
+    let role = role_of(Keyword::Router, words);
+    Ok(RouterDraft {
+        line,
+        name,
+        port: port_or_one(word(words, port_at(role))),
+        chain: chain_of(alloc, line, Keyword::Router, words)?,
+        routes: List::new(alloc),
+    })
+}
+
+fn interface_line(alloc: Global, line: u32, words: &[Bytes]) -> Result<Line, Memory>
+    ensures { IfOk result (λ l. l ≡ interface_line line words.now) }
 {
     match name_of(alloc, word(words, 0))? {
-        Some(name) => Ok(Line::Opening(opening_of(alloc, line, keyword, words, name)?)),
+        Some(name) => Ok(Line::Interface(interface_by(alloc, line, words, name)?)),
+        None => Ok(Line::Nothing),
+    }
+}
+
+fn router_line(alloc: Global, line: u32, words: &[Bytes]) -> Result<Line, Memory>
+    ensures { IfOk result (λ l. l ≡ router_line line words.now) }
+{
+    match name_of(alloc, word(words, 0))? {
+        Some(name) => Ok(Line::Router(router_by(alloc, line, words, name)?)),
         None => Ok(Line::Nothing),
     }
 }
 
 fn target_line(alloc: Global, words: &[Bytes]) -> Result<Line, Memory>
-    ensures value { IfOk result (λ l. l ≡ target_line words.now) }
-    ensures sound { IfOk result (λ l. IsSoundLine l) }
+    ensures { IfOk result (λ l. l ≡ target_line words.now) }
 {
     match name_of(alloc, word(words, 0))? {
         Some(name) => Ok(Line::Detail(Detail::Target(name))),
@@ -388,8 +420,7 @@ fn target_line(alloc: Global, words: &[Bytes]) -> Result<Line, Memory>
 }
 
 fn protocol_line(alloc: Global, line: u32, words: &[Bytes]) -> Result<Line, Memory>
-    ensures value { IfOk result (λ l. l ≡ protocol_line line words.now) }
-    ensures sound { IfOk result (λ l. IsSoundLine l) }
+    ensures { IfOk result (λ l. l ≡ protocol_line line words.now) }
 {
     let way = way_of(word(words, 0)).unwrap_or(Way::ReadWrite);
     match step_at(alloc, line, way, Keyword::Protocol, words)? {
@@ -398,19 +429,8 @@ fn protocol_line(alloc: Global, line: u32, words: &[Bytes]) -> Result<Line, Memo
     }
 }
 
-fn route_line(alloc: Global, words: &[Bytes]) -> Result<Line, Memory>
-    ensures value { IfOk result (λ l. l ≡ route_line words.now) }
-    ensures sound { IfOk result (λ l. IsSoundLine l) }
-{
-    match name_of(alloc, word(words, 0))? {
-        Some(name) => Ok(Line::Detail(Detail::Route(name))),
-        None => Ok(Line::Nothing),
-    }
-}
-
 fn port_line(words: &[Bytes]) -> Line
-    ensures value { result ≡ port_line words.now }
-    ensures sound { IsSoundLine result }
+    ensures { result ≡ port_line words.now }
 {
     match port_of(word(words, 1)) {
         Some(port) => Line::ApiPort(port),
@@ -419,8 +439,7 @@ fn port_line(words: &[Bytes]) -> Line
 }
 
 fn desks_line(words: &[Bytes]) -> Line
-    ensures value { result ≡ desks_line words.now }
-    ensures sound { IsSoundLine result }
+    ensures { result ≡ desks_line words.now }
 {
     match desks_of(word(words, 0)) {
         Some(desks) => Line::Desks(desks),
@@ -429,8 +448,7 @@ fn desks_line(words: &[Bytes]) -> Line
 }
 
 fn delay_line(words: &[Bytes]) -> Line
-    ensures value { result ≡ delay_line words.now }
-    ensures sound { IsSoundLine result }
+    ensures { result ≡ delay_line words.now }
 {
     match delay_of(word(words, 0)) {
         Some(delay) => Line::Detail(Detail::Delay(delay)),
@@ -440,21 +458,20 @@ fn delay_line(words: &[Bytes]) -> Line
 
 /// What the words of a statement say.
 pub fn line_of(alloc: Global, line: u32, keyword: Keyword, words: &[Bytes]) -> Result<Line, Memory>
-    ensures value { IfOk result (λ l. l ≡ line_of line keyword words.now) }
-    ensures sound { IfOk result (λ l. IsSoundLine l) }
+    ensures { IfOk result (λ l. l ≡ line_of line keyword words.now) }
 {
     match keyword {
         Keyword::Title => Ok(Line::Nothing),
         Keyword::Port => Ok(port_line(words)),
         Keyword::Desks => Ok(desks_line(words)),
-        Keyword::Interface => opening_line(alloc, line, Keyword::Interface, words),
-        Keyword::Router => opening_line(alloc, line, Keyword::Router, words),
+        Keyword::Interface => interface_line(alloc, line, words),
+        Keyword::Router => router_line(alloc, line, words),
         Keyword::Target => target_line(alloc, words),
         Keyword::Protocol => protocol_line(alloc, line, words),
         Keyword::ReconnectDelay => Ok(delay_line(words)),
         Keyword::DontReconnect => Ok(Line::Detail(Detail::DontReconnect)),
         Keyword::Log => Ok(Line::Detail(Detail::Logged(true))),
         Keyword::DontLog => Ok(Line::Detail(Detail::Logged(false))),
-        Keyword::Route => route_line(alloc, words),
+        Keyword::Route => Ok(Line::Detail(Detail::Route(name_of(alloc, word(words, 0))?))),
     }
 }

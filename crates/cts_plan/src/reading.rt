@@ -1,17 +1,17 @@
 //! Statements read to a site.
 
-ghost use Rattle.std.specs.Prelude.{◌≡◌, None, Ok, IfOk, IfErr, option_map, if◌then◌else◌};
+ghost use Rattle.std.specs.Prelude.{◌≡◌, None, IfOk, OnOk, find, option_map, if◌then◌else◌};
 ghost use Rattle.cts_def.specs.Sites.{IsSoundSite};
-ghost use Rattle.cts_plan.specs.SiteFiles.{parts, opening, site_in, site_of};
-ghost use Rattle.cts_plan.specs.Completing.{due};
-ghost use Rattle.cts_plan.specs.Sound.{IsSoundLine};
-ghost use Rattle.cts_plan.specs.Placing.{Judged, Gives, Fails, AreSettled, AreKnownTargets, AreReady, IsSoundStanding, Settles, seen};
+ghost use Rattle.cts_plan.specs.Lines.{line_of};
+ghost use Rattle.cts_plan.specs.Standing.{closed};
+ghost use Rattle.cts_plan.specs.Causes.{holds, order};
+ghost use Rattle.cts_plan.specs.Completing.{at_number, due};
+ghost use Rattle.cts_plan.specs.SiteFiles.{parts, opening, step, refusal_in, site_of};
+ghost use Rattle.cts_plan.specs.Keeping.{KeepsRules, Gives, Settles};
 
 use crate::causes::first_cause;
-use crate::completing::judge_last;
 use crate::draft::Draft;
 use crate::fault::{SiteCause, SiteFault};
-use crate::finishing::site_of;
 use crate::keyword::{Keyword, keyword_of};
 use crate::line::{Line, line_of};
 use cts_base::Bytes;
@@ -39,31 +39,42 @@ fn opens(keyword: Keyword) -> bool
 }
 
 impl Draft {
-    // Judges the interface or router that a statement with this keyword completes.
-    fn complete(
-        &self,
-        alloc: Global,
-        definitions: &Definitions,
-        keyword: Keyword,
-    ) -> Result<(), SiteFault>
-        ensures { Settles result (if opening keyword then due definitions.now self.now.connections.items else None) }
+    // Completes what is read, where a statement with this keyword opens the next one.
+    fn make_ready(&mut self, alloc: Global, keyword: Keyword) -> Result<(), SiteFault>
+        requires { KeepsRules self.old }
+        ensures settled { Settles result (if opening keyword then due self.old else None) }
+        ensures ready { OnOk result (self.new ≡ (if opening keyword then closed self.old else self.old)) }
     {
         if opens(keyword) {
-            judge_last(alloc, definitions, &self.connections)
+            self.complete(alloc)
         } else {
             Ok(())
         }
     }
 
-    // What a statement says, or why it is refused.
+    // What a statement says where this stands, or why it is refused.
     fn judge(
         &self,
         alloc: Global,
-        definitions: &Definitions,
-        statement: &Statement,
+        line: u32,
+        keyword: Keyword,
+        words: &[Bytes],
     ) -> Result<Line, SiteFault>
-        ensures judged { Judged definitions.now self.now.connections.items statement.now result }
-        ensures sound { IfOk result (λ l. IsSoundLine l) }
+        ensures settled { Settles result (at_number line (find (λ c. holds c self.now keyword words.now (line_of line keyword words.now)) order)) }
+        ensures said { IfOk result (λ l. l ≡ line_of line keyword words.now) }
+    {
+        let said = line_of(alloc, line, keyword, words)?;
+        match first_cause(self, keyword, words, &said) {
+            Some(cause) => Err(SiteFault::Refused { line, cause }),
+            None => Ok(said),
+        }
+    }
+
+    // Adds what a statement says, or says why it is refused.
+    fn read(&mut self, alloc: Global, statement: &Statement) -> Result<(), SiteFault>
+        requires { KeepsRules self.old }
+        ensures settled { Settles result (refusal_in self.old statement.now) }
+        ensures stands { OnOk result (self.new ≡ step self.old statement.now) }
     {
         let line = statement.line;
         let Some((keyword, words)) = parts(statement.words.as_slice()) else {
@@ -72,35 +83,10 @@ impl Draft {
                 cause: SiteCause::UnknownKeyword,
             });
         };
-        self.complete(alloc, definitions, keyword)?;
-        let said = line_of(alloc, line, keyword, words)?;
-        match first_cause(definitions, &self.connections, keyword, words, &said) {
-            Some(cause) => Err(SiteFault::Refused { line, cause }),
-            None => Ok(said),
-        }
+        self.make_ready(alloc, keyword)?;
+        let said = self.judge(alloc, line, keyword, words)?;
+        Ok(self.add(said)?)
     }
-}
-
-// What the statements say, where none is refused.
-fn read_draft(
-    alloc: Global,
-    statements: &[Statement],
-    definitions: &Definitions,
-) -> Result<Draft, SiteFault>
-    ensures said { IfOk result (λ draft. site_of definitions.now statements.now ≡ Ok (site_in definitions.now (seen draft))) }
-    ensures settled { IfOk result (λ draft. AreSettled definitions.now draft.connections.items) }
-    ensures sound { IfOk result (λ draft. IsSoundStanding (seen draft)) }
-    ensures ready { IfOk result (λ draft. AreReady draft.connections.items) }
-    ensures known { IfOk result (λ draft. AreKnownTargets definitions.now draft.connections.items) }
-    ensures refused { IfErr result (λ fault. Fails fault (site_of definitions.now statements.now)) }
-{
-    let mut draft = Draft::new(alloc);
-    for statement in statements {
-        let line = draft.judge(alloc, definitions, statement)?;
-        draft.add(line)?;
-    }
-    judge_last(alloc, definitions, &draft.connections)?;
-    Ok(draft)
 }
 
 /// The site that the statements say with these definitions.
@@ -119,6 +105,11 @@ pub fn read_site(
     ensures said { Gives (λ site. site) result (site_of definitions statements.now) }
     ensures sound { IfOk result (λ site. IsSoundSite site) }
 {
-    let draft = read_draft(alloc, statements, &definitions)?;
-    Ok(site_of(alloc, definitions, draft)?)
+    let mut draft = Draft::new(alloc, definitions);
+    for statement in statements {
+        draft.read(alloc, statement)?;
+    }
+    draft.complete(alloc)?;
+    let Draft { site, current: _ } = draft;
+    Ok(site)
 }

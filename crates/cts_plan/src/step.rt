@@ -1,49 +1,38 @@
-// The protocols of a connection that is not complete.
-ghost use Rattle.std.specs.Prelude.{◌≡◌, List};
-ghost use Rattle.std.specs.List.{list_any};
+// The protocols of an interface or router that is not complete.
 
-use cts_base::Bytes;
-use cts_def::ProtoUse;
+use crate::fixed::FixedParameters;
+use cts_def::ProtoSpec;
 use std::marker::Model;
 
-/// A FIXED protocol as its statement gives it: its packets are known when all targets are.
+/// The parameters of a protocol.
 #[derive(Debug, Drop)]
-pub struct FixedStep {
+pub enum Parameters {
+    /// Those of a protocol that needs no packets.
+    Ready(ProtoSpec),
+    /// Those of FIXED.
+    Fixed(FixedParameters),
+}
+
+/// A protocol of an interface or router.
+#[derive(Debug, Drop)]
+pub struct Step {
     /// The line of its statement.
     pub line: u32,
-    /// How many bytes identify a packet.
-    pub min_id: u32,
-    /// How many leading bytes are taken off.
-    pub discard: u32,
-    /// The sync pattern, without bytes for none.
-    pub sync: Bytes,
-    /// Whether the packets are telemetry packets or commands.
-    pub telemetry: bool,
-    /// Whether discarded bytes and the sync pattern are written.
-    pub fill: bool,
-    /// Whether an unknown start is an error.
-    pub raise: bool,
+    /// What it is.
+    pub parameters: Parameters,
     /// Whether it cuts what is read.
     pub reads: bool,
     /// Whether it frames what is written.
     pub writes: bool,
 }
 
-impl Model for FixedStep {
-    ghost use Rattle.cts_plan.specs.Steps.{FixedStepData, IsSoundFixed};
+impl Model for Step {
+    ghost use Rattle.std.specs.Prelude.{◌||◌, IsTrue};
+    ghost use Rattle.cts_plan.specs.Steps.{StepData, spec_in, are_kept};
 
-    ghost Value = { FixedStepData };
+    ghost Value = { StepData };
 
-    ghost view = { λ f. record { line = f.line; min_id = f.min_id; discard = f.discard; sync = f.sync; telemetry = f.telemetry; fill = f.fill; raise = f.raise; reads = f.reads; writes = f.writes } };
+    ghost view = { λ s. record { line = s.line; used = record { spec = spec_in s.parameters; reads = s.reads; writes = s.writes } } };
 
-    ghost invariant = { λ f. IsSoundFixed (record { line = f.line; min_id = f.min_id; discard = f.discard; sync = f.sync; telemetry = f.telemetry; fill = f.fill; raise = f.raise; reads = f.reads; writes = f.writes }) };
-}
-
-/// A protocol of a connection.
-#[derive(Debug, Drop)]
-pub enum Step {
-    /// One that needs nothing more.
-    Ready(ProtoUse),
-    /// A FIXED protocol without its packets.
-    Fixed(FixedStep),
+    ghost invariant = { λ s. IsTrue (are_kept s.parameters) × IsTrue (s.reads || s.writes) };
 }

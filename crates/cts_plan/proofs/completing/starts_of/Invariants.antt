@@ -1,7 +1,7 @@
 use Rattle.std.proofs.Common.{◌≡◌, IsTrue, take}
 use Rattle.std.specs.List.{list_all}
 use Rattle.cts_def.specs.Starts.{has_places}
-use Rattle.cts_plan.specs.Completing.{starts_of}
+use Rattle.cts_plan.specs.Standing.{starts_of}
 use Rattle.cts_plan.proofs.completing.starts_of.Given as goal
 
 abbrev pub invariant-loop-packet : goal.invariant-loop-packet

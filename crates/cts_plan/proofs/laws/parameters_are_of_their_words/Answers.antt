@@ -1,5 +1,0 @@
-use Rattle.cts_plan.proofs.WordsRead.{parameters_are_of_their_words}
-use Rattle.cts_plan.proofs.laws.parameters_are_of_their_words.Goals as goal
-
-pub returns : goal.returns
-returns c = parameters_are_of_their_words
