@@ -18,7 +18,8 @@ use Rattle.cts_proto.specs.LengthRow.{length_framing}
 use Rattle.cts_proto.specs.Rows.{framing_of}
 use Rattle.cts_proto.proofs.Chainings.{interface_framings, IsWholeLength, whole_length_framing}
 use Rattle.cts_core.specs.States.{is_line}
-use Rattle.cts_core.specs.Environments.{site_environment, is_slot, ident_of}
+use Rattle.cts_core.specs.Environments.{site_environment, ident_of}
+use Rattle.cts_entry.specs.Workers.{is_slot}
 use Rattle.cts_core.specs.Built.{is_stated_length, is_built_spec, is_built_chain, is_built_interface, is_built_site}
 
 pub and_tells : (a b : Bool) → (a && b) ≡ true → (a ≡ true) × (b ≡ true)

@@ -17,7 +17,8 @@ use Rattle.cts_core.specs.States.{State, has_room}
 use Rattle.cts_told.specs.Routing.{packet_entries, time_in}
 use Rattle.cts_entry.specs.declared.what.What.TheVariants.{Packet}
 use Rattle.cts_def.specs.Sites.{SiteData}
-use Rattle.cts_core.specs.Environments.{bytes_limit, entries_limit, ident_of, site_environment}
+use Rattle.cts_core.specs.Environments.{ident_of, site_environment}
+use Rattle.cts_entry.specs.Legal.{most_bytes as bytes_limit, most_entries as entries_limit}
 
 -- entries that open and close nothing leave a maker connected or not
 pub connected_kept : (by : ℕ) (history entries : List Entry) → latest (connects_maker by) entries ≡ None → is_connected by (history ++ entries) ≡ is_connected by history

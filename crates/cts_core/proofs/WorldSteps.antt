@@ -35,7 +35,8 @@ use Rattle.cts_core.proofs.Passing.{nothing_unsent}
 use Rattle.cts_told.specs.Routing.{packet_entries}
 use Rattle.cts_told.proofs.Walks.{posted_packets}
 use Rattle.cts_proto.specs.Chains.{framings_at}
-use Rattle.cts_core.specs.Environments.{bytes_limit, entries_limit, site_environment}
+use Rattle.cts_core.specs.Environments.{site_environment}
+use Rattle.cts_entry.specs.Legal.{most_bytes as bytes_limit, most_entries as entries_limit}
 use Rattle.cts_core.specs.Kept.{Bounds, Kept, CanAdd, GivesRoom, is_within}
 use Rattle.cts_core.specs.Worlds.{Held, HeldConnection, Represents, Steps, Takes, IsConnection, IsRest, connection_at, first_held, shut, lost, opened, closed, extended, posted, settled, shortened, packets_cut}
 use Rattle.cts_core.specs.declared.fault.WorldFault.{WorldFault}

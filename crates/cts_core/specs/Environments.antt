@@ -1,38 +1,22 @@
 -- What a site gives to events: the environment in which they are done.
-use Rattle.std.specs.Prelude.{ℕ, false, Bool, ◌==◌, ◌&&◌, nat_le, nat_lt, List, [], map, length, slice_get, slice_index_or, Option, Some, None, option_and_then, if◌then◌else◌}
-use Rattle.std.specs.List.{list_any, position}
+use Rattle.std.specs.Prelude.{ℕ, false, Bool, ◌==◌, ◌&&◌, nat_lt, List, [], map, slice_index_or, Option, Some, None, if◌then◌else◌}
+use Rattle.std.specs.List.{list_any}
 use Rattle.cts_core.specs.States.{Answer, Environment}
-use Rattle.cts_def.specs.Items.{is_same}
-use Rattle.cts_def.specs.Makers.{first_slot, router_of}
-use Rattle.cts_def.specs.Packets.{PacketData, unknown}
+use Rattle.cts_def.specs.Makers.{router_of}
+use Rattle.cts_def.specs.Packets.{unknown}
 use Rattle.cts_def.specs.Sites.{InterfaceData, SiteData}
 use Rattle.cts_def.specs.declared.ident.Ident.{Ident}
 use Rattle.cts_def.specs.declared.ident.Ident.TheVariants.{Known, Unknown}
 use Rattle.cts_def.specs.declared.time.Time.{Time}
 use Rattle.cts_entry.specs.declared.entry.Entry.{Entry}
+use Rattle.cts_entry.specs.Legal.{most_entries as entries_limit, most_bytes as bytes_limit}
+use Rattle.cts_entry.specs.Workers.{is_interface, is_slot, interface_of}
 use Rattle.cts_ident.specs.Identification.{identified, identified_command, named, routes_at}
 use Rattle.cts_proto.specs.Chains.{framings_at}
 use Rattle.cts_proto.specs.Framing.{Heading, Output}
 use Rattle.cts_script.specs.Names.{packet_names as names_of_packet, command_names}
 
--- ---- limits
-
--- the most entries of a history, and the most bytes
-abbrev pub entries_limit : ℕ
-entries_limit = 4000000
-
-abbrev pub bytes_limit : ℕ
-bytes_limit = 1073741824
-
 -- ---- makers
-
--- interface k is maker k
-abbrev pub is_interface : SiteData → ℕ → Bool
-is_interface site by = nat_lt by (length site.interfaces)
-
--- each router has two slots, one behind the other from the first slot on
-abbrev pub is_slot : SiteData → ℕ → Bool
-is_slot site by = nat_le first_slot by && nat_lt (router_of by) (length site.routers)
 
 -- desks are counted from 0
 abbrev pub is_desk : SiteData → ℕ → Bool
@@ -53,14 +37,6 @@ abbrev pub ident_of : SiteData → ℕ → Output → Ident
 ident_of site by out = ident_by site by out.bytes out.heading
 
 -- ---- where it goes
-
--- the first interface that has this target
-abbrev pub interface_with : List InterfaceData → List ℕ → Option ℕ
-interface_with interfaces target = position (λ (i : InterfaceData). list_any (is_same target) i.targets) interfaces
-
--- the interface that has the target of the command of this number
-abbrev pub interface_of : SiteData → ℕ → Option ℕ
-interface_of site command = option_and_then (λ (p : PacketData). interface_with site.interfaces p.target) (slice_get site.definitions.commands command)
 
 -- the slot's router routes the packets of the interface
 abbrev pub is_routed : SiteData → ℕ → ℕ → Bool

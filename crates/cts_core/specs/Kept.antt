@@ -2,7 +2,7 @@
 use Rattle.std.specs.Prelude.{◌≡◌, ℕ, ◌+◌, ◌-◌, ◌≤◌, ◌&&◌, nat_le, Bool, true, false, List, [], ◌++◌, length, vec_len, vec_capacity, Result, Ok, Err}
 use Rattle.cts_entry.specs.declared.entry.Entry.{Entry}
 use Rattle.cts_entry.specs.Histories.{is_stopped, entries_in, bytes_in}
-use Rattle.cts_core.specs.Environments.{entries_limit}
+use Rattle.cts_entry.specs.Legal.{most_entries as entries_limit}
 use Rattle.cts_core.specs.declared.fault.WorldFault.{WorldFault}
 use Rattle.cts_core.specs.declared.fault.WorldFault.TheVariants.{NotEnabled, Full, Memory}
 use Rattle.cts_core.specs.declared.history.History.TheInside.{Inside}

@@ -16,7 +16,8 @@ use Rattle.cts_proto.specs.Framing.{Output}
 use Rattle.cts_proto.specs.LengthRow.{length_framing}
 use Rattle.cts_proto.specs.Packets.{joined}
 use Rattle.cts_told.specs.Routing.{packet_entries}
-use Rattle.cts_core.specs.Environments.{entries_limit, bytes_limit, site_environment}
+use Rattle.cts_core.specs.Environments.{site_environment}
+use Rattle.cts_entry.specs.Legal.{most_entries as entries_limit, most_bytes as bytes_limit}
 use Rattle.cts_core.specs.Kept.{Bounds, is_within}
 use Rattle.cts_core.specs.Runs.{Did, Does, after, Refuses, NotEnabled, HistoryFull}
 use Rattle.cts_core.specs.States.{State}

@@ -1,21 +1,14 @@
 // The history of a running core.
 ghost use Rattle.std.specs.Prelude.{◌≡◌, ◌≤◌, ◌<◌, [], ◌∷◌, OnOk, OnErr};
-ghost use Rattle.cts_core.specs.Environments.{entries_limit};
+ghost use Rattle.cts_entry.specs.Legal.{most_entries as entries_limit};
 ghost use Rattle.cts_core.specs.Kept.{CanAdd, GivesRoom, added, begun, with_places};
 ghost use Rattle.cts_entry.specs.Histories.{is_stopped};
 
-use crate::counting::{bytes_for, entries_for, is_stop};
 use crate::fault::WorldFault;
 use cts_base::Memory;
-use cts_entry::Entry;
+use cts_entry::{Entry, bytes_for, entries_for, is_stop};
 use std::alloc::Global;
 use std::marker::Model;
-
-/// The most entries of a history that count against its limit.
-pub const MOST_ENTRIES: u64 = 4_000_000;
-
-/// The most bytes in the packets and commands of a history.
-pub const MOST_BYTES: u64 = 1_073_741_824;
 
 /// All entries so far, and room for some more.
 #[derive(Debug, Drop)]

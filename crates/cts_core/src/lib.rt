@@ -4,7 +4,6 @@
 
 mod built;
 mod connection;
-mod counting;
 mod enabling;
 mod fault;
 mod history;
@@ -15,6 +14,6 @@ mod world;
 pub use built::is_built_site;
 pub use enabling::{is_piece, may_close, takes_room};
 pub use fault::WorldFault;
-pub use history::{History, MOST_BYTES, MOST_ENTRIES};
+pub use history::History;
 pub use laws::{core_is_legal, core_is_logged, core_is_told, cursors, runs};
 pub use world::World;

@@ -5,11 +5,11 @@ ghost use Rattle.cts_core.specs.Worlds.{lasting};
 use crate::connection::Connection;
 use crate::enabling::{is_piece, may_close};
 use crate::fault::WorldFault;
-use crate::history::{History, MOST_BYTES, MOST_ENTRIES};
+use crate::history::History;
 use crate::posting::packets;
 use cts_base::Memory;
 use cts_def::{BadCause, Loss, Site, Time};
-use cts_entry::{Entry, Event, Why};
+use cts_entry::{Entry, Event, MOST_BYTES, MOST_ENTRIES, Why};
 use cts_proto::cut_length;
 use std::alloc::Global;
 
@@ -29,7 +29,7 @@ pub struct World {
 impl World {
     ghost use Rattle.std.specs.Prelude.{◌≡◌, ◌&&◌, ◌<◌, ◌≤◌, ◌+◌, ◌^◌, nat_lt, not, length, [], ◌∷◌, true, Some, Err, vec_len, IfOk, OnOk, OnErr};
     ghost use Rattle.cts_core.specs.Built.{is_built_event, is_built_site};
-    ghost use Rattle.cts_core.specs.Environments.{entries_limit};
+    ghost use Rattle.cts_entry.specs.Legal.{most_entries as entries_limit};
     ghost use Rattle.cts_core.specs.Kept.{CanAdd};
     ghost use Rattle.cts_core.specs.States.{State, is_piece, may_close, opening};
     ghost use Rattle.cts_core.specs.Worlds.{Represents, Steps, Takes, closed, connection_at, extended, first_held, GoesOn, held_in, lasting, opened, posted, settled, shortened};

@@ -8,11 +8,11 @@ ghost use Rattle.cts_entry.specs.Legal.{has_ended, most_bytes, most_entries};
 ghost use Rattle.cts_table.specs.Keeping.{IsKept};
 ghost use Rattle.cts_table.specs.States.{added, begun, CanAdd, IsRoomAnswer, with_room};
 
-use crate::kinds::{bytes_for, connects, entries_for};
+use crate::kinds::connects;
 use crate::{Basis, HallFault, History};
 use cts_base::Memory;
 use cts_def::Site;
-use cts_entry::{Entry, MOST_BYTES, MOST_ENTRIES, Stands, What};
+use cts_entry::{Entry, MOST_BYTES, MOST_ENTRIES, Stands, What, bytes_for, entries_for};
 use std::alloc::Global;
 use std::marker::Model;
 use std::sync::Arc;

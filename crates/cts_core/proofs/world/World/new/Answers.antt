@@ -1,5 +1,5 @@
 use Rattle.std.proofs.Common.{◌≡◌, Result, Ok, Err, IfOk}
-use Rattle.cts_core.specs.Environments.{entries_limit, bytes_limit}
+use Rattle.cts_entry.specs.Legal.{most_entries as entries_limit, most_bytes as bytes_limit}
 use Rattle.cts_core.specs.States.{opening}
 use Rattle.cts_core.specs.Worlds.{Represents, first_held, held_in}
 use Rattle.cts_core.specs.declared.world.World.{World}
