@@ -55,6 +55,7 @@ impl World {
     ) -> Result<World, Memory>
         requires { entries ≤ entries_limit }
         ensures held { IfOk result (λ world. held_in world ≡ first_held site.now entries bytes) }
+        ensures count { IfOk result (λ world. length (held_in world).connections ≡ length site.now.interfaces) }
         ensures going { IfOk result (λ world. GoesOn world) }
     {
         let connections = Connection::none_stands(alloc, site.interfaces.len())?;

@@ -28,3 +28,5 @@ mod site;
 mod table;
 #[cfg(test)]
 mod values;
+#[cfg(test)]
+mod world;

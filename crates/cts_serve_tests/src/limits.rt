@@ -1,5 +1,7 @@
 // The greatest files, definitions and pieces that are taken.
-use crate::table::{SITE, said};
+use crate::table::{SITE, ended, said};
+use cts_base::Bytes;
+use cts_outside::{MemFiles, MemSink};
 use std::alloc::{AllocError, Global};
 use std::test::Fail;
 
@@ -31,21 +33,24 @@ fn a_piece_has_65536_bytes_at_most(rt: HostRuntime) -> Result<(), Fail> {
     Ok(())
 }
 
+// How a replay ends whose definitions are one word of so many letters.
+fn said_of_one_word(alloc: Global, length: usize) -> Result<Vec<u8>, Fail> {
+    let mut held = Vec::new(alloc);
+    let word = vec![in alloc; b'a'; length]?;
+    held.push((Bytes::copy(alloc, b"d")?, Bytes::of(word)))?;
+    let mut files = MemFiles::new(held, Vec::new(alloc));
+    let mut sink = MemSink::new(alloc, Vec::new(alloc));
+    ended(alloc, "replay d s c", &mut files, &mut sink)
+}
+
 #[test]
 fn a_file_has_67108864_bytes_at_most(rt: HostRuntime) -> Result<(), Fail> {
-    let mut text = repeated(
-        rt.alloc(),
-        "",
-        "aaaaaaaaaaaaaaaaaaaaaaaaaaaaaaaaaaaaaaaaaaaaaaaaaaaaaaaaaaaaaaaa",
-        1_048_576,
-    )?;
     assert_eq!(rt;
-        said_of(rt.alloc(), text.as_str())?.as_slice(),
+        said_of_one_word(rt.alloc(), 67_108_864)?.as_slice(),
         b"ConfigRefused refused: d line 1: UnknownKeyword\n".as_slice()
     );
-    text.push_str("a")?;
     assert_eq!(rt;
-        said_of(rt.alloc(), text.as_str())?.as_slice(),
+        said_of_one_word(rt.alloc(), 67_108_865)?.as_slice(),
         b"ConfigRefused refused: d line 0: TooLarge\n".as_slice()
     );
     Ok(())
