@@ -18,3 +18,6 @@ pub use fault::WorldFault;
 pub use history::{History, MOST_BYTES, MOST_ENTRIES};
 pub use laws::{core_is_legal, core_is_logged, core_is_told, cursors, runs};
 pub use world::World;
+
+#[cfg(test)]
+mod history_tests;

@@ -55,6 +55,7 @@ impl World {
     ) -> Result<World, Memory>
         requires { entries ≤ entries_limit }
         ensures held { IfOk result (λ world. held_in world ≡ first_held site.now entries bytes) }
+        ensures count { IfOk result (λ world. length (held_in world).connections ≡ length site.now.interfaces) }
         ensures going { IfOk result (λ world. GoesOn world) }
     {
         let connections = Connection::none_stands(alloc, site.interfaces.len())?;
@@ -85,6 +86,7 @@ impl World {
         requires event { is_built_event event.now ≡ true }
         ensures step { (s : State) → GoesOn self.old → Represents site.now (held_in self.old) s → Steps site.now s event.now (held_in self.old) result (held_in self.new) }
         ensures lasts { GoesOn self.old → self.new.ended ≡ lasting result }
+        ensures count { length (held_in self.new).connections ≡ length (held_in self.old).connections }
         ensures ended { (fault : WorldFault) → self.old.ended ≡ Some fault → (result ≡ Err fault) × (self.new ≡ self.old) }
     {
         if let Some(fault) = self.ended {
@@ -99,7 +101,8 @@ impl World {
         requires count { vec_len self.old.connections ≡ length site.now.interfaces }
         requires site { is_built_site site.now ≡ true }
         requires event { is_built_event event.now ≡ true }
-        ensures { (s : State) → Represents site.now (held_in self.old) s → Steps site.now s event.now (held_in self.old) result (held_in self.new) }
+        ensures steps { (s : State) → Represents site.now (held_in self.old) s → Steps site.now s event.now (held_in self.old) result (held_in self.new) }
+        ensures count { vec_len self.new.connections ≡ vec_len self.old.connections }
     {
         match event {
             Event::SetTime(time) => self.set_time(*time),
@@ -115,7 +118,8 @@ impl World {
     }
 
     fn set_time(&mut self, time: Time) -> Result<(), WorldFault>
-        ensures { (site : SiteData) (s : State) → Represents site (held_in self.old) s → Steps site s (event.SetTime time) (held_in self.old) result (held_in self.new) }
+        ensures steps { (site : SiteData) (s : State) → Represents site (held_in self.old) s → Steps site s (event.SetTime time) (held_in self.old) result (held_in self.new) }
+        ensures count { vec_len self.new.connections ≡ vec_len self.old.connections }
     {
         if !time.is_of_clock() {
             return Err(WorldFault::NotEnabled);
@@ -127,7 +131,8 @@ impl World {
     fn open(&mut self, site: &Site, by: u32) -> Result<(), WorldFault>
         requires count { vec_len self.old.connections ≡ length site.now.interfaces }
         requires site { is_built_site site.now ≡ true }
-        ensures { (s : State) → Represents site.now (held_in self.old) s → Steps site.now s (event.Opens by) (held_in self.old) result (held_in self.new) }
+        ensures steps { (s : State) → Represents site.now (held_in self.old) s → Steps site.now s (event.Opens by) (held_in self.old) result (held_in self.new) }
+        ensures count { vec_len self.new.connections ≡ vec_len self.old.connections }
     {
         if !self.may_open(site, by) {
             return Err(WorldFault::NotEnabled);
@@ -141,7 +146,8 @@ impl World {
     fn begin(&mut self, by: u32)
         requires there { by < vec_len self.old.connections }
         requires room { (1 ≤ self.old.history.spare_entries) × (0 < self.old.history.places) }
-        ensures { held_in self.new ≡ opened by (held_in self.old) }
+        ensures held { held_in self.new ≡ opened by (held_in self.old) }
+        ensures count { vec_len self.new.connections ≡ vec_len self.old.connections }
     {
         let connection = &mut self.connections[by as usize];
         connection.open();
@@ -151,7 +157,8 @@ impl World {
     fn finish(&mut self, site: &Site, by: u32, why: Why) -> Result<(), WorldFault>
         requires count { vec_len self.old.connections ≡ length site.now.interfaces }
         requires site { is_built_site site.now ≡ true }
-        ensures { (s : State) → Represents site.now (held_in self.old) s → Steps site.now s (event.Finish by why) (held_in self.old) result (held_in self.new) }
+        ensures steps { (s : State) → Represents site.now (held_in self.old) s → Steps site.now s (event.Finish by why) (held_in self.old) result (held_in self.new) }
+        ensures count { vec_len self.new.connections ≡ vec_len self.old.connections }
     {
         if !self.may_finish(site, by, why) {
             return Err(WorldFault::NotEnabled);
@@ -170,7 +177,8 @@ impl World {
     ) -> Result<(), WorldFault>
         requires count { vec_len self.old.connections ≡ length site.now.interfaces }
         requires site { is_built_site site.now ≡ true }
-        ensures { (s : State) → Represents site.now (held_in self.old) s → Steps site.now s (event.Piece by piece.now) (held_in self.old) result (held_in self.new) }
+        ensures steps { (s : State) → Represents site.now (held_in self.old) s → Steps site.now s (event.Piece by piece.now) (held_in self.old) result (held_in self.new) }
+        ensures count { vec_len self.new.connections ≡ vec_len self.old.connections }
     {
         if !self.may_receive(site, by, piece) {
             return Err(WorldFault::NotEnabled);
@@ -201,7 +209,8 @@ impl World {
     fn take_back(&mut self, by: u32, count: usize)
         requires there { by < vec_len self.old.connections }
         requires within { count ≤ length (connection_at (held_in self.old).connections by).rest }
-        ensures { held_in self.new ≡ shortened by (held_in self.old) count }
+        ensures held { held_in self.new ≡ shortened by (held_in self.old) count }
+        ensures count { vec_len self.new.connections ≡ vec_len self.old.connections }
     {
         let connection = &mut self.connections[by as usize];
         connection.take_back(count);
@@ -213,7 +222,7 @@ impl World {
         requires there { by < vec_len self.old.connections }
         requires interface { by < length site.now.interfaces }
         ensures takes { Takes site.now by (held_in self.old) result (held_in self.new) }
-        ensures count { OnErr result (vec_len self.new.connections ≡ vec_len self.old.connections) }
+        ensures count { vec_len self.new.connections ≡ vec_len self.old.connections }
         ensures small { length (connection_at (held_in self.old).connections by).rest < 2 ^ 64 }
     {
         let connection = &self.connections[by as usize];
@@ -244,7 +253,8 @@ impl World {
     fn settle(&mut self, by: u32, short: Option<i128>)
         requires there { by < vec_len self.old.connections }
         requires place { 0 < self.old.history.places }
-        ensures { held_in self.new ≡ settled by (held_in self.old) short }
+        ensures held { held_in self.new ≡ settled by (held_in self.old) short }
+        ensures count { vec_len self.new.connections ≡ vec_len self.old.connections }
     {
         match short {
             None => {}
@@ -263,6 +273,7 @@ impl World {
         requires there { by < vec_len self.old.connections }
         requires place { 0 < self.old.history.places }
         ensures held { held_in self.new ≡ closed by (held_in self.old) why }
+        ensures count { vec_len self.new.connections ≡ vec_len self.old.connections }
         ensures small { length (connection_at (held_in self.old).connections by).rest < 2 ^ 64 }
     {
         let connection = &mut self.connections[by as usize];
@@ -277,7 +288,8 @@ impl World {
     }
 
     fn stop(&mut self) -> Result<(), WorldFault>
-        ensures { (site : SiteData) (s : State) → Represents site (held_in self.old) s → Steps site s event.Stop (held_in self.old) result (held_in self.new) }
+        ensures steps { (site : SiteData) (s : State) → Represents site (held_in self.old) s → Steps site s event.Stop (held_in self.old) result (held_in self.new) }
+        ensures count { vec_len self.new.connections ≡ vec_len self.old.connections }
     {
         if self.history.is_stopped() {
             return Err(WorldFault::NotEnabled);

@@ -20,3 +20,5 @@ mod scripts;
 mod site;
 #[cfg(test)]
 mod table;
+#[cfg(test)]
+mod world;

@@ -6,8 +6,8 @@ use Rattle.cts_core.specs.Worlds.{HeldConnection, held_in, connections_in}
 use Rattle.cts_core.proofs.Connections.{written}
 use Rattle.cts_core.proofs.world.World.begin.Goals as goal
 
-pub returns : goal.returns
-returns c =
+pub returns-clause-held : goal.returns-clause-held
+returns-clause-held c =
     let w = held_in c.args.self.now in
     let connection : HeldConnection = record { connected = true; rest = [] } in
     let entry : Entry = record { by = c.args.by; time = w.time; what = Opened } in

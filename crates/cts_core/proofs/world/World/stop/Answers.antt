@@ -7,14 +7,14 @@ use Rattle.cts_core.specs.Worlds.{held_in}
 use Rattle.cts_core.proofs.WorldSteps.{not_enabled, stopped, held_with}
 use Rattle.cts_core.proofs.world.World.stop.Goals as goal
 
-pub returns-then-is_stopped : goal.returns-then-is_stopped
-returns-then-is_stopped c =
+pub returns-then-is_stopped-clause-steps : goal.returns-then-is_stopped-clause-steps
+returns-then-is_stopped-clause-steps c =
     let on : c.is_stopped.result ≡ true = search rules in
     let w = held_in c.args.self.now in
     λ site s h. not_enabled site w w s Stop (not c.is_stopped.result) (ap not (c.is_stopped.ensures ∙ ap is_stopped h.history)) (ap not on) refl h
 
-pub returns : goal.returns
-returns c =
+pub returns-clause-steps : goal.returns-clause-steps
+returns-clause-steps c =
     let w = held_in c.args.self.now in
     let off : c.is_stopped.result ≡ false = search rules in
     let placed = c.in_ok-place.ensures.ok.1 in

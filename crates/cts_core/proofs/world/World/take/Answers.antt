@@ -59,4 +59,4 @@ returns-clause-takes c =
     let done = c.post.ensures.posted
     ∙ (ap (λ (x : Held). posted c.args.by x c.in_ok-entries.entries.items cut.rest) (room_made w.time k c.room.new.self w.connections (length cut.frames) cut.rest room)
     ∙ ap (λ (es : List Entry). posted c.args.by w es cut.rest) entries) in
-    (cut, subst (λ (bytes : List ℕ). IsCutting bytes cut) rest c.in_ok-cutting.ensures, room.0, c.settle.ensures ∙ ap (λ (x : Held). settled c.args.by x cut.short) done)
+    (cut, subst (λ (bytes : List ℕ). IsCutting bytes cut) rest c.in_ok-cutting.ensures, room.0, c.settle.ensures.held ∙ ap (λ (x : Held). settled c.args.by x cut.short) done)

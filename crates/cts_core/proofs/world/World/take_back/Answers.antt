@@ -3,8 +3,8 @@ use Rattle.cts_core.specs.Worlds.{HeldConnection, held_in, connection_at, connec
 use Rattle.cts_core.proofs.Connections.{read, written}
 use Rattle.cts_core.proofs.world.World.take_back.Goals as goal
 
-pub returns : goal.returns
-returns c =
+pub returns-clause-held : goal.returns-clause-held
+returns-clause-held c =
     let w = held_in c.args.self.now in
     let connections = c.args.self.now.connections in
     let connection = c.index_mut-connection.result.now in
