@@ -1,8 +1,8 @@
 -- What the world stands for after each event.
-use Rattle.std.proofs.Common.{◌≡◌, ℕ, ◌+◌, ◌-◌, ◌≤◌, ◌<◌, ◌^◌, Bool, true, false, ◌&&◌, ◌||◌, not, List, [], ◌∷◌, ◌++◌, length, take, drop, Option, Some, None, Result, Ok, Err, refl, sym, ◌∙◌, ap, subst, arith, unwrap_or, option_map, replicate, append_assoc, length-drop, ◌⊎◌, inl, inr}
+use Rattle.std.proofs.Common.{◌≡◌, ℕ, ◌+◌, ◌-◌, ◌≤◌, ◌<◌, ◌^◌, Bool, true, false, ◌&&◌, not, List, [], ◌∷◌, ◌++◌, length, take, drop, Option, Some, None, Ok, Err, refl, sym, ◌∙◌, ap, subst, arith, unwrap_or, option_map, append_assoc, length-drop, ◌⊎◌, inl, inr}
 use Rattle.std.specs.Prelude.{◌==◌, ◌≢◌, nat_le, nat_lt, ℤ, set, if◌then◌else◌}
 use Rattle.std.proofs.lemmas.List.{append-nil, length-set, get_or-set_same, get_or-set_other, set-set, set-get_or, take_at, length-append, get_or-replicate, length-replicate}
-use Rattle.std.proofs.lemmas.Bool.{cases_eq, eq-eqb, ne_eqb, ltb-true, lt-leb, and_left}
+use Rattle.std.proofs.lemmas.Bool.{cases_eq, eq-eqb, ne_eqb, ltb-true}
 use Rattle.cts_def.specs.Sites.{SiteData}
 use Rattle.cts_def.specs.declared.time.Time.{Time}
 use Rattle.cts_entry.specs.declared.entry.Entry.{Entry}
@@ -14,7 +14,7 @@ use Rattle.cts_entry.specs.declared.event.Event.{Event}
 use Rattle.cts_entry.specs.declared.event.Event.TheVariants.{SetTime, Opens, Piece, Finish, Stop}
 use Rattle.cts_entry.specs.declared.event.Effect.TheVariants.{Posted}
 use Rattle.cts_entry.specs.Histories.{or_earlier, latest, connects, connects_maker, is_connected, is_stopped, has_command, entries_in, bytes_in}
-use Rattle.cts_entry.proofs.Appending.{latest-append, connected-append, stopped-append}
+use Rattle.cts_entry.proofs.Appending.{latest-append, connected-append}
 use Rattle.cts_proto.specs.Framing.{Framing, Output}
 use Rattle.cts_proto.specs.Cuts.{Pieces, IsCut}
 use Rattle.cts_def.specs.declared.loss.Loss.{Loss}
@@ -29,7 +29,7 @@ use Rattle.cts_proto.proofs.Framings.{taken_none, ends_nil}
 use Rattle.cts_proto.proofs.LengthSound.{length_is_sound}
 use Rattle.cts_proto.proofs.Stagings.{plain_bytes, joined_append}
 use Rattle.cts_core.specs.States.{State, is_piece, is_enabled, is_line, has_room, takes_room, unsent, may_close, opening}
-use Rattle.cts_core.specs.Runs.{Did, Does, Refuses, NotEnabled, HistoryFull, Appends, Receives, after, pieces_for, closed_entry, closing}
+use Rattle.cts_core.specs.Runs.{Did, Does, Appends, Receives, after, pieces_for, closed_entry, closing}
 use Rattle.cts_core.proofs.Keeping.{pieces_turned, pieces_grow, pieces_stay}
 use Rattle.cts_core.proofs.Passing.{nothing_unsent}
 use Rattle.cts_told.specs.Routing.{packet_entries}

@@ -1,6 +1,5 @@
-use Rattle.std.proofs.Common.{◌≡◌, [], ◌∷◌, arith, refl, sym, subst, ap, ◌∙◌}
+use Rattle.std.proofs.Common.{[], ◌∷◌, arith, sym, subst}
 use Rattle.cts_core.specs.Kept.{Kept, CanAdd}
-use Rattle.cts_core.proofs.Keepings.{add_sound}
 use Rattle.cts_core.proofs.history.History.append.Goals as goal
 
 pub push_reserved-requires : goal.push_reserved-requires

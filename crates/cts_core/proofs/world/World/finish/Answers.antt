@@ -1,7 +1,7 @@
 use Rattle.std.proofs.Common.{rules, ◌≡◌, true, false, refl, sym, ap, ◌∙◌}
 use Rattle.cts_entry.specs.declared.event.Event.TheVariants.{Finish}
 use Rattle.cts_core.specs.Kept.{Kept}
-use Rattle.cts_core.specs.Worlds.{Held, held_in, closed}
+use Rattle.cts_core.specs.Worlds.{held_in, closed}
 use Rattle.cts_core.proofs.WorldSteps.{may_finish_is, not_enabled, finished, held_with}
 use Rattle.cts_core.proofs.world.World.finish.Goals as goal
 

@@ -1,6 +1,6 @@
 use Rattle.std.proofs.Common.{rules, ◌≡◌, true, false, refl, sym, ap, ◌∙◌}
 use Rattle.cts_entry.specs.declared.event.Event.TheVariants.{Opens}
-use Rattle.cts_core.specs.Worlds.{Held, held_in, opened}
+use Rattle.cts_core.specs.Worlds.{held_in, opened}
 use Rattle.cts_core.proofs.WorldSteps.{may_open_is, not_enabled, opens, room_made}
 use Rattle.cts_core.proofs.world.World.open.Goals as goal
 

@@ -1,4 +1,4 @@
-use Rattle.std.proofs.Common.{◌≡◌, ◌<◌, ℕ, List, ◌++◌, length, drop, set, sym, ap, ◌∙◌, arith}
+use Rattle.std.proofs.Common.{◌≡◌, ◌<◌, length, drop, set, sym, ap, ◌∙◌, arith}
 use Rattle.cts_core.specs.Kept.{Kept}
 use Rattle.cts_core.specs.Worlds.{HeldConnection, held_in, connection_at, connection_in, connections_in}
 use Rattle.cts_core.proofs.Connections.{read, written}

@@ -1,5 +1,4 @@
-use Rattle.std.proofs.Common.{rules, ◌≡◌, ℕ, ◌<◌, ◌≤◌, ◌^◌, true, false, length, refl, sym, ◌∙◌, ap, subst, arith, Ok, Err}
-use Rattle.std.proofs.lemmas.List.{length-append}
+use Rattle.std.proofs.Common.{rules, ◌≡◌, ℕ, ◌<◌, ◌^◌, true, false, length, refl, sym, ◌∙◌, ap, subst, Ok, Err}
 use Rattle.cts_entry.specs.declared.event.Event.TheVariants.{Piece}
 use Rattle.cts_core.specs.Worlds.{Held, Takes, held_in, connection_at}
 use Rattle.cts_core.proofs.WorldSteps.{may_receive_is, not_enabled, nothing_taken, piece_done, piece_refused, taken_back, there_of}

@@ -1,4 +1,4 @@
-use Rattle.std.proofs.Common.{length, arith}
+use Rattle.std.proofs.Common.{arith}
 use Rattle.std.proofs.lemmas.List.{length-map}
 use Rattle.cts_core.specs.Worlds.{connection_in}
 use Rattle.cts_core.proofs.world.World.step.Goals as goal

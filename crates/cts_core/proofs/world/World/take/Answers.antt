@@ -1,9 +1,9 @@
-use Rattle.std.proofs.Common.{rules, ◌≡◌, ◌<◌, ◌≤◌, ℕ, List, length, ap, ◌∙◌, sym, subst, arith, refl, Ok, Err}
+use Rattle.std.proofs.Common.{rules, ◌≡◌, ◌<◌, ℕ, List, length, ap, ◌∙◌, sym, subst, arith, Ok, Err}
 use Rattle.cts_entry.specs.declared.entry.Entry.{Entry}
 use Rattle.cts_proto.specs.Cuttings.{IsCutting, frames_at}
 use Rattle.cts_told.specs.Routing.{packet_entries}
 use Rattle.cts_core.specs.Environments.{site_environment}
-use Rattle.cts_core.specs.Kept.{Kept, GivesRoom}
+use Rattle.cts_core.specs.Kept.{GivesRoom}
 use Rattle.cts_core.specs.Worlds.{Held, HeldConnection, held_in, connection_at, connection_in, packets_cut, posted, settled}
 use Rattle.cts_core.proofs.Connections.{read}
 use Rattle.cts_core.proofs.WorldSteps.{room_made, room_refused, packets_fit}

@@ -1,4 +1,4 @@
-use Rattle.std.proofs.Common.{◌≡◌, ◌-◌, ◌<◌, ℕ, List, length, take, set, sym, ap, ◌∙◌, arith}
+use Rattle.std.proofs.Common.{◌≡◌, ◌-◌, ◌<◌, length, take, set, sym, ap, ◌∙◌, arith}
 use Rattle.cts_core.specs.Worlds.{HeldConnection, held_in, connection_at, connection_in, connections_in}
 use Rattle.cts_core.proofs.Connections.{read, written}
 use Rattle.cts_core.proofs.world.World.take_back.Goals as goal

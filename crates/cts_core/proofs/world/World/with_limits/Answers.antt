@@ -2,7 +2,7 @@ use Rattle.std.proofs.Common.{ℕ, ap, ◌∙◌, length, replicate}
 use Rattle.std.proofs.lemmas.List.{length-replicate}
 use Rattle.cts_def.specs.Sites.{SiteData}
 use Rattle.cts_core.specs.Kept.{Kept}
-use Rattle.cts_core.specs.Worlds.{HeldConnection, shut}
+use Rattle.cts_core.specs.Worlds.{shut}
 use Rattle.cts_core.proofs.world.World.with_limits.Goals as goal
 
 pub returns-clause-held : goal.returns-clause-held
