@@ -56,10 +56,10 @@ fn a_file_has_67108864_bytes_at_most(rt: HostRuntime) -> Result<(), Fail> {
     Ok(())
 }
 
-// Packets of 4,096 items each.
-fn packets(alloc: Global, count: u32) -> Result<String, AllocError> {
+// Sixteen packets of 4,096 items each.
+fn packets(alloc: Global) -> Result<String, AllocError> {
     let mut text = String::new(alloc);
-    for number in 0..count * 4096 {
+    for number in 0..65_536u32 {
         if number % 4096 == 0 {
             text.push_str(format!(in alloc; "TELEMETRY T P{number} BIG_ENDIAN;")?.as_str())?;
         }
@@ -70,7 +70,7 @@ fn packets(alloc: Global, count: u32) -> Result<String, AllocError> {
 
 #[test]
 fn definitions_have_65536_items_at_most(rt: HostRuntime) -> Result<(), Fail> {
-    let mut text = packets(rt.alloc(), 16)?;
+    let mut text = packets(rt.alloc())?;
     assert_eq!(rt;
         said_of(rt.alloc(), text.as_str())?.as_slice(),
         b"Absent absent: s\n".as_slice()

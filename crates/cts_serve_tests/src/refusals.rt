@@ -5,19 +5,20 @@ use cts_outside::{MemFiles, MemSink};
 use std::alloc::Global;
 use std::test::Fail;
 
+// The first row has no words.
+const OTHER_WORDS: &str = "
+check d
+check d s c
+replay d s
+replay d s c c
+CHECK d s
+rehearse 5
+dump x
+serve d s";
+
 #[test]
 fn words_that_fit_no_command(rt: HostRuntime) -> Result<(), Fail> {
-    for words in [
-        "",
-        "check d",
-        "check d s c",
-        "replay d s",
-        "replay d s c c",
-        "CHECK d s",
-        "rehearse 5",
-        "dump x",
-        "serve d s",
-    ] {
+    for words in OTHER_WORDS.lines() {
         let row = format!(in rt.alloc();
             "{words}||{SITE}||Usage usage: check DEFS SITE | replay DEFS SITE SCRIPT | rehearse N | dump LOG | serve DEFS SITE;"
         )?;

@@ -59,11 +59,11 @@ fn each_statement_of_a_script_has_one_event(rt: HostRuntime) -> Result<(), Fail>
 // A script that brings the bytes of a connection in pieces: a cut after byte k where bit k is set.
 fn script_with_cuts(alloc: Global, digits: &str, cuts: u32) -> Result<String, AllocError> {
     let mut script = String::from_str(alloc, "OPEN I;BYTES I ")?;
-    for (at, digit) in digits.chars().enumerate() {
+    for (at, digit) in digits.as_bytes().iter().enumerate() {
         if at > 0 && at % 2 == 0 && (cuts >> ((at / 2 - 1) % 32)) % 2 == 1 {
             script.push_str(";BYTES I ")?;
         }
-        script.push(digit)?;
+        script.push(*digit as char)?;
     }
     script.push_str(";CLOSE I PEER")?;
     Ok(script)
