@@ -18,10 +18,12 @@ use Rattle.cts_defline.specs.declared.open.Open.{Open}
 use Rattle.cts_defline.specs.declared.open.PacketKind.{PacketKind}
 use Rattle.cts_defline.specs.declared.open.PacketKind.TheVariants as «kind»
 use Rattle.cts_defline.specs.Fields.{is_color, is_other_choice}
-use Rattle.cts_defline.specs.Forms.{word_at, size_at, wanted, more, fits, kind_of_keyword, state_wanted, state_fields}
+use Rattle.cts_defline.specs.Forms.{size_at, wanted, more, fits, kind_of_keyword, state_wanted, state_fields}
+use Rattle.cts_reader.specs.Words.{word_at}
 use Rattle.cts_defline.specs.Lines.{bound_in, color_of, kind_in, line_of, number_parameter, state_def, text_parameter}
 use Rattle.cts_defline.specs.Numbers.{count_in, decimal}
-use Rattle.cts_defline.specs.Refusals.{any_word, form_kind, is_of_other_kind, open_kind}
+use Rattle.cts_defline.specs.Refusals.{form_kind, is_of_other_kind, open_kind}
+use Rattle.cts_reader.specs.Words.{any_word}
 use Rattle.cts_defline.specs.Rules.{IsSoundLine, KeepsRules, has_wanted_default, has_wanted_range, is_of_kind, suits}
 use Rattle.cts_defline.proofs.NamesRead.{AreReadable, so_true}
 

@@ -13,9 +13,11 @@ use Rattle.cts_defline.specs.declared.keyword.Field.TheVariants as field
 use Rattle.cts_defline.specs.declared.open.Open.{Open}
 use Rattle.cts_defline.specs.declared.open.PacketKind.{PacketKind}
 use Rattle.cts_defline.specs.Fields.{is_bad_name, is_other_choice}
-use Rattle.cts_defline.specs.Forms.{word_at, wanted, more, fits, fits_in, kind_of_keyword, has_text_type, item_fields, parameter_fields, last_fields, limits_wanted}
+use Rattle.cts_defline.specs.Forms.{wanted, more, fits, fits_in, kind_of_keyword, has_text_type, item_fields, parameter_fields, last_fields, limits_wanted}
+use Rattle.cts_reader.specs.Words.{word_at}
 use Rattle.cts_defline.specs.Lines.{AreNames}
-use Rattle.cts_defline.specs.Refusals.{open_kind, form_kind, is_of_other_kind, fields, any_word, holds, word_order}
+use Rattle.cts_defline.specs.Refusals.{open_kind, form_kind, is_of_other_kind, fields, holds, word_order}
+use Rattle.cts_reader.specs.Words.{any_word}
 
 none_of : {X : Type 0} (b : Bool) (x : X) (rest : Option X) → cond b (Some x) rest ≡ None → (b ≡ false) × (rest ≡ None)
 none_of true x rest e = absurd cc

@@ -1,18 +1,14 @@
 -- The table of statements: the keywords, and which words follow each.
 use Rattle.std.specs.Prelude.{ℕ, ◌+◌, Bool, true, false, ◌&&◌, ◌||◌, ◌==◌, nat_le, List, [], ◌∷◌, ◌++◌, length, take, codes, Option, Some, None, if◌then◌else◌}
-use Rattle.std.specs.List.{slice_index_or}
 use Rattle.cts_base.specs.Names.{spells}
 use Rattle.cts_def.specs.Items.{is_same}
+use Rattle.cts_reader.specs.Words.{word_at, keyword_in}
 use Rattle.cts_defline.specs.declared.keyword.Keyword.{Keyword}
 use Rattle.cts_defline.specs.declared.keyword.Keyword.TheVariants.{Command, Telemetry, Item, Parameter, State, Limits, Poly, Segment, Units, Format, Overflow, Required, Hazardous, Meta, AllowShort}
 use Rattle.cts_defline.specs.declared.keyword.Field.{Field}
 use Rattle.cts_defline.specs.declared.keyword.Field.TheVariants as field
 use Rattle.cts_defline.specs.declared.open.PacketKind.{PacketKind}
 use Rattle.cts_defline.specs.declared.open.PacketKind.TheVariants as «kind»
-
--- the word is this text in any case
-unfoldable pub is_keyword : List ℕ → List ℕ → Bool
-is_keyword word text = spells word text
 
 abbrev pub keywords : List (List ℕ × Keyword)
 keywords =
@@ -26,11 +22,6 @@ keywords =
     ∷ (codes "UNITS", Units) ∷ (codes "FORMAT_STRING", Format) ∷ (codes "OVERFLOW", Overflow)
     ∷ (codes "REQUIRED", Required) ∷ (codes "HAZARDOUS", Hazardous)
     ∷ (codes "META", Meta) ∷ (codes "ALLOW_SHORT", AllowShort) ∷ []
-
--- the keyword of a list that the word is
-abbrev pub keyword_in : List (List ℕ × Keyword) → List ℕ → Option Keyword
-keyword_in [] word = None
-keyword_in (k ∷ list) word = if is_keyword word k.0 then Some k.1 else keyword_in list word
 
 abbrev pub keyword_of : List ℕ → Option Keyword
 keyword_of word = keyword_in keywords word
@@ -58,10 +49,6 @@ kind_of_keyword (Parameter append id) = Some «kind».Command
 kind_of_keyword Required = Some «kind».Command
 kind_of_keyword Hazardous = Some «kind».Command
 kind_of_keyword _ = None
-
--- the word at a place, and an empty one where there is none
-abbrev pub word_at : List (List ℕ) → ℕ → List ℕ
-word_at words at = slice_index_or words at []
 
 -- where the size stands in the words of an item
 abbrev pub size_at : Bool → ℕ

@@ -4,7 +4,6 @@ pub mod Forms
 pub mod Laws
 pub mod Lines
 pub mod Numbers
-pub mod Reading
 pub mod Refusals
 pub mod Rules
 pub mod Words

@@ -28,7 +28,8 @@ use Rattle.cts_defline.specs.declared.details.Detail.TheVariants as detail
 use Rattle.cts_defline.specs.declared.details.LimitsLine.{LimitsLine}
 use Rattle.cts_defline.specs.declared.open.PacketKind.{PacketKind}
 use Rattle.cts_defline.specs.declared.open.PacketKind.TheVariants as «kind»
-use Rattle.cts_defline.specs.Forms.{word_at, size_at, keyword_of}
+use Rattle.cts_defline.specs.Forms.{size_at, keyword_of}
+use Rattle.cts_reader.specs.Words.{word_at}
 use Rattle.cts_defline.specs.Numbers.{whole, decimal, bound, persistence, order_of, kind_of, text_bytes}
 
 -- ---- definitions and items

@@ -1,6 +1,5 @@
 -- Why the words of a statement are refused, by what is open before it and the words alone.
-use Rattle.std.specs.Prelude.{ℕ, Bool, true, false, not, ◌||◌, List, [], ◌∷◌, ◌++◌, codes, Option, Some, None, is_none, find, zip, if◌then◌else◌}
-use Rattle.std.specs.List.{list_any}
+use Rattle.std.specs.Prelude.{ℕ, Bool, true, false, not, ◌||◌, List, [], ◌∷◌, ◌++◌, codes, Option, Some, None, is_none, find, if◌then◌else◌}
 use Rattle.cts_defline.specs.declared.cause.DefCause.{DefCause}
 use Rattle.cts_defline.specs.declared.cause.DefCause.TheVariants.{UnknownKeyword, OutsidePacket, WrongCount, BadName, FloatItem, DerivedItem, ArrayItem, NotNumber}
 use Rattle.cts_defline.specs.declared.keyword.Keyword.{Keyword}
@@ -12,6 +11,7 @@ use Rattle.cts_defline.specs.declared.open.PacketKind.{PacketKind}
 use Rattle.cts_defline.specs.declared.open.PacketKind.TheVariants as «kind»
 use Rattle.cts_defline.specs.Fields.{is_other_choice, is_bad_name, is_type_of, is_no_number}
 use Rattle.cts_defline.specs.Forms.{wanted, more, fits, keyword_of, kind_of_keyword, is_array_keyword}
+use Rattle.cts_reader.specs.Words.{any_word}
 
 -- the kind of the open definition
 abbrev pub open_kind : Open → Option PacketKind
@@ -52,10 +52,6 @@ is_outside opened _ = not (has_item opened)
 -- what the words have to be, also those that may be left out
 abbrev pub fields : Open → Keyword → List (List ℕ) → List Field
 fields opened k words = wanted k words ++ more (form_kind (open_kind opened)) k
-
--- a word passes the test at its field
-abbrev pub any_word : (Field → List ℕ → Bool) → List Field → List (List ℕ) → Bool
-any_word test fields words = list_any (λ (p : Field × List ℕ). test p.0 p.1) (zip fields words)
 
 abbrev pub holds : DefCause → Open → Keyword → List (List ℕ) → Bool
 holds UnknownKeyword opened k words = is_of_other_kind (open_kind opened) (kind_of_keyword k)

@@ -13,7 +13,8 @@ use Rattle.cts_defline.specs.declared.details.Detail.TheVariants as detail
 use Rattle.cts_defline.specs.declared.keyword.Keyword.TheVariants as keyword
 use Rattle.cts_defline.specs.declared.line.Line.{Line}
 use Rattle.cts_defline.specs.declared.line.Line.TheVariants as line
-use Rattle.cts_defline.specs.Forms.{keyword_of, word_at}
+use Rattle.cts_defline.specs.Forms.{keyword_of}
+use Rattle.cts_reader.specs.Words.{word_at}
 use Rattle.cts_defline.specs.Lines.{color_of, line_in, no_value, or_big, overflow_of}
 use Rattle.cts_defline.specs.Numbers.{bound, decimal, kind_of, persistence, text_bytes, whole}
 

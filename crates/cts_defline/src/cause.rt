@@ -2,6 +2,7 @@
 ghost use Rattle.std.specs.Prelude.{◌≡◌};
 ghost use Rattle.cts_defline.specs.Causes.{cause_name};
 
+use cts_reader::Fault;
 use std::fmt;
 
 /// Why a statement is refused. Of several causes that hold, the first in the order of the definitions is named.
@@ -81,3 +82,6 @@ impl fmt::Display for DefCause {
         write!(f, "{}", self.name())
     }
 }
+
+/// Why a statement of a definitions file says nothing, or why the file does.
+pub type DefFault = Fault<DefCause>;

@@ -2,11 +2,12 @@
 ghost use Rattle.std.specs.Prelude.{◌≡◌, ◌+◌, ◌≤◌, ◌++◌, Bool, false, length, true};
 ghost use Rattle.cts_defline.specs.Fields.{is_other_choice, is_bad_name, is_type_of, is_no_number};
 ghost use Rattle.cts_defline.specs.Forms.{size_at, is_text_type, has_text_type, item_fields, number_fields, text_fields, parameter_fields, last_fields, state_wanted, state_fields, wanted, more, fits_in};
-ghost use Rattle.cts_defline.specs.Refusals.{any_word};
+ghost use Rattle.cts_reader.specs.Words.{any_word};
 
-use crate::words::{is_same, word_at};
+use crate::words::is_same;
 use crate::{Field, Keyword, PacketKind};
 use cts_base::Bytes;
+use cts_reader::word_at;
 
 /// What the words behind a keyword have to be.
 #[derive(Clone, Copy)]

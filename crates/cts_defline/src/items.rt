@@ -1,7 +1,7 @@
 // What the words of an item or parameter say.
 ghost use Rattle.std.specs.Prelude.{◌≡◌, ◌+◌, ◌≤◌, IfOk, IsTrue};
 ghost use Rattle.cts_base.specs.Names.{is_name};
-ghost use Rattle.cts_defline.specs.Forms.{word_at};
+ghost use Rattle.cts_reader.specs.Words.{word_at};
 ghost use Rattle.cts_defline.specs.Lines.{size_in, kind_in, offset_in, or_big, order_at, no_value, bound_in, telemetry_item, number_parameter, text_parameter, parameter};
 
 use crate::ItemLine;
@@ -9,10 +9,10 @@ use crate::fixed::{kind_of, order_of};
 use crate::form::size_at;
 use crate::numbers::{bound, whole};
 use crate::texts::{name, text_bytes};
-use crate::words::word_at;
 use cts_base::{Bytes, Memory};
 use cts_bits::Order;
 use cts_def::{ItemKind, Preset};
+use cts_reader::word_at;
 use std::alloc::Global;
 
 fn size_in(append: bool, words: &[Bytes]) -> i128

@@ -1,9 +1,11 @@
 // The keywords, and what the words behind each have to be.
 ghost use Rattle.std.specs.Prelude.{◌≡◌, map};
-ghost use Rattle.cts_defline.specs.Forms.{begins_with, is_within, keyword_in, keyword_of, is_array_keyword, kind_of_keyword};
+ghost use Rattle.cts_defline.specs.Forms.{begins_with, is_within, keyword_of, is_array_keyword, kind_of_keyword};
+ghost use Rattle.cts_reader.specs.Words.{keyword_in};
 
 use crate::PacketKind;
 use cts_base::spells;
+use cts_reader::{Spelled, keyword_in};
 
 /// The first word of a statement.
 #[derive(Clone, Copy, Debug, PartialEq, Eq)]
@@ -81,16 +83,8 @@ pub enum Field {
     Overflow,
 }
 
-/// A keyword as it is written.
-struct Spelled {
-    /// Its letters, in upper case.
-    text: &'static [u8],
-    /// The keyword.
-    keyword: Keyword,
-}
-
 /// All keywords.
-const KEYWORDS: [Spelled; 21] = [
+const KEYWORDS: [Spelled<Keyword>; 21] = [
     Spelled {
         text: b"COMMAND",
         keyword: Keyword::Command,
@@ -217,19 +211,6 @@ fn is_within(text: &[u8], word: &[u8]) -> bool
         }
     }
     false
-}
-
-// The keyword of this list that the word is.
-#[tactic(auto, unfolding(crate::specs::Forms::is_keyword))]
-fn keyword_in(list: &[Spelled], word: &[u8]) -> Option<Keyword>
-    ensures { result ≡ keyword_in (map (λ s. (s.text.now, s.keyword)) list.now) word.now }
-{
-    for spelled in list {
-        if spells(word, spelled.text) {
-            return Some(spelled.keyword);
-        }
-    }
-    None
 }
 
 /// The keyword that the word is, in any case.

@@ -7,7 +7,6 @@
 
 mod cause;
 mod details;
-mod fault;
 mod field;
 mod fixed;
 mod form;
@@ -23,9 +22,8 @@ mod refusal;
 mod texts;
 mod words;
 
-pub use cause::DefCause;
+pub use cause::{DefCause, DefFault};
 pub use details::{Detail, LimitsLine};
-pub use fault::LineFault;
 pub use keyword::{Field, Keyword};
 pub use laws::{characters_are_spelled_in_utf8, statements_say_their_words};
 pub use line::{ItemLine, Line, PacketLine};

@@ -1,7 +1,7 @@
 // What the words of a statement say.
 ghost use Rattle.std.specs.Prelude.{◌≡◌, IfOk, IsTrue, map};
 ghost use Rattle.cts_base.specs.Names.{is_name};
-ghost use Rattle.cts_defline.specs.Forms.{word_at};
+ghost use Rattle.cts_reader.specs.Words.{word_at};
 ghost use Rattle.cts_defline.specs.Lines.{packet_line, green_in, limits_line, state_def, segment, AreNames, line_of};
 ghost use Rattle.cts_defline.specs.Numbers.{decimal};
 
@@ -9,11 +9,12 @@ use crate::fixed::{color_of, order_of, overflow_of};
 use crate::items::{parameter, telemetry_item};
 use crate::numbers::{decimal, persistence, whole};
 use crate::texts::name;
-use crate::words::{is_same, rest, word_at};
+use crate::words::{is_same, rest};
 use crate::{Detail, Keyword, LimitsLine, Line, PacketKind, PacketLine};
 use cts_base::{Bytes, Decimal, List, Memory, in_upper_case};
 use cts_bits::Order;
 use cts_def::{Limits, Segment, StateDef};
+use cts_reader::word_at;
 use std::alloc::Global;
 
 fn packet_line(alloc: Global, kind: PacketKind, words: &[Bytes]) -> Result<PacketLine, Memory>

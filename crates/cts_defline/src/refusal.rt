@@ -7,6 +7,7 @@ use crate::form::Form;
 use crate::open::is_of_other_kind;
 use crate::{DefCause, Keyword, Open};
 use cts_base::Bytes;
+use cts_reader::first_that_holds;
 
 /// The causes of words, in the order in which they are tried.
 const ORDER: [DefCause; 8] = [
@@ -53,27 +54,10 @@ fn holds(cause: DefCause, opened: Open, keyword: Keyword, form: &Form, words: &[
     }
 }
 
-fn first_of(
-    causes: &[DefCause],
-    opened: Open,
-    keyword: Keyword,
-    form: &Form,
-    words: &[Bytes],
-) -> Option<DefCause>
-    requires fields { form.now.fields.now ≡ fields opened keyword words.now }
-    requires least { form.now.least ≡ length (wanted keyword words.now) }
-    ensures { result ≡ find (λ c. holds c opened keyword words.now) causes.now }
-{
-    causes
-        .iter()
-        .copied()
-        .find(|cause| holds(*cause, opened, keyword, form, words))
-}
-
 /// The first cause for which the words behind a keyword are refused.
 pub(crate) fn first_cause(opened: Open, keyword: Keyword, words: &[Bytes]) -> Option<DefCause>
     ensures { result ≡ find (λ c. holds c opened keyword words.now) word_order }
 {
     let form = Form::of(opened.form_kind(), keyword, words);
-    first_of(&ORDER, opened, keyword, &form, words)
+    first_that_holds(&ORDER, |cause| holds(cause, opened, keyword, &form, words))
 }

@@ -31,7 +31,7 @@ fn words(alloc: Global, text: &str) -> Result<Vec<Bytes>, Fail> {
 fn said(alloc: Global, row: &str) -> Result<Line, Fail> {
     let (opened, text) = row.split_once(" ").ok_or("a row")?;
     let words = words(alloc, text)?;
-    match read_line(alloc, open(opened), &words) {
+    match read_line(alloc, 1, open(opened), &words) {
         Ok(line) => Ok(line),
         Err(_) => Err("refused".into()),
     }
@@ -46,10 +46,10 @@ fn item(alloc: Global, row: &str) -> Result<ItemLine, Fail> {
 
 /// The name of the cause for which words are refused, and `none` where they are not.
 fn cause_of(alloc: Global, opened: Open, words: &[Bytes]) -> Result<&'static str, Fail> {
-    match read_line(alloc, opened, words) {
+    match read_line(alloc, 1, opened, words) {
         Ok(_) => Ok("none"),
-        Err(LineFault::Refused(cause)) => Ok(cause.name()),
-        Err(LineFault::Memory) => Err("no memory".into()),
+        Err(DefFault::Refused { cause, .. }) => Ok(cause.name()),
+        Err(DefFault::Memory) => Err("no memory".into()),
     }
 }
 

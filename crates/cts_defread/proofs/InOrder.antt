@@ -15,14 +15,15 @@ use Rattle.cts_defline.specs.Lines.{line_in, line_of}
 use Rattle.cts_defline.specs.declared.cause.DefCause.TheVariants.{ArrayItem}
 use Rattle.cts_defline.specs.Refusals.{word_cause, keyword_cause}
 use Rattle.cts_defread.specs.Causes.{opened}
-use Rattle.cts_defread.specs.Definitions.{refusal, at_end, lines_of, unless_refused, cause_of_line}
+use Rattle.cts_defread.specs.Definitions.{refusal, at_end, lines_of, cause_of_line}
 use Rattle.cts_defread.specs.Laws.{RefusesTheFirst, TakesTheOthers, StatementsSayLines, head_of, said_of, said_in, end_behind, OneForEachHead, OneForEachItem, ItemsHaveTheirOffsets}
-use Rattle.cts_defread.specs.Standing.{packet_in, item_in, item_at, end_from, items_from, offset_or, packet_of, standing, set_names_of}
+use Rattle.cts_defread.specs.Standing.{packet_in, item_in, item_at, end_from, items_from, offset_or, packet_of, standing, set_names_of, definitions_at}
 use Rattle.cts_words.specs.declared.statement.Statement.{Statement}
 use Rattle.cts_words.specs.Blocks.{blocks}
-use Rattle.cts_words.specs.Refusals.{Refusal, or_else, first_refusal, IsRefusedFirst, NoneRefused}
+use Rattle.cts_words.specs.Refusals.{or_else}
 use Rattle.cts_words.proofs.Blocks.{heads}
-use Rattle.cts_words.proofs.Refused.{first_one_is_refused}
+use Rattle.cts_reader.proofs.FirstRefused as frame
+use Rattle.cts_reader.proofs.FirstRefused.{never_at_end}
 
 -- ---- in order
 
@@ -76,23 +77,13 @@ items_have_their_offsets head body front rest i before after l items lines same 
 
 -- ---- the first refusal
 
-refused_to : (all : List Statement) (o : Option (Refusal DefCause)) (r : Refusal DefCause) → unless_refused all o ≡ Err r → o ≡ Some r
-refused_to all None r e = absurd cc
-refused_to all (Some s) r e = let same : s ≡ r = cc in ap Some same
-
-pick_first : (all : List Statement) (r : Refusal DefCause) → IsRefusedFirst refusal all r ⊎ (NoneRefused refusal all × (at_end all ≡ Some r)) → IsRefusedFirst refusal all r
-pick_first all r (inl w) = w
-pick_first all r (inr h) = absurd (let none : None ≡ Some r = h.1 in cc)
-
 pub refuses_the_first : RefusesTheFirst
 refuses_the_first all r =
-    let law = first_one_is_refused refusal at_end all (Some r) in (
-      λ e. pick_first all r (law.0 (refused_to all (first_refusal refusal at_end [] all) r e)),
-      λ w. ap (unless_refused all) (law.1 (inl w)),
-    )
+    let law = frame.refuses_the_first refusal at_end (λ ss. definitions_at (lines_of ss)) all r in
+    (λ e. never_at_end refusal at_end all r refl (law.0 e), λ w. law.1 (inl w))
 
 pub takes_the_others : TakesTheOthers
-takes_the_others all none = ap (unless_refused all) ((first_one_is_refused refusal at_end all None).1 (none, refl))
+takes_the_others all none = frame.takes_the_others refusal at_end (λ ss. definitions_at (lines_of ss)) all none refl
 
 -- ---- lines
 

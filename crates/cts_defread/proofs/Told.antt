@@ -15,12 +15,12 @@ use Rattle.cts_defline.specs.declared.open.PacketKind.{PacketKind}
 use Rattle.cts_defline.specs.declared.open.PacketKind.TheVariants.{Telemetry, Command}
 use Rattle.cts_defread.specs.declared.drafted.Drafted.{Drafted}
 use Rattle.cts_defread.specs.Defined.{BeginsAtHead, DefinitionsAreOfTheirLines, HasItemLine, HasPacketLine, IsBlock, IsDefinedBy, names_of_head, names_of_packet, names_said}
-use Rattle.cts_defread.specs.Definitions.{lines_of, refusal, at_end, unless_refused}
+use Rattle.cts_defread.specs.Definitions.{lines_of, refusal, at_end}
 use Rattle.cts_defread.specs.Standing.{are_same_kind, definitions_at, end_from, item_at, item_in, items_from, items_of, offset_or, packet_in, packet_of, packets_of, standing}
 use Rattle.cts_defread.proofs.InOrder.{end_behind_first}
 use Rattle.cts_words.specs.Blocks.{HasNoHead, begin_block, blocks, cut_at_heads}
 use Rattle.cts_words.specs.declared.statement.Statement.{Statement}
-use Rattle.cts_words.specs.Refusals.{Refusal, first_refusal}
+use Rattle.cts_reader.proofs.FirstRefused.{taken}
 use Rattle.cts_words.proofs.Blocks.{heads}
 
 -- ---- blocks
@@ -202,11 +202,7 @@ defined lines = record {
   sets = refl;
 }
 
-answered : (all : List Statement) (o : Option (Refusal DefCause)) (d : DefinitionsData) → unless_refused all o ≡ Ok d → definitions_at (lines_of all) ≡ d
-answered all None d e = cc
-answered all (Some r) d e = absurd cc
-
 pub definitions_are_of_their_lines : DefinitionsAreOfTheirLines
 definitions_are_of_their_lines all d e =
     let P : DefinitionsData → Type 0 = λ x. IsDefinedBy (lines_of all) x in
-    subst P (answered all (first_refusal refusal at_end [] all) d e) (defined (lines_of all))
+    subst P (taken refusal at_end (λ ss. definitions_at (lines_of ss)) all d e) (defined (lines_of all))

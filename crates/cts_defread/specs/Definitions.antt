@@ -1,5 +1,5 @@
 -- What statements define, or the first of them that is refused.
-use Rattle.std.specs.Prelude.{ℕ, List, [], Option, Some, None, option_map, Result, Ok, Err}
+use Rattle.std.specs.Prelude.{ℕ, List, [], Option, Some, None, Result}
 use Rattle.std.specs.List.{filter_map}
 use Rattle.cts_def.specs.Packets.{DefinitionsData}
 use Rattle.cts_defline.specs.declared.cause.DefCause.{DefCause}
@@ -10,7 +10,8 @@ use Rattle.cts_defread.specs.declared.drafted.Drafted.{Drafted}
 use Rattle.cts_defread.specs.Causes.{opened, place_cause}
 use Rattle.cts_defread.specs.Standing.{standing, set_names_of, definitions_at}
 use Rattle.cts_words.specs.declared.statement.Statement.{Statement}
-use Rattle.cts_words.specs.Refusals.{Refusal, or_else, first_refusal}
+use Rattle.cts_words.specs.Refusals.{Refusal, or_else}
+use Rattle.cts_reader.specs.Reading.{at_line, said_of}
 
 -- ---- the cause of a statement
 
@@ -33,12 +34,12 @@ cause before s = cause_of (standing (lines_of before)) (set_names_of (lines_of b
 
 -- ---- the refusal
 
--- a cause with the statement's line
-abbrev pub at_line : Statement → Option DefCause → Option (Refusal DefCause)
-at_line s c = option_map (λ (d : DefCause). (s.line, d)) c
+-- the refusal of a statement behind these definitions and limits sets
+abbrev pub refusal_in : List Drafted → List (List ℕ) → Statement → Option (Refusal DefCause)
+refusal_in packets sets s = at_line s.line (cause_of packets sets s.words)
 
 abbrev pub refusal : List Statement → Statement → Option (Refusal DefCause)
-refusal before s = at_line s (cause before s)
+refusal before s = refusal_in (standing (lines_of before)) (set_names_of (lines_of before)) s
 
 -- nothing more is judged behind the last statement
 abbrev pub at_end : List Statement → Option (Refusal DefCause)
@@ -46,10 +47,6 @@ at_end all = None
 
 -- ---- the definitions
 
-abbrev pub unless_refused : List Statement → Option (Refusal DefCause) → Result DefinitionsData (Refusal DefCause)
-unless_refused statements None = Ok (definitions_at (lines_of statements))
-unless_refused statements (Some r) = Err r
-
 -- What the statements define, or the line and the cause of the first that is refused.
 abbrev pub definitions_of : List Statement → Result DefinitionsData (Refusal DefCause)
-definitions_of statements = unless_refused statements (first_refusal refusal at_end [] statements)
+definitions_of statements = said_of refusal at_end (λ all. definitions_at (lines_of all)) statements

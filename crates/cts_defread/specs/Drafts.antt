@@ -17,8 +17,10 @@ use Rattle.cts_defread.specs.declared.draft.Draft.{Draft}
 use Rattle.cts_defread.specs.declared.drafted.Drafted.{Drafted}
 use Rattle.cts_defread.specs.Causes.{open_items, open_item, open_end, is_open_ended, count_items}
 use Rattle.cts_defread.specs.Sound.{AreSound}
-use Rattle.cts_defread.specs.Standing.{packets_of}
+use Rattle.cts_defread.specs.Definitions.{lines_of}
+use Rattle.cts_defread.specs.Standing.{packets_of, set_names_of, standing}
 use Rattle.cts_defread.specs.Steps.{add_set}
+use Rattle.cts_words.specs.declared.statement.Statement.{Statement}
 
 -- the target and the name of each packet, or of each command
 abbrev pub names_of : PacketKind → List Drafted → List (List ℕ × List ℕ)
@@ -70,3 +72,9 @@ pub record IsKept (d : Draft) : Type 0 where
   pub few_items : d.item_count ≤ most_items_in_all
   pub room : d.end ≤ last_place
   pub sound : AreSound d.packets.items d.set_names.items
+
+-- The draft stands for these statements.
+pub record Stands (draft : Draft) (before : List Statement) : Type 0 where
+  pub packets : draft.packets.items ≡ standing (lines_of before)
+  pub sets : draft.set_names.items ≡ set_names_of (lines_of before)
+  pub kept : IsKept draft

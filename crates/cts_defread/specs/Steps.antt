@@ -1,5 +1,5 @@
 -- What one more line changes. The functions of the crate cite this, and the definitions do not.
-use Rattle.std.specs.Prelude.{◌≡◌, ℕ, max, List, [], ◌∷◌, ◌++◌, Option, Some, None, Result, Ok, Err, true, false, Bool, ◌||◌, if◌then◌else◌}
+use Rattle.std.specs.Prelude.{ℕ, max, List, [], ◌∷◌, ◌++◌, Option, Some, None, true, false, Bool, ◌||◌, if◌then◌else◌}
 use Rattle.std.specs.List.{list_any}
 use Rattle.cts_def.specs.declared.conversion.Conversion.{Conversion}
 use Rattle.cts_def.specs.declared.conversion.Conversion.TheVariants.{Plain, Poly, Segments}
@@ -7,7 +7,6 @@ use Rattle.cts_def.specs.declared.conversion.Segment.{Segment}
 use Rattle.cts_def.specs.declared.limits_setup.LimitsSetup.{LimitsSetup}
 use Rattle.cts_def.specs.Items.{ItemData, span_of, is_same}
 use Rattle.cts_def.specs.Spans.{bytes_needed, is_variable}
-use Rattle.cts_defline.specs.declared.cause.DefCause.{DefCause}
 use Rattle.cts_defline.specs.declared.details.Detail.{Detail}
 use Rattle.cts_defline.specs.declared.details.Detail.TheVariants as detail
 use Rattle.cts_defline.specs.declared.details.LimitsLine.{LimitsLine}
@@ -16,14 +15,8 @@ use Rattle.cts_defline.specs.declared.line.PacketLine.{PacketLine}
 use Rattle.cts_defline.specs.declared.line.Line.{Line}
 use Rattle.cts_defline.specs.declared.line.Line.TheVariants as line
 use Rattle.cts_defread.specs.declared.drafted.Drafted.{Drafted}
-use Rattle.cts_defread.specs.declared.fault.DefFault.{DefFault}
-use Rattle.cts_defread.specs.declared.fault.DefFault.TheVariants as fault
-use Rattle.cts_defread.specs.Definitions.{cause_of}
 use Rattle.cts_defread.specs.Standing.{item_at, end_from, set_limits}
-use Rattle.cts_defline.specs.Lines.{line_in}
 use Rattle.cts_words.specs.Blocks.{on_last}
-use Rattle.cts_words.specs.declared.statement.Statement.{Statement}
-use Rattle.cts_words.specs.Refusals.{Refusal}
 
 -- ---- items
 
@@ -93,20 +86,3 @@ add_set set sets = if list_any (is_same set) sets then sets else sets ++ set ∷
 abbrev pub place_set : Line → List (List ℕ) → List (List ℕ)
 place_set (line.Detail (detail.Limits l)) sets = add_set l.set sets
 place_set _ sets = sets
-
--- ---- what calls answer
-
--- A statement without a cause says this line, and one with a cause is refused by it.
-abbrev pub Judged : List Drafted → List (List ℕ) → Statement → Result Line DefFault → Type 0
-Judged packets sets s (Ok l) = (cause_of packets sets s.words ≡ None) × (line_in s.words ≡ Some l)
-Judged packets sets s (Err fault.Memory) = Unit {0}
-Judged packets sets s (Err (fault.Refused n c)) = (cause_of packets sets s.words ≡ Some c) × (n ≡ s.line)
-
--- The answer is what is to be said, unless memory ran out.
-abbrev pub Fails : {Y : Type 0} → DefFault → Result Y (Refusal DefCause) → Type 0
-Fails fault.Memory read = Unit {0}
-Fails (fault.Refused n c) read = read ≡ Err (n, c)
-
-abbrev pub Gives : {Y : Type 0} → Result Y DefFault → Result Y (Refusal DefCause) → Type 0
-Gives (Ok y) read = read ≡ Ok y
-Gives (Err e) read = Fails e read

@@ -1,6 +1,5 @@
 // The causes that lie in what stands before a statement.
 ghost use Rattle.std.specs.Prelude.{◌≡◌, IfOk};
-ghost use Rattle.std.specs.List.{find};
 ghost use Rattle.cts_defread.specs.Causes.{holds, is_double, place_cause};
 ghost use Rattle.cts_defread.specs.Drafts.{IsKept};
 
@@ -9,6 +8,7 @@ use crate::kinds::{is_text_id, is_wrong_kind};
 use crate::values::{is_bad_format, is_bad_id, is_bad_order, is_bad_preset, is_too_large_in};
 use cts_base::Memory;
 use cts_defline::{DefCause, Line};
+use cts_reader::first_that_holds;
 
 /// These causes in the order in which they are tried, behind those of the words.
 const ORDER: [DefCause; 11] = [
@@ -48,23 +48,12 @@ impl Draft {
         }
     }
 
-    fn first_of(&self, causes: &[DefCause], line: &Line, double: bool) -> Option<DefCause>
-        requires kept { IsKept self.now }
-        requires double { double ≡ is_double self.now.packets.items line.now }
-        ensures { result ≡ find (λ c. holds c self.now.packets.items self.now.set_names.items line.now) causes.now }
-    {
-        causes
-            .iter()
-            .copied()
-            .find(|cause| self.holds(*cause, line, double))
-    }
-
     /// The first cause that lies in what stands before the line.
     pub(crate) fn first_cause(&self, line: &Line) -> Result<Option<DefCause>, Memory>
         requires { IsKept self.now }
         ensures { IfOk result (λ c. c ≡ place_cause self.now.packets.items self.now.set_names.items line.now) }
     {
         let double = self.is_double(line)?;
-        Ok(self.first_of(&ORDER, line, double))
+        Ok(first_that_holds(&ORDER, |cause| self.holds(cause, line, double)))
     }
 }

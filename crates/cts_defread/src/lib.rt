@@ -11,7 +11,6 @@ mod counts;
 mod doubles;
 mod draft;
 mod drafted;
-mod fault;
 mod items;
 mod kinds;
 mod laws;
@@ -21,8 +20,7 @@ mod places;
 mod reading;
 mod values;
 
-pub use cts_defline::DefCause;
-pub use fault::DefFault;
+pub use cts_defline::{DefCause, DefFault};
 pub use laws::{
     definitions_are_in_order, definitions_are_of_their_lines, first_statement_is_refused,
 };

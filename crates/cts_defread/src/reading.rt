@@ -1,17 +1,18 @@
 // Statements read to definitions.
 ghost use Rattle.std.specs.Prelude.{◌≡◌, IfOk, None};
+ghost use Rattle.cts_reader.specs.Reading.{Gives, Judged};
 ghost use Rattle.cts_def.specs.Packets.{AreSoundDefinitions};
+ghost use Rattle.cts_defline.specs.Lines.{line_in};
 ghost use Rattle.cts_defline.specs.Refusals.{open_kind};
 ghost use Rattle.cts_defline.specs.Rules.{KeepsRules};
 ghost use Rattle.cts_defread.specs.Causes.{opened, place_cause};
-ghost use Rattle.cts_defread.specs.Definitions.{definitions_of};
+ghost use Rattle.cts_defread.specs.Definitions.{refusal_in, definitions_of};
 ghost use Rattle.cts_defread.specs.Drafts.{IsKept};
-ghost use Rattle.cts_defread.specs.Steps.{Judged, Gives};
 
-use crate::DefFault;
 use crate::draft::Draft;
 use cts_def::Definitions;
-use cts_defline::{Line, LineFault, read_line};
+use cts_defline::{DefCause, DefFault, Line, read_line};
+use cts_reader::{Reader, read_statements};
 use cts_words::Statement;
 use std::alloc::Global;
 
@@ -19,20 +20,35 @@ impl Draft {
     // What a statement says, or why it is refused.
     fn judge(&self, alloc: Global, statement: &Statement) -> Result<Line, DefFault>
         requires { IsKept self.now }
-        ensures judged { Judged self.now.packets.items self.now.set_names.items statement.now result }
+        ensures judged { Judged (refusal_in self.now.packets.items self.now.set_names.items statement.now) (line_in statement.now.words) result }
         ensures clean { IfOk result (λ l. place_cause self.now.packets.items self.now.set_names.items l ≡ None) }
         ensures rules { IfOk result (λ l. KeepsRules (open_kind (opened self.now.packets.items)) l) }
     {
         let line = statement.line;
-        let said = match read_line(alloc, self.opened(), statement.words.as_slice()) {
-            Ok(said) => said,
-            Err(LineFault::Refused(cause)) => return Err(DefFault::Refused { line, cause }),
-            Err(LineFault::Memory) => return Err(DefFault::Memory),
-        };
+        let said = read_line(alloc, line, self.opened(), statement.words.as_slice())?;
         match self.first_cause(&said)? {
             Some(cause) => Err(DefFault::Refused { line, cause }),
             None => Ok(said),
         }
+    }
+}
+
+impl Reader for Draft {
+    ghost use Rattle.cts_defread.specs.Definitions.{refusal as refusal_of};
+    ghost use Rattle.cts_defread.specs.Drafts.{Stands};
+
+    type Cause = DefCause;
+
+    type Given = ();
+
+    ghost refusal = { λ given. refusal_of };
+
+    ghost stands = { λ given draft before. Stands draft before };
+
+    fn take(&mut self, alloc: Global, _: &(), statement: &Statement) -> Result<(), DefFault> {
+        let line = self.judge(alloc, statement)?;
+        self.add(alloc, line)?;
+        Ok(())
     }
 }
 
@@ -44,9 +60,6 @@ pub fn read_definitions(alloc: Global, statements: &[Statement]) -> Result<Defin
     ensures sound { IfOk result (λ d. AreSoundDefinitions d) }
 {
     let mut draft = Draft::new(alloc)?;
-    for statement in statements {
-        let line = draft.judge(alloc, statement)?;
-        draft.add(alloc, line)?;
-    }
+    read_statements(alloc, &mut draft, &(), statements)?;
     Ok(draft.finish(alloc)?)
 }

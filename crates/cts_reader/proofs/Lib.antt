@@ -1,0 +1,3 @@
+pub mod FirstCause
+pub mod FirstRefused
+pub mod Passes
