@@ -21,7 +21,8 @@ use Rattle.cts_plan.specs.Steps.{StepData, step_reads, added, whole_chain}
 use Rattle.cts_plan.specs.Drafts.{InterfaceDraftData, RouterDraftData}
 use Rattle.cts_plan.specs.Standing.{starts_of, spec_with, use_of, chain_of, interface_of, router_of, completed}
 use Rattle.cts_plan.specs.Causes.{is_router_named}
-use Rattle.cts_plan.specs.Completing.{Refused, is_bad_min_id, have_variable, at_number, cause_of_spec, step_fault, first_step_fault, fault_of, fault_in}
+use Rattle.cts_reader.specs.Reading.{at_line}
+use Rattle.cts_plan.specs.Completing.{Refused, is_bad_min_id, have_variable, cause_of_spec, step_fault, first_step_fault, fault_of, fault_in}
 use Rattle.cts_plan.specs.Keeping.{IsNewInterface, IsNewRouter, IsNew}
 use Rattle.cts_plan.proofs.Lists.{both, and_true, all_snoc, any_map, distinct_snoc}
 
@@ -35,12 +36,12 @@ any_filter : {X : Type 0} (p q : X → Bool) (xs : List X) → list_any q (filte
 any_filter p q [] = refl
 any_filter p q (x ∷ xs) = any_filter_at q x (filter p xs) (p x) (list_any (λ y. p y && q y) xs) (any_filter p q xs)
 
-no_variable_at : (bad variable : Bool) (n : ℕ) (a b : SiteCause) → at_number n (cond bad (Some a) (cond variable (Some b) None)) ≡ None → variable ≡ false
+no_variable_at : (bad variable : Bool) (n : ℕ) (a b : SiteCause) → at_line n (cond bad (Some a) (cond variable (Some b) None)) ≡ None → variable ≡ false
 no_variable_at true variable n a b e = absurd cc
 no_variable_at false true n a b e = absurd cc
 no_variable_at false false n a b e = refl
 
-spec_packets : (d : DefinitionsData) (targets : List (List ℕ)) (n : ℕ) (s : SpecData) → at_number n (cause_of_spec d targets s) ≡ None → IsOfPackets d targets (spec_with d targets s)
+spec_packets : (d : DefinitionsData) (targets : List (List ℕ)) (n : ℕ) (s : SpecData) → at_line n (cause_of_spec d targets s) ≡ None → IsOfPackets d targets (spec_with d targets s)
 spec_packets d targets n (spec.Burst b) e = tt
 spec_packets d targets n (spec.Length l) e = tt
 spec_packets d targets n (spec.Terminated t) e = tt

@@ -32,9 +32,11 @@ use Rattle.cts_plan.specs.Drafts.{InterfaceDraftData, RouterDraftData}
 use Rattle.cts_plan.specs.Lines.{name_of, step_at, interface_by, router_by, said_or_nothing, line_of}
 use Rattle.cts_plan.specs.Standing.{start, has_name, number_of, completed, closed, change, place}
 use Rattle.cts_plan.specs.Causes.{holds, order, is_file_unknown, is_unrouted, is_unknown_name, is_double, is_unknown_target, maps, is_in, is_target_twice, is_chain_too_long, is_not_last, is_too_many}
-use Rattle.cts_plan.specs.Completing.{Refused, at_number, due}
+use Rattle.cts_reader.specs.Reading.{at_line}
+use Rattle.cts_plan.specs.Completing.{Refused, due}
 use Rattle.cts_plan.specs.SiteFiles.{parts, opening, opens, ready, with_line, step, cause_in, refusal_in}
 use Rattle.cts_plan.specs.Keeping.{IsNewInterface, IsNewRouter, IsNew, KeepsRules, FitsCurrent, Fits}
+use Rattle.cts_reader.proofs.FirstRefused.{no_cause}
 use Rattle.cts_plan.proofs.Lists.{both, neither, not_false, and_true, distinct_snoc}
 use Rattle.cts_plan.proofs.Completed.{sound_completed, none_left, all_joined}
 
@@ -253,15 +255,11 @@ pub ready_kept : (b : Bool) (s : Draft) → KeepsRules s → cond b (due s) None
 ready_kept true s so_far right = record { site = sound_completed s.site s.current so_far.site so_far.current right; current = tt }
 ready_kept false s so_far right = so_far
 
-pub no_cause : (n : ℕ) (o : Option SiteCause) → at_number n o ≡ None → o ≡ None
-no_cause n None e = refl
-no_cause n (Some c) e = absurd cc
-
-kept_at : (s : Draft) (n : ℕ) (p : Option (Keyword × List (List ℕ))) → or_else (cond (opens p) (due s) None) (at_number n (cause_in (ready p s) n p)) ≡ None → KeepsRules s → KeepsRules (with_line n p s)
+kept_at : (s : Draft) (n : ℕ) (p : Option (Keyword × List (List ℕ))) → or_else (cond (opens p) (due s) None) (at_line n (cause_in (ready p s) n p)) ≡ None → KeepsRules s → KeepsRules (with_line n p s)
 kept_at s n None e so_far = absurd cc
 kept_at s n (Some p) e so_far =
     let stands = ready (Some p) s in
-    let parts = none_left (cond (opening p.0) (due s) None) (at_number n (cause_in stands n (Some p))) e in
+    let parts = none_left (cond (opening p.0) (due s) None) (at_line n (cause_in stands n (Some p))) e in
     let kept = ready_kept (opening p.0) s so_far parts.0 in
     placed stands (line_of n p.0 p.1) kept (line_fits stands n p.0 p.1 kept (no_cause n (cause_in stands n (Some p)) parts.1))
 

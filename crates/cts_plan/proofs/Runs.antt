@@ -8,13 +8,11 @@ use Rattle.cts_words.specs.Refusals.{first_refusal}
 use Rattle.cts_words.proofs.Refused as refused
 use Rattle.cts_words.proofs.Refused.{Decides}
 use Rattle.cts_plan.specs.declared.draft.Draft.{Draft}
-use Rattle.cts_plan.specs.declared.fault.SiteCause.{SiteCause}
-use Rattle.cts_plan.specs.declared.fault.SiteFault.{SiteFault}
-use Rattle.cts_plan.specs.declared.fault.SiteFault.TheVariants as fault
 use Rattle.cts_plan.specs.Standing.{start}
 use Rattle.cts_plan.specs.Completing.{Refused, due}
-use Rattle.cts_plan.specs.SiteFiles.{step, behind, after, refusal_in, refusal, at_end, site_in, site_or, site_of}
-use Rattle.cts_plan.specs.Keeping.{KeepsRules, Settles, Fails}
+use Rattle.cts_plan.specs.SiteFiles.{step, behind, after, refusal_in, refusal, at_end, site_in, site_of}
+use Rattle.cts_plan.specs.Keeping.{KeepsRules}
+use Rattle.cts_reader.specs.Reading.{unless_refused}
 use Rattle.cts_plan.proofs.Kept.{keeps_rules, at_start}
 
 behind_more : (s : Draft) (before : List Statement) (t : Statement) → behind s (before ++ t ∷ []) ≡ step (behind s before) t
@@ -53,10 +51,10 @@ next d old new all i s lt item so_far none stepped =
     } in
     subst (λ (b : List Statement). IsReading d new b (drop (i + 1) all) all) front reading
 
-ended : (d : DefinitionsData) (draft : Draft) (all : List Statement) (o : Option Refused) → IsReading d draft all [] all → due draft ≡ o → site_of d all ≡ site_or draft o
+ended : (d : DefinitionsData) (draft : Draft) (all : List Statement) (o : Option Refused) → IsReading d draft all [] all → due draft ≡ o → site_of d all ≡ unless_refused (site_in draft) o
 ended d draft all o so_far e =
-    ap (site_or (after d all)) (refused.ends (refusal d) (at_end d) all so_far.refused ∙ ap due (sym so_far.stands) ∙ e)
-    ∙ ap (λ (x : Draft). site_or x o) (sym so_far.stands)
+    ap (unless_refused (site_in (after d all))) (refused.ends (refusal d) (at_end d) all so_far.refused ∙ ap due (sym so_far.stands) ∙ e)
+    ∙ ap (λ (x : Draft). unless_refused (site_in x) o) (sym so_far.stands)
 
 pub is_done : (d : DefinitionsData) (draft : Draft) (all : List Statement) → IsReading d draft all [] all → due draft ≡ None → site_of d all ≡ Ok (site_in draft)
 is_done d draft all so_far e = ended d draft all None so_far e

@@ -7,6 +7,7 @@ use Rattle.cts_def.specs.Protocols.{FixedData, SpecData, is_start_within}
 use Rattle.cts_def.specs.Sites.{SiteData, packets_of, routed_targets}
 use Rattle.cts_def.specs.Starts.{StartData}
 use Rattle.cts_words.specs.Refusals.{Refusal, or_else}
+use Rattle.cts_reader.specs.Reading.{at_line}
 use Rattle.cts_plan.specs.declared.draft.Draft.{Draft}
 use Rattle.cts_plan.specs.declared.opened.Current.{Current}
 use Rattle.cts_plan.specs.declared.opened.Current.TheVariants as current
@@ -38,13 +39,9 @@ abbrev pub cause_of_spec : DefinitionsData → List (List ℕ) → SpecData → 
 cause_of_spec d targets (spec.Fixed f) = cause_of_fixed targets (packets_of d f.telemetry) f
 cause_of_spec d targets s = None
 
-abbrev pub at_number : ℕ → Option SiteCause → Option Refused
-at_number n None = None
-at_number n (Some cause) = Some (n, cause)
-
 -- at its own line
 abbrev pub step_fault : DefinitionsData → List (List ℕ) → StepData → Option Refused
-step_fault d targets s = at_number s.line (cause_of_spec d targets s.used.spec)
+step_fault d targets s = at_line s.line (cause_of_spec d targets s.used.spec)
 
 abbrev pub first_step_fault : DefinitionsData → List (List ℕ) → List StepData → Option Refused
 first_step_fault d targets [] = None

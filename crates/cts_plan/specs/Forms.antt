@@ -2,9 +2,10 @@
 use Rattle.std.specs.Prelude.{ℕ, ◌+◌, Bool, true, false, not, ◌&&◌, ◌||◌, nat_lt, List, [], ◌∷◌, length, drop, zip, codes, Option, Some, None, is_none, is_some, if◌then◌else◌}
 use Rattle.std.specs.List.{list_any}
 use Rattle.std.specs.Str.{bytes_eq}
-use Rattle.cts_base.specs.Names.{is_name, spells}
+use Rattle.cts_base.specs.Names.{is_name}
 use Rattle.cts_def.specs.declared.proto_spec.Kind.{Kind}
 use Rattle.cts_def.specs.declared.proto_spec.Kind.TheVariants as kind
+use Rattle.cts_reader.specs.Words.{keyword_in}
 use Rattle.cts_plan.specs.declared.keyword.Keyword.{Keyword}
 use Rattle.cts_plan.specs.declared.keyword.Keyword.TheVariants as keyword
 use Rattle.cts_plan.specs.declared.keyword.Role.{Role}
@@ -27,11 +28,6 @@ keywords =
     ∷ (codes "DONT_LOG", keyword.DontLog)
     ∷ (codes "ROUTER", keyword.Router)
     ∷ (codes "ROUTE", keyword.Route) ∷ []
-
--- the keyword of a list that the word is, in any case
-abbrev pub keyword_in : List (List ℕ × Keyword) → List ℕ → Option Keyword
-keyword_in [] word = None
-keyword_in (k ∷ list) word = if spells word k.0 then Some k.1 else keyword_in list word
 
 abbrev pub keyword_of : List ℕ → Option Keyword
 keyword_of word = keyword_in keywords word

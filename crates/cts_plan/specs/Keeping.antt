@@ -1,6 +1,5 @@
--- What is true of all that stands, when a line can be placed, and what functions answer. Functions of the crate cite this,
--- and the definitions do not.
-use Rattle.std.specs.Prelude.{◌≡◌, ℕ, pos, ◌≤◌, true, false, ◌&&◌, nat_le, nat_lt, nat_eq, int_le, List, [], ◌∷◌, ◌++◌, length, Some, None, Option, Result, Ok, Err, IsTrue}
+-- What is true of all that stands, and when a line can be placed. Functions of the crate cite this, and the definitions do not.
+use Rattle.std.specs.Prelude.{◌≡◌, ℕ, pos, ◌≤◌, true, false, ◌&&◌, nat_le, nat_lt, nat_eq, int_le, List, [], ◌∷◌, ◌++◌, length, Some, None, Option, IsTrue}
 use Rattle.std.specs.List.{list_any, list_all, IsDistinct}
 use Rattle.cts_def.specs.Items.{is_same}
 use Rattle.cts_def.specs.Packets.{DefinitionsData}
@@ -12,13 +11,10 @@ use Rattle.cts_plan.specs.declared.line.Line.{Line}
 use Rattle.cts_plan.specs.declared.line.Line.TheVariants as line
 use Rattle.cts_plan.specs.declared.line.Detail.{Detail}
 use Rattle.cts_plan.specs.declared.line.Detail.TheVariants as detail
-use Rattle.cts_plan.specs.declared.fault.SiteFault.{SiteFault}
-use Rattle.cts_plan.specs.declared.fault.SiteFault.TheVariants as fault
 use Rattle.cts_plan.specs.Steps.{StepData, step_reads, step_reads_packets}
 use Rattle.cts_plan.specs.Drafts.{InterfaceDraftData, RouterDraftData}
 use Rattle.cts_plan.specs.Standing.{has_name, number_of}
 use Rattle.cts_plan.specs.Causes.{is_router_named, maps, is_in}
-use Rattle.cts_plan.specs.Completing.{Refused}
 
 -- ---- what is true of all that stands
 
@@ -81,20 +77,3 @@ Fits (line.Desks desks) s = (1 ≤ desks) × (desks ≤ 4)
 Fits (line.Interface i) s = IsNewInterface s.site.definitions s.site.interfaces i.name i.targets
 Fits (line.Router r) s = IsNewRouter s.site.interfaces s.site.routers r.name r.routes
 Fits (line.Detail d) s = FitsCurrent s.site d s.current
-
--- ---- answers
-
--- what a function returned is what the definition says, unless memory ran out
-abbrev pub Fails : {Y : Type 0} → SiteFault → Result Y Refused → Type 0
-Fails fault.Memory said = Unit {0}
-Fails (fault.Refused n c) said = said ≡ Err (n, c)
-
-abbrev pub Gives : {X Y : Type 0} → (X → Y) → Result X SiteFault → Result Y Refused → Type 0
-Gives view (Ok x) said = said ≡ Ok (view x)
-Gives view (Err e) said = Fails e said
-
--- What was judged has no such fault, or is refused for it.
-abbrev pub Settles : {X : Type 0} → Result X SiteFault → Option Refused → Type 0
-Settles (Ok x) found = found ≡ None
-Settles (Err fault.Memory) found = Unit {0}
-Settles (Err (fault.Refused n c)) found = found ≡ Some (n, c)

@@ -1,9 +1,10 @@
 -- The site that statements say, or the first that is refused.
-use Rattle.std.specs.Prelude.{ℕ, Bool, true, false, List, [], ◌∷◌, Option, Some, None, Result, Ok, Err, find, if◌then◌else◌}
+use Rattle.std.specs.Prelude.{ℕ, Bool, true, false, List, [], ◌∷◌, Option, Some, None, Result, find, if◌then◌else◌}
 use Rattle.cts_def.specs.Packets.{DefinitionsData}
 use Rattle.cts_def.specs.Sites.{SiteData}
 use Rattle.cts_words.specs.declared.statement.Statement.{Statement}
-use Rattle.cts_words.specs.Refusals.{or_else, first_refusal}
+use Rattle.cts_words.specs.Refusals.{or_else}
+use Rattle.cts_reader.specs.Reading.{at_line, said_of}
 use Rattle.cts_plan.specs.declared.draft.Draft.{Draft}
 use Rattle.cts_plan.specs.declared.keyword.Keyword.{Keyword}
 use Rattle.cts_plan.specs.declared.keyword.Keyword.TheVariants as keyword
@@ -14,7 +15,7 @@ use Rattle.cts_plan.specs.Forms.{keyword_of}
 use Rattle.cts_plan.specs.Lines.{line_of}
 use Rattle.cts_plan.specs.Standing.{start, completed, closed, place}
 use Rattle.cts_plan.specs.Causes.{holds, order}
-use Rattle.cts_plan.specs.Completing.{Refused, at_number, due}
+use Rattle.cts_plan.specs.Completing.{Refused, due}
 
 -- ---- statements
 
@@ -76,7 +77,7 @@ cause_in stands n (Some p) = find (λ c. holds c stands p.0 p.1 (line_of n p.0 p
 abbrev pub refusal_in : Draft → Statement → Option Refused
 refusal_in stands s =
     let p = parts s.words in
-    or_else (if opens p then due stands else None) (at_number s.line (cause_in (ready p stands) s.line p))
+    or_else (if opens p then due stands else None) (at_line s.line (cause_in (ready p stands) s.line p))
 
 abbrev pub refusal : DefinitionsData → List Statement → Statement → Option Refused
 refusal d before s = refusal_in (after d before) s
@@ -91,10 +92,6 @@ at_end d before = due (after d before)
 abbrev pub site_in : Draft → SiteData
 site_in stands = completed stands.site stands.current
 
-abbrev pub site_or : Draft → Option Refused → Result SiteData Refused
-site_or stands None = Ok (site_in stands)
-site_or stands (Some r) = Err r
-
 -- The site that the statements say with these definitions, or the line and the cause of the first refusal.
 abbrev pub site_of : DefinitionsData → List Statement → Result SiteData Refused
-site_of d statements = site_or (after d statements) (first_refusal (refusal d) (at_end d) [] statements)
+site_of d statements = said_of (refusal d) (at_end d) (λ all. site_in (after d all)) statements

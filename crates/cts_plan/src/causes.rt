@@ -19,6 +19,7 @@ use crate::step::{Parameters, Step};
 use crate::words::{is_nil, port_of, word};
 use cts_base::{Bytes, Name};
 use cts_def::{Definitions, Interface, Kind, Packet, ProtoSpec, Router};
+use cts_reader::first_that_holds;
 
 /// The causes of a statement with a known keyword, in the order in which they are tried.
 const ORDER: [SiteCause; 14] = [
@@ -399,21 +400,6 @@ fn holds(cause: SiteCause, draft: &Draft, keyword: Keyword, words: &[Bytes], lin
     }
 }
 
-fn first_of(
-    causes: &[SiteCause],
-    draft: &Draft,
-    keyword: Keyword,
-    words: &[Bytes],
-    line: &Line,
-) -> Option<SiteCause>
-    ensures { result ≡ find (λ c. holds c draft.now keyword words.now line.now) causes.now }
-{
-    causes
-        .iter()
-        .copied()
-        .find(|cause| holds(*cause, draft, keyword, words, line))
-}
-
 /// The first cause that holds.
 pub fn first_cause(
     draft: &Draft,
@@ -423,5 +409,5 @@ pub fn first_cause(
 ) -> Option<SiteCause>
     ensures { result ≡ find (λ c. holds c draft.now keyword words.now line.now) order }
 {
-    first_of(&ORDER, draft, keyword, words, line)
+    first_that_holds(&ORDER, |cause| holds(cause, draft, keyword, words, line))
 }

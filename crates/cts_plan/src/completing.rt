@@ -9,8 +9,9 @@ ghost use Rattle.cts_def.specs.Packets.{is_of};
 ghost use Rattle.cts_plan.specs.declared.opened.Current.TheVariants as current;
 ghost use Rattle.cts_plan.specs.Steps.{step_reads, added, whole_chain};
 ghost use Rattle.cts_plan.specs.Standing.{starts_of, spec_with, use_of, chain_of, interface_of, router_of, completed};
-ghost use Rattle.cts_plan.specs.Completing.{is_bad_min_id, have_variable, cause_of_fixed, at_number, step_fault, first_step_fault, fault_of, fault_in};
-ghost use Rattle.cts_plan.specs.Keeping.{Settles, IsNewInterface, IsNewRouter};
+ghost use Rattle.cts_plan.specs.Completing.{is_bad_min_id, have_variable, cause_of_fixed, step_fault, first_step_fault, fault_of, fault_in};
+ghost use Rattle.cts_plan.specs.Keeping.{IsNewInterface, IsNewRouter};
+ghost use Rattle.cts_reader.specs.Reading.{Settles, at_line};
 
 use crate::fault::{SiteCause, SiteFault};
 use crate::fixed::FixedParameters;
@@ -122,7 +123,7 @@ fn fixed_use(
     writes: bool,
 ) -> Result<ProtoUse, SiteFault>
     requires used { IsTrue (reads || writes) }
-    ensures settled { Settles result (at_number line (cause_of_fixed targets.now (packets_of definitions.now fixed.telemetry) fixed)) }
+    ensures settled { Settles result (at_line line (cause_of_fixed targets.now (packets_of definitions.now fixed.telemetry) fixed)) }
     ensures value { IfOk result (λ u. u ≡ record { spec = spec_with definitions.now targets.now (spec.Fixed fixed); reads = reads; writes = writes }) }
 {
     let packets = packets_of(definitions, fixed.telemetry);

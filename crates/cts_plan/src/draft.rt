@@ -2,7 +2,8 @@
 ghost use Rattle.std.specs.Prelude.{◌≡◌, ◌≤◌, length, Some, OnOk, IfOk};
 ghost use Rattle.cts_plan.specs.Standing.{start, closed, number_of, change_interface, change_router, change, with_port, with_desks, place};
 ghost use Rattle.cts_plan.specs.Completing.{due};
-ghost use Rattle.cts_plan.specs.Keeping.{KeepsRules, FitsInterface, IsNewRoute, FitsRouter, FitsCurrent, Fits, Settles};
+ghost use Rattle.cts_plan.specs.Keeping.{KeepsRules, FitsInterface, IsNewRoute, FitsRouter, FitsCurrent, Fits};
+ghost use Rattle.cts_reader.specs.Reading.{Settles};
 ghost use Rattle.cts_plan.specs.declared.line.Detail.TheVariants as detail;
 
 use crate::completing::{add_interface, add_router};

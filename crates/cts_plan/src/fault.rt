@@ -1,12 +1,9 @@
 //! Why a site file is refused.
 
 ghost use Rattle.std.specs.Prelude.{◌≡◌};
-ghost use Rattle.cts_plan.specs.declared.fault.SiteFault.TheVariants.{Memory as NoMemory};
 
-use cts_base::Memory;
-use std::alloc::{AllocError, AllocFailed};
+use cts_reader::Fault;
 use std::fmt;
-use thiserror::Error;
 
 /// Why a statement of a site file is refused, in the order in which the causes are tried. Its text is the variant's name.
 #[derive(Clone, Copy, Debug, PartialEq, Eq)]
@@ -83,41 +80,4 @@ impl fmt::Display for SiteCause {
 }
 
 /// Why there is no site.
-#[derive(Clone, Copy, Debug, Error, PartialEq, Eq)]
-pub enum SiteFault {
-    /// The statement of this line is the first with a cause, and this is its first one.
-    #[error("line {line}: {cause}")]
-    Refused {
-        /// The line of the statement, counted from 1.
-        line: u32,
-        /// Why it is refused.
-        cause: SiteCause,
-    },
-    /// No memory was found.
-    #[error("out of memory")]
-    Memory,
-}
-
-impl From<Memory> for SiteFault {
-    ghost from_gives = { λ _ e. e ≡ NoMemory };
-
-    fn from(_: Memory) -> SiteFault {
-        SiteFault::Memory
-    }
-}
-
-impl From<AllocError> for SiteFault {
-    ghost from_gives = { λ _ e. e ≡ NoMemory };
-
-    fn from(_: AllocError) -> SiteFault {
-        SiteFault::Memory
-    }
-}
-
-impl<T: Drop> From<AllocFailed<T>> for SiteFault {
-    ghost from_gives = { λ _ e. e ≡ NoMemory };
-
-    fn from(_: AllocFailed<T>) -> SiteFault {
-        SiteFault::Memory
-    }
-}
+pub type SiteFault = Fault<SiteCause>;

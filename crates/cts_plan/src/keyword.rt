@@ -2,14 +2,16 @@
 ghost use Rattle.std.specs.Prelude.{◌≡◌, ◌+◌, length, drop, map, zip};
 ghost use Rattle.std.specs.List.{list_any};
 ghost use Rattle.cts_plan.specs.Words.{is_nil};
-ghost use Rattle.cts_plan.specs.Forms.{keyword_in, keyword_of, role_of, opening_fields, head_fields, parameter_fields, required, takes_protocol, has_protocol, protocol_of, parameters, fields_of, is_other_choice, is_bad_name, is_no_number, is_empty_sync, any_field};
+ghost use Rattle.cts_reader.specs.Words.{keyword_in};
+ghost use Rattle.cts_plan.specs.Forms.{keyword_of, role_of, opening_fields, head_fields, parameter_fields, required, takes_protocol, has_protocol, protocol_of, parameters, fields_of, is_other_choice, is_bad_name, is_no_number, is_empty_sync, any_field};
 
 use crate::words::{
     bits_of, delay_of, desks_of, flag_of, is_decimal, is_empty_pattern, is_nil, is_pattern_word,
     kind_of, max_of, order_of, per_count_of, port_of, signed_of, size_of, way_of, word,
 };
-use cts_base::{Bytes, is_name, spells};
+use cts_base::{Bytes, is_name};
 use cts_def::Kind;
+use cts_reader::{Spelled, keyword_in};
 
 /// The keyword of a statement.
 #[derive(Clone, Copy, Debug, PartialEq, Eq)]
@@ -94,15 +96,8 @@ pub enum Field {
     Termination,
 }
 
-/// A keyword and the text that names it.
-#[derive(Clone, Copy)]
-struct Spelled {
-    text: &'static [u8],
-    keyword: Keyword,
-}
-
 /// All keywords.
-const KEYWORDS: [Spelled; 12] = [
+const KEYWORDS: [Spelled<Keyword>; 12] = [
     Spelled {
         text: b"TITLE",
         keyword: Keyword::Title,
@@ -152,18 +147,6 @@ const KEYWORDS: [Spelled; 12] = [
         keyword: Keyword::Route,
     },
 ];
-
-// The keyword of this list that the word is.
-fn keyword_in(list: &[Spelled], word: &[u8]) -> Option<Keyword>
-    ensures { result ≡ keyword_in (map (λ s. (s.text.now, s.keyword)) list.now) word.now }
-{
-    for spelled in list {
-        if spells(word, spelled.text) {
-            return Some(spelled.keyword);
-        }
-    }
-    None
-}
 
 /// The keyword that a word is, in any case.
 pub fn keyword_of(word: &[u8]) -> Option<Keyword>

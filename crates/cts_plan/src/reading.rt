@@ -5,9 +5,10 @@ ghost use Rattle.cts_def.specs.Sites.{IsSoundSite};
 ghost use Rattle.cts_plan.specs.Lines.{line_of};
 ghost use Rattle.cts_plan.specs.Standing.{closed};
 ghost use Rattle.cts_plan.specs.Causes.{holds, order};
-ghost use Rattle.cts_plan.specs.Completing.{at_number, due};
+ghost use Rattle.cts_plan.specs.Completing.{due};
 ghost use Rattle.cts_plan.specs.SiteFiles.{parts, opening, step, refusal_in, site_of};
-ghost use Rattle.cts_plan.specs.Keeping.{KeepsRules, Gives, Settles};
+ghost use Rattle.cts_plan.specs.Keeping.{KeepsRules};
+ghost use Rattle.cts_reader.specs.Reading.{Gives, Settles, at_line};
 
 use crate::causes::first_cause;
 use crate::draft::Draft;
@@ -60,7 +61,7 @@ impl Draft {
         keyword: Keyword,
         words: &[Bytes],
     ) -> Result<Line, SiteFault>
-        ensures settled { Settles result (at_number line (find (λ c. holds c self.now keyword words.now (line_of line keyword words.now)) order)) }
+        ensures settled { Settles result (at_line line (find (λ c. holds c self.now keyword words.now (line_of line keyword words.now)) order)) }
         ensures said { IfOk result (λ l. l ≡ line_of line keyword words.now) }
     {
         let said = line_of(alloc, line, keyword, words)?;
@@ -102,7 +103,7 @@ pub fn read_site(
     statements: &[Statement],
     definitions: Definitions,
 ) -> Result<Site, SiteFault>
-    ensures said { Gives (λ site. site) result (site_of definitions statements.now) }
+    ensures said { Gives result (site_of definitions statements.now) }
     ensures sound { IfOk result (λ site. IsSoundSite site) }
 {
     let mut draft = Draft::new(alloc, definitions);

@@ -1,37 +1,30 @@
 -- Statements are refused at the first one that is refused, or at their end.
-use Rattle.std.proofs.Common.{◌≡◌, ℕ, cond, List, [], ◌∷◌, ◌++◌, Option, Some, None, Err, refl, sym, ap, ◌∙◌, subst, append_assoc}
+use Rattle.std.proofs.Common.{◌≡◌, ℕ, cond, List, [], ◌∷◌, ◌++◌, Option, Some, None, Err, refl, sym, ap, subst, append_assoc}
 use Rattle.std.specs.Prelude.{find}
 use Rattle.std.proofs.lemmas.List.{append-nil}
 use Rattle.cts_def.specs.Packets.{DefinitionsData}
 use Rattle.cts_words.specs.declared.statement.Statement.{Statement}
 use Rattle.cts_words.specs.Refusals.{or_else, first_refusal}
-use Rattle.cts_words.proofs.Refused.{first_one_is_refused}
+use Rattle.cts_reader.proofs.FirstRefused as frame
+use Rattle.cts_reader.proofs.FirstRefused.{no_cause}
 use Rattle.cts_plan.specs.declared.draft.Draft.{Draft}
 use Rattle.cts_plan.specs.declared.keyword.Keyword.{Keyword}
 use Rattle.cts_plan.specs.declared.line.Line.{Line}
 use Rattle.cts_plan.specs.Lines.{line_of}
 use Rattle.cts_plan.specs.Causes.{holds, order}
-use Rattle.cts_plan.specs.Completing.{Refused, at_number, due}
-use Rattle.cts_plan.specs.SiteFiles.{parts, opens, ready, line_in, cause_in, after, refusal, at_end, site_or}
+use Rattle.cts_reader.specs.Reading.{at_line}
+use Rattle.cts_plan.specs.Completing.{Refused, due}
+use Rattle.cts_plan.specs.SiteFiles.{parts, opens, ready, line_in, cause_in, after, refusal, at_end, site_in}
 use Rattle.cts_plan.proofs.Completed.{none_left}
-use Rattle.cts_plan.proofs.Kept.{no_cause}
 use Rattle.cts_plan_laws.specs.Laws.{RefusesTheFirst, TakesTheOthers, StatementsSayLines}
 
-refused_to : (s : Draft) (o : Option Refused) (r : Refused) → site_or s o ≡ Err r → o ≡ Some r
-refused_to s None r e = absurd cc
-refused_to s (Some q) r e = let same : q ≡ r = cc in ap Some same
-
 pub refuses_the_first : RefusesTheFirst
-refuses_the_first d all r =
-    let law = first_one_is_refused (refusal d) (at_end d) all (Some r) in (
-      λ e. law.0 (refused_to (after d all) (first_refusal (refusal d) (at_end d) [] all) r e),
-      λ w. ap (site_or (after d all)) (law.1 w),
-    )
+refuses_the_first d all r = frame.refuses_the_first (refusal d) (at_end d) (λ ss. site_in (after d ss)) all r
 
 pub takes_the_others : TakesTheOthers
-takes_the_others d all none ends = ap (site_or (after d all)) ((first_one_is_refused (refusal d) (at_end d) all None).1 (none, ends))
+takes_the_others d all none ends = frame.takes_the_others (refusal d) (at_end d) (λ ss. site_in (after d ss)) all none ends
 
-said : (s : Draft) (n : ℕ) (o : Option Refused) (p : Option (Keyword × List (List ℕ))) → or_else o (at_number n (cause_in (ready p s) n p)) ≡ None → (l : Line) × (line_in n p ≡ Some l)
+said : (s : Draft) (n : ℕ) (o : Option Refused) (p : Option (Keyword × List (List ℕ))) → or_else o (at_line n (cause_in (ready p s) n p)) ≡ None → (l : Line) × (line_in n p ≡ Some l)
 said s n o (Some p) e = (line_of n p.0 p.1, refl)
 said s n (Some r) None e = absurd cc
 said s n None None e = absurd cc
@@ -42,9 +35,9 @@ statements_say_lines d before s e =
     said stands s.line (cond (opens (parts s.words)) (due stands) None) (parts s.words) e
 
 -- no cause holds of a statement that is not refused
-pub none_holds : (s : Draft) (n : ℕ) (p : Keyword × List (List ℕ)) → or_else (cond (opens (Some p)) (due s) None) (at_number n (cause_in (ready (Some p) s) n (Some p))) ≡ None
+pub none_holds : (s : Draft) (n : ℕ) (p : Keyword × List (List ℕ)) → or_else (cond (opens (Some p)) (due s) None) (at_line n (cause_in (ready (Some p) s) n (Some p))) ≡ None
     → find (λ c. holds c (ready (Some p) s) p.0 p.1 (line_of n p.0 p.1)) order ≡ None
-none_holds s n p e = no_cause n (cause_in (ready (Some p) s) n (Some p)) (none_left (cond (opens (Some p)) (due s) None) (at_number n (cause_in (ready (Some p) s) n (Some p))) e).1
+none_holds s n p e = no_cause n (cause_in (ready (Some p) s) n (Some p)) (none_left (cond (opens (Some p)) (due s) None) (at_line n (cause_in (ready (Some p) s) n (Some p))) e).1
 
 -- what each statement that is not refused keeps holds of them all
 pub through : (P : List Statement → Type 0) (d : DefinitionsData) → ((before : List Statement) (s : Statement) → P before → refusal d before s ≡ None → P (before ++ s ∷ []))

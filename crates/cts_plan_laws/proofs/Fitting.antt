@@ -1,7 +1,7 @@
 -- The words of the statements of a site are right for their places.
 use Rattle.std.specs.Option.{option_eq}
 use Rattle.std.proofs.Common.{arith, zero, suc, ◌+◌, ◌<◌, ◌≡◌, ℕ, Bool, true, false, cond, List, [], ◌∷◌, ◌++◌, Option, Some, None, Ok, refl, sym, ◌∙◌, ap, subst}
-use Rattle.std.specs.Prelude.{slice_get, is_none, nat_eq, ◌||◌, ◌&&◌, find, nat_lt, length, zip, not, if◌then◌else◌}
+use Rattle.std.specs.Prelude.{slice_get, is_none, nat_eq, ◌||◌, ◌&&◌, nat_lt, length, zip, not, if◌then◌else◌}
 use Rattle.std.specs.List.{list_any}
 use Rattle.std.proofs.lemmas.Bool.Decides.{nat_tests}
 use Rattle.cts_base.specs.Names.{is_name, in_upper_case}
@@ -23,8 +23,9 @@ use Rattle.cts_plan.specs.declared.draft.Draft.{Draft}
 use Rattle.cts_plan.specs.Forms.{role_of, opening_fields, head_fields, protocol_of, parameters, parameter_fields, fields_of, any_field, is_other_choice, is_bad_name, is_no_number}
 use Rattle.cts_plan.specs.Lines.{port_at, name_of, line_of, is_bad_length}
 use Rattle.cts_plan.specs.Causes.{are_two_at, is_two_ports, is_file_unknown, is_unrouted, holds, order, is_wrong_count, is_not_number, is_length, is_protocol_missing, has_wrong_rest}
-use Rattle.cts_plan.specs.Completing.{Refused, at_number, due}
-use Rattle.cts_plan.specs.SiteFiles.{parts, opening, opens, ready, cause_in, after, refusal, at_end, site_or}
+use Rattle.cts_reader.specs.Reading.{at_line, unless_refused}
+use Rattle.cts_plan.specs.Completing.{Refused, due}
+use Rattle.cts_plan.specs.SiteFiles.{parts, opening, opens, ready, cause_in, after, refusal, at_end, site_in}
 use Rattle.cts_plan.proofs.Lists.{neither}
 use Rattle.cts_plan_laws.specs.SiteLaws.{Fits, StatementsFit}
 use Rattle.cts_plan_laws.proofs.WordsRead.{fits_at}
@@ -132,7 +133,7 @@ fits_where k ws count known names numbers two =
       };
     }
 
-pub words_fit : (s : Draft) (n : ℕ) (p : Keyword × List (List ℕ)) → or_else (cond (opens (Some p)) (due s) None) (at_number n (cause_in (ready (Some p) s) n (Some p))) ≡ None → Fits p.0 p.1
+pub words_fit : (s : Draft) (n : ℕ) (p : Keyword × List (List ℕ)) → or_else (cond (opens (Some p)) (due s) None) (at_line n (cause_in (ready (Some p) s) n (Some p))) ≡ None → Fits p.0 p.1
 words_fit s n p none =
     let stands = ready (Some p) s in
     let l = line_of n p.0 p.1 in
@@ -140,13 +141,13 @@ words_fit s n p none =
     fits_where p.0 p.1 passes.1.0 (neither (is_file_unknown p.0 p.1) (is_unrouted stands l) passes.1.1.0).0 passes.1.1.1.0 passes.1.1.1.1.0 passes.1.1.1.1.1.1.0
 
 fits_behind : (d : DefinitionsData) (before : List Statement) (t : Statement) (p : Option (Keyword × List (List ℕ))) (k : Keyword) (ws : List (List ℕ))
-    → or_else (cond (opens p) (due (after d before)) None) (at_number t.line (cause_in (ready p (after d before)) t.line p)) ≡ None → p ≡ Some (k, ws) → Fits k ws
+    → or_else (cond (opens p) (due (after d before)) None) (at_line t.line (cause_in (ready p (after d before)) t.line p)) ≡ None → p ≡ Some (k, ws) → Fits k ws
 fits_behind d before t None k ws none is = absurd cc
 fits_behind d before t (Some p) k ws none is =
     let same : p ≡ (k, ws) = cc in
     subst (λ (q : Keyword × List (List ℕ)). Fits q.0 q.1) same (words_fit (after d before) t.line p none)
 
-none_refused : (d : DefinitionsData) (all : List Statement) (s : SiteData) (o : Option Refused) → first_refusal (refusal d) (at_end d) [] all ≡ o → site_or (after d all) o ≡ Ok s → NoneRefused (refusal d) all
+none_refused : (d : DefinitionsData) (all : List Statement) (s : SiteData) (o : Option Refused) → first_refusal (refusal d) (at_end d) [] all ≡ o → unless_refused (site_in (after d all)) o ≡ Ok s → NoneRefused (refusal d) all
 none_refused d all s None e said = ((first_one_is_refused (refusal d) (at_end d) all None).0 e).0
 none_refused d all s (Some r) e said = absurd cc
 

@@ -4,14 +4,14 @@ use Rattle.std.specs.Prelude.{not, cond, option_map, option_to_list, unwrap_or}
 use Rattle.std.specs.List.{filter, filter_map, cons_option}
 use Rattle.std.proofs.lemmas.List.{append-nil, map-append}
 use Rattle.std.proofs.lemmas.List.Elements.{filter-append}
-use Rattle.cts_def.specs.Sites.{InterfaceData, RouterData, SiteData}
+use Rattle.cts_def.specs.Sites.{InterfaceData, SiteData}
 use Rattle.cts_words.specs.declared.statement.Statement.{Statement}
 use Rattle.cts_plan.specs.declared.draft.Draft.{Draft}
 use Rattle.cts_plan.specs.declared.opened.Current.{Current}
 use Rattle.cts_plan.specs.declared.opened.Current.TheVariants as current
 use Rattle.cts_plan.specs.Standing.{start, completed, closed}
 use Rattle.cts_plan.specs.SiteFiles.{parts, opens, step, behind, site_in}
-use Rattle.cts_plan_laws.specs.SiteLaws.{Opener, opener, opens_router}
+use Rattle.cts_plan_laws.specs.SiteLaws.{Opener, opener}
 use Rattle.cts_plan_laws.specs.Laws.{IsOpened, interface_head, interface_head_by, router_head, router_head_by, is_interface_opener, is_router_opener, ConnectionsAreOfTheirStatements}
 use Rattle.cts_plan_laws.proofs.Readings.{Says, says_of, opened_by, change_by, placed_by, step_by}
 use Rattle.cts_plan_laws.proofs.Opened.{details, opened_now, opened_new}

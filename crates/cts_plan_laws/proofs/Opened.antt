@@ -1,12 +1,10 @@
 -- Interfaces and routers by their own statements and those that belong to them.
 use Rattle.std.proofs.Common.{◌≡◌, ℕ, Bool, true, false, List, [], ◌∷◌, ◌++◌, map, Option, Some, None, refl, sym, ap, ◌∙◌, subst, append_assoc}
 use Rattle.std.specs.Prelude.{not, ◌&&◌, ◌||◌, option_map, option_to_list, unwrap_or, cond}
-use Rattle.std.specs.List.{filter, filter_map, list_any, cons_option}
+use Rattle.std.specs.List.{filter_map, list_any, cons_option}
 use Rattle.std.proofs.lemmas.List.{append-nil, map-append}
-use Rattle.std.proofs.lemmas.List.Elements.{filter_map-append, filter-append}
-use Rattle.cts_base.specs.declared.decimal.Decimal.{Decimal}
-use Rattle.cts_def.specs.Packets.{DefinitionsData}
-use Rattle.cts_def.specs.Sites.{InterfaceData, RouterData, SiteData}
+use Rattle.std.proofs.lemmas.List.Elements.{filter_map-append}
+use Rattle.cts_def.specs.Sites.{InterfaceData}
 use Rattle.cts_words.specs.declared.statement.Statement.{Statement}
 use Rattle.cts_words.specs.Blocks.{last_of}
 use Rattle.cts_words.proofs.Blocks.{last_snoc}
@@ -20,12 +18,12 @@ use Rattle.cts_plan.specs.Words.{word}
 use Rattle.cts_plan.specs.Steps.{StepData}
 use Rattle.cts_plan.specs.Drafts.{InterfaceDraftData, RouterDraftData}
 use Rattle.cts_plan.specs.Lines.{name_of, step_at}
-use Rattle.cts_plan.specs.Standing.{start, number_of, completed, closed}
-use Rattle.cts_plan.specs.SiteFiles.{parts, opening, opens, ready, step, behind, after, site_in}
+use Rattle.cts_plan.specs.Standing.{start, number_of, closed}
+use Rattle.cts_plan.specs.SiteFiles.{parts, opening, opens, step, behind, after, site_in}
 use Rattle.cts_plan.proofs.Lists.{any_snoc}
-use Rattle.cts_plan_laws.specs.SiteLaws.{of_parts, said, all_said, last_said, target, route, logging, waiting, ends, is_dont_reconnect, protocol, protocol_said, Opener, opener_with, opener_by, opener, opens_router, protocols, five_seconds}
-use Rattle.cts_plan_laws.specs.Laws.{IsInterfaceDraft, IsRouterDraft, IsOpened, OpenNothing, IsLast, ConnectionsHaveTheirStatements, IsNone, NoneStandsBefore}
-use Rattle.cts_plan_laws.proofs.Readings.{Says, says_at, says_of, opened_by, interface_with, router_with, change_by, placed_by, step_by}
+use Rattle.cts_plan_laws.specs.SiteLaws.{of_parts, said, all_said, last_said, target, route, logging, waiting, is_dont_reconnect, protocol_said, Opener, opener_with, opener_by, opener, five_seconds}
+use Rattle.cts_plan_laws.specs.Laws.{IsInterfaceDraft, IsRouterDraft, IsOpened, OpenNothing, ConnectionsHaveTheirStatements, NoneStandsBefore}
+use Rattle.cts_plan_laws.proofs.Readings.{Says, says_of, opened_by, interface_with, router_with, change_by, placed_by, step_by}
 
 -- ---- what statements say, with one more
 

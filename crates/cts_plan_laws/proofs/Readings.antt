@@ -1,6 +1,6 @@
 -- What the line of a statement says, by the statement's keyword.
-use Rattle.std.proofs.Common.{◌≡◌, ℕ, Bool, true, false, List, [], ◌∷◌, ◌++◌, map, Option, Some, None, refl, sym, ap, ◌∙◌}
-use Rattle.std.specs.Prelude.{not, ◌&&◌, option_map, option_to_list, unwrap_or, cond}
+use Rattle.std.proofs.Common.{◌≡◌, ℕ, Bool, true, false, List, ◌++◌, map, Option, Some, None, refl, ap, ◌∙◌}
+use Rattle.std.specs.Prelude.{not, ◌&&◌, option_map, option_to_list, unwrap_or}
 use Rattle.std.proofs.lemmas.List.{append-nil}
 use Rattle.cts_base.specs.declared.decimal.Decimal.{Decimal}
 use Rattle.cts_def.specs.Sites.{InterfaceData, SiteData}
@@ -21,7 +21,7 @@ use Rattle.cts_plan.specs.Drafts.{InterfaceDraftData, RouterDraftData}
 use Rattle.cts_plan.specs.Lines.{name_of, step_at, interface_by, router_by, said_or_nothing, line_of}
 use Rattle.cts_plan.specs.Standing.{number_of, change, place}
 use Rattle.cts_plan.specs.SiteFiles.{parts, ready, with_line, step}
-use Rattle.cts_plan_laws.specs.SiteLaws.{of_parts, target, route, logging, waiting, ending, ends, protocol, api_port, desk_count, Opener, opener_with, opener_by}
+use Rattle.cts_plan_laws.specs.SiteLaws.{of_parts, target, route, logging, waiting, ends, protocol, api_port, desk_count, Opener, opener_with, opener_by}
 
 -- all that a line or a statement says
 pub record Says : Type 0 where

@@ -1,7 +1,7 @@
 -- What a site has of its statements.
 use Rattle.std.proofs.Common.{◌≡◌, ℕ, zero, suc, Bool, true, false, List, [], ◌∷◌, ◌++◌, length, map, Option, Some, None, Ok, refl, sym, ◌∙◌, ap, subst}
-use Rattle.std.specs.Prelude.{◌||◌, ◌&&◌, not, option_map, option_to_list, unwrap_or, cond}
-use Rattle.std.specs.List.{filter, filter_map, list_any, list_all}
+use Rattle.std.specs.Prelude.{◌||◌, not, option_map, option_to_list, cond}
+use Rattle.std.specs.List.{filter, list_any, list_all}
 use Rattle.std.proofs.lemmas.List.{append-nil}
 use Rattle.std.proofs.lemmas.List.Elements.{filter-append}
 use Rattle.std.proofs.lemmas.List.Folds.{list_any-append}
@@ -19,25 +19,25 @@ use Rattle.cts_plan.specs.declared.line.Line.{Line}
 use Rattle.cts_plan.specs.declared.line.Line.TheVariants as line
 use Rattle.cts_plan.specs.declared.line.Detail.TheVariants as detail
 use Rattle.cts_plan.specs.Words.{word}
-use Rattle.cts_plan.specs.Steps.{StepData}
 use Rattle.cts_plan.specs.Drafts.{InterfaceDraftData, RouterDraftData}
 use Rattle.cts_plan.specs.Lines.{name_of, line_of}
 use Rattle.cts_plan.specs.Standing.{start, chain_of, interface_of, router_of, completed, closed, has_name, number_of}
 use Rattle.cts_plan.specs.Causes.{holds, order, is_file_unknown, is_unrouted}
-use Rattle.cts_plan.specs.Completing.{Refused, at_number, due}
-use Rattle.cts_plan.specs.SiteFiles.{parts, opening, opens, ready, cause_in, step, after, refusal, at_end, site_in, site_or}
+use Rattle.cts_reader.specs.Reading.{at_line, unless_refused}
+use Rattle.cts_plan.specs.Completing.{Refused, due}
+use Rattle.cts_plan.specs.SiteFiles.{parts, opening, opens, ready, cause_in, step, after, refusal, at_end, site_in}
 use Rattle.cts_plan.specs.Keeping.{KeepsRules}
 use Rattle.cts_plan.proofs.Lists.{both, neither, not_false, and_true, but_last, but_last_snoc, but_last_kept}
 use Rattle.cts_plan.proofs.Completed.{routed_kept, all_joined}
 use Rattle.cts_plan.proofs.Kept.{keeps_rules, at_start}
 use Rattle.cts_plan.proofs.Runs.{after_more}
 use Rattle.cts_words.proofs.Finds.{none_passes}
-use Rattle.cts_plan_laws.specs.SiteLaws.{of_parts, said, all_said, last_said, target, route, api_port, desk_count, Opener, opener_with, opener_by, opener, groups, is_router_group, is_interface_group, interface_groups, router_groups, opens_router, protocols, IsInterface, IsRouter, Each, IsSite, SitesAreOfTheirStatements}
+use Rattle.cts_plan_laws.specs.SiteLaws.{of_parts, said, all_said, last_said, target, route, api_port, desk_count, Opener, opener_with, opener_by, opener, groups, is_router_group, is_interface_group, router_groups, protocols, IsInterface, IsRouter, Each, IsSite, SitesAreOfTheirStatements}
 use Rattle.cts_plan_laws.specs.Laws.{IsInterfaceDraft, IsRouterDraft, IsOpened}
 use Rattle.cts_plan_laws.proofs.FirstRefused.{none_holds, through}
 use Rattle.cts_plan_laws.proofs.Fitting.{words_fit}
-use Rattle.cts_plan_laws.proofs.Readings.{Says, reads, reads_as, says_of, says_at, opened_by, change_by}
-use Rattle.cts_plan_laws.proofs.Opened.{said_more, last_more, opened_more, details, detailed, opened_now, opened_new}
+use Rattle.cts_plan_laws.proofs.Readings.{Says, reads, reads_as, says_of, opened_by, change_by}
+use Rattle.cts_plan_laws.proofs.Opened.{said_more, last_more, opened_more, details, opened_now, opened_new}
 
 abbrev Group : Type 0
 Group = Opener × List Statement
@@ -221,7 +221,7 @@ line_known s (line.Detail (detail.Delay delay)) e = refl
 line_known s (line.Detail detail.DontReconnect) e = refl
 line_known s (line.Detail (detail.Logged logged)) e = refl
 
-route_known : (s : Draft) (n : ℕ) (p : Option (Keyword × List (List ℕ))) → or_else (cond (opens p) (due s) None) (at_number n (cause_in (ready p s) n p)) ≡ None
+route_known : (s : Draft) (n : ℕ) (p : Option (Keyword × List (List ℕ))) → or_else (cond (opens p) (due s) None) (at_line n (cause_in (ready p s) n p)) ≡ None
     → are_known (ready p s).site.interfaces (option_to_list (of_parts route p)) ≡ true
 route_known s n None e = refl
 route_known s n (Some p) e =
@@ -237,7 +237,7 @@ found_none false found make name e f none = absurd cc
 found_none true None make name e f none = absurd cc
 found_none true (Some n) make name e f none = absurd cc
 
-gives_name : (s : Draft) (n : ℕ) (p : Option (Keyword × List (List ℕ))) → or_else (cond (opens p) (due s) None) (at_number n (cause_in (ready p s) n p)) ≡ None
+gives_name : (s : Draft) (n : ℕ) (p : Option (Keyword × List (List ℕ))) → or_else (cond (opens p) (due s) None) (at_line n (cause_in (ready p s) n p)) ≡ None
     → opens p ≡ true → of_parts (opener_by n) p ≡ None → ⊥
 gives_name s n None e is none = absurd cc
 gives_name s n (Some p) e is none =
@@ -332,7 +332,7 @@ is_site d all h =
       desks = same_desks s.site s.current ∙ h.desks;
     }
 
-answered : (d : DefinitionsData) (all : List Statement) (s : SiteData) (o : Option Refused) → first_refusal (refusal d) (at_end d) [] all ≡ o → site_or (after d all) o ≡ Ok s → IsSite d all s
+answered : (d : DefinitionsData) (all : List Statement) (s : SiteData) (o : Option Refused) → first_refusal (refusal d) (at_end d) [] all ≡ o → unless_refused (site_in (after d all)) o ≡ Ok s → IsSite d all s
 answered d all s None e said =
     let same : site_in (after d all) ≡ s = cc in
     let run = through (λ (b : List Statement). IsSoFar d b (after d b)) d (so_far d) [] all (begins d) e in

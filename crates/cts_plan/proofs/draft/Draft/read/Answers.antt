@@ -2,7 +2,8 @@ use Rattle.std.proofs.Common.{sym, subst}
 use Rattle.cts_plan.specs.SiteFiles.{opening}
 use Rattle.cts_plan.specs.Keeping.{KeepsRules, Fits}
 use Rattle.cts_plan.specs.declared.line.Line.{Line}
-use Rattle.cts_plan.proofs.Kept.{ready_kept, line_fits, no_cause}
+use Rattle.cts_reader.proofs.FirstRefused.{no_cause}
+use Rattle.cts_plan.proofs.Kept.{ready_kept, line_fits}
 use Rattle.cts_plan.proofs.draft.Draft.read.Goals as goal
 
 pub add-requires : goal.add-requires
