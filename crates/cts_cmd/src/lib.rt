@@ -31,6 +31,3 @@ pub use reading::parse;
 pub use refused::Refused;
 pub use request::{Checks, Given, Request};
 pub use text_fault::{TextCause, TextFault};
-
-#[cfg(test)]
-mod tests;

@@ -28,6 +28,3 @@ pub use plains::plain;
 pub use raws::{raw, raw_number};
 pub use states::state_of;
 pub use value::{Value, ValueKind};
-
-#[cfg(test)]
-mod tests;

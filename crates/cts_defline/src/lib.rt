@@ -29,6 +29,3 @@ pub use laws::{characters_are_spelled_in_utf8, statements_say_their_words};
 pub use line::{ItemLine, Line, PacketLine};
 pub use open::{Open, PacketKind};
 pub use reading::read_line;
-
-#[cfg(test)]
-mod tests;

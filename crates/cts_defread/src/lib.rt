@@ -25,8 +25,3 @@ pub use laws::{
     definitions_are_in_order, definitions_are_of_their_lines, first_statement_is_refused,
 };
 pub use reading::read_definitions;
-
-#[cfg(test)]
-mod showing;
-#[cfg(test)]
-mod tests;

@@ -4,4 +4,3 @@ pub mod Numbered
 pub mod Completed
 pub mod Kept
 pub mod Runs
-pub mod Empty

@@ -19,6 +19,3 @@ mod words;
 
 pub use fault::{SiteCause, SiteFault};
 pub use reading::read_site;
-
-#[cfg(test)]
-mod tests;

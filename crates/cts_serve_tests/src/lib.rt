@@ -1,9 +1,13 @@
-//! Tests of whole commands, and of the crates below them over files that were read. They stand above `cts_serve`, so that it
-//! is not proved a second time for them.
+//! Tests of whole commands, and of the crates below them over files that were read. They stand above `cts_serve`, so that
+//! these crates are not proved a second time for them.
 #![tactic(auto)]
 
 #[cfg(test)]
+mod command_texts;
+#[cfg(test)]
 mod commands;
+#[cfg(test)]
+mod definitions;
 #[cfg(test)]
 mod faults;
 #[cfg(test)]
@@ -23,7 +27,13 @@ mod room;
 #[cfg(test)]
 mod scripts;
 #[cfg(test)]
+mod showing;
+#[cfg(test)]
 mod site;
+#[cfg(test)]
+mod site_files;
+#[cfg(test)]
+mod statement_words;
 #[cfg(test)]
 mod table;
 #[cfg(test)]

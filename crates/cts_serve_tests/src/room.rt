@@ -1,6 +1,6 @@
 // What a history has room for.
-use cts_core::{History, WorldFault};
 use cts_base::Memory;
+use cts_core::{History, WorldFault};
 use cts_def::Time;
 use cts_entry::Entry;
 use std::test::Fail;

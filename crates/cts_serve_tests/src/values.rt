@@ -1,7 +1,7 @@
 // The values of items of definitions that were read: raw, converted, formatted and with units.
 use crate::table::{bytes_of, cut, site_of};
-use cts_base::Bytes;
-use cts_conv::{ValueKind, plain, value_of};
+use cts_base::{Bytes, Decimal};
+use cts_conv::{Value, ValueKind, plain, value_of};
 use std::alloc::Global;
 use std::test::Fail;
 
@@ -73,5 +73,22 @@ fn items_have_their_values(rt: HostRuntime) -> Result<(), Fail> {
         let text = shown(rt.alloc(), lines, kind_named(kind)?, &bytes)?;
         assert_eq!(rt; text.as_slice(), want.as_bytes(), "at {row}");
     }
+    Ok(())
+}
+
+#[test]
+fn values_have_plain_texts(rt: HostRuntime) -> Result<(), Fail> {
+    let alloc = rt.alloc();
+    let text = plain(alloc, &Value::Whole(-1280))?;
+    assert_eq!(rt; text.as_slice(), b"-1280".as_slice());
+    let decimal = Decimal {
+        parts: -57_600_000_000,
+    };
+    let text = plain(alloc, &Value::Parts(decimal))?;
+    assert_eq!(rt; text.as_slice(), b"-0.0576".as_slice());
+    let text = plain(alloc, &Value::Text(Bytes::copy(alloc, b"LOW")?))?;
+    assert_eq!(rt; text.as_slice(), b"LOW".as_slice());
+    let text = plain(alloc, &Value::Raw(Bytes::copy(alloc, &[1, 0xab])?))?;
+    assert_eq!(rt; text.as_slice(), b"0x01ab".as_slice());
     Ok(())
 }

@@ -1,7 +1,8 @@
-use super::*;
+// Statements of a definitions file word by word: what each says, and why its words are refused.
 use cts_base::{Bytes, read_whole};
 use cts_bits::Order;
 use cts_def::{Color, ItemKind, Preset};
+use cts_defline::{DefCause, DefFault, Detail, ItemLine, Line, Open, PacketKind, read_line};
 use std::alloc::Global;
 use std::process::Abort;
 use std::test::Fail;

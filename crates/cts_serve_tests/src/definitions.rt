@@ -1,5 +1,6 @@
+// What no clause says: which definitions are refused and why, and what texts define, in rows of text.
 use crate::showing::shown;
-use crate::{DefCause, DefFault, read_definitions};
+use cts_defread::{DefCause, DefFault, read_definitions};
 use cts_words::statements;
 use std::alloc::{AllocError, Global};
 use std::process::Abort;

@@ -1,9 +1,10 @@
 // What no clause says: which site files are refused and why, what is read where a word is left out, and that reading
 // succeeds where there is memory.
-use super::*;
-use cts_base::{Bytes, List, Name};
+use cts_base::Bytes;
 use cts_bits::Place;
 use cts_def::{Definitions, Interface, ProtoSpec, Site};
+use cts_defread::read_definitions;
+use cts_plan::{SiteCause, SiteFault, read_site};
 use cts_words::statements;
 use std::alloc::{AllocError, Global};
 use std::process::Abort;
@@ -200,13 +201,10 @@ const INTERFACE: &str = "INTERFACE I tcpip_server_interface.rb 1 1 nil nil";
 
 /// Definitions of no packets.
 fn no_definitions(alloc: Global) -> Result<Definitions, Fail> {
-    let mut set_names = List::new(alloc);
-    set_names.push(Name::read(alloc, b"DEFAULT")?)?;
-    Ok(Definitions {
-        telemetry: List::new(alloc),
-        commands: List::new(alloc),
-        set_names,
-    })
+    match read_definitions(alloc, &[]) {
+        Ok(definitions) => Ok(definitions),
+        Err(_) => Err(Fail::new("no definitions")),
+    }
 }
 
 /// A text whose lines end with line feeds, of one whose lines end with `;`.
