@@ -10,11 +10,11 @@ use Rattle.cts_outside.specs.Causes.{Rose, Steady}
 use Rattle.cts_outside.specs.Seen.{SinkSeen}
 use Rattle.cts_outside.proofs.Putting.{appended-nil}
 use Rattle.cts_serve.specs.Command.{Outcome, fine, refusal, refusal_of, first_refusal, replayed, replay_outcome, check_outcome, IsReplay, IsDone, IsOutcome, PutsFor, Answers, Completes}
-use Rattle.cts_serve.specs.Ending.{EndingData, Ends, EndsCheck, EndsReplay, refused_as, usage_ending, memory_ending, unloaded_ending, halt_ending}
+use Rattle.cts_serve.specs.Ending.{Ends, EndsCheck, EndsReplay, refused_as, usage_ending, memory_ending, unloaded_ending}
 use Rattle.cts_serve.specs.Ending.Lines.{usage_line, memory_line, counts_line}
 use Rattle.cts_core.specs.Environments.{site_environment}
 use Rattle.cts_serve.specs.Load.{IsNext, FailsToLoad, LoadsSite, unloaded, name_of, site_asked, events_asked}
-use Rattle.cts_serve.specs.Load.Fetching.{IsWhy, Takes}
+use Rattle.cts_serve.specs.Load.Fetching.{Takes}
 use Rattle.cts_serve.specs.Load.Judging.{judge_script, events_in}
 use Rattle.cts_serve.specs.Putting.{IsPut, FailsWithin, PutsText, Printed}
 use Rattle.cts_serve.specs.Replay.Steps.{ReplayPuts, Replays}

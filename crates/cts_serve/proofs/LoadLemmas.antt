@@ -1,5 +1,5 @@
 -- What is read of the files, and what it means for the command.
-use Rattle.std.proofs.Common.{◌≡◌, ℕ, ◌≤◌, ◌<◌, Bool, true, false, List, [], length, take, Option, Some, None, option_map, Result, Ok, Err, IfSome, IsSomeAnd, refl, sym, ◌∙◌, ap, subst, arith}
+use Rattle.std.proofs.Common.{◌≡◌, ℕ, ◌≤◌, ◌<◌, Bool, true, false, List, [], length, take, Option, Some, None, Result, Ok, Err, IfSome, refl, ◌∙◌, ap, subst, arith}
 use Rattle.std.specs.Prelude.{nat_lt}
 use Rattle.std.specs.Result.{result_unwrap_or}
 use Rattle.std.proofs.lemmas.Bool.Decides.{nat_tests}
@@ -9,22 +9,21 @@ use Rattle.cts_defline.specs.declared.cause.DefCause.{DefCause}
 use Rattle.cts_defread.specs.Definitions.{definitions_of}
 use Rattle.cts_plan.specs.declared.fault.SiteCause.{SiteCause}
 use Rattle.cts_plan.specs.SiteFiles.{site_of}
-use Rattle.cts_entry.specs.declared.event.Event.{Event}
 use Rattle.cts_words.specs.declared.statement.Statement.{Statement}
 use Rattle.cts_core.specs.Built.{is_built_site}
 use Rattle.cts_serve.specs.Load.Built.{are_built_definitions}
-use Rattle.cts_serve.specs.Load.{is_taken, definitions_asked, site_asked, unloaded, IsNext, LoadsSite}
+use Rattle.cts_serve.specs.Load.{is_taken, LoadsSite}
 use Rattle.cts_serve.specs.Load.Causes.{fetch_unloaded, or_unloaded}
 use Rattle.cts_serve.specs.Load.Fetching.{FetchGives, IsWhy, GivesStatements, Takes}
-use Rattle.cts_serve.specs.Load.Judging.{file_limit, judge, judge_said, verdict, unless_built, statements_in, bytes_of, judge_definitions, judge_site, judge_script, file_unloaded, definitions_read, definitions_in, site_read, site_in, events_in}
+use Rattle.cts_serve.specs.Load.Judging.{file_limit, judge, verdict, unless_built, statements_in, bytes_of, judge_definitions, judge_site, file_unloaded, definitions_read, definitions_in, site_read, site_in}
 use Rattle.cts_serve.specs.Request.{RequestData}
 use Rattle.cts_serve.specs.declared.load.fetch.FetchFault.{FetchFault}
 use Rattle.cts_serve.specs.declared.load.fetch.FetchFault.TheVariants as fetch
 use Rattle.cts_serve.specs.declared.load.file_kind.FileKind.{FileKind}
-use Rattle.cts_serve.specs.declared.load.file_kind.FileKind.TheVariants.{Definitions, Site, Script}
+use Rattle.cts_serve.specs.declared.load.file_kind.FileKind.TheVariants.{Definitions, Site}
 use Rattle.cts_serve.specs.declared.load.unloaded.Cause.TheVariants as cause
 use Rattle.cts_serve.specs.declared.load.unloaded.Unloaded.{Unloaded}
-use Rattle.cts_serve.specs.declared.load.unloaded.Unloaded.TheVariants.{Absent, ReadFault, TooLarge, Refused, NotBuilt, Memory}
+use Rattle.cts_serve.specs.declared.load.unloaded.Unloaded.TheVariants.{TooLarge, Refused, NotBuilt}
 
 -- what was read so far is how the file begins
 abbrev pub Begins : Option (List ℕ) → List ℕ → Type 0

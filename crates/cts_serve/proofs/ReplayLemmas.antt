@@ -1,15 +1,14 @@
 -- How far a replay has come, and what it has put when it ends.
-use Rattle.std.proofs.Common.{◌≡◌, ◌≢◌, ℕ, List, [], ◌∷◌, ◌++◌, length, take, Option, Result, Ok, Err, refl, sym, ◌∙◌, ap, subst, append_assoc, inl, inr}
+use Rattle.std.proofs.Common.{◌≡◌, ◌≢◌, ℕ, List, [], ◌∷◌, ◌++◌, length, take, Result, Ok, Err, refl, sym, ◌∙◌, ap, subst, append_assoc, inl, inr}
 use Rattle.std.proofs.lemmas.List.{append-nil, take_at}
 use Rattle.cts_entry.specs.declared.entry.Entry.{Entry}
 use Rattle.cts_entry.specs.declared.event.Event.{Event}
 use Rattle.cts_entry.specs.Histories.{entries_in, bytes_in}
 use Rattle.cts_proto.proofs.Sound.{chains_are_sound}
 use Rattle.cts_core.specs.States.{State, opening}
-use Rattle.cts_core.specs.Runs.{Did, Does, after, Ending, Finished, NotEnabled, HistoryFull, Refuses, Runs}
+use Rattle.cts_core.specs.Runs.{Did, Does, after, Ending, Finished, NotEnabled, HistoryFull, Runs}
 use Rattle.cts_core.specs.Laws.{IsSoundEnvironment}
 use Rattle.cts_core.proofs.OneRun.{has_run}
-use Rattle.cts_outside.specs.Contents.{appended, IsPartPut}
 use Rattle.cts_outside.specs.Seen.{SinkSeen}
 use Rattle.cts_outside.proofs.Putting.{appended-nil, whole_then, part_first, part_then}
 use Rattle.cts_def.specs.Sites.{SiteData}
@@ -17,7 +16,7 @@ use Rattle.cts_core.specs.Environments.{site_environment}
 use Rattle.cts_core.specs.Worlds.{Held, Represents}
 use Rattle.cts_serve.specs.Ending.Lines.{end_line}
 use Rattle.cts_serve.specs.Putting.{IsPut, FailsWithin}
-use Rattle.cts_serve.specs.Replay.Transcript.{events_of, all_entries, lines_of, transcript, next_line, replay_body, replay_answer}
+use Rattle.cts_serve.specs.Replay.Transcript.{events_of, all_entries, lines_of, transcript, next_line, replay_body}
 use Rattle.cts_serve.specs.Replay.Steps.{DoesEvent, ReplayPuts, Replays}
 use Rattle.cts_serve.specs.declared.replay.halt.Halt.{Halt}
 use Rattle.cts_serve.specs.declared.replay.halt.Halt.TheVariants as halt

@@ -1,5 +1,5 @@
 -- What a command answers and prints, from the content of the files alone.
-use Rattle.std.specs.Prelude.{◌≡◌, ◌≢◌, ℕ, ◌≤◌, List, [], take, Option, Some, None, option_map, option_and_then, MatchOption, Result, Ok, Err, ◌⊎◌}
+use Rattle.std.specs.Prelude.{◌≡◌, ℕ, ◌≤◌, List, [], take, Option, Some, None, option_map, option_and_then, MatchOption, Result, Ok, Err, ◌⊎◌}
 use Rattle.std.specs.Option.{option_or}
 use Rattle.cts_core.specs.Runs.{Did, Ending, Runs}
 use Rattle.cts_core.specs.States.{opening}

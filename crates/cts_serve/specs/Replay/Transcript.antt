@@ -1,14 +1,12 @@
 -- What a replay prints, and how it ends.
-use Rattle.std.specs.Prelude.{◌≡◌, ℕ, List, [], ◌∷◌, ◌++◌, length, map, Result, Ok, Err}
-use Rattle.cts_core.specs.States.{opening}
-use Rattle.cts_core.specs.Runs.{Did, Ending, Finished, NotEnabled, HistoryFull, Runs}
+use Rattle.std.specs.Prelude.{ℕ, List, [], ◌∷◌, ◌++◌, length, map, Result, Ok, Err}
+use Rattle.cts_core.specs.Runs.{Did, Ending, Finished, NotEnabled, HistoryFull}
 use Rattle.cts_def.specs.Sites.{SiteData}
 use Rattle.cts_entry.specs.Histories.{entries_in, bytes_in}
 use Rattle.cts_entry.specs.declared.entry.Entry.{Entry}
 use Rattle.cts_entry.specs.declared.event.Event.{Event}
 use Rattle.cts_script.specs.declared.limits_event.LimitsEvent.{LimitsEvent}
 use Rattle.cts_script.specs.Transcripts.{lines_behind}
-use Rattle.cts_core.specs.Environments.{site_environment}
 use Rattle.cts_serve.specs.Ending.Lines.{end_line}
 use Rattle.cts_serve.specs.declared.replay.halt.Halt.{Halt}
 use Rattle.cts_serve.specs.declared.replay.halt.Halt.TheVariants as halt

@@ -1,10 +1,9 @@
 use Rattle.std.proofs.Common.{rules, ◌≡◌, ◌∷◌, ◌++◌, [], ℕ, List, length, refl, sym, ◌∙◌, ap, subst, arith}
 use Rattle.cts_entry.specs.declared.event.Event.{Event}
 use Rattle.cts_outside.proofs.Putting.{appended-nil}
-use Rattle.cts_serve.specs.Ending.Lines.{end_line}
 use Rattle.cts_core.specs.Built.{is_built_event}
 use Rattle.cts_serve.specs.Load.Scripts.{are_built_events}
-use Rattle.cts_serve.specs.Putting.{IsPut, FailsWithin}
+use Rattle.cts_serve.specs.Putting.{IsPut}
 use Rattle.cts_serve.specs.Replay.Transcript.{lines_of}
 use Rattle.cts_core.specs.Worlds.{held_in}
 use Rattle.cts_core.proofs.Building.{and_tells}
