@@ -9,6 +9,3 @@ mod running;
 pub use judging::judge;
 pub use laws::samples_leave_states;
 pub use running::{Change, RunState, fresh, step};
-
-#[cfg(test)]
-mod tests;

@@ -12,6 +12,3 @@ pub use files::{FileGot, Files};
 pub use mem_files::MemFiles;
 pub use mem_sink::MemSink;
 pub use sink::{PutFailed, Sink};
-
-#[cfg(test)]
-mod tests;

@@ -10,6 +10,3 @@ pub use laws::{
     bursts, chains, cuts, cuts_follow_the_sync_pattern, heads, packets, rows, taken_so_far,
     worked_cuts,
 };
-
-#[cfg(test)]
-mod tests;

@@ -3,6 +3,8 @@
 #![tactic(auto)]
 
 #[cfg(test)]
+mod colors;
+#[cfg(test)]
 mod command_texts;
 #[cfg(test)]
 mod commands;
@@ -10,6 +12,8 @@ mod commands;
 mod definitions;
 #[cfg(test)]
 mod faults;
+#[cfg(test)]
+mod frames;
 #[cfg(test)]
 mod halls;
 #[cfg(test)]
@@ -20,6 +24,8 @@ mod ident;
 mod limits;
 #[cfg(test)]
 mod lines;
+#[cfg(test)]
+mod outside;
 #[cfg(test)]
 mod refusals;
 #[cfg(test)]

@@ -1,5 +1,5 @@
 // Cuts of short connections.
-use crate::cut_length;
+use cts_proto::cut_length;
 use std::alloc::Global;
 use std::test::Fail;
 

@@ -1,8 +1,7 @@
-// What no clause says: examples from outside.
-
-use super::*;
+// Colours of values, and the limits state that samples leave.
 use cts_base::Decimal;
 use cts_def::{Color, Limits};
+use cts_limits::{Change, RunState, fresh, judge, step};
 
 /// A number of tenths.
 fn tenths(number: i32) -> Decimal {

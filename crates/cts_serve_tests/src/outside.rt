@@ -1,6 +1,6 @@
 // The parts in memory, called as any program calls them: through the bounds, at these types.
-use crate::{FileGot, Files, MemFiles, MemSink, PutFailed, Sink};
 use cts_base::Bytes;
+use cts_outside::{FileGot, Files, MemFiles, MemSink, PutFailed, Sink};
 use std::alloc::Global;
 use std::test::Fail;
 
