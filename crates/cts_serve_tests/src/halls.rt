@@ -155,7 +155,6 @@ fn ends(hall: &mut Hall) {
     hall.stop(SERVER, NOW);
     if hall.connected(0) {
         hall.close(0, NOW, Why::Stopped, LOSS, 0, 0);
-        hall.end(0, NOW);
     }
 }
 
@@ -172,10 +171,10 @@ fn a_full_hall_takes_what_is_owed(rt: HostRuntime) -> Result<(), Fail> {
     };
     assert_eq!(rt; hall.room(1, 0), Err(full));
     ends(&mut hall);
-    assert_eq!(rt; hall.count(), 11);
+    assert_eq!(rt; hall.count(), 10);
     assert!(rt; hall.stopped());
     assert!(rt; !hall.connected(0));
-    assert_eq!(rt; hall.into_history().count(), 11);
+    assert_eq!(rt; hall.into_history().count(), 10);
     Ok(())
 }
 
