@@ -9,8 +9,6 @@ mod command_texts;
 #[cfg(test)]
 mod commands;
 #[cfg(test)]
-mod definitions;
-#[cfg(test)]
 mod faults;
 #[cfg(test)]
 mod frames;
@@ -33,13 +31,7 @@ mod room;
 #[cfg(test)]
 mod scripts;
 #[cfg(test)]
-mod showing;
-#[cfg(test)]
 mod site;
-#[cfg(test)]
-mod site_files;
-#[cfg(test)]
-mod statement_words;
 #[cfg(test)]
 mod table;
 #[cfg(test)]
