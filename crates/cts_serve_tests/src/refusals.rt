@@ -101,13 +101,24 @@ fn a_check_counts_what_there_is(rt: HostRuntime) -> Result<(), Fail> {
     commands_end_so(&rt, row.as_str())
 }
 
+// Holds a file of this name.
+fn hold(
+    alloc: Global,
+    held: &mut Vec<(Bytes, Bytes)>,
+    name: &str,
+    content: &[u8],
+) -> Result<(), Fail> {
+    let name = Bytes::copy(alloc, name.as_bytes())?;
+    held.push((name, Bytes::copy(alloc, content)?))?;
+    Ok(())
+}
+
 // How a replay ends whose definitions and script are these bytes.
 fn ended_over(alloc: Global, definitions: &[u8], script: &[u8]) -> Result<Vec<u8>, Fail> {
     let mut held = Vec::new(alloc);
-    for (name, content) in [("d", definitions), ("s", SITE.as_bytes()), ("c", script)] {
-        let name = Bytes::copy(alloc, name.as_bytes())?;
-        held.push((name, Bytes::copy(alloc, content)?))?;
-    }
+    hold(alloc, &mut held, "d", definitions)?;
+    hold(alloc, &mut held, "s", SITE.as_bytes())?;
+    hold(alloc, &mut held, "c", script)?;
     let mut files = MemFiles::new(held, Vec::new(alloc));
     let mut sink = MemSink::new(alloc, Vec::new(alloc));
     ended(alloc, "replay d s c", &mut files, &mut sink)

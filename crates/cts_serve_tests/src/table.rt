@@ -125,11 +125,3 @@ pub fn site_of(alloc: Global, definitions: &str, site: &str) -> Result<Site, Fai
         Err(_) => Err(Fail::new("the site is refused")),
     }
 }
-
-/// The bytes of pairs of hexadecimal digits.
-pub fn bytes_of(alloc: Global, digits: &str) -> Result<Vec<u8>, Fail> {
-    match hex::decode(alloc, digits.as_bytes()) {
-        Ok(bytes) => Ok(bytes),
-        Err(_) => Err(Fail::new("no bytes")),
-    }
-}

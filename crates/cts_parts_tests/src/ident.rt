@@ -2,7 +2,7 @@
 ghost use Rattle.std.specs.Prelude.{◌≡◌};
 ghost use Rattle.cts_ident.specs.Identification.{is_worker};
 
-use crate::table::{bytes_of, site_of};
+use crate::read::{bytes_of, site_of};
 use cts_def::{FIRST_SLOT, Ident, Site};
 use cts_ident::{identify, identify_command, named};
 use std::alloc::{AllocError, Global};

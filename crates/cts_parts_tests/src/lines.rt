@@ -1,5 +1,5 @@
 // Each kind of entry on a site that was read, with its line written out by hand.
-use crate::table::site_of;
+use crate::read::site_of;
 use cts_base::{Bytes, Decimal, Memory, Name};
 use cts_def::{BadCause, Color, Ident, Limits, Loss, Site, Time};
 use cts_entry::{Entry, NotSent, What, Why};

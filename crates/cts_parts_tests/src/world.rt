@@ -3,7 +3,7 @@ ghost use Rattle.std.specs.Prelude.{◌≡◌, true, length, IfOk};
 ghost use Rattle.cts_core.specs.Built.{is_built_site};
 ghost use Rattle.cts_core.specs.Worlds.{held_in};
 
-use crate::table::{SITE, site_of};
+use crate::read::{SITE, site_of};
 use cts_base::Bytes;
 use cts_core::{World, WorldFault, is_built_site};
 use cts_def::{Site, Time};

@@ -1,5 +1,5 @@
 // Commands built from texts, over definitions that were read.
-use crate::table::{cut, site_of};
+use crate::read::{cut, site_of};
 use cts_cmd::{Checks, Refused, TextFault, build, parse};
 use cts_def::Definitions;
 use std::alloc::Global;

@@ -1,7 +1,7 @@
 // A hall over a site that was read: what is appended to it, looked up in it, and when it is full.
 ghost use Rattle.std.specs.Prelude.{◌≡◌, false, true};
 
-use crate::table::{bytes_of, cut, site_of};
+use crate::read::{bytes_of, cut, site_of};
 use cts_base::Bytes;
 use cts_conv::{Value, ValueKind, plain};
 use cts_def::{Ident, Loss, SERVER, Site, Time};

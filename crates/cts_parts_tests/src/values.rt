@@ -1,5 +1,5 @@
 // The values of items of definitions that were read: raw, converted, formatted and with units.
-use crate::table::{bytes_of, cut, site_of};
+use crate::read::{bytes_of, cut, site_of};
 use cts_base::{Bytes, Decimal};
 use cts_conv::{Value, ValueKind, plain, value_of};
 use std::alloc::Global;
