@@ -1,17 +1,11 @@
-//! Tests of the parts of the server over sites that were read: values, commands, halls, worlds, lines of the history and more.
-//! They stand above these crates, so that none of them is proved a second time for them.
+//! Tests of the parts of a running server over sites that were read: frames, worlds, names, lines of the history and more. They
+//! stand above these crates, so that none of them is proved a second time for them.
 #![tactic(auto)]
 
 #[cfg(test)]
 mod colors;
 #[cfg(test)]
-mod command_texts;
-#[cfg(test)]
-mod commands;
-#[cfg(test)]
 mod frames;
-#[cfg(test)]
-mod halls;
 #[cfg(test)]
 mod history;
 #[cfg(test)]
@@ -24,7 +18,5 @@ mod outside;
 mod read;
 #[cfg(test)]
 mod room;
-#[cfg(test)]
-mod values;
 #[cfg(test)]
 mod world;

@@ -20,14 +20,6 @@ pub fn lines(alloc: Global, text: &str) -> Result<Vec<u8>, AllocError> {
     Ok(out)
 }
 
-/// The part of a row in front of its first bar, and the rest.
-pub fn cut(row: &str) -> Result<(&str, &str), Fail> {
-    match row.split_once('|') {
-        Some(parts) => Ok(parts),
-        None => Err(Fail::new("no bar")),
-    }
-}
-
 fn statements_of(alloc: Global, text: &str) -> Result<Vec<Statement>, Fail> {
     let text = lines(alloc, text)?;
     if text.len() > 67_108_864 {
