@@ -1,0 +1,22 @@
+//! Tests of the parts of a running server over sites that were read: frames, worlds, names, lines of the history and more. They
+//! stand above these crates, so that none of them is proved a second time for them.
+#![tactic(auto)]
+
+#[cfg(test)]
+mod colors;
+#[cfg(test)]
+mod frames;
+#[cfg(test)]
+mod history;
+#[cfg(test)]
+mod ident;
+#[cfg(test)]
+mod lines;
+#[cfg(test)]
+mod outside;
+#[cfg(test)]
+mod read;
+#[cfg(test)]
+mod room;
+#[cfg(test)]
+mod world;
