@@ -12,11 +12,11 @@ use Rattle.cts_def.specs.Protocols.{SpecData, Burst, Fixed, Length, Terminated, 
 use Rattle.cts_def.specs.Sites.{InterfaceData, SiteData}
 use Rattle.cts_def.specs.Spans.{is_little}
 use Rattle.cts_ident.specs.Identification.{identified, identified_command}
-use Rattle.cts_proto.specs.Chains.{interface_chains, use_framing, framings_of, framings_at}
-use Rattle.cts_proto.specs.Framing.{Framing, plain}
-use Rattle.cts_proto.specs.LengthRow.{length_framing}
-use Rattle.cts_proto.specs.Rows.{framing_of}
-use Rattle.cts_proto.proofs.Chainings.{interface_framings, IsWholeLength, whole_length_framing}
+use Rattle.cts_frame.specs.Chains.{interface_chains, use_framing, framings_of, framings_at}
+use Rattle.cts_frame.specs.Framing.{Framing, plain}
+use Rattle.cts_frame.specs.LengthRow.{length_framing}
+use Rattle.cts_frame.specs.Rows.{framing_of}
+use Rattle.cts_frame.proofs.Chainings.{interface_framings, IsWholeLength, whole_length_framing}
 use Rattle.cts_core.specs.States.{is_line}
 use Rattle.cts_core.specs.Environments.{site_environment, ident_of}
 use Rattle.cts_entry.specs.Workers.{is_slot}

@@ -19,9 +19,9 @@ use Rattle.cts_entry.specs.Histories.{latest, connects, connects_maker, is_conne
 use Rattle.cts_entry.proofs.Allowing.{allowed_append}
 use Rattle.cts_entry.proofs.Appending.{entries-append, bytes-append}
 use Rattle.cts_entry.specs.Legal.{is_ended, has_ended, IsLine, IsOn, StopsAfter, Allows, AllAllowed, IsLegal}
-use Rattle.cts_proto.specs.Framing.{Output}
-use Rattle.cts_proto.specs.Cuts.{Pieces}
-use Rattle.cts_proto.specs.Packets.{Fault, fault_of}
+use Rattle.cts_frame.specs.Framing.{Output}
+use Rattle.cts_frame.specs.Cuts.{Pieces}
+use Rattle.cts_frame.specs.Packets.{Fault, fault_of}
 use Rattle.cts_core.specs.States.{Environment, State, opening, is_line, may_close, has_room, unsent}
 use Rattle.cts_core.specs.Runs.{Did, Does, Receives, Closes, after, closing, closed_entry, Ending, Runs}
 use Rattle.cts_core.specs.Told.{history_of}

@@ -7,7 +7,7 @@ use Rattle.cts_entry.specs.declared.entry.Entry.{Entry}
 use Rattle.cts_entry.specs.Histories.{after_last, opens as is_opening, since, commanded, has_command}
 use Rattle.cts_entry.specs.Queues.{refused, unsent_of}
 use Rattle.cts_entry.proofs.Queuing.{since-append, none_since, refused-append}
-use Rattle.cts_proto.specs.Packets.{capped}
+use Rattle.cts_frame.specs.Packets.{capped}
 use Rattle.cts_core.specs.States.{Environment, State, passed, ahead, unsent}
 use Rattle.cts_core.specs.Cursors.{IsPassed}
 use Rattle.cts_core.specs.Laws.{CursorIsPlace}

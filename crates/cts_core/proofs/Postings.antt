@@ -9,9 +9,9 @@ use Rattle.cts_def.specs.declared.time.Time.{Time}
 use Rattle.cts_entry.specs.declared.entry.Entry.{Entry}
 use Rattle.cts_entry.specs.Histories.{or_earlier, latest, connects, connects_maker, is_connected, commanded, has_command, entries_for, entries_in, bytes_for, bytes_in}
 use Rattle.cts_entry.proofs.Appending.{connected-append, entries-append, bytes-append}
-use Rattle.cts_proto.specs.Framing.{Output, plain}
-use Rattle.cts_proto.specs.Cuttings.{Tiles, frames_at}
-use Rattle.cts_proto.proofs.LengthFrames.{tiles_end}
+use Rattle.cts_frame.specs.Framing.{Output, plain}
+use Rattle.cts_frame.specs.Cuttings.{Tiles, frames_at}
+use Rattle.cts_frame.proofs.LengthFrames.{tiles_end}
 use Rattle.cts_told.specs.Routing.{packet_entries, time_in}
 use Rattle.cts_entry.specs.declared.what.What.TheVariants.{Packet}
 use Rattle.cts_def.specs.Sites.{SiteData}

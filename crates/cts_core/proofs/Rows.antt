@@ -11,7 +11,7 @@ use Rattle.cts_entry.specs.declared.what.What.TheVariants.{Opened, Packet, Close
 use Rattle.cts_entry.specs.declared.what.NotSent.TheVariants.{Unknown as UnknownCommand, NotConnected as NoConnection}
 use Rattle.cts_entry.specs.declared.why.Why.TheVariants.{PeerEnded}
 use Rattle.cts_entry.specs.declared.event.Event.TheVariants.{Write, DrainSlot}
-use Rattle.cts_proto.specs.Framing.{Heading, plain}
+use Rattle.cts_frame.specs.Framing.{Heading, plain}
 use Rattle.cts_told.specs.Routing.{said_of}
 use Rattle.cts_core.specs.States.{Environment, State, is_enabled, put_next, unsent, packets_log, commands_log}
 

@@ -17,12 +17,12 @@ use Rattle.cts_entry.specs.Queues.{spelled}
 use Rattle.cts_entry.specs.Places.{Posts, Stays}
 use Rattle.cts_entry.proofs.Appending.{connected-append, latest-append}
 use Rattle.cts_entry.proofs.Queuing.{none_opened, none_connected, posts_none, since-append, any_append, stays_more}
-use Rattle.cts_proto.specs.Framing.{Framing, Output, IsSound}
-use Rattle.cts_proto.specs.Cuts.{Pieces}
-use Rattle.cts_proto.specs.Packets.{IsPackets, Stages, cut_by, Fault, fault_of, fault_from, or_fault, loss_of}
-use Rattle.cts_proto.specs.Laws.{AllSound}
-use Rattle.cts_proto.proofs.Framings.{taken_none, ends_nil}
-use Rattle.cts_proto.proofs.Stagings.{has_one_packets}
+use Rattle.cts_frame.specs.Framing.{Framing, Output, IsSound}
+use Rattle.cts_frame.specs.Cuts.{Pieces}
+use Rattle.cts_frame.specs.Packets.{IsPackets, Stages, cut_by, Fault, fault_of, fault_from, or_fault, loss_of}
+use Rattle.cts_frame.specs.Laws.{AllSound}
+use Rattle.cts_frame.proofs.Framings.{taken_none, ends_nil}
+use Rattle.cts_frame.proofs.Stagings.{has_one_packets}
 use Rattle.cts_core.specs.States.{Environment, State, is_line, opening, may_close, unsent, ahead, put_next}
 use Rattle.cts_core.specs.Runs.{Did, Does, after, pieces_for, passed_for, pieces_after, cursor_after, Ending, Runs, Receives, Closes, closing, closed_entry}
 use Rattle.cts_core.specs.Told.{Connection, Line, IsStay, Told, ToldBy, told_from, told_after, turned, heard, put_for, one_or_none, history_of}

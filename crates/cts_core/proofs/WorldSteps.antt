@@ -15,26 +15,26 @@ use Rattle.cts_entry.specs.declared.event.Event.TheVariants.{SetTime, Opens, Pie
 use Rattle.cts_entry.specs.declared.event.Effect.TheVariants.{Posted}
 use Rattle.cts_entry.specs.Histories.{or_earlier, latest, connects, connects_maker, is_connected, is_stopped, has_command, entries_in, bytes_in}
 use Rattle.cts_entry.proofs.Appending.{latest-append, connected-append}
-use Rattle.cts_proto.specs.Framing.{Framing, Output}
-use Rattle.cts_proto.specs.Cuts.{Pieces, IsCut}
+use Rattle.cts_frame.specs.Framing.{Framing, Output}
+use Rattle.cts_frame.specs.Cuts.{Pieces, IsCut}
 use Rattle.cts_def.specs.declared.loss.Loss.{Loss}
 use Rattle.cts_def.specs.declared.bad_cause.BadCause.{BadCause}
 use Rattle.cts_def.specs.declared.bad_cause.BadCause.TheVariants.{Short}
-use Rattle.cts_proto.specs.declared.cutting.Cutting.{Cutting}
-use Rattle.cts_proto.specs.Cuttings.{IsCutting, frames_at, pieces_in}
-use Rattle.cts_proto.specs.Packets.{IsPackets, joined, loss_of, capped, fault_of}
-use Rattle.cts_proto.proofs.Takings.{cut_more}
-use Rattle.cts_proto.specs.LengthRow.{length_framing}
-use Rattle.cts_proto.proofs.Framings.{taken_none, ends_nil}
-use Rattle.cts_proto.proofs.LengthSound.{length_is_sound}
-use Rattle.cts_proto.proofs.Stagings.{plain_bytes, joined_append}
+use Rattle.cts_frame.specs.declared.cutting.Cutting.{Cutting}
+use Rattle.cts_frame.specs.Cuttings.{IsCutting, frames_at, pieces_in}
+use Rattle.cts_frame.specs.Packets.{IsPackets, joined, loss_of, capped, fault_of}
+use Rattle.cts_frame.proofs.Takings.{cut_more}
+use Rattle.cts_frame.specs.LengthRow.{length_framing}
+use Rattle.cts_frame.proofs.Framings.{taken_none, ends_nil}
+use Rattle.cts_frame.proofs.LengthSound.{length_is_sound}
+use Rattle.cts_frame.proofs.Stagings.{plain_bytes, joined_append}
 use Rattle.cts_core.specs.States.{State, is_piece, is_enabled, is_line, has_room, takes_room, unsent, may_close, opening}
 use Rattle.cts_core.specs.Runs.{Did, Does, Appends, Receives, after, pieces_for, closed_entry, closing}
 use Rattle.cts_core.proofs.Keeping.{pieces_turned, pieces_grow, pieces_stay}
 use Rattle.cts_core.proofs.Passing.{nothing_unsent}
 use Rattle.cts_told.specs.Routing.{packet_entries}
 use Rattle.cts_told.proofs.Walks.{posted_packets}
-use Rattle.cts_proto.specs.Chains.{framings_at}
+use Rattle.cts_frame.specs.Chains.{framings_at}
 use Rattle.cts_core.specs.Environments.{site_environment}
 use Rattle.cts_entry.specs.Legal.{most_bytes as bytes_limit, most_entries as entries_limit}
 use Rattle.cts_core.specs.Kept.{Bounds, Kept, CanAdd, GivesRoom, is_within}

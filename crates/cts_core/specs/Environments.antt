@@ -12,8 +12,8 @@ use Rattle.cts_entry.specs.declared.entry.Entry.{Entry}
 use Rattle.cts_entry.specs.Legal.{most_entries as entries_limit, most_bytes as bytes_limit}
 use Rattle.cts_entry.specs.Workers.{is_interface, is_slot, interface_of}
 use Rattle.cts_ident.specs.Identification.{identified, identified_command, named, routes_at}
-use Rattle.cts_proto.specs.Chains.{framings_at}
-use Rattle.cts_proto.specs.Framing.{Heading, Output}
+use Rattle.cts_frame.specs.Chains.{framings_at}
+use Rattle.cts_frame.specs.Framing.{Heading, Output}
 use Rattle.cts_script.specs.Names.{packet_names as names_of_packet, command_names}
 
 -- ---- makers

@@ -6,8 +6,8 @@ use Rattle.cts_def.specs.declared.time.Time.{Time}
 use Rattle.cts_entry.specs.declared.entry.Entry.{Entry}
 use Rattle.cts_entry.specs.declared.event.Event.{Event}
 use Rattle.cts_entry.specs.Legal.{Rules, is_ended, IsLegal}
-use Rattle.cts_proto.specs.Laws.{AllSound}
-use Rattle.cts_proto.specs.Packets.{capped}
+use Rattle.cts_frame.specs.Laws.{AllSound}
+use Rattle.cts_frame.specs.Packets.{capped}
 use Rattle.cts_told.specs.Routing.{queue, walk}
 use Rattle.cts_core.specs.States.{Environment, State, is_line, opening, ahead, unsent, packets_log, commands_log}
 use Rattle.cts_core.specs.Runs.{Did, Ending, Runs}

@@ -8,8 +8,8 @@ use Rattle.cts_entry.specs.declared.event.Event.{Event}
 use Rattle.cts_entry.specs.declared.event.Event.TheVariants.{SetTime, Opens, Piece, Finish, Write, Call, DrainLog, DrainSlot, Stop}
 use Rattle.cts_entry.specs.Histories.{is_connected, is_stopped, entries_in, bytes_in, since}
 use Rattle.cts_entry.specs.Queues.{spelled, unsent_of}
-use Rattle.cts_proto.specs.Framing.{Heading}
-use Rattle.cts_proto.specs.Packets.{capped}
+use Rattle.cts_frame.specs.Framing.{Heading}
+use Rattle.cts_frame.specs.Packets.{capped}
 use Rattle.cts_told.specs.Routing.{Routing, names_in, spell, queue, walk}
 use Rattle.cts_told.specs.Streams.{telemetry_log, command_log}
 

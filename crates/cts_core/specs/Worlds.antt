@@ -9,12 +9,12 @@ use Rattle.cts_entry.specs.declared.what.What.TheVariants.{Opened, Closed}
 use Rattle.cts_entry.specs.declared.why.Why.{Why}
 use Rattle.cts_entry.specs.declared.why.Why.TheVariants.{BadFrame}
 use Rattle.cts_entry.specs.Histories.{is_connected, has_command, entries_in, bytes_in}
-use Rattle.cts_proto.specs.Cuts.{IsCut}
-use Rattle.cts_proto.specs.Cuttings.{IsCutting, frames_at}
-use Rattle.cts_proto.specs.declared.cutting.Cutting.{Cutting}
-use Rattle.cts_proto.specs.Framing.{Output}
-use Rattle.cts_proto.specs.LengthRow.{length_framing}
-use Rattle.cts_proto.specs.Packets.{joined}
+use Rattle.cts_frame.specs.Cuts.{IsCut}
+use Rattle.cts_frame.specs.Cuttings.{IsCutting, frames_at}
+use Rattle.cts_frame.specs.declared.cutting.Cutting.{Cutting}
+use Rattle.cts_frame.specs.Framing.{Output}
+use Rattle.cts_frame.specs.LengthRow.{length_framing}
+use Rattle.cts_frame.specs.Packets.{joined}
 use Rattle.cts_told.specs.Routing.{packet_entries}
 use Rattle.cts_core.specs.Environments.{site_environment}
 use Rattle.cts_entry.specs.Legal.{most_entries as entries_limit, most_bytes as bytes_limit}

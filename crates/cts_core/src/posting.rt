@@ -1,16 +1,16 @@
 // The entries of packets that a cutting has found.
 ghost use Rattle.std.specs.Prelude.{◌≡◌, ◌<◌, ◌≤◌, length, IfOk};
 ghost use Rattle.cts_entry.specs.declared.what.What.TheVariants.{Packet};
-ghost use Rattle.cts_proto.specs.Cuttings.{Tiles, frames_at};
-ghost use Rattle.cts_proto.specs.Framing.{plain};
+ghost use Rattle.cts_frame.specs.Cuttings.{Tiles, frames_at};
+ghost use Rattle.cts_frame.specs.Framing.{plain};
 ghost use Rattle.cts_told.specs.Routing.{packet_entries};
 ghost use Rattle.cts_core.specs.Environments.{ident_of, site_environment};
 
 use cts_base::{Bytes, Memory};
 use cts_def::{Site, Time};
 use cts_entry::{Entry, What};
+use cts_frame::Cutting;
 use cts_ident::identify;
-use cts_proto::Cutting;
 use std::alloc::Global;
 
 /// An entry for each frame of a cutting of what came by an interface, in order, with the definition that it is.

@@ -10,7 +10,7 @@ use crate::posting::packets;
 use cts_base::Memory;
 use cts_def::{BadCause, Loss, Site, Time};
 use cts_entry::{Entry, Event, MOST_BYTES, MOST_ENTRIES, Why};
-use cts_proto::cut_length;
+use cts_frame::cut_length;
 use std::alloc::Global;
 
 /// The server's history, and of the connections that stand the bytes that no packet has yet.

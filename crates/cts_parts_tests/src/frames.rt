@@ -1,5 +1,5 @@
 // Cuts of short connections.
-use cts_proto::cut_length;
+use cts_frame::cut_length;
 use std::alloc::Global;
 use std::test::Fail;
 

@@ -4,7 +4,7 @@ use Rattle.std.proofs.lemmas.List.{append-nil, take_at}
 use Rattle.cts_entry.specs.declared.entry.Entry.{Entry}
 use Rattle.cts_entry.specs.declared.event.Event.{Event}
 use Rattle.cts_entry.specs.Histories.{entries_in, bytes_in}
-use Rattle.cts_proto.proofs.Sound.{chains_are_sound}
+use Rattle.cts_frame.proofs.Sound.{chains_are_sound}
 use Rattle.cts_core.specs.States.{State, opening}
 use Rattle.cts_core.specs.Runs.{Did, Does, after, Ending, Finished, NotEnabled, HistoryFull, Runs}
 use Rattle.cts_core.specs.Laws.{IsSoundEnvironment}

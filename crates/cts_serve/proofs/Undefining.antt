@@ -7,8 +7,8 @@ use Rattle.cts_entry.specs.declared.event.Event.{Event}
 use Rattle.cts_entry.specs.declared.event.Event.TheVariants.{SetTime, Opens, Piece, Finish, Write, Call, DrainLog, DrainSlot, Stop}
 use Rattle.cts_entry.specs.declared.why.Why.{Why}
 use Rattle.cts_entry.specs.Histories.{has_command}
-use Rattle.cts_proto.specs.Cuts.{Pieces}
-use Rattle.cts_proto.specs.Packets.{Fault, fault_of}
+use Rattle.cts_frame.specs.Cuts.{Pieces}
+use Rattle.cts_frame.specs.Packets.{Fault, fault_of}
 use Rattle.cts_told.specs.Routing.{posted_entries}
 use Rattle.cts_told.proofs.Walks.{posted_packets}
 use Rattle.std.specs.List.{list_all}

@@ -9,7 +9,7 @@ use Rattle.cts_entry.specs.declared.what.What.{What}
 use Rattle.cts_entry.specs.declared.what.What.TheVariants.{Opened, Packet, Closed, Command, SetLimits, Enable, LimitsSetIs, Injected, Unrouted, Stop as StopEntry, Ended}
 use Rattle.cts_entry.specs.declared.what.NotSent.TheVariants.{Unknown as UnknownCommand, NotConnected as NoConnection}
 use Rattle.cts_entry.specs.Histories.{is_connected, bytes_of, packets_from, commands_to}
-use Rattle.cts_proto.specs.Framing.{Framing, Heading, Output}
+use Rattle.cts_frame.specs.Framing.{Framing, Heading, Output}
 
 -- the interfaces and slots of a site, as far as their bytes and entries need it
 pub record Routing : Type 0 where

@@ -1,6 +1,6 @@
 use Rattle.std.proofs.Common.{rules, ◌≡◌, ◌≤◌, ℕ, List, ◌∷◌, subst, arith}
-use Rattle.cts_proto.specs.Cuttings.{Tiles}
-use Rattle.cts_proto.proofs.LengthFrames.{tiles_end}
+use Rattle.cts_frame.specs.Cuttings.{Tiles}
+use Rattle.cts_frame.proofs.LengthFrames.{tiles_end}
 use Rattle.cts_core.proofs.posting.packets.Goals as goal
 
 pub slice_bounds-packet-end : goal.slice_bounds-packet-end

@@ -1,5 +1,5 @@
 use Rattle.std.proofs.Common.{◌≡◌, ◌++◌, ℕ, length}
-use Rattle.cts_proto.specs.Cuttings.{Tiles, frames_at}
+use Rattle.cts_frame.specs.Cuttings.{Tiles, frames_at}
 use Rattle.cts_told.specs.Routing.{packet_entries}
 use Rattle.cts_core.specs.Environments.{site_environment}
 use Rattle.cts_core.proofs.posting.packets.Given as goal

@@ -1,6 +1,6 @@
 use Rattle.std.proofs.Common.{rules, ◌≡◌, ◌<◌, ℕ, List, length, ap, ◌∙◌, sym, subst, arith, Ok, Err}
 use Rattle.cts_entry.specs.declared.entry.Entry.{Entry}
-use Rattle.cts_proto.specs.Cuttings.{IsCutting, frames_at}
+use Rattle.cts_frame.specs.Cuttings.{IsCutting, frames_at}
 use Rattle.cts_told.specs.Routing.{packet_entries}
 use Rattle.cts_core.specs.Environments.{site_environment}
 use Rattle.cts_core.specs.Kept.{GivesRoom}

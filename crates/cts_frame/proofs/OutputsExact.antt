@@ -1,0 +1,39 @@
+-- What whole frames give.
+use Rattle.std.proofs.Common.{◌≡◌, ℕ, ◌-◌, Bool, true, false, cond, List, ◌++◌, length, take, drop, refl, sym, ◌∙◌, ap, arith, append_assoc, length-append, Some}
+use Rattle.std.proofs.lemmas.List.{take_at, drop_at}
+use Rattle.cts_def.specs.Protocols.{TerminatedData, PreidentifiedData, Burst, Fixed, Length, Terminated, Preidentified}
+use Rattle.cts_frame.specs.Frames.{IsTerminatedFrame, IsPreidentifiedFrame}
+use Rattle.cts_frame.specs.Framing.{Output, plain}
+use Rattle.cts_frame.specs.Heads.{HeadData, head_bytes, head_end, head_of}
+use Rattle.cts_frame.specs.RowLaws.{OutputsAreExact}
+use Rattle.cts_frame.specs.Rows.{behind_head}
+use Rattle.cts_frame.proofs.HeadAgain.{end_again, head_again}
+
+-- a frame without its termination
+strips : (t : TerminatedData) (w : List ℕ) (h : IsTerminatedFrame t w) (b : Bool) → cond b (take (length w - length t.read) w) w ≡ cond b (t.sync ++ h.body) w
+strips t w h false = refl
+strips t w h true =
+    let is : w ≡ (t.sync ++ h.body) ++ t.read = h.frame_is ∙ sym (append_assoc t.sync h.body t.read) in
+    let len : length w - length t.read ≡ length (t.sync ++ h.body) = omega (arith, ap length is, length-append (t.sync ++ h.body) t.read) in
+    ap (take (length w - length t.read)) is ∙ take_at (t.sync ++ h.body) t.read (length w - length t.read) (sym len)
+
+-- what a head is followed by
+head_output : (d : HeadData) (bytes : List ℕ) → Output
+head_output d bytes = record { bytes = bytes; heading = Some (record { time = d.time; target = d.target; packet = d.packet }) }
+
+behind : (p : PreidentifiedData) (w : List ℕ) (h : IsPreidentifiedFrame p w) → behind_head (drop (length p.sync) w) ≡ head_output h.head h.bytes
+unfolding head_output
+behind p w h =
+    let v : List ℕ = head_bytes h.head ++ h.bytes in
+    let rest : drop (length p.sync) w ≡ v = ap (drop (length p.sync)) h.frame_is ∙ drop_at p.sync v (length p.sync) refl in
+    let bytes : drop (head_end v) v ≡ h.bytes = drop_at (head_bytes h.head) h.bytes (head_end v) (sym (end_again h.head h.bytes)) in
+    let head : head_of v ≡ h.head = head_again h.head h.bytes h.fits in
+    ap behind_head rest ∙ (λ i. record { bytes = bytes i; heading = Some (record { time = (head i).time; target = (head i).target; packet = (head i).packet }) })
+
+pub outputs_are_exact : OutputsAreExact
+unfolding head_output
+outputs_are_exact (Burst b) w x h = refl
+outputs_are_exact (Fixed f) w x h = refl
+outputs_are_exact (Length l) w x h = refl
+outputs_are_exact (Terminated t) w x h = ap (λ v. plain (drop t.discard v)) (strips t w h t.strip)
+outputs_are_exact (Preidentified p) w x h = behind p w h

@@ -1,0 +1,33 @@
+-- Laws of the rows.
+use Rattle.std.specs.Prelude.{◌≡◌, ◌≤◌, ◌↔◌, ℕ, true, List, ◌++◌, length, Some, IsTrue}
+use Rattle.cts_def.specs.Protocols.{SpecData, is_sound_spec}
+use Rattle.cts_def.specs.declared.bad_cause.BadCause.{BadCause}
+use Rattle.cts_frame.specs.Errors.{IsError}
+use Rattle.cts_frame.specs.Frames.{IsFrame, output_of}
+use Rattle.cts_frame.specs.Framing.{IsSound}
+use Rattle.cts_frame.specs.Heads.{AreBytes, HeadData, FitsHead, head_bytes, has_head}
+use Rattle.cts_frame.specs.Rows.{framing_of}
+
+-- each protocol, with any parameters, is a sound framing
+abbrev pub AreSound : Type 0
+AreSound = (s : SpecData) → IsSound (framing_of s)
+
+-- and what a frame gives is no longer than the frame
+abbrev pub AreNoLonger : Type 0
+AreNoLonger = (s : SpecData) (w : List ℕ) → length ((framing_of s).output w).bytes ≤ length w
+
+-- with parameters that a site may give, the test of a framing passes exactly the whole frames
+abbrev pub FramesAreExact : Type 0
+FramesAreExact = (s : SpecData) (w x : List ℕ) → IsTrue (is_sound_spec s) → AreBytes w → ((framing_of s).whole w x ≡ true) ↔ IsFrame s w x
+
+-- what each of them gives is its output
+abbrev pub OutputsAreExact : Type 0
+OutputsAreExact = (s : SpecData) (w x : List ℕ) (h : IsFrame s w x) → (framing_of s).output w ≡ output_of s w x h
+
+-- and its error stands exactly where the description has it
+abbrev pub ErrorsAreExact : Type 0
+ErrorsAreExact = (s : SpecData) (u : List ℕ) (c : BadCause) → IsTrue (is_sound_spec s) → AreBytes u → ((framing_of s).error u ≡ Some c) ↔ IsError s u c
+
+-- bytes hold a whole head exactly where they begin with the bytes of one
+abbrev pub HeadsAreExact : Type 0
+HeadsAreExact = (u : List ℕ) → AreBytes u → (has_head u ≡ true) ↔ ((h : HeadData) × (x : List ℕ) × FitsHead h × (u ≡ head_bytes h ++ x))

@@ -1,7 +1,0 @@
-use Rattle.cts_proto.proofs.OneCut.{has_one_cut}
-use Rattle.cts_proto.proofs.OneStage.{has_one_stage}
-use Rattle.cts_proto.proofs.SomeCut.{some_cut}
-use Rattle.cts_proto.proofs.laws.cuts.Goals as goal
-
-pub returns : goal.returns
-returns c = record { some = some_cut; one = has_one_cut; stage = has_one_stage }
