@@ -1,7 +1,7 @@
 -- What a site gives to events: the environment in which they are done.
 use Rattle.std.specs.Prelude.{ℕ, false, Bool, ◌==◌, ◌&&◌, nat_lt, List, [], map, slice_index_or, Option, Some, None, if◌then◌else◌}
 use Rattle.std.specs.List.{list_any}
-use Rattle.cts_core.specs.States.{Answer, Environment}
+use Rattle.cts_core.specs.States.{Answer, Environment, Question}
 use Rattle.cts_def.specs.Makers.{router_of}
 use Rattle.cts_def.specs.Packets.{unknown}
 use Rattle.cts_def.specs.Sites.{InterfaceData, SiteData}
@@ -59,7 +59,7 @@ packet_names site Unknown = (unknown, unknown)
 pub record Undefined : Type 0 where
   pub spelling : ℕ → Heading → List ℕ → Option (List ℕ)
   pub layout : Heading → List ℕ → List ℕ
-  pub answer : List Entry → ℕ → Time → List ℕ → Answer
+  pub answer : List Entry → ℕ → Time → Question → Answer
 
 -- The environment that a site gives, with these in their places.
 abbrev pub environment_with : Undefined → SiteData → Environment
@@ -85,7 +85,7 @@ environment_with u site = record {
 
 -- Stand-ins: nothing is spelled, laid out or answered. No event that a script can state so far asks for one of these.
 abbrev pub stand_ins : Undefined
-stand_ins = record { spelling = λ by heading bytes. None; layout = λ heading bytes. []; answer = λ history desk time body. record { text = None; entries = [] } }
+stand_ins = record { spelling = λ by heading bytes. None; layout = λ heading bytes. []; answer = λ history desk time question. record { text = None; entries = [] } }
 
 abbrev pub site_environment : SiteData → Environment
 site_environment site = environment_with stand_ins site

@@ -33,6 +33,7 @@ owed site history = total 32 (owed_to site history) + (if is_stopped history the
 pub record IsSound (a : Inside) : Type 0 where
   pub kept : IsKept (basis_of a) a.entries.items
   pub site : IsSoundSite (arc_value a.site)
+  pub stopped : a.stopped ≡ is_stopped a.entries.items
   pub used_entries : a.used_entries ≡ entries_in a.entries.items
   pub used_bytes : a.used_bytes ≡ bytes_in a.entries.items
   pub within_entries : a.used_entries + a.spare_entries ≤ a.limit_entries

@@ -12,7 +12,7 @@ use crate::kinds::connects;
 use crate::{Basis, HallFault, History};
 use cts_base::Memory;
 use cts_def::Site;
-use cts_entry::{Entry, MOST_BYTES, MOST_ENTRIES, Stands, What, bytes_for, entries_for};
+use cts_entry::{Entry, MOST_BYTES, MOST_ENTRIES, Stands, bytes_for, entries_for, is_stop};
 use std::alloc::Global;
 use std::marker::Model;
 use std::sync::Arc;
@@ -27,6 +27,7 @@ pub struct Hall {
     limit_entries: u64,
     limit_bytes: u64,
     entries: Vec<Entry>,
+    stopped: bool,
     used_entries: u64,
     used_bytes: u64,
     spare_entries: u64,
@@ -83,6 +84,7 @@ impl Hall {
             limit_entries: entries,
             limit_bytes: bytes,
             entries: places,
+            stopped: false,
             used_entries: 0,
             used_bytes: 0,
             spare_entries: 0,
@@ -125,7 +127,9 @@ impl Hall {
     {
         let entries = entries_for(&entry.what);
         let bytes = bytes_for(&entry.what);
+        let stops = is_stop(&entry.what);
         self.entries.push_reserved(entry);
+        self.stopped |= stops;
         self.used_entries += entries;
         self.used_bytes += bytes;
         self.spare_entries -= entries;
@@ -133,7 +137,7 @@ impl Hall {
     }
 
     /// The entries, in order.
-    pub(crate) fn entries(&self) -> &[Entry]
+    pub fn entries(&self) -> &[Entry]
         ensures { result.now ≡ self.now.entries }
     {
         self.entries.as_slice()
@@ -196,7 +200,7 @@ impl Hall {
         ensures server { has_ended server self.now.entries ≡ false }
     {
         self.is_kept();
-        self.entries.iter().any(|e| matches!(e.what, What::Stop))
+        self.stopped
     }
 
     /// The entries that the hall keeps, in order. It takes no memory.
