@@ -150,12 +150,14 @@ impl Hall {
         &self.site
     }
 
-    /// The entries are a history that the rules of the site allow, within the limits.
+    /// The entries are a history that the rules of the site allow, within the limits. A counted entry brings at most one more
+    /// that is not counted, its Closed, and at most 65 are owed besides.
     pub fn is_kept(&self)
         ensures kept { IsKept self.now.basis self.now.entries }
         ensures entries { self.now.basis.entries ≤ most_entries }
         ensures bytes { self.now.basis.bytes ≤ most_bytes }
         ensures site { IsSoundSite self.now.basis.site }
+        ensures few { length self.now.entries ≤ 8000065 }
     {
         let _site = &self.site;
     }

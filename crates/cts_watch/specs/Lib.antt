@@ -1,0 +1,9 @@
+pub mod Gathered
+pub mod Brought
+pub mod Items
+pub mod Settings
+pub mod Sets
+pub mod Samples
+pub mod Events
+pub mod Steps
+pub mod Keeping
