@@ -1,16 +1,15 @@
 -- A line for which no cause holds says an event.
-use Rattle.std.proofs.Common.{◌≡◌, ◌∙◌, ℕ, suc, ◌+◌, ◌*◌, ◌/◌, ◌%◌, Bool, true, false, ◌==◌, ◌||◌, ◌&&◌, List, [], ◌∷◌, length, Option, Some, None, Result, Ok, Err, refl, sym, ap, arith}
+use Rattle.std.proofs.Common.{◌≡◌, ◌∙◌, ℕ, suc, ◌/◌, ◌%◌, Bool, true, false, ◌==◌, ◌||◌, ◌&&◌, List, [], ◌∷◌, length, Option, Some, None, Result, refl, sym, ap, arith}
 use Rattle.std.specs.Prelude.{not, is_some, is_none, option_map, option_and_then, find, if◌then◌else◌}
 use Rattle.std.specs.List.{list_all, AllByRecursion}
 use Rattle.std.specs.Result.{result_ok}
 use Rattle.std.proofs.lemmas.Bool.{eqb-true}
 use Rattle.std.proofs.lemmas.List.Sums.{AllPass-from_list_all}
-use Rattle.hex.specs.Hex.{decode_of, is_hex_digit}
+use Rattle.hex.specs.Hex.{is_hex_digit}
 use Rattle.hex.proofs.HexLemmas.{decode_of-digits, decode_of-ok}
 use Rattle.cts_def.specs.Sites.{SiteData}
 use Rattle.cts_entry.specs.declared.event.Event.TheVariants as event
 use Rattle.cts_words.proofs.Finds.{none_passes}
-use Rattle.cts_scriptread.specs.declared.cause.ScriptCause.{ScriptCause}
 use Rattle.cts_scriptread.specs.declared.form.Keyword.{Keyword}
 use Rattle.cts_scriptread.specs.declared.form.Keyword.TheVariants as keyword
 use Rattle.cts_reader.specs.Words.{any_word}

@@ -1,12 +1,12 @@
 -- One more statement adds its event to those before it.
-use Rattle.std.proofs.Common.{◌≡◌, ◌∙◌, ℕ, List, [], ◌∷◌, ◌++◌, Option, Some, None, Ok, Err, refl, sym, ap}
+use Rattle.std.proofs.Common.{◌≡◌, ◌∙◌, ℕ, List, [], ◌∷◌, ◌++◌, Some, None, Ok, Err, refl, sym, ap}
 use Rattle.std.specs.Prelude.{option_map}
 use Rattle.std.specs.List.{filter_map}
 use Rattle.cts_def.specs.Sites.{SiteData}
 use Rattle.cts_entry.specs.declared.event.Event.{Event}
 use Rattle.cts_words.specs.declared.statement.Statement.{Statement}
 use Rattle.cts_reader.specs.declared.fault.Fault.{Fault}
-use Rattle.cts_reader.specs.Reading.{Fails, Judged, TakesBehind, Reads}
+use Rattle.cts_reader.specs.Reading.{Fails, Judged, Reads}
 use Rattle.cts_reader.proofs.FirstRefused.{fails, said-more, takes_the_others}
 use Rattle.cts_scriptread.specs.declared.cause.ScriptCause.{ScriptCause}
 use Rattle.cts_scriptread.specs.Scripts.{refusal_in, event_in, line_in, refusal, no_refusal, events_of}

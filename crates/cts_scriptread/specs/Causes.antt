@@ -5,7 +5,7 @@ use Rattle.cts_reader.specs.Words.{any_word}
 use Rattle.cts_scriptread.specs.declared.cause.ScriptCause.{ScriptCause}
 use Rattle.cts_scriptread.specs.declared.cause.ScriptCause.TheVariants.{UnknownKeyword, WrongCount, NotNumber, BadHex, PieceSize, UnknownMaker, UnknownWhy}
 use Rattle.cts_scriptread.specs.declared.form.Field.{Field}
-use Rattle.cts_scriptread.specs.declared.form.Field.TheVariants.{Who, Interface, Drained, Number, Count, Digits, Why, Text}
+use Rattle.cts_scriptread.specs.declared.form.Field.TheVariants.{Who, Interface, Drained, Number, Count, Digits, Why}
 use Rattle.cts_scriptread.specs.declared.form.Keyword.{Keyword}
 use Rattle.cts_scriptread.specs.Forms.{fields, has_form}
 use Rattle.cts_scriptread.specs.Makers.{interface_named, slot_named, maker_named}

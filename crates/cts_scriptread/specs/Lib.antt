@@ -5,3 +5,5 @@ pub mod Trials
 pub mod Causes
 pub mod Events
 pub mod Scripts
+pub mod Lines
+pub mod Laws

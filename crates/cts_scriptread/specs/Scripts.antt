@@ -1,5 +1,5 @@
 -- The events that a script says in a site, or the first line that is refused.
-use Rattle.std.specs.Prelude.{ℕ, List, Option, Some, None, Result, Ok, Err, option_map, option_and_then}
+use Rattle.std.specs.Prelude.{ℕ, List, Option, None, Result, Ok, Err, option_map, option_and_then}
 use Rattle.std.specs.List.{filter_map}
 use Rattle.std.specs.Result.{result_map_both}
 use Rattle.cts_def.specs.Sites.{SiteData}

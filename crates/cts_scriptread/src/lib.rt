@@ -6,11 +6,13 @@ mod cause;
 mod events;
 mod form;
 mod judging;
+mod laws;
 mod makers;
 mod reading;
 mod trial;
 mod words;
 
 pub use cause::{ScriptCause, ScriptFault};
+pub use laws::{events_are_of_their_lines, first_line_is_refused};
 pub use reading::{read_events, read_script};
 pub use trial::{Trial, TrialKind, trial_of};

@@ -1,4 +1,4 @@
-use Rattle.std.proofs.Common.{rules, Ok, sym, ap, ◌∙◌, subst, List}
+use Rattle.std.proofs.Common.{rules, subst, List}
 use Rattle.cts_words.specs.declared.statement.Statement.{Statement}
 use Rattle.cts_reader.specs.Reading.{Fails, Reads}
 use Rattle.cts_scriptread.specs.Scripts.{refusal, events_of}
