@@ -1,0 +1,4 @@
+pub mod Said
+pub mod Taken
+pub mod Rows
+pub mod OneEach
