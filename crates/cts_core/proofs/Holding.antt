@@ -1,10 +1,10 @@
 -- What a running core holds stays sound, and what it may append to its hall.
 use Rattle.std.proofs.Common.{◌≡◌, ℕ, ◌≤◌, ◌<◌, Bool, true, false, ◌||◌, List, [], ◌∷◌, ◌++◌, length, Option, Some, None, refl, sym, ◌∙◌, ap, subst, arith, append-nil, inl, inr, ◌⊎◌}
-use Rattle.std.specs.Prelude.{◌==◌, ◌≢◌, ◌&&◌, not, nat_lt, set, replicate, slice_range, drop, unwrap_or, if◌then◌else◌}
+use Rattle.std.specs.Prelude.{◌==◌, ◌≢◌, ◌+◌, ◌&&◌, not, nat_lt, set, replicate, slice_range, drop, unwrap_or, if◌then◌else◌}
 use Rattle.std.proofs.lemmas.Bool.{cases_eq, ltb-true}
 use Rattle.std.proofs.lemmas.List.{length-set, get_or-set_same, get_or-set_other, get_or-replicate, length-replicate}
 use Rattle.std.proofs.lemmas.Option.{slice_get_within}
-use Rattle.cts_def.specs.Makers.{server, router_of}
+use Rattle.cts_def.specs.Makers.{first_desk, server, router_of}
 use Rattle.cts_def.specs.Packets.{PacketData}
 use Rattle.cts_def.specs.Sites.{SiteData}
 use Rattle.cts_def.specs.declared.ident.Ident.{Ident}
@@ -12,11 +12,11 @@ use Rattle.cts_def.specs.declared.ident.Ident.TheVariants.{Known, Unknown}
 use Rattle.cts_def.specs.declared.loss.Loss.{Loss}
 use Rattle.cts_def.specs.declared.time.Time.{Time}
 use Rattle.cts_entry.specs.declared.entry.Entry.{Entry}
-use Rattle.cts_entry.specs.declared.what.What.TheVariants.{Opened, Closed, Stop}
+use Rattle.cts_entry.specs.declared.what.What.TheVariants.{Opened, Closed, LimitsSetIs, Stop}
 use Rattle.cts_entry.specs.declared.why.Why.{Why}
-use Rattle.cts_entry.specs.Histories.{or_earlier, latest, connects, connects_maker, is_connected, is_stopped, entries_in, bytes_in}
+use Rattle.cts_entry.specs.Histories.{or_earlier, latest, connects, connects_maker, is_connected, is_stopped, has_command, entries_in, bytes_in}
 use Rattle.cts_entry.specs.Legal.{StopsAfter, AllAllowed}
-use Rattle.cts_entry.specs.Workers.{is_interface, is_slot, is_worker, is_maker}
+use Rattle.cts_entry.specs.Workers.{is_desk, is_interface, is_slot, is_worker, is_maker}
 use Rattle.cts_frame.specs.Framing.{Output, plain}
 use Rattle.cts_frame.specs.Cuttings.{frames_at}
 use Rattle.cts_ident.specs.Identification.{first_of, fits, identified}
@@ -30,11 +30,12 @@ use Rattle.cts_table.specs.States.{Shown, CanAdd}
 use Rattle.cts_core.specs.Built.{is_built_site}
 use Rattle.cts_core.specs.Environments.{site_environment, ident_of}
 use Rattle.cts_core.specs.Kept.{CanAddAll}
-use Rattle.cts_core.specs.States.{Environment}
+use Rattle.cts_core.specs.States.{Environment, trial_desk}
+use Rattle.cts_core.specs.Trials.{chooses}
 use Rattle.cts_core.specs.Worlds.{Held, HeldConnection, IsSoundHeld, closed, connection_at, extended, first_held, lost, opened, posted, shut}
 use Rattle.cts_core.proofs.Building.{and_tells, below, ident_is}
 use Rattle.cts_core.proofs.Legality.{Lasting, lasting_append, none_ended, packets_follow}
-use Rattle.cts_core.proofs.Postings.{connected_kept, tells_maker, tells_no_other}
+use Rattle.cts_core.proofs.Postings.{connected_kept, either_way, tells_maker, tells_no_other}
 use Rattle.cts_entry.proofs.Appending.{connected-append}
 
 -- ---- what is held stays sound
@@ -244,3 +245,32 @@ length_extended by w piece m = omega (arith, m, length-set w.connections by (rec
 
 pub flag_extended : (by : ℕ) (w : Held) (piece : List ℕ) → by < length w.connections → (connection_at (extended by w piece).connections by).connected ≡ (connection_at w.connections by).connected
 flag_extended by w piece m = ap (λ (c : HeldConnection). c.connected) (get_or-set_same w.connections by (record (connection_at w.connections by) { rest = (connection_at w.connections by).rest ++ piece }) shut m)
+
+-- ---- a limits set is chosen by desk 0
+
+desk_makes : (a b c d e : Bool) → c ≡ true → ((((a || b) || c) || d) || e) ≡ true
+desk_makes a b c d e h = grind arith
+
+pub can_choose : (s : Shown) (now : Time) (set : List ℕ) → 1 ≤ s.basis.site.desks → Lasting s.entries → 1 ≤ s.spare_entries → CanAdd s (record { by = first_desk + trial_desk; time = now; what = LimitsSetIs set })
+can_choose s now set desks last spare =
+    let desk : is_desk s.basis.site (first_desk + trial_desk) ≡ true = below 0 s.basis.site.desks (omega (arith, desks)) in
+    record {
+      allowed = record { active = none_ended (first_desk + trial_desk) s.entries last; says = desk };
+      of_site = record { maker = desk_makes (is_interface s.basis.site (first_desk + trial_desk)) (is_slot s.basis.site (first_desk + trial_desk)) (is_desk s.basis.site (first_desk + trial_desk)) false false desk; said = tt };
+      entry = spare;
+      bytes = omega arith;
+    }
+
+pub sound_chosen : (w : Held) (now : Time) (set : List ℕ) → IsSoundHeld w → IsSoundHeld (record w { history = w.history ++ record { by = first_desk + trial_desk; time = now; what = LimitsSetIs set } ∷ [] })
+sound_chosen w now set h = sound_more w (record { by = first_desk + trial_desk; time = now; what = LimitsSetIs set } ∷ []) h (λ k. either_way (first_desk + trial_desk == k) None) refl
+
+-- what is appended opens and closes nothing, and is no command
+pub chosen_quiet : (known fits : Bool) (now : Time) (name : List ℕ) (k : ℕ) → latest (connects_maker k) (chooses known fits now name).entries ≡ None
+chosen_quiet true true now name k = either_way (first_desk + trial_desk == k) None
+chosen_quiet true false now name k = refl
+chosen_quiet false fits now name k = refl
+
+pub chosen_free : (known fits : Bool) (now : Time) (name : List ℕ) → has_command (chooses known fits now name).entries ≡ false
+chosen_free true true now name = refl
+chosen_free true false now name = refl
+chosen_free false fits now name = refl

@@ -11,8 +11,8 @@ use Rattle.cts_entry.specs.declared.what.What.TheVariants.{Opened, Closed, Stop 
 use Rattle.cts_entry.specs.declared.why.Why.{Why}
 use Rattle.cts_entry.specs.declared.why.Why.TheVariants.{BadFrame}
 use Rattle.cts_entry.specs.declared.event.Event.{Event}
-use Rattle.cts_entry.specs.declared.event.Event.TheVariants.{SetTime, Opens, Piece, Finish, Stop}
-use Rattle.cts_entry.specs.declared.event.Effect.TheVariants.{Posted}
+use Rattle.cts_entry.specs.declared.event.Event.TheVariants.{SetTime, Opens, Piece, Finish, Stop, Try}
+use Rattle.cts_entry.specs.declared.event.Effect.TheVariants.{Posted, Tried}
 use Rattle.cts_entry.specs.Histories.{or_earlier, latest, connects, connects_maker, is_connected, is_stopped, has_command, entries_in, bytes_in}
 use Rattle.cts_entry.proofs.Appending.{latest-append, connected-append}
 use Rattle.cts_frame.specs.Framing.{Framing, Output}
@@ -28,14 +28,15 @@ use Rattle.cts_frame.specs.LengthRow.{length_framing}
 use Rattle.cts_frame.proofs.Framings.{taken_none, ends_nil}
 use Rattle.cts_frame.proofs.LengthSound.{length_is_sound}
 use Rattle.cts_frame.proofs.Stagings.{plain_bytes, joined_append}
-use Rattle.cts_core.specs.States.{State, is_piece, is_enabled, is_line, has_room, takes_room, unsent, may_close, opening}
+use Rattle.cts_core.specs.States.{Answer, State, is_piece, is_enabled, is_line, has_room, takes_room, unsent, may_close, opening}
 use Rattle.cts_core.specs.Runs.{Did, Does, Appends, Receives, after, pieces_for, closed_entry, closing}
 use Rattle.cts_core.proofs.Keeping.{pieces_turned, pieces_grow, pieces_stay}
 use Rattle.cts_core.proofs.Passing.{nothing_unsent}
 use Rattle.cts_told.specs.Routing.{packet_entries}
 use Rattle.cts_told.proofs.Walks.{posted_packets}
 use Rattle.cts_frame.specs.Chains.{framings_at}
-use Rattle.cts_core.specs.Environments.{site_environment}
+use Rattle.cts_core.specs.Environments.{basis_of, site_environment}
+use Rattle.cts_core.specs.Trials.{tells, tried}
 use Rattle.cts_entry.specs.Legal.{most_bytes as bytes_limit, most_entries as entries_limit}
 use Rattle.cts_core.specs.Kept.{GivesRoom, is_within}
 use Rattle.cts_table.specs.States.{Shown}
@@ -651,3 +652,41 @@ packets_fit site by now bytes c k new i g =
     let spare : new.spare_entries ≡ max k.spare_entries (length c.frames) = ap (λ (x : Shown). x.spare_entries) g.1 in
     let left : new.spare_bytes ≡ max k.spare_bytes c.rest = ap (λ (x : Shown). x.spare_bytes) g.1 in
     (omega (arith, many, spare), omega (arith, size, left))
+
+-- ---- trial lines
+
+-- what a trial answers and appends is what the environment's desk does
+trial_here : (site : SiteData) (w : Held) (s : State) (words : List (List ℕ)) → Represents site w s → tried w.basis w.history w.time words ≡ tried (basis_of site) s.history s.time words
+trial_here site w s words h = λ i. tried (h.basis i) (h.history i) (h.time i) words
+
+pub trial_done : (site : SiteData) (w new : Held) (s : State) (words : List (List ℕ)) (front : ℕ) (text : List ℕ) (es : List Entry) → 1 ≤ w.basis.site.desks → front ≡ length w.history
+    → tried w.basis w.history w.time words ≡ record { text = Some text; entries = es } → ((k : ℕ) → latest (connects_maker k) es ≡ None) → has_command es ≡ false → new ≡ record w { history = w.history ++ es } → Represents site w s
+    → Steps site s (Try words) w (Ok (Tried front text)) new
+trial_done site w new s words front text es desks at answers none free n h =
+    let did : Did = record { entries = es; effect = Tried (length s.history) text } in
+    let moved : State = after s (Try words) did in
+    let same = sym (trial_here site w s words h) ∙ answers in
+    let some : 1 ≤ site.desks = subst (λ (b : Basis). 1 ≤ b.site.desks) h.basis desks in
+    let whole : Represents site (record w { history = w.history ++ es }) moved = record {
+      history = ap (λ (l : List Entry). l ++ es) h.history;
+      time = h.time;
+      basis = h.basis;
+      uncommanded = uncommanded_kept s.history es h.uncommanded free;
+      count = h.count;
+      connections = λ k m. connection_kept s moved k (connection_at w.connections k) (connected_kept k s.history es (none k)) (pieces_stay k (Try words) es s.pieces (none k) refl) (h.connections k m);
+    } in (
+      did,
+      record {
+        enabled = below 0 site.desks (omega (arith, some));
+        appends = sym (ap (λ (a : Answer). a.entries) same);
+        room = λ takes. absurd (cc takes);
+        effect = sym (ap (λ (a : Answer). Tried (length s.history) (unwrap_or a.text [])) same);
+      },
+      ap (λ (k : ℕ). Tried k text) (at ∙ ap length h.history),
+      subst (λ (x : Held). Represents site x moved) (sym n) whole,
+    )
+
+-- a look-up appends nothing
+pub trial_told : (site : SiteData) (w : Held) (s : State) (words : List (List ℕ)) (front : ℕ) (text : List ℕ) → 1 ≤ w.basis.site.desks → front ≡ length w.history → tried w.basis w.history w.time words ≡ tells text → Represents site w s
+    → Steps site s (Try words) w (Ok (Tried front text)) w
+trial_told site w s words front text desks at answers h = trial_done site w w s words front text [] desks at answers (λ k. refl) refl (ap (λ (l : List Entry). record w { history = l }) (sym (append-nil w.history))) h

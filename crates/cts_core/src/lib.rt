@@ -9,6 +9,7 @@ mod fault;
 mod laws;
 mod posting;
 mod running;
+mod trying;
 mod world;
 
 pub use built::is_built_site;

@@ -18,11 +18,11 @@ use std::sync::Arc;
 /// The history, and of the connections that stand the bytes that no packet has yet.
 #[derive(Drop)]
 pub(crate) struct Running {
-    alloc: Global,
+    pub(crate) alloc: Global,
     /// What the clock shows.
-    time: Time,
+    pub(crate) time: Time,
     /// All entries so far, with their site.
-    hall: Hall,
+    pub(crate) hall: Hall,
     /// The connections of the interfaces, in order of the site.
     connections: Vec<Connection>,
 }
@@ -89,7 +89,7 @@ impl Running {
             Event::Call(_, _) => Err(WorldFault::NotEnabled),
             Event::DrainLog(_) => Err(WorldFault::NotEnabled),
             Event::DrainSlot(_, _) => Err(WorldFault::NotEnabled),
-            Event::Try(_) => Err(WorldFault::NotEnabled),
+            Event::Try(words) => self.attempt(words.as_slice()),
         }
     }
 
