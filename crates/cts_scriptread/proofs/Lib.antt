@@ -2,3 +2,4 @@ pub mod Said
 pub mod Taken
 pub mod Rows
 pub mod OneEach
+pub mod Exact

@@ -45,11 +45,11 @@ natural_whole : (most n : ℕ) (o : Option ℤ) → natural_in most o ≡ Some n
 natural_whole most n None e = absurd cc
 natural_whole most n (Some z) e = ap Some (natural_is most n z e)
 
-number_written : (word : List ℕ) (n : ℕ) → number_of word ≡ Some n → Writes word n
+pub number_written : (word : List ℕ) (n : ℕ) → number_of word ≡ Some n → Writes word n
 unfolding number_of
 number_written word n e = writes_from_whole word (pos n) (natural_whole 4294967295 n (whole_of word) e)
 
-count_written : (word : List ℕ) (n : ℕ) → count_of word ≡ Some n → Writes word n
+pub count_written : (word : List ℕ) (n : ℕ) → count_of word ≡ Some n → Writes word n
 unfolding count_of
 count_written word n e = writes_from_whole word (pos n) (natural_whole 18446744073709551615 n (whole_of word) e)
 
@@ -61,7 +61,7 @@ found p (x ∷ xs) n e =
     let at = position-Some p (x ∷ xs) n x e in
     (_, slice_get-get_or (x ∷ xs) n x at.0, at.1)
 
-interface_there : (site : SiteData) (word : List ℕ) (n : ℕ) → interface_named site word ≡ Some n → NamesInterface site word n
+pub interface_there : (site : SiteData) (word : List ℕ) (n : ℕ) → interface_named site word ≡ Some n → NamesInterface site word n
 interface_there site word n e =
     let it = found (λ (i : InterfaceData). spells word i.name) site.interfaces n e in
     record { interface = it.0; there = it.1; spelled = (bytes_eq-Decides (in_upper_case word) it.0.name).0 it.2 }
@@ -98,7 +98,7 @@ slot_of site word name end n (Some s) (Some r) cut side router e =
           ∙ ap (λ (x : List ℕ). it.0.name ++ x) which.1;
     }
 
-slot_there : (site : SiteData) (word : List ℕ) (n : ℕ) → slot_named site word ≡ Some n → NamesSlot site word n
+pub slot_there : (site : SiteData) (word : List ℕ) (n : ℕ) → slot_named site word ≡ Some n → NamesSlot site word n
 unfolding slot_named
 slot_there site word n e =
     let at : ℕ = length word - 2 in
@@ -108,7 +108,7 @@ either_there : (site : SiteData) (word : List ℕ) (n : ℕ) (i s : Option ℕ) 
 either_there site word n None s none slot e = inr (slot_there site word n (slot ∙ e))
 either_there site word n (Some i) s is slot e = inl (interface_there site word n (is ∙ e))
 
-maker_there : (site : SiteData) (word : List ℕ) (n : ℕ) → maker_named site word ≡ Some n → NamesMaker site word n
+pub maker_there : (site : SiteData) (word : List ℕ) (n : ℕ) → maker_named site word ≡ Some n → NamesMaker site word n
 maker_there site word n e = either_there site word n (interface_named site word) (slot_named site word) refl refl e
 
 -- ---- fixed words

@@ -13,6 +13,9 @@ mod trial;
 mod words;
 
 pub use cause::{ScriptCause, ScriptFault};
-pub use laws::{events_are_of_their_lines, first_line_is_refused};
+pub use laws::{
+    events_are_of_their_lines, first_line_is_refused, names_are_those_of_the_site,
+    numbers_are_written_within_their_bounds,
+};
 pub use reading::{read_events, read_script};
 pub use trial::{Trial, TrialKind, trial_of};
