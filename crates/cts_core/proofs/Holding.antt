@@ -29,9 +29,12 @@ use Rattle.cts_table.specs.Keeping.{rules_of, IsIdent, AllOfSite}
 use Rattle.cts_table.specs.States.{Shown, CanAdd}
 use Rattle.cts_core.specs.Built.{is_built_site}
 use Rattle.cts_core.specs.Environments.{site_environment, ident_of}
-use Rattle.cts_core.specs.Kept.{CanAddAll}
+use Rattle.cts_core.specs.Kept.{CanAddAll, is_within}
 use Rattle.cts_core.specs.States.{Environment, trial_desk}
-use Rattle.cts_core.specs.Trials.{chooses}
+use Rattle.cts_core.specs.Trials.{chooses, found_for}
+use Rattle.cts_base.specs.Names.{in_upper_case, is_name}
+use Rattle.cts_scriptread.specs.Trials.{Asked, Value, Set, Command}
+use Rattle.cts_watch.specs.Sets.{is_set_known}
 use Rattle.cts_core.specs.Worlds.{Held, HeldConnection, IsSoundHeld, closed, connection_at, extended, first_held, lost, opened, posted, shut}
 use Rattle.cts_core.proofs.Building.{and_tells, below, ident_is}
 use Rattle.cts_core.proofs.Legality.{Lasting, lasting_append, none_ended, packets_follow}
@@ -274,3 +277,9 @@ pub chosen_free : (known fits : Bool) (now : Time) (name : List ℕ) → has_com
 chosen_free true true now name = refl
 chosen_free true false now name = refl
 chosen_free false fits now name = refl
+
+pub tried_free : (b : Basis) (history : List Entry) (now : Time) (o : Option Asked) → has_command (found_for b history now o).entries ≡ false
+tried_free b history now (Some (Value kind target packet item)) = refl
+tried_free b history now (Some (Set name)) = chosen_free (is_name name && is_set_known b.site history (in_upper_case name)) (is_within b history 1 0) now (in_upper_case name)
+tried_free b history now (Some (Command text)) = refl
+tried_free b history now None = refl

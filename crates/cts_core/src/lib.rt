@@ -12,7 +12,7 @@ mod running;
 mod trying;
 mod world;
 
-pub use built::is_built_site;
+pub use built::{is_built_event, is_built_site};
 pub use enabling::{is_piece, may_close, takes_room};
 pub use fault::WorldFault;
 pub use laws::{core_is_legal, core_is_logged, core_is_told, cursors, runs};

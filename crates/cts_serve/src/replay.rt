@@ -4,7 +4,8 @@ ghost use Rattle.cts_core.specs.States.{opening};
 ghost use Rattle.cts_core.specs.Built.{is_built_site};
 ghost use Rattle.cts_serve.specs.Load.Scripts.{are_built_events};
 ghost use Rattle.cts_serve.specs.Replay.Steps.{Replays};
-ghost use Rattle.cts_core.specs.Worlds.{GoesOn, Represents, held_in};
+ghost use Rattle.cts_core.specs.Endings.{GoesOn, held_in};
+ghost use Rattle.cts_core.specs.Worlds.{Represents};
 
 pub mod halt;
 pub mod printing;
@@ -18,22 +19,29 @@ use cts_outside::Sink;
 use halt::Halt;
 use printing::put_end;
 use std::alloc::Global;
+use std::sync::Arc;
 use steps::do_event;
 
 /// Does the events of a script on a site, both of which have to be built, in order, each with its line, and puts the lines
 /// of each when it is done; then `END n`, or why the replay halts before it.
 pub fn replay<O: Sink>(
     alloc: Global,
-    site: &Site,
+    site: Site,
     events: &[(u32, Event)],
     out: &mut O,
 ) -> Result<(), Halt>
-    requires site { is_built_site site.now ≡ true }
+    requires site { is_built_site site ≡ true }
     requires events { are_built_events events.now ≡ true }
-    ensures { Replays site.now events.now result (O.seen out.old) (O.seen out.new) }
+    ensures { Replays site events.now result (O.seen out.old) (O.seen out.new) }
 {
-    match World::new(alloc, site) {
-        Ok(world) => replay_from(alloc, site, events, world, out),
+    let Ok(site) = Arc::new(alloc, site) else {
+        return Err(Halt::Memory);
+    };
+    let Ok(shared) = Arc::try_clone(&site) else {
+        return Err(Halt::Memory);
+    };
+    match World::new(alloc, shared) {
+        Ok(world) => replay_from(alloc, &site, events, world, out),
         Err(_) => Err(Halt::Memory),
     }
 }
@@ -46,7 +54,6 @@ fn replay_from<O: Sink>(
     mut world: World,
     out: &mut O,
 ) -> Result<(), Halt>
-    requires site { is_built_site site.now ≡ true }
     requires events { are_built_events events.now ≡ true }
     requires world { Represents site.now (held_in world) opening }
     requires going { GoesOn world }
@@ -59,7 +66,7 @@ fn replay_from<O: Sink>(
             Err(halt) => return Err(halt),
         }
     }
-    match put_end(alloc, world.history().len(), out) {
+    match put_end(alloc, world.hall().entries().len(), out) {
         Ok(()) => Ok(()),
         Err(Unput::WriteFault) => Err(Halt::WriteFault),
         Err(Unput::Memory) => Err(Halt::Memory),

@@ -6,6 +6,7 @@ use Rattle.cts_entry.specs.Histories.{entries_in, bytes_in}
 use Rattle.cts_entry.specs.declared.entry.Entry.{Entry}
 use Rattle.cts_entry.specs.declared.event.Event.{Event}
 use Rattle.cts_script.specs.declared.limits_event.LimitsEvent.{LimitsEvent}
+use Rattle.cts_script.specs.Effects.{effect_line}
 use Rattle.cts_script.specs.Transcripts.{lines_behind}
 use Rattle.cts_serve.specs.Ending.Lines.{end_line}
 use Rattle.cts_serve.specs.declared.replay.halt.Halt.{Halt}
@@ -27,11 +28,14 @@ limits_events site history e = []
 abbrev pub lines_of : SiteData → List Entry → List Entry → List ℕ
 lines_of site history entries = lines_behind site (limits_events site) history entries
 
--- The transcript: the lines of the entries of each event, behind the history before it. The events so far give nothing
--- else.
+-- the lines of what an event did behind a history: those of its entries, and then that of what it gave besides
+abbrev pub event_text : SiteData → List Entry → Did → List ℕ
+event_text site history did = lines_of site history did.entries ++ effect_line site did.effect
+
+-- The transcript: the lines of each event, behind the history before it.
 abbrev pub transcript : SiteData → List Entry → List Did → List ℕ
 transcript site history [] = []
-transcript site history (did ∷ dids) = lines_of site history did.entries ++ transcript site (history ++ did.entries) dids
+transcript site history (did ∷ dids) = event_text site history did ++ transcript site (history ++ did.entries) dids
 
 -- the line of the event after those that were done
 abbrev pub next_line : List Did → List (ℕ × Event) → ℕ
