@@ -1,4 +1,4 @@
--- The worked rows, computed by the definitions.
+-- Worked examples, computed by the definitions.
 use Rattle.std.proofs.Common.{◌≡◌, ℕ, true, false, List, [], ◌∷◌, Option, Some, None, refl}
 use Rattle.std.specs.Prelude.{codes, pos, ℤ, ◌*◌}
 use Rattle.cts_base.specs.declared.decimal.Decimal.{Decimal}
