@@ -18,7 +18,7 @@ RefusesTheFirst = (site : SiteData) (all : List Statement) (r : Refused) → (ev
 abbrev pub TakesTheOthers : Type 0
 TakesTheOthers = (site : SiteData) (all : List Statement) → NoneRefused (refusal site) all → events_of site all ≡ Ok (filter_map (line_in site) all)
 
--- A line is refused exactly where its words say no event.
+-- A line has no cause exactly where its words say an event.
 abbrev pub LinesAreRefused : Type 0
 LinesAreRefused = (site : SiteData) (s : Statement) → (refusal_in site s ≡ None) ↔ ((e : Event) × Says site s.words e)
 

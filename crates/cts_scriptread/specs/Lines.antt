@@ -1,6 +1,5 @@
 -- What a line says, read from its event: each event is said by the words of its own row, and by no others.
-use Rattle.std.specs.Prelude.{ℕ, ◌≡◌, ◌⊎◌, ◌+◌, ◌*◌, ◌<◌, ◌≤◌, pos, List, [], ◌∷◌, ◌++◌, codes, Some, Ok, IsTrue, length}
-use Rattle.std.specs.Prelude.{slice_get}
+use Rattle.std.specs.Prelude.{ℕ, ◌≡◌, ◌⊎◌, ◌+◌, ◌*◌, ◌<◌, ◌≤◌, pos, List, [], ◌∷◌, ◌++◌, codes, Some, Ok, IsTrue, length, slice_get}
 use Rattle.hex.specs.Hex.{decode_of}
 use Rattle.cts_base.specs.Names.{in_upper_case}
 use Rattle.cts_base.specs.Wholes.{WritesWhole}
