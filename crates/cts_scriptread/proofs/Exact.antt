@@ -1,7 +1,6 @@
 -- A word says nothing exactly where it names nothing, or writes no number.
-use Rattle.std.proofs.Common.{◌≡◌, ◌∙◌, ℕ, zero, suc, ◌+◌, ◌-◌, ◌<◌, ◌≤◌, ℤ, pos, negsuc, Bool, true, false, ◌||◌, ◌⊎◌, inl, inr, cond, List, [], ◌∷◌, ◌++◌, length, get_or, take, drop, Option, Some, None, refl, sym, ap, arith, lit<}
+use Rattle.std.proofs.Common.{◌≡◌, ◌∙◌, ℕ, zero, suc, ◌+◌, ◌-◌, ◌<◌, ◌≤◌, pos, Bool, true, false, ◌||◌, ◌⊎◌, inl, inr, cond, List, [], ◌∷◌, ◌++◌, length, get_or, take, drop, Option, Some, None, refl, sym, ap, arith, lit<}
 use Rattle.std.specs.Prelude.{is_some, nat_lt, slice_get, if◌then◌else◌}
-use Rattle.std.specs.Int.{is_negative}
 use Rattle.std.specs.List.{position, position_or_len}
 use Rattle.std.specs.Option.{option_or}
 use Rattle.std.proofs.lemmas.Bool.Decides.{nat_tests}
@@ -11,7 +10,6 @@ use Rattle.std.proofs.lemmas.Option.{get_or_from_slice_get, slice_get_within}
 use Rattle.std.proofs.lemmas.Slice.Eq.{bytes_eq-Decides}
 use Rattle.std.proofs.Math.Seq.{take-append_seam, drop-append_seam}
 use Rattle.cts_base.specs.Names.{in_upper_case, spells, upper, is_lower}
-use Rattle.cts_base.specs.Wholes.{whole_of}
 use Rattle.cts_base.proofs.WholeLemmas.{whole_from_writes}
 use Rattle.cts_def.specs.Sites.{InterfaceData, RouterData, SiteData}
 use Rattle.cts_scriptread.specs.Laws.{MakersAreNamed, InterfacesAreNamed, SlotsAreNamed, NumbersAreWritten, CountsAreWritten}
@@ -124,19 +122,6 @@ makers_are_named site word = (
 not_below_zero : (n : ℕ) → nat_lt n 0 ≡ false
 not_below_zero n = grind (arith, nat_tests)
 
-within_one : (below over : Bool) (most m n : ℕ) → nat_lt most m ≡ over → (if below || over then None else Some m) ≡ Some n → n ≤ most
-within_one true over most m n is e = absurd cc
-within_one false true most m n is e = absurd cc
-within_one false false most m n is e =
-    let same : m ≡ n = cc in
-    let least : m ≤ most = grind (arith, nat_tests) in
-    omega (arith, same, least)
-
-bounded : (most n : ℕ) (o : Option ℤ) → natural_in most o ≡ Some n → n ≤ most
-bounded most n None e = absurd cc
-bounded most n (Some (pos m)) e = within_one (is_negative (pos m)) (nat_lt most m) most m n refl e
-bounded most n (Some (negsuc m)) e = absurd cc
-
 read_one : (below over : Bool) (n : ℕ) → below ≡ false → over ≡ false → (if below || over then None else Some n) ≡ Some n
 read_one below over n b o = rw (b, o) refl
 
@@ -146,13 +131,13 @@ within most n h = read_one (nat_lt n 0) (nat_lt most n) n (not_below_zero n) (le
 pub numbers_are_written : NumbersAreWritten
 unfolding number_of
 numbers_are_written word n = (
-  λ e. (number_written word n e, bounded 4294967295 n (whole_of word) e),
+  λ e. number_written word n e,
   λ h. ap (natural_in 4294967295) (whole_from_writes word (pos n) h.0) ∙ within 4294967295 n h.1,
 )
 
 pub counts_are_written : CountsAreWritten
 unfolding count_of
 counts_are_written word n = (
-  λ e. (count_written word n e, bounded 18446744073709551615 n (whole_of word) e),
+  λ e. count_written word n e,
   λ h. ap (natural_in 18446744073709551615) (whole_from_writes word (pos n) h.0) ∙ within 18446744073709551615 n h.1,
 )

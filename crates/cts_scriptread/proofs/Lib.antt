@@ -3,3 +3,4 @@ pub mod Taken
 pub mod Rows
 pub mod OneEach
 pub mod Exact
+pub mod Refusing

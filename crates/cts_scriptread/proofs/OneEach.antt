@@ -27,7 +27,7 @@ one_of : (site : SiteData) (o : Option (Keyword × List (List ℕ))) → cause_i
 one_of site None none = absurd cc
 one_of site (Some l) none = the_one (event_of site l.0 l.1) (says_event site l.0 l.1 none)
 
-one_event : (site : SiteData) (s : Statement) → refusal_in site s ≡ None → (e : Event) × (event_in site s.words ≡ Some e)
+pub one_event : (site : SiteData) (s : Statement) → refusal_in site s ≡ None → (e : Event) × (event_in site s.words ≡ Some e)
 one_event site s none = one_of site (parts s.words) (no_cause s.line (cause_in site (parts s.words)) none)
 
 each : (site : SiteData) (all : List Statement) → NoneRefused (refusal site) all → AllZip (IsOfStatement site) all (filter_map (line_in site) all)

@@ -1,11 +1,12 @@
 -- What a line says is what its row says of its words.
-use Rattle.std.proofs.Common.{◌≡◌, ◌∙◌, ℕ, ◌+◌, ◌-◌, ◌<◌, ℤ, pos, negsuc, Bool, true, false, ◌||◌, inl, inr, List, [], ◌∷◌, ◌++◌, length, take, drop, Option, Some, None, Result, Ok, Err, refl, sym, ap, arith, subst}
+use Rattle.std.proofs.Common.{◌≡◌, ◌∙◌, ℕ, ◌+◌, ◌-◌, ◌<◌, ◌≤◌, ℤ, pos, negsuc, Bool, true, false, ◌||◌, inl, inr, List, [], ◌∷◌, ◌++◌, length, take, drop, Option, Some, None, Result, Ok, Err, refl, sym, ap, arith, subst}
 use Rattle.std.specs.Prelude.{codes, nat_lt, option_map, option_and_then, slice_get, IsTrue, if◌then◌else◌}
 use Rattle.std.specs.Int.{is_negative}
 use Rattle.std.specs.List.{position, AllByRecursion}
 use Rattle.std.specs.Option.{option_or}
 use Rattle.std.specs.Result.{result_ok}
 use Rattle.std.specs.Str.{bytes_eq}
+use Rattle.std.proofs.lemmas.Bool.Decides.{nat_tests}
 use Rattle.std.proofs.lemmas.Slice.Eq.{bytes_eq-Decides}
 use Rattle.std.proofs.lemmas.List.Quantifiers.{position-Some}
 use Rattle.std.proofs.lemmas.Option.{slice_get-get_or}
@@ -25,7 +26,7 @@ use Rattle.cts_scriptread.specs.declared.form.Keyword.{Keyword}
 use Rattle.cts_scriptread.specs.declared.form.Keyword.TheVariants as keyword
 use Rattle.cts_scriptread.specs.Events.{time_at, time_in, opens_in, piece_in, finish_in, write_in, call_in, drain_of, drain_in, stop_in, try_in, event_of}
 use Rattle.cts_scriptread.specs.Forms.{keywords, keyword_of, with_words}
-use Rattle.cts_scriptread.specs.Lines.{IsLine, NamesInterface, NamesSlot, NamesMaker, Writes, EndsBy, Says}
+use Rattle.cts_scriptread.specs.Lines.{IsLine, NamesInterface, NamesSlot, NamesMaker, WritesNumber, WritesCount, EndsBy, Says}
 use Rattle.cts_scriptread.specs.Makers.{both, interface_named, router_named, side_of, slot_number, slot_named, maker_named}
 use Rattle.cts_scriptread.specs.Scripts.{event_in}
 use Rattle.cts_scriptread.specs.Trials.{Asked, trial_of}
@@ -45,13 +46,26 @@ natural_whole : (most n : ℕ) (o : Option ℤ) → natural_in most o ≡ Some n
 natural_whole most n None e = absurd cc
 natural_whole most n (Some z) e = ap Some (natural_is most n z e)
 
-pub number_written : (word : List ℕ) (n : ℕ) → number_of word ≡ Some n → Writes word n
-unfolding number_of
-number_written word n e = writes_from_whole word (pos n) (natural_whole 4294967295 n (whole_of word) e)
+within_one : (below over : Bool) (most m n : ℕ) → nat_lt most m ≡ over → (if below || over then None else Some m) ≡ Some n → n ≤ most
+within_one true over most m n is e = absurd cc
+within_one false true most m n is e = absurd cc
+within_one false false most m n is e =
+    let same : m ≡ n = cc in
+    let least : m ≤ most = grind (arith, nat_tests) in
+    omega (arith, same, least)
 
-pub count_written : (word : List ℕ) (n : ℕ) → count_of word ≡ Some n → Writes word n
+bounded : (most n : ℕ) (o : Option ℤ) → natural_in most o ≡ Some n → n ≤ most
+bounded most n None e = absurd cc
+bounded most n (Some (pos m)) e = within_one (is_negative (pos m)) (nat_lt most m) most m n refl e
+bounded most n (Some (negsuc m)) e = absurd cc
+
+pub number_written : (word : List ℕ) (n : ℕ) → number_of word ≡ Some n → WritesNumber word n
+unfolding number_of
+number_written word n e = (writes_from_whole word (pos n) (natural_whole 4294967295 n (whole_of word) e), bounded 4294967295 n (whole_of word) e)
+
+pub count_written : (word : List ℕ) (n : ℕ) → count_of word ≡ Some n → WritesCount word n
 unfolding count_of
-count_written word n e = writes_from_whole word (pos n) (natural_whole 18446744073709551615 n (whole_of word) e)
+count_written word n e = (writes_from_whole word (pos n) (natural_whole 18446744073709551615 n (whole_of word) e), bounded 18446744073709551615 n (whole_of word) e)
 
 -- ---- makers
 
@@ -204,7 +218,7 @@ call_row site key (desk ∷ text ∷ []) e h said =
     subst (Says site (key ∷ desk ∷ text ∷ [])) b.2 (desk, line (codes "CALL") key (desk ∷ text ∷ []) h, number_written desk b.0 b.1)
 call_row site key (desk ∷ text ∷ w ∷ ws) e h said = absurd cc
 
-drained_row : (site : SiteData) (key who count : List ℕ) (n : ℕ) (e : Event) (log : Bool) → in_upper_case key ≡ codes "DRAIN" → Writes count n → is_log who ≡ log
+drained_row : (site : SiteData) (key who count : List ℕ) (n : ℕ) (e : Event) (log : Bool) → in_upper_case key ≡ codes "DRAIN" → WritesCount count n → is_log who ≡ log
     → (if log then Some (event.DrainLog n) else option_map (λ slot. event.DrainSlot slot n) (slot_named site who)) ≡ Some e → Says site (key ∷ who ∷ count ∷ []) e
 drained_row site key who count n e true h number log said =
     let same : event.DrainLog n ≡ e = cc in
@@ -234,7 +248,7 @@ try_row site key ws e h said =
 
 -- ---- keywords
 
-abbrev keyword_text : Keyword → List ℕ
+abbrev pub keyword_text : Keyword → List ℕ
 keyword_text keyword.Time = codes "TIME"
 keyword_text keyword.Open = codes "OPEN"
 keyword_text keyword.Bytes = codes "BYTES"

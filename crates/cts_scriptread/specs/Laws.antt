@@ -1,13 +1,13 @@
 -- What holds of scripts, said of all their statements.
-use Rattle.std.specs.Prelude.{◌≡◌, ◌↔◌, ◌≤◌, ℕ, true, List, Some, is_some, Ok, Err}
+use Rattle.std.specs.Prelude.{◌≡◌, ◌↔◌, ℕ, true, List, Some, None, is_some, Ok, Err}
 use Rattle.std.specs.List.{AllZip, filter_map}
 use Rattle.cts_def.specs.Sites.{SiteData}
 use Rattle.cts_entry.specs.declared.event.Event.{Event}
 use Rattle.cts_words.specs.declared.statement.Statement.{Statement}
 use Rattle.cts_words.specs.Refusals.{NoneRefused, IsRefusedFirst}
-use Rattle.cts_scriptread.specs.Lines.{NamesInterface, NamesSlot, NamesMaker, Writes, Says}
+use Rattle.cts_scriptread.specs.Lines.{NamesInterface, NamesSlot, NamesMaker, WritesNumber, WritesCount, Says}
 use Rattle.cts_scriptread.specs.Makers.{interface_named, slot_named, maker_named}
-use Rattle.cts_scriptread.specs.Scripts.{Refused, refusal, line_in, events_of}
+use Rattle.cts_scriptread.specs.Scripts.{Refused, refusal_in, refusal, line_in, events_of}
 use Rattle.cts_scriptread.specs.Words.{number_of, count_of}
 
 -- The statement that is refused is the first one with a cause, and it is refused for the first of its causes.
@@ -17,6 +17,10 @@ RefusesTheFirst = (site : SiteData) (all : List Statement) (r : Refused) → (ev
 -- Where no statement has a cause, there are events.
 abbrev pub TakesTheOthers : Type 0
 TakesTheOthers = (site : SiteData) (all : List Statement) → NoneRefused (refusal site) all → events_of site all ≡ Ok (filter_map (line_in site) all)
+
+-- A line has no cause exactly where its words say an event.
+abbrev pub LinesAreRefused : Type 0
+LinesAreRefused = (site : SiteData) (s : Statement) → (refusal_in site s ≡ None) ↔ ((e : Event) × Says site s.words e)
 
 -- an event with its line is what a statement says
 abbrev pub IsOfStatement : SiteData → Statement → ℕ × Event → Type 0
@@ -40,7 +44,7 @@ SlotsAreNamed = (site : SiteData) (word : List ℕ) → (is_some (slot_named sit
 
 -- A word says a number exactly where it writes it, within its bound.
 abbrev pub NumbersAreWritten : Type 0
-NumbersAreWritten = (word : List ℕ) (n : ℕ) → (number_of word ≡ Some n) ↔ (Writes word n × (n ≤ 4294967295))
+NumbersAreWritten = (word : List ℕ) (n : ℕ) → (number_of word ≡ Some n) ↔ WritesNumber word n
 
 abbrev pub CountsAreWritten : Type 0
-CountsAreWritten = (word : List ℕ) (n : ℕ) → (count_of word ≡ Some n) ↔ (Writes word n × (n ≤ 18446744073709551615))
+CountsAreWritten = (word : List ℕ) (n : ℕ) → (count_of word ≡ Some n) ↔ WritesCount word n

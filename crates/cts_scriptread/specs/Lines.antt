@@ -1,6 +1,5 @@
 -- What a line says, read from its event: each event is said by the words of its own row, and by no others.
-use Rattle.std.specs.Prelude.{ℕ, ◌≡◌, ◌⊎◌, ◌+◌, ◌*◌, ◌<◌, pos, List, [], ◌∷◌, ◌++◌, codes, Some, Ok, IsTrue, length}
-use Rattle.std.specs.Prelude.{slice_get}
+use Rattle.std.specs.Prelude.{ℕ, ◌≡◌, ◌⊎◌, ◌+◌, ◌*◌, ◌<◌, ◌≤◌, pos, List, [], ◌∷◌, ◌++◌, codes, Some, Ok, IsTrue, length, slice_get}
 use Rattle.hex.specs.Hex.{decode_of}
 use Rattle.cts_base.specs.Names.{in_upper_case}
 use Rattle.cts_base.specs.Wholes.{WritesWhole}
@@ -40,9 +39,12 @@ pub record NamesSlot (site : SiteData) (word : List ℕ) (number : ℕ) : Type 0
 abbrev pub NamesMaker : SiteData → List ℕ → ℕ → Type 0
 NamesMaker site word number = NamesInterface site word number ⊎ NamesSlot site word number
 
--- the word writes this number
-abbrev pub Writes : List ℕ → ℕ → Type 0
-Writes word number = WritesWhole word (pos number)
+-- the word writes this number, within 32 bits or within 64
+abbrev pub WritesNumber : List ℕ → ℕ → Type 0
+WritesNumber word number = WritesWhole word (pos number) × (number ≤ 4294967295)
+
+abbrev pub WritesCount : List ℕ → ℕ → Type 0
+WritesCount word number = WritesWhole word (pos number) × (number ≤ 18446744073709551615)
 
 -- the word for why a connection ends
 abbrev pub EndsBy : Why → List ℕ → Type 0
@@ -56,7 +58,7 @@ EndsBy _ word = ⊥
 
 abbrev pub Says : SiteData → List (List ℕ) → Event → Type 0
 Says site words (event.SetTime t) =
-    (seconds : List ℕ) × (micros : List ℕ) × IsLine (codes "TIME") (seconds ∷ micros ∷ []) words × Writes seconds t.seconds × Writes micros t.micros
+    (seconds : List ℕ) × (micros : List ℕ) × IsLine (codes "TIME") (seconds ∷ micros ∷ []) words × WritesNumber seconds t.seconds × WritesNumber micros t.micros
 Says site words (event.Opens by) = (who : List ℕ) × IsLine (codes "OPEN") (who ∷ []) words × NamesMaker site who by
 Says site words (event.Piece by bytes) =
     (who : List ℕ) × (digits : List ℕ) × IsLine (codes "BYTES") (who ∷ digits ∷ []) words × NamesMaker site who by
@@ -64,10 +66,10 @@ Says site words (event.Piece by bytes) =
 Says site words (event.Finish by end) =
     (who : List ℕ) × (reason : List ℕ) × IsLine (codes "CLOSE") (who ∷ reason ∷ []) words × NamesMaker site who by × EndsBy end reason
 Says site words (event.Write interface count) =
-    (who : List ℕ) × (number : List ℕ) × IsLine (codes "WRITE") (who ∷ number ∷ []) words × NamesInterface site who interface × Writes number count
-Says site words (event.Call desk text) = (number : List ℕ) × IsLine (codes "CALL") (number ∷ text ∷ []) words × Writes number desk
-Says site words (event.DrainLog count) = (number : List ℕ) × IsLine (codes "DRAIN") (codes "LOG" ∷ number ∷ []) words × Writes number count
+    (who : List ℕ) × (number : List ℕ) × IsLine (codes "WRITE") (who ∷ number ∷ []) words × NamesInterface site who interface × WritesCount number count
+Says site words (event.Call desk text) = (number : List ℕ) × IsLine (codes "CALL") (number ∷ text ∷ []) words × WritesNumber number desk
+Says site words (event.DrainLog count) = (number : List ℕ) × IsLine (codes "DRAIN") (codes "LOG" ∷ number ∷ []) words × WritesCount number count
 Says site words (event.DrainSlot slot count) =
-    (who : List ℕ) × (number : List ℕ) × IsLine (codes "DRAIN") (who ∷ number ∷ []) words × NamesSlot site who slot × Writes number count
+    (who : List ℕ) × (number : List ℕ) × IsLine (codes "DRAIN") (who ∷ number ∷ []) words × NamesSlot site who slot × WritesCount number count
 Says site words event.Stop = IsLine (codes "STOP") [] words
 Says site words (event.Try behind) = IsLine (codes "TRY") behind words × (asked : Asked) × (trial_of behind ≡ Some asked)

@@ -1,9 +1,11 @@
 //! What holds of all scripts.
 
-ghost use Rattle.cts_scriptread.specs.Laws.{CountsAreWritten, EventsAreOfTheirStatements, InterfacesAreNamed, MakersAreNamed, NumbersAreWritten, RefusesTheFirst, SlotsAreNamed, TakesTheOthers};
+ghost use Rattle.cts_scriptread.specs.Laws.{CountsAreWritten, EventsAreOfTheirStatements, InterfacesAreNamed, LinesAreRefused, MakersAreNamed, NumbersAreWritten, RefusesTheFirst, SlotsAreNamed, TakesTheOthers};
 
-/// The line that is refused is the first one with a cause, and where none has a cause each line says one event.
+/// A line has a cause exactly where its words say no event of the site. The line that is refused is the first one with a cause,
+/// and where none has a cause each line says one event.
 pub fn first_line_is_refused()
+    ensures lines { LinesAreRefused }
     ensures refused { RefusesTheFirst }
     ensures taken { TakesTheOthers }
 {}
