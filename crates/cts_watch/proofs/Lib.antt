@@ -5,3 +5,5 @@ mod Rows
 pub mod RowSteps
 pub mod Tells
 pub mod Noted
+pub mod Placed
+pub mod Unwatched

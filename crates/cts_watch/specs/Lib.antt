@@ -5,5 +5,6 @@ pub mod Settings
 pub mod Sets
 pub mod Samples
 pub mod Events
+pub mod Watching
 pub mod Steps
 pub mod Keeping

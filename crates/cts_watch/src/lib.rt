@@ -13,6 +13,7 @@ mod sampling;
 mod settings;
 mod table;
 mod types;
+mod watching;
 
 pub use bringing::brought;
 pub use changes::events;
@@ -21,3 +22,4 @@ pub use finding::limits_of;
 pub use known::{set_known, sets_known};
 pub use running::state_of;
 pub use types::{LimitsEvent, LimitsUsed};
+pub use watching::watches;
