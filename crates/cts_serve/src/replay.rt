@@ -37,11 +37,8 @@ pub fn replay<O: Sink>(
     let Ok(site) = Arc::new(alloc, site) else {
         return Err(Halt::Memory);
     };
-    let Ok(shared) = Arc::try_clone(&site) else {
-        return Err(Halt::Memory);
-    };
-    match World::new(alloc, shared) {
-        Ok(world) => replay_from(alloc, &site, events, world, out),
+    match World::new(alloc, site) {
+        Ok(world) => replay_from(alloc, events, world, out),
         Err(_) => Err(Halt::Memory),
     }
 }
@@ -49,19 +46,18 @@ pub fn replay<O: Sink>(
 // Does the events in a world in which nothing has happened.
 fn replay_from<O: Sink>(
     alloc: Global,
-    site: &Site,
     events: &[(u32, Event)],
     mut world: World,
     out: &mut O,
 ) -> Result<(), Halt>
     requires events { are_built_events events.now ≡ true }
-    requires world { Represents site.now (held_in world) opening }
+    requires world { Represents (held_in world).basis.site (held_in world) opening }
     requires going { GoesOn world }
-    ensures { Replays site.now events.now result (O.seen out.old) (O.seen out.new) }
+    ensures { Replays (held_in world).basis.site events.now result (O.seen out.old) (O.seen out.new) }
 {
     let mut left = events;
     'events: while let Some((next, after)) = left.split_first() {
-        match do_event(alloc, site, &mut world, next.0, &next.1, out) {
+        match do_event(alloc, &mut world, next.0, &next.1, out) {
             Ok(()) => left = after,
             Err(halt) => return Err(halt),
         }

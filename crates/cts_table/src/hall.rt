@@ -6,6 +6,7 @@ ghost use Rattle.cts_def.specs.Sites.{IsSoundSite};
 ghost use Rattle.cts_entry.specs.Histories.{is_connected, is_stopped};
 ghost use Rattle.cts_entry.specs.Legal.{has_ended, most_bytes, most_entries};
 ghost use Rattle.cts_table.specs.Keeping.{IsKept};
+ghost use Rattle.cts_watch.specs.Watching.{watches};
 ghost use Rattle.cts_table.specs.States.{added, begun, CanAdd, IsRoomAnswer, with_room};
 
 use crate::kinds::connects;
@@ -13,6 +14,7 @@ use crate::{Basis, HallFault, History};
 use cts_base::Memory;
 use cts_def::Site;
 use cts_entry::{Entry, MOST_BYTES, MOST_ENTRIES, Stands, bytes_for, entries_for, is_stop};
+use cts_watch::watches;
 use std::alloc::Global;
 use std::marker::Model;
 use std::sync::Arc;
@@ -26,6 +28,7 @@ pub struct Hall {
     site: Arc<Site>,
     limit_entries: u64,
     limit_bytes: u64,
+    watched: bool,
     entries: Vec<Entry>,
     stopped: bool,
     used_entries: u64,
@@ -78,11 +81,13 @@ impl Hall {
     {
         let rules: &Site = &site;
         let _desks = rules.desks;
+        let watched = watches(rules);
         let places = Vec::with_capacity(alloc, MOST_OWED)?;
         Ok(Hall {
             site,
             limit_entries: entries,
             limit_bytes: bytes,
+            watched,
             entries: places,
             stopped: false,
             used_entries: 0,
@@ -141,6 +146,13 @@ impl Hall {
         ensures { result.now ≡ self.now.entries }
     {
         self.entries.as_slice()
+    }
+
+    /// Whether an item of the site has limits or state colours, so that its limits state may change.
+    pub(crate) fn is_watched(&self) -> bool
+        ensures { result ≡ watches self.now.basis.site }
+    {
+        self.watched
     }
 
     /// The site of the history.

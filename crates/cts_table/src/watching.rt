@@ -54,11 +54,14 @@ impl Hall {
     }
 
     /// The changes of limits states at the entries from this one on, in the order of the entries, and at one entry in the order
-    /// of the items. It goes once over the entries. `Memory` where none was found for them, or for what is kept of the items.
+    /// of the items. It goes once over the entries, and over none where no item of the site has limits or state colours. `Memory` where none was found for them, or for what is kept of the items.
     pub fn events(&self, alloc: Global, from: u64) -> Result<Vec<LimitsEvent>, Memory>
         ensures { IfOk result (λ found. found.items ≡ events_from self.now.basis.site self.now.entries from) }
     {
         self.is_kept();
+        if !self.is_watched() {
+            return Ok(Vec::new(alloc));
+        }
         cts_watch::events(alloc, self.site(), self.entries(), from)
     }
 }

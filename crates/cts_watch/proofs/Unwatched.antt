@@ -1,5 +1,5 @@
 -- Where no item has limits or state colours, no limits state changes.
-use Rattle.std.proofs.Common.{◌≡◌, ℕ, zero, suc, ◌+◌, Bool, true, false, ◌||◌, List, [], ◌∷◌, ◌++◌, Option, Some, None, refl, sym, ◌∙◌, ap, subst, is_some, append-nil}
+use Rattle.std.proofs.Common.{◌≡◌, ℕ, zero, suc, ◌+◌, Bool, true, false, ◌||◌, List, [], ◌∷◌, ◌++◌, Option, Some, None, length, refl, sym, ◌∙◌, ap, subst, is_some, append-nil}
 use Rattle.std.specs.Prelude.{slice_get, if◌then◌else◌}
 use Rattle.std.specs.List.{list_any, find, filter}
 use Rattle.cts_def.specs.Items.{ItemData, has_color}
@@ -14,6 +14,7 @@ use Rattle.cts_conv.specs.Conversions.{before_states, is_state_of}
 use Rattle.cts_conv.specs.Raws.{raw_value}
 use Rattle.cts_entry.specs.declared.entry.Entry.{Entry}
 use Rattle.cts_limits.specs.States.{Sample, state_of, change_from}
+use Rattle.cts_limits.specs.States as states
 use Rattle.cts_watch.specs.Brought.{brings, brought_by}
 use Rattle.cts_watch.specs.Gathered.{gathered_from, gathered}
 use Rattle.cts_watch.specs.Settings.{Watched, current_set, flat_told, sets_of, sets_with, limits_used}
@@ -51,6 +52,7 @@ no_sample w before e h =
         → (if b then sample_with n (color_seen None w.item (raw_value w.packet w.item bytes)) else []) ≡ []
     none_seen true n bytes h = ap (sample_with n) (uncolored (is_state_of (before_states w.item (raw_value w.packet w.item bytes))) w.item.states h)
     none_seen false n bytes h = refl
+
     of_bytes : (o : Option (List ℕ)) → (setting_of w before).limits ≡ None → list_any has_color w.item.states ≡ false → sample_in w (setting_of w before) o ≡ []
     of_bytes None l h = refl
     of_bytes (Some bytes) l h =
@@ -63,10 +65,10 @@ no_samples w before [] h = refl
 no_samples w before (e ∷ rest) h = ap (λ (l : List Sample). l ++ gathered_from (sample_at w) (before ++ e ∷ []) rest) (no_sample w before e h) ∙ no_samples w (before ++ e ∷ []) rest h
 
 no_event : (before : List Entry) (e : Entry) (w : Watched) → is_watched w.item ≡ false → event_of before e w ≡ []
-unfolding state_of
+unfolding states.state_back states.state_of
 no_event before e w h =
-    ap (λ (l : List Sample). as_event _ w.at w.index (change_from (state_of l) (state_after w (before ++ e ∷ [])))) (no_samples w [] before h)
-    ∙ ap (λ (l : List Sample). as_event _ w.at w.index (change_from (state_of []) (state_of l))) (no_samples w [] (before ++ e ∷ []) h)
+    ap (λ (l : List Sample). as_event (length before) w.at w.index (change_from (state_of l) (state_after w (before ++ e ∷ [])))) (no_samples w [] before h)
+    ∙ ap (λ (l : List Sample). as_event (length before) w.at w.index (change_from (state_of []) (state_of l))) (no_samples w [] (before ++ e ∷ []) h)
 
 no_items : (before : List Entry) (e : Entry) (packet : PacketData) (p i : ℕ) (items : List ItemData) → list_any is_watched items ≡ false → item_events before e packet p i items ≡ []
 no_items before e packet p i [] h = refl

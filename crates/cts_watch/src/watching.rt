@@ -14,13 +14,17 @@ pub fn watches(site: &Site) -> bool
     ensures watched { result ≡ watches site.now }
     ensures none { result ≡ false → (h : List Entry) (n : ℕ) → events_from site.now h n ≡ [] }
 {
-    have_watched(site.definitions.telemetry.as_slice())
+    any_is_watched(site)
 }
 
-fn have_watched(packets: &[Packet]) -> bool
-    ensures { result ≡ list_any has_watched packets.now }
+fn any_is_watched(site: &Site) -> bool
+    ensures { result ≡ watches site.now }
 {
-    packets.iter().any(|packet| has_watched(packet))
+    site.definitions
+        .telemetry
+        .as_slice()
+        .iter()
+        .any(|packet| has_watched(packet))
 }
 
 fn has_watched(packet: &Packet) -> bool

@@ -1,5 +1,5 @@
 -- Why a file gives nothing, by its bytes, and what one says that is taken.
-use Rattle.std.specs.Prelude.{ℕ, nat_lt, Bool, List, [], length, Option, Some, None, Result, Ok, Err, unwrap_or, if◌then◌else◌}
+use Rattle.std.specs.Prelude.{ℕ, nat_lt, Bool, true, List, [], length, Option, Some, None, Result, Ok, Err, unwrap_or, if◌then◌else◌}
 use Rattle.std.specs.Result.{result_unwrap_or}
 use Rattle.cts_words.specs.declared.fault.WordFault.{WordFault}
 use Rattle.cts_words.specs.declared.statement.Statement.{Statement}
@@ -50,8 +50,12 @@ site_read definitions statements = or_unloaded cause.Site (site_of definitions s
 unfoldable pub script_read : SiteData → List Statement → Result (List (ℕ × Event)) Unloaded
 script_read site statements = or_unloaded cause.Script (events_of site statements)
 
-abbrev pub judge_definitions : (DefinitionsData → Bool) → List ℕ → Option Unloaded
-judge_definitions are_built bytes = judge Definitions (λ statements. verdict are_built (definitions_read statements)) bytes
+-- all definitions are built
+abbrev pub takes_all : DefinitionsData → Bool
+takes_all definitions = true
+
+abbrev pub judge_definitions : List ℕ → Option Unloaded
+judge_definitions bytes = judge Definitions (λ statements. verdict takes_all (definitions_read statements)) bytes
 
 abbrev pub judge_site : (SiteData → Bool) → DefinitionsData → List ℕ → Option Unloaded
 judge_site is_built definitions bytes = judge Site (λ statements. verdict is_built (site_read definitions statements)) bytes

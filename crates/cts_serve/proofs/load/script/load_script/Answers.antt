@@ -14,14 +14,14 @@ returns-in_err-found-clause-content g c =
 
 pub returns-then-are_scripted-clause-content : goal.returns-then-are_scripted-clause-content
 returns-then-are_scripted-clause-content g c =
-    takes Script are_scripted (script_read c.args.site.now) no_events _ c.args.name.now c.args.name.now refl c.in_ok-found.found.items c.in-Ok.events.items c.in_ok-found.ensures.content (script_ok c.args.site.now _ c.in-Ok.events.items (rw c.deref.ensures.value at c.in-Ok.ensures)) (ap are_scripted (sym c.deref-2.ensures.value) ∙ (sym c.are_scripted.ensures ∙ c.if-are_scripted.true))
+    takes Script are_scripted (script_read c.args.site.now) no_events _ c.args.name.now c.args.name.now refl c.in_ok-found.found.items c.in-Ok.events.items c.in_ok-found.ensures.content (script_ok c.args.site.now _ c.in-Ok.events.items (rw c.deref.ensures.value at c.in-Ok.ensures)) (ap are_scripted (sym c.deref-in-Ok.ensures.value) ∙ (sym c.are_scripted.ensures ∙ c.if-are_scripted.true))
 
 pub returns-then-are_scripted-clause-built : goal.returns-then-are_scripted-clause-built
-returns-then-are_scripted-clause-built g c = are_built c.in-Ok.events.items (ap are_scripted (sym c.deref-2.ensures.value) ∙ (sym c.are_scripted.ensures ∙ c.if-are_scripted.true))
+returns-then-are_scripted-clause-built g c = are_built c.in-Ok.events.items (ap are_scripted (sym c.deref-in-Ok.ensures.value) ∙ (sym c.are_scripted.ensures ∙ c.if-are_scripted.true))
 
 pub returns-in-Ok-clause-content : goal.returns-in-Ok-clause-content
 returns-in-Ok-clause-content g c =
-    lacks Script are_scripted (script_read c.args.site.now) no_events _ c.args.name.now c.args.name.now refl c.in_ok-found.found.items c.in-Ok.events.items c.in_ok-found.ensures.content (script_ok c.args.site.now _ c.in-Ok.events.items (rw c.deref.ensures.value at c.in-Ok.ensures)) (ap are_scripted (sym c.deref-2.ensures.value) ∙ (sym c.are_scripted.ensures ∙ c.if-are_scripted.false))
+    lacks Script are_scripted (script_read c.args.site.now) no_events _ c.args.name.now c.args.name.now refl c.in_ok-found.found.items c.in-Ok.events.items c.in_ok-found.ensures.content (script_ok c.args.site.now _ c.in-Ok.events.items (rw c.deref.ensures.value at c.in-Ok.ensures)) (ap are_scripted (sym c.deref-in-Ok.ensures.value) ∙ (sym c.are_scripted.ensures ∙ c.if-are_scripted.false))
 
 pub returns-in-Err-Refused-clause-content : goal.returns-in-Err-Refused-clause-content
 returns-in-Err-Refused-clause-content g c =
