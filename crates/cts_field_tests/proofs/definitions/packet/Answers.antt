@@ -2,8 +2,8 @@ use Rattle.std.proofs.Common.{ℕ, List, ap, sym, ◌∙◌}
 use Rattle.cts_def.specs.Items.{ItemData, is_same, span_of}
 use Rattle.cts_def.specs.Packets.{received_count, unknown}
 use Rattle.cts_def.specs.Spans.{bytes_needed, is_misplaced, is_variable}
-use Rattle.cts_def.proofs.Builds.{sound_packet}
-use Rattle.cts_def.proofs.tests.packet.Goals as goal
+use Rattle.cts_field_tests.proofs.Builds.{sound_packet}
+use Rattle.cts_field_tests.proofs.definitions.packet.Goals as goal
 
 pub invariant_of-result-3 : goal.invariant_of-result-3
 invariant_of-result-3 c =

@@ -1,7 +1,7 @@
 use Rattle.std.proofs.Common.{refl, ap, sym, ◌∙◌}
 use Rattle.cts_def.specs.Spans.{is_misplaced}
-use Rattle.cts_def.proofs.Builds.{sound_id_item}
-use Rattle.cts_def.proofs.tests.id_item.Goals as goal
+use Rattle.cts_field_tests.proofs.Builds.{sound_id_item}
+use Rattle.cts_field_tests.proofs.definitions.id_item.Goals as goal
 
 pub invariant_of-result : goal.invariant_of-result
 invariant_of-result c =

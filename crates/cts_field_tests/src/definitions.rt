@@ -1,9 +1,12 @@
 // What no clause says: examples from outside, and that calls succeed where there is memory.
 ghost use Rattle.std.specs.Prelude.{◌≡◌};
 
-use super::*;
 use cts_base::{Bytes, Decimal, List, Name};
 use cts_bits::{Order, Place};
+use cts_def::{
+    Conversion, Item, ItemKind, Limits, Overflow, Packet, Preset, ProtoSpec, Span, Start, Time,
+    is_format, is_too_large,
+};
 use std::alloc::Global;
 use std::test::Fail;
 
