@@ -1,4 +1,4 @@
-use crate::{Fault, Reader, Spelled, first_that_holds, keyword_in, read_statements, word_at};
+use cts_reader::{Fault, Reader, Spelled, first_that_holds, keyword_in, read_statements, word_at};
 use cts_words::{Statement, statements};
 use std::alloc::Global;
 
@@ -17,7 +17,7 @@ struct Count {
 
 impl Reader for Count {
     ghost use Rattle.std.specs.Prelude.{Some, None, ◌==◌, if◌then◌else◌};
-    ghost use Rattle.cts_reader.specs.declared.tests.Bad.TheVariants.{Second};
+    ghost use Rattle.cts_base_tests.specs.declared.reader.Bad.TheVariants.{Second};
 
     type Cause = Bad;
 

@@ -1,5 +1,9 @@
 // What no clause says: fields of outside examples, and every small place against a walk bit by bit.
-use super::*;
+use cts_bits::{
+    Order, Place, PlaceFault, big_fields_in_turn_are_apart, field_is_its_bits,
+    fields_of_other_bytes_are_apart, read_bytes, read_int, read_uint, write_has_one_outcome,
+    write_int, write_uint,
+};
 use std::test::Fail;
 
 const BYTES: [u8; 12] = [

@@ -1,104 +1,16 @@
 // What no clause says: examples from outside, and that calls succeed where there is memory.
-ghost use Rattle.std.specs.Prelude.{◌≡◌};
-
-use super::*;
-use cts_base::{Bytes, Decimal, List, Name};
+use cts_base::{Bytes, Decimal, List};
 use cts_bits::{Order, Place};
-use std::alloc::Global;
+use cts_def::{ItemKind, Limits, ProtoSpec, Span, Start, Time, is_format, is_too_large};
 use std::test::Fail;
 
-fn span(kind: ItemKind, order: Order, offset: i32, size: i32) -> Span
-    ensures { result ≡ record { kind = kind; order = order; offset = offset; size = size } }
-{
+fn span(kind: ItemKind, order: Order, offset: i32, size: i32) -> Span {
     Span {
         kind,
         order,
         offset,
         size,
     }
-}
-
-/// An id item at this place, whose preset is its id too.
-fn id_item(
-    alloc: Global,
-    name: Name,
-    kind: ItemKind,
-    order: Order,
-    offset: i32,
-    size: i32,
-    id: i128,
-) -> Result<Item, Fail> {
-    if span(kind, order, offset, size).is_misplaced() || !kind.is_number() || offset < 0 {
-        return Err(Fail::new("no place of an id"));
-    }
-    let bits = size.unsigned_abs();
-    if bits > 64 || !kind.is_spelled(bits, id) {
-        return Err(Fail::new("no spelling of the id"));
-    }
-    Ok(Item {
-        name,
-        kind,
-        offset,
-        size,
-        order,
-        id: Some(id),
-        range: None,
-        preset: Preset::Whole(id),
-        states: List::of(Vec::new(alloc)),
-        conversion: Conversion::Plain,
-        limits: None,
-        units: None,
-        format: None,
-        required: false,
-        overflow: Overflow::Error,
-    })
-}
-
-/// A packet of one item.
-fn packet(alloc: Global, target: Name, name: Name, item: Item) -> Result<Packet, Fail> {
-    if target.as_slice() == b"UNKNOWN".as_slice()
-        || item.name.as_slice() == b"RECEIVED_COUNT".as_slice()
-    {
-        return Err(Fail::new("a name that is taken"));
-    }
-    let length = item.span().bytes_needed();
-    let variable = item.span().is_variable();
-    Ok(Packet {
-        target,
-        name,
-        items: List::of(vec![in alloc; item]?),
-        length,
-        variable,
-        hazardous: false,
-    })
-}
-
-#[test]
-fn a_start_has_the_id_fields(rt: HostRuntime) -> Result<(), Fail> {
-    let alloc = rt.alloc();
-    let name = Name::read(alloc, b"ID")?;
-    let item = id_item(alloc, name, ItemKind::Int, Order::Little, 8, 16, -2)?;
-    let Some((at, id, signed)) = item.id_field() else {
-        return Err(Fail::new("no id field"));
-    };
-    assert_eq!(rt;
-        (at.offset(), at.bits(), at.order()),
-        (8, 16, Order::Little)
-    );
-    assert_eq!(rt; (id, signed), (-2, true));
-    let packet = packet(
-        alloc,
-        Name::read(alloc, b"T")?,
-        Name::read(alloc, b"P")?,
-        item,
-    )?;
-    let start = packet.start(alloc)?;
-    assert_eq!(rt; start.length, 3);
-    let [(at, id, signed)] = start.ids.as_slice() else {
-        return Err(Fail::new("no id field of the packet"));
-    };
-    assert_eq!(rt; (at.offset(), at.bits(), *id, *signed), (8, 16, -2, true));
-    Ok(())
 }
 
 #[test]

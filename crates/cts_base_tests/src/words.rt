@@ -1,4 +1,4 @@
-use super::*;
+use cts_words::{Statement, WordFault, last, statements};
 use std::alloc::{AllocError, Global};
 use std::process::Abort;
 use std::test::Fail;

@@ -1,6 +1,6 @@
 // What no clause says: requests from outside however they are cut, heads with their answers, whole texts, and that a reader
 // takes what there is memory for.
-use super::*;
+use cts_http::{HttpStep, Reader, refusal, response};
 use std::alloc::Global;
 use std::test::Fail;
 

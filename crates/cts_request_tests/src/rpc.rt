@@ -1,5 +1,5 @@
 // What no clause says: bodies from outside with what they ask, and that texts are made where there is memory.
-use super::*;
+use cts_rpc::{Call, RpcFault, error_text, read, result_text};
 use serde_json::{Value, json};
 use std::alloc::{AllocError, Global};
 use std::test::Fail;
