@@ -3,7 +3,8 @@ use crate::table::{commands_end_so, cut, replays_of_packets_end_so};
 use std::test::Fail;
 
 // A value before its packet was received, and after.
-const WHOLE: &str = "replay d s c|TELEMETRY T A BIG_ENDIAN;APPEND_ITEM LEN 16 UINT;APPEND_ITEM V 16 UINT|INTERFACE I tcpip_client_interface.rb localhost 8080 8080 10.0 nil LENGTH 0 16 0 1;TARGET T|OPEN I;TRY TLM RAW T A V;BYTES I 00040500;TRY TLM RAW T A V|Ok 0 0.000000 I OPENED;TRIED 1 Never received;1 0.000000 I PACKET T A 00040500;TRIED 2 1280;END 2;";
+const WHOLE: &str =
+    "replay d s c|TELEMETRY T A BIG_ENDIAN;APPEND_ITEM LEN 16 UINT;APPEND_ITEM V 16 UINT|INTERFACE I tcpip_client_interface.rb localhost 8080 8080 10.0 nil LENGTH 0 16 0 1;TARGET T|OPEN I;TRY TLM RAW T A V;BYTES I 00040500;TRY TLM RAW T A V|Ok 0 0.000000 I OPENED;TRIED 1 Never received;1 0.000000 I PACKET T A 00040500;TRIED 2 1280;END 2;";
 
 #[test]
 fn a_value_is_looked_up_before_and_after_its_packet(rt: HostRuntime) -> Result<(), Fail> {
@@ -27,7 +28,8 @@ UNITS WORDS W;\
 TELEMETRY AUX LINE BIG_ENDIAN;\
 APPEND_ITEM TEXT 0 STRING";
 
-const SITE: &str = "INTERFACE I tcpip_client_interface.rb h 1 1 nil nil LENGTH 0 16 0 1;TARGET INST";
+const SITE: &str =
+    "INTERFACE I tcpip_client_interface.rb h 1 1 nil nil LENGTH 0 16 0 1;TARGET INST";
 
 // Each row has a trial behind a packet with 65535, 1, `ABC` and the bytes beef in its items, and the text that it prints:
 // 65535 times 0.00305 is 199.88175.
