@@ -55,8 +55,8 @@ replay d s c||INTERFACE I tcpip_client_interface.rb h 1 1 nil nil;PROTOCOL READ 
 replay d s c|||-|Absent absent: c;
 replay d s c||INTERFACE I tcpip_client_interface.rb h 1 1 nil nil LENGTH 0 16 0 1|-|Absent absent: c;
 replay d s c||# one; INTERFACE I tcpip_client_interface.rb h 1 &\r;\t1 nil 'nil' LENGTH 0 16 0 1;;|OPEN I;x ';|ScriptRefused refused: c line 2: WrongCount;
-replay d s c||INTERFACE I tcpip_client_interface.rb h 1 1 nil nil LENGTH 0 16 0 1|x|NotBuilt not built: c;
-replay d s c|||OPEN I|NotBuilt not built: c;
+replay d s c||INTERFACE I tcpip_client_interface.rb h 1 1 nil nil LENGTH 0 16 0 1|x|ScriptRefused refused: c line 1: UnknownKeyword;
+replay d s c|||OPEN I|ScriptRefused refused: c line 1: UnknownMaker;
 replay d s c||INTERFACE I tcpip_client_interface.rb h 1 1 nil nil LENGTH 0 16 0 1|OPEN I|Ok 0 0.000000 I OPENED;END 1;";
 
 #[test]
