@@ -1,0 +1,5 @@
+pub mod Stands
+pub mod Stepping
+pub mod Places
+pub mod Nexting
+pub mod Stock

@@ -1,0 +1,4 @@
+pub mod Founds
+pub mod Meaning
+pub mod Stock
+pub mod Stores

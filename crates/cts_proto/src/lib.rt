@@ -1,0 +1,18 @@
+//! What every protocol does, boxes of protocols, and the one body that cuts for all of them.
+#![tactic(auto)]
+
+mod boxed;
+mod cutter;
+mod gap;
+mod protocol;
+mod search;
+mod shelf;
+mod step;
+mod store;
+
+pub use boxed::Boxed;
+pub use cutter::Cutter;
+pub use protocol::Protocol;
+pub use search::{Search, sync_of};
+pub use shelf::{Shelf, Stocked};
+pub use step::{Found, Given, Stamp, Step};
