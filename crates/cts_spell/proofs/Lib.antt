@@ -1,0 +1,3 @@
+pub mod Searches
+pub mod Same
+pub mod PutCounts
