@@ -1,11 +1,11 @@
 -- What is written is read again.
-use Rattle.std.specs.Prelude.{◌≡◌, ◌≤◌, ◌<◌, ◌⊎◌, ℕ, ◌-◌, ◌^◌, true, List, [], length, Some, None, IsTrue}
+use Rattle.std.specs.Prelude.{◌≡◌, ◌≤◌, ◌<◌, ◌⊎◌, ℕ, ◌-◌, ◌^◌, true, List, [], ◌++◌, length, Some, None, IsTrue}
 use Rattle.cts_bits.specs.Places.{span}
 use Rattle.cts_def.specs.Protocols.{SpecData, Burst, Fixed, Length, Terminated, Preidentified, is_sound_spec}
 use Rattle.cts_def.specs.Starts.{PlaceData}
 use Rattle.cts_frame.specs.Framing.{Heading, Output, plain}
 use Rattle.cts_frame.specs.Cuts.{Pieces, IsCut, and_output, one_if_empty}
-use Rattle.cts_frame.specs.Heads.{AreBytes}
+use Rattle.cts_frame.specs.Heads.{AreBytes, HeadData, FitsHead, head_bytes, has_head, head_of, head_end}
 use Rattle.cts_frame.specs.Rows.{reach, framing_of}
 use Rattle.cts_spell.specs.Spellings.{IsSpelling, refusal, sync_of}
 
@@ -47,3 +47,12 @@ abbrev pub SpellingsAreRead : Type 0
 SpellingsAreRead = (s : SpecData) (h : Heading) (bytes frame : List ℕ) → IsTrue (is_sound_spec s) → ReadsBack s
     → FitsHeading h → AreBytes (sync_of s) → AreBytes bytes → AreBytes frame
     → refusal s h bytes ≡ None → IsSpelling s h bytes frame → IsCut (framing_of s) frame (single (output_for s h bytes))
+
+-- A head that was written is read again, whatever comes behind it, and it ends where it was written to.
+pub record HeadIsRead (h : HeadData) (behind : List ℕ) : Type 0 where
+  pub whole : has_head (head_bytes h ++ behind) ≡ true
+  pub head : head_of (head_bytes h ++ behind) ≡ h
+  pub end : head_end (head_bytes h ++ behind) ≡ length (head_bytes h)
+
+abbrev pub HeadsAreRead : Type 0
+HeadsAreRead = (h : HeadData) (behind : List ℕ) → FitsHead h → HeadIsRead h behind

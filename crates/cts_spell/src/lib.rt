@@ -7,9 +7,11 @@ mod encoding;
 mod ended;
 mod head;
 mod headed;
+mod laws;
 mod plain;
 mod put;
 
 pub use encode_fault::EncodeFault;
 pub use encoding::encode;
 pub use head::{Head, encode_head, read_head};
+pub use laws::{heads_are_read, spellings};
