@@ -11,7 +11,8 @@ use crate::search::{Search, sync_of};
 use crate::step::{Found, Given, Stamp, Step};
 use crate::store::Store;
 use cts_base::Memory;
-use cts_def::{Kind, ProtoSpec};
+use cts_def::{Kind, Label, ProtoSpec};
+use cts_spell::{EncodeFault, encode};
 use std::alloc::Global;
 
 /// A protocol that cuts what it is fed by a search.
@@ -73,6 +74,10 @@ impl<S: Search> Protocol for Cutter<S> {
 
     fn held(&self) -> &[u8] {
         &self.store.bytes
+    }
+
+    fn encode(&self, label: &Label, bytes: &[u8], out: &mut Vec<u8>) -> Result<(), EncodeFault> {
+        encode(&self.spec, label, bytes, out)
     }
 }
 

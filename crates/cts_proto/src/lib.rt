@@ -10,6 +10,8 @@ mod shelf;
 mod step;
 mod store;
 
+pub use cts_spell::{EncodeFault, Head, encode_head, read_head};
+
 pub use boxed::Boxed;
 pub use cutter::Cutter;
 pub use protocol::Protocol;

@@ -1,12 +1,14 @@
 // What every protocol does.
-ghost use Rattle.std.specs.Prelude.{◌≡◌, ℕ, ◌+◌, ◌≤◌, List, [], ◌∷◌, ◌++◌, length, true, OnOk, OnErr, None};
-ghost use Rattle.cts_def.specs.Protocols.{kind_of, spec_data};
+ghost use Rattle.std.specs.Prelude.{◌≡◌, ℕ, ◌+◌, ◌≤◌, List, [], ◌∷◌, ◌++◌, length, true, OnOk, OnErr, IsTrue};
+ghost use Rattle.cts_def.specs.Protocols.{kind_of, spec_data, is_sound_spec};
 ghost use Rattle.cts_frame.specs.Framing.{Output};
+ghost use Rattle.cts_spell.specs.Spellings.{Encodes, heading_of};
 ghost use Rattle.cts_proto.specs.Meaning.{Meaning, Blank, Fed, Roomier, Steps, Stands, GivenUp, output_in};
 
 use crate::step::{Given, Step};
 use cts_base::Memory;
-use cts_def::{Kind, ProtoSpec};
+use cts_def::{Kind, Label, ProtoSpec};
+use cts_spell::EncodeFault;
 
 /// Cuts a stream of bytes into frames.
 pub trait Protocol: Drop {
@@ -61,4 +63,15 @@ pub trait Protocol: Drop {
         requires { (meaning self.now).configured ≡ true }
         ensures bytes { result.now ≡ buffer self.now }
         ensures pending { length (meaning self.now).pending ≤ length (buffer self.now) };
+
+    /// Appends the spelling of the bytes by its spec. The label stands in the head of PREIDENTIFIED.
+    ///
+    /// # Errors
+    ///
+    /// `HoldsTermination`, `NoPlace` and `LengthTooLarge`, of which the first that stands is answered, and `Memory`.
+    /// Then nothing was appended.
+    fn encode(&self, label: &Label, bytes: &[u8], out: &mut Vec<u8>) -> Result<(), EncodeFault>
+        requires configured { (meaning self.now).configured ≡ true }
+        requires sound { IsTrue (is_sound_spec (meaning self.now).spec) }
+        ensures { Encodes (meaning self.now).spec (heading_of label.now) bytes.now out.old.items out.new.items result };
 }
