@@ -3,3 +3,4 @@ pub mod Stepping
 pub mod Places
 pub mod Nexting
 pub mod Stock
+pub mod Finding
