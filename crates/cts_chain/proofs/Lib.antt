@@ -1,0 +1,5 @@
+pub mod Room
+pub mod Last
+pub mod Rising
+pub mod Settled
+pub mod Keeping
