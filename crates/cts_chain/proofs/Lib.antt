@@ -3,3 +3,4 @@ pub mod Last
 pub mod Rising
 pub mod Settled
 pub mod Keeping
+pub mod WritingSteps

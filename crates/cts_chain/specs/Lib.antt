@@ -1,3 +1,4 @@
 pub mod Chains
 pub mod Shapes
 pub mod Laws
+pub mod Writing

@@ -1,14 +1,18 @@
 // A chain of boxes.
 ghost use Rattle.std.specs.Prelude.{◌≡◌, ℕ, List, OnOk, OnErr, length, option_map};
 ghost use Rattle.cts_chain.specs.Chains.{Answers, FedFirst, given_by, loss_in, packet_at, Renewed, Reserved, Rises};
-ghost use Rattle.cts_chain.specs.Shapes.{ChainData, IsChain, IsGiving, IsIdle, IsSameChain};
+ghost use Rattle.cts_chain.specs.Shapes.{ChainData, IsChain, IsGiving, IsIdle, IsSameChain, writers};
+ghost use Rattle.cts_chain.specs.Writing.{Writes};
+ghost use Rattle.cts_spell.specs.Spellings.{heading_of};
 
 use crate::part::Part;
 use crate::pulled::{ChainStep, Pulled};
 use crate::stages::{feed_stages, pull_all, reset_stages, span_of_last, time_of};
+use crate::writing::write_from;
 use cts_base::Memory;
-use cts_def::Loss;
-use cts_proto::{Boxed, Protocol, Stamp};
+use cts_def::{Label, Loss};
+use cts_proto::{Boxed, EncodeFault, Protocol, Stamp};
+use std::alloc::Global;
 
 /// A chain of protocols. Those that read are stages: the first one cuts the pieces that are fed, and each other one what
 /// the one before it gives. Those that write put a packet into a frame, the last one first.
@@ -17,6 +21,7 @@ pub struct Chain {
     stages: Vec<Boxed>,
     beside: Vec<Boxed>,
     parts: Vec<Part>,
+    alloc: Global,
     start: usize,
     end: usize,
     stamp: Option<Stamp>,
@@ -117,5 +122,18 @@ impl Chain {
         ensures same { IsSameChain (⟦<Chain as Chained>⟧.shape self.old) (⟦<Chain as Chained>⟧.shape self.new) }
     {
         reset_stages(&mut self.stages)
+    }
+
+    /// Appends a packet in the frames of the protocols that write, the last one first. The label stands in the heads of
+    /// preidentified frames.
+    ///
+    /// # Errors
+    ///
+    /// The refusal of the first protocol that refuses what it is to write, and `Memory`. Then nothing was appended.
+    pub fn encode(&self, label: &Label, packet: &[u8], out: &mut Vec<u8>) -> Result<(), EncodeFault>
+        requires { IsChain (⟦<Chain as Chained>⟧.shape self.now) }
+        ensures { Writes (writers (⟦<Chain as Chained>⟧.shape self.now)) (heading_of label.now) packet.now out.old.items out.new.items result }
+    {
+        write_from(self.alloc, &self.parts, &self.stages, &self.beside, label, packet, out)
     }
 }

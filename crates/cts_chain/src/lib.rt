@@ -8,6 +8,7 @@ mod part;
 mod pulled;
 mod stages;
 mod tower;
+mod writing;
 
 pub use chain::{Chain, Chained};
 pub use laws::chains;
