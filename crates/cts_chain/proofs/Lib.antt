@@ -4,3 +4,4 @@ pub mod Rising
 pub mod Settled
 pub mod Keeping
 pub mod WritingSteps
+pub mod Planning

@@ -1,5 +1,5 @@
 // A chain of boxes.
-ghost use Rattle.std.specs.Prelude.{◌≡◌, ℕ, List, OnOk, OnErr, length, option_map};
+ghost use Rattle.std.specs.Prelude.{◌≡◌, ℕ, List, OnOk, OnErr, length, map, option_map};
 ghost use Rattle.cts_chain.specs.Chains.{Answers, FedFirst, given_by, loss_in, packet_at, Renewed, Reserved, Rises};
 ghost use Rattle.cts_chain.specs.Shapes.{ChainData, IsChain, IsGiving, IsIdle, IsSameChain, writers};
 ghost use Rattle.cts_chain.specs.Writing.{Writes};
@@ -55,6 +55,23 @@ impl Chained for Chain {
 }
 
 impl Chain {
+    /// A chain of these protocols, to which nothing was fed.
+    pub(crate) fn of(alloc: Global, stages: Vec<Boxed>, beside: Vec<Boxed>, parts: Vec<Part>) -> Chain
+        ensures stages { (⟦<Chain as Chained>⟧.shape result).stages ≡ map (λ b. meaning b) stages.items }
+        ensures beside { (⟦<Chain as Chained>⟧.shape result).beside ≡ map (λ b. meaning b) beside.items }
+        ensures parts { (⟦<Chain as Chained>⟧.shape result).parts ≡ parts.items }
+    {
+        Chain {
+            stages,
+            beside,
+            parts,
+            alloc,
+            start: 0,
+            end: 0,
+            stamp: None,
+        }
+    }
+
     /// Takes a piece, of which the next packets are cut.
     ///
     /// # Errors
