@@ -42,11 +42,11 @@ impl Chained for Chain {
     ghost use Rattle.cts_chain.specs.Chains.{lent_of};
 
     ghost shape = { λ c. record {
-        stages = map (λ b. (Protocol-box b).meaning b.value) c.stages.items;
-        beside = map (λ b. (Protocol-box b).meaning b.value) c.beside.items;
-        parts = c.parts.items;
-        lent = lent_of (map (λ b. (Protocol-box b).buffer b.value) c.stages.items);
-        place = record { start = c.start; end = c.end; stamp = c.stamp }
+      stages = map (λ b. (Protocol-box b).meaning b.value) c.stages.items;
+      beside = map (λ b. (Protocol-box b).meaning b.value) c.beside.items;
+      parts = c.parts.items;
+      lent = lent_of (map (λ b. (Protocol-box b).buffer b.value) c.stages.items);
+      place = record { start = c.start; end = c.end; stamp = c.stamp };
     } };
 
     fn height(&self) -> usize {
@@ -56,7 +56,12 @@ impl Chained for Chain {
 
 impl Chain {
     /// A chain of these protocols, to which nothing was fed.
-    pub(crate) fn of(alloc: Global, stages: Vec<Boxed>, beside: Vec<Boxed>, parts: Vec<Part>) -> Chain
+    pub(crate) fn of(
+        alloc: Global,
+        stages: Vec<Boxed>,
+        beside: Vec<Boxed>,
+        parts: Vec<Part>,
+    ) -> Chain
         ensures stages { (⟦<Chain as Chained>⟧.shape result).stages ≡ map (λ b. meaning b) stages.items }
         ensures beside { (⟦<Chain as Chained>⟧.shape result).beside ≡ map (λ b. meaning b) beside.items }
         ensures parts { (⟦<Chain as Chained>⟧.shape result).parts ≡ parts.items }
@@ -151,6 +156,14 @@ impl Chain {
         requires { IsChain (⟦<Chain as Chained>⟧.shape self.now) }
         ensures { Writes (writers (⟦<Chain as Chained>⟧.shape self.now)) (heading_of label.now) packet.now out.old.items out.new.items result }
     {
-        write_from(self.alloc, &self.parts, &self.stages, &self.beside, label, packet, out)
+        write_from(
+            self.alloc,
+            &self.parts,
+            &self.stages,
+            &self.beside,
+            label,
+            packet,
+            out,
+        )
     }
 }

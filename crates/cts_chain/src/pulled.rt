@@ -1,7 +1,7 @@
 // What a chain of stages gives next.
 
-use cts_proto::Stamp;
 use cts_def::{BadCause, Time};
+use cts_proto::Stamp;
 
 /// What a chain of stages gives next.
 #[derive(Clone, Copy, Debug, PartialEq, Eq)]

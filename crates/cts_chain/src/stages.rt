@@ -129,7 +129,6 @@ pub(crate) fn time_of(stamp: Option<Stamp>) -> Option<Time>
     }
 }
 
-
 /// Feeds the first of the stages of a chain.
 pub(crate) fn feed_stages<P: Protocol>(stages: &mut Vec<P>, piece: &[u8]) -> Result<(), Memory>
     requires some { 0 < length stages.old.items }

@@ -11,9 +11,8 @@ mod shelf;
 mod step;
 mod store;
 
-pub use cts_spell::{EncodeFault, Head, encode_head, read_head};
-
 pub use boxed::Boxed;
+pub use cts_spell::{EncodeFault, Head, encode_head, read_head};
 pub use cutter::Cutter;
 pub use laws::stated_frames;
 pub use protocol::Protocol;

@@ -87,7 +87,13 @@ fn find_length(
 }
 
 /// The length that a field states, or the first error of it.
-fn judge(max: Option<u64>, reach: usize, room: usize, field: u64, stated: i128) -> Result<usize, BadCause>
+fn judge(
+    max: Option<u64>,
+    reach: usize,
+    room: usize,
+    field: u64,
+    stated: i128,
+) -> Result<usize, BadCause>
     ensures { Tells (stated_as max reach room field stated) result }
 {
     if is_over(max, field) {

@@ -9,8 +9,10 @@ pub take_plans-requires : goal.take_plans-requires
 take_plans-requires g t c =
     let less = one_less c.args.plans.now.items c.pop.new.self.items c.in-Some.plan c.in-Some.ensures.items in (
       omega (arith, c.decreases, less),
-      ((λ k. omega (arith, c.requires.enough k, needed_split k c.args.plans.now.items c.pop.new.self.items c.in-Some.plan c.in-Some.ensures.items)),
-      (omega (arith, c.requires.stages_room, less), (omega (arith, c.requires.beside_room, less), (omega (arith, c.requires.parts_room, less), (c.requires.stages_fresh, c.requires.beside_fresh))))),
+      (
+        (λ k. omega (arith, c.requires.enough k, needed_split k c.args.plans.now.items c.pop.new.self.items c.in-Some.plan c.in-Some.ensures.items)),
+        (omega (arith, c.requires.stages_room, less), (omega (arith, c.requires.beside_room, less), (omega (arith, c.requires.parts_room, less), (c.requires.stages_fresh, c.requires.beside_fresh)))),
+      ),
     )
 
 pub take_box-protocol-requires : goal.take_box-protocol-requires
