@@ -1,4 +1,5 @@
 pub mod Stands
+pub mod StatedFrames
 pub mod Stepping
 pub mod Places
 pub mod Nexting
