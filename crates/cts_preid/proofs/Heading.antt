@@ -18,7 +18,7 @@ use Rattle.cts_spell.specs.HeadSpans.{IsHead}
 use Rattle.cts_spell.specs.declared.head.Head.{Head}
 use Rattle.cts_proto.specs.Founds.{FindsFrame, output_at, IsSpan}
 use Rattle.cts_proto.specs.declared.step.Stamp.{Stamp}
-use Rattle.cts_proto.proofs.StatedFrames.{span_front, fault_ends, frame_stands, nil_of}
+use Rattle.cts_proto.proofs.Finding.{span_front, nil_of, error_ends, frame_found as stated_found}
 
 -- a head that ends within some bytes is told by them
 target_end_back : (v y : List ℕ) → 9 ≤ length v → target_end v ≡ target_end (v ++ y)
@@ -74,13 +74,13 @@ module _ (p : PreidentifiedData) (u : List ℕ) (a : Agree p.sync u) where
     states_are = rw (is.whole, is.begin, is.count) refl
 
     pub over : is_over p.max h.count ≡ true → Ends (framing_of (Preidentified p)) u (Some (OverMax h.count))
-    over o = fault_ends p.sync (preidentified_states p) (given p) (preidentified_steady p) u a (OverMax h.count) (omega (arith, enough, is.begin)) (omega (arith, enough)) (states_are ∙ rw o refl)
+    over o = error_ends p.sync (preidentified_states p) (given p) (preidentified_steady p) u a (OverMax h.count) (omega (arith, enough, is.begin)) (omega (arith, enough)) (states_are ∙ rw o refl)
 
     module _ (n : ℕ) (n_is : n ≡ length p.sync + h.begin + h.count) (o : is_over p.max h.count ≡ false) where
       pub too_long : frame_limit < n → Ends (framing_of (Preidentified p)) u (Some TooLong)
       too_long l =
           let e : nat_le (length p.sync + h.begin + h.count) frame_limit ≡ false = over_limit (length p.sync + h.begin + h.count) (omega (arith, l, n_is)) in
-          fault_ends p.sync (preidentified_states p) (given p) (preidentified_steady p) u a TooLong (omega (arith, enough, is.begin)) (omega (arith, enough)) (states_are ∙ rw (o, e) refl)
+          error_ends p.sync (preidentified_states p) (given p) (preidentified_steady p) u a TooLong (omega (arith, enough, is.begin)) (omega (arith, enough)) (states_are ∙ rw (o, e) refl)
 
       states_long : n ≤ frame_limit → preidentified_states p u ≡ Long n
       states_long l =
@@ -129,12 +129,11 @@ module _ (p : PreidentifiedData) (u : List ℕ) (a : Agree p.sync u) where
             (λ i. record { bytes = bytes i; heading = Some (record { time = time i; target = target i; packet = packet i }) })
 
         pub frame : FindsFrame (framing_of (Preidentified p)) u n (output_at u (length p.sync + h.begin) n (Some (stamp_behind (length p.sync) h)))
-        frame = record {
-          some = omega (arith, n_is, is.begin);
-          within = fits;
-          whole = frame_stands p.sync (preidentified_states p) (given p) (preidentified_steady p) u a n (states_long l) fits (omega (arith, n_is, is.begin)) (omega (arith, n_is)) owns;
-          output = output_is;
-        }
+        frame =
+            let states : preidentified_states p (take n u) ≡ Long n =
+            sym (preidentified_steady p (take n u) (drop n u) owns) ∙ (ap (preidentified_states p) (take-append-drop n u) ∙ states_long l) in
+            stated_found p.sync (preidentified_states p) (given p) (preidentified_steady p) u a n (output_at u (length p.sync + h.begin) n (Some (stamp_behind (length p.sync) h)))
+            (omega (arith, n_is, is.begin)) (omega (arith, n_is)) fits states output_is
 
         pub names : IsSpan n (length p.sync + h.target.0, length p.sync + h.target.1) × IsSpan n (length p.sync + h.packet.0, length p.sync + h.packet.1)
         names =

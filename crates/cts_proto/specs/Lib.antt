@@ -2,3 +2,4 @@ pub mod Founds
 pub mod Meaning
 pub mod Stock
 pub mod Stores
+pub mod StatedLaws

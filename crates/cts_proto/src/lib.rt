@@ -4,6 +4,7 @@
 mod boxed;
 mod cutter;
 mod gap;
+mod laws;
 mod protocol;
 mod search;
 mod shelf;
@@ -14,6 +15,7 @@ pub use cts_spell::{EncodeFault, Head, encode_head, read_head};
 
 pub use boxed::Boxed;
 pub use cutter::Cutter;
+pub use laws::stated_frames;
 pub use protocol::Protocol;
 pub use search::{Search, sync_of};
 pub use shelf::{Shelf, Stocked};
