@@ -3,7 +3,7 @@ use Rattle.std.proofs.Common.{◌≡◌, ℕ, ◌+◌, List, [], ◌∷◌, leng
 use Rattle.cts_base.specs.declared.memory.Memory.{Memory}
 use Rattle.cts_frame.specs.Framing.{Output}
 use Rattle.cts_proto.specs.Meaning.{Meaning}
-use Rattle.cts_chain.specs.Chains.{Ready, AllConfigured, AllDrained, Reserved, FedFirst, Renewed, Rises, specs_of}
+use Rattle.cts_chain.specs.Chains.{Ready, AllConfigured, AllDrained, AllSettled, Reserved, FedFirst, Renewed, Rises, specs_of}
 use Rattle.cts_chain.specs.Shapes.{ChainData, IsChain, IsIdle, IsSameChain, writers_of, AllSoundSpecs}
 use Rattle.cts_chain.proofs.Rising.{reserved_specs, reserved_drained}
 
@@ -90,3 +90,7 @@ module _ (c d : ChainData) (b : d.beside ≡ c.beside) (p : d.parts ≡ c.parts)
 
   pub renewed_same : Renewed c.stages d.stages → IsSameChain c d
   renewed_same r = same_chain c d (renewed_specs c.stages d.stages r) b p
+
+pub settled_drained : (ms : List Meaning) → AllSettled ms → AllDrained ms
+settled_drained [] s = tt
+settled_drained (m ∷ ms) s = (s.1, settled_drained ms s.2)

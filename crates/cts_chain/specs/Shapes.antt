@@ -1,6 +1,8 @@
 -- What a chain is to those who call it.
 use Rattle.std.specs.Prelude.{◌≡◌, ℕ, ◌≤◌, List, [], ◌∷◌, length, IsTrue}
 use Rattle.cts_def.specs.Protocols.{SpecData, is_sound_spec}
+use Rattle.cts_chain.specs.declared.pulled.ChainStep.{ChainStep}
+use Rattle.cts_chain.specs.declared.pulled.ChainStep.TheVariants.{Packet, More, Bad}
 use Rattle.cts_chain.specs.declared.part.Part.{Part}
 use Rattle.cts_chain.specs.declared.part.Part.TheVariants.{Reads, Writes, Both}
 use Rattle.cts_proto.specs.Meaning.{Meaning}
@@ -51,6 +53,12 @@ pub record IsIdle (c : ChainData) : Type 0 where
 pub record IsGiving (c : ChainData) : Type 0 where
   pub chain : IsChain c
   pub place : IsPlace c.lent c.place
+
+-- what an answer leaves
+abbrev pub Leaves : ChainStep → ChainData → Type 0
+Leaves (Packet time) c = IsGiving c
+Leaves More c = IsIdle c
+Leaves (Bad stage cause) c = IsIdle c
 
 -- the same protocols, in the same parts
 pub record IsSameChain (old new : ChainData) : Type 0 where

@@ -1,13 +1,13 @@
 // A chain of boxes.
 ghost use Rattle.std.specs.Prelude.{◌≡◌, ℕ, List, OnOk, OnErr, length, map, option_map};
 ghost use Rattle.cts_chain.specs.Chains.{Answers, FedFirst, given_by, loss_in, packet_at, Renewed, Reserved, Rises};
-ghost use Rattle.cts_chain.specs.Shapes.{ChainData, IsChain, IsGiving, IsIdle, IsSameChain, writers};
+ghost use Rattle.cts_chain.specs.Shapes.{ChainData, IsChain, IsGiving, IsIdle, IsSameChain, Leaves, writers};
 ghost use Rattle.cts_chain.specs.Writing.{Writes};
 ghost use Rattle.cts_spell.specs.Spellings.{heading_of};
 
 use crate::part::Part;
 use crate::pulled::{ChainStep, Pulled};
-use crate::stages::{feed_stages, pull_all, reset_stages, span_of_last, time_of};
+use crate::stages::{feed_stages, pull_stages, reset_stages, span_of_last, time_of};
 use crate::writing::write_from;
 use cts_base::Memory;
 use cts_def::{Label, Loss};
@@ -98,10 +98,11 @@ impl Chain {
         requires { IsChain (⟦<Chain as Chained>⟧.shape self.old) }
         ensures rises { Rises (⟦<Chain as Chained>⟧.shape self.old).stages (given_by result (⟦<Chain as Chained>⟧.shape self.new).lent (⟦<Chain as Chained>⟧.shape self.new).place) (⟦<Chain as Chained>⟧.shape self.new).stages }
         ensures answers { Answers (⟦<Chain as Chained>⟧.shape self.new).stages (⟦<Chain as Chained>⟧.shape self.new).lent (⟦<Chain as Chained>⟧.shape self.new).place result }
+        ensures left { Leaves result (⟦<Chain as Chained>⟧.shape self.new) }
         ensures chain { IsChain (⟦<Chain as Chained>⟧.shape self.new) }
         ensures same { IsSameChain (⟦<Chain as Chained>⟧.shape self.old) (⟦<Chain as Chained>⟧.shape self.new) }
     {
-        match pull_all(&mut self.stages) {
+        match pull_stages(&mut self.stages) {
             Pulled::Span { start, end, stamp } => {
                 self.start = start;
                 self.end = end;

@@ -150,3 +150,14 @@ pub(crate) fn reset_stages<P: Protocol>(stages: &mut Vec<P>) -> Loss
 {
     reset_all(stages)
 }
+
+/// The next output of the last stage of a chain.
+pub(crate) fn pull_stages<P: Protocol>(stages: &mut Vec<P>) -> Pulled
+    requires some { 0 < length stages.old.items }
+    requires few { length stages.old.items ≤ 4 }
+    requires ready { Ready 0 (map P.meaning stages.old.items) }
+    ensures rises { Rises (map P.meaning stages.old.items) (packets_in result (lent_of (map P.buffer stages.new.items))) (map P.meaning stages.new.items) }
+    ensures ended { EndedAt 1 (map P.meaning stages.new.items) (lent_of (map P.buffer stages.new.items)) result }
+{
+    pull_all(stages)
+}
