@@ -1,0 +1,23 @@
+use Rattle.std.proofs.Common.{arith, ap, subst, sym, ◌∙◌, map}
+use Rattle.cts_chain.specs.Chains.{AllFresh, specs_of}
+use Rattle.cts_chain.specs.Plans.{plan_data, plan_specs}
+use Rattle.cts_chain.specs.Stocking.{needed as needed_of}
+use Rattle.cts_chain.proofs.Planning.{enough_plans, specs_are, is_built}
+use Rattle.cts_chain.proofs.chain.Chain.build.Goals as goal
+
+pub take_plans-requires-clause-enough : goal.take_plans-requires-clause-enough
+take_plans-requires-clause-enough g c k =
+    enough_plans _ (map plan_data c.in-Ok.plans.items) c.args.uses.now c.in-Ok.ensures.plans (sym c.first_short.ensures ∙ c.in_default.is) k
+
+pub returns-clause-ok : goal.returns-clause-ok
+returns-clause-ok g c =
+    is_built _ c.args.uses.now (map plan_data c.in-Ok.plans.items) _ c.requires (sym c.first_short.ensures ∙ c.in_default.is) c.in-Ok.ensures.plans c.in-Ok.ensures.sound
+    (ap specs_of c.of.ensures.stages ∙ rw (c.reserve.ensures.items, c.new-stages.ensures.items) at c.take_plans.ensures.stages)
+    (ap specs_of c.of.ensures.beside ∙ rw (c.reserve-else-is_err.ensures.items, c.new-beside.ensures.items) at c.take_plans.ensures.beside)
+    (c.of.ensures.parts ∙ rw (c.reserve-else-is_err-2.ensures.items, c.new-parts.ensures.items) at c.take_plans.ensures.parts)
+    (subst AllFresh (sym c.of.ensures.stages) c.take_plans.ensures.stages_fresh) (subst AllFresh (sym c.of.ensures.beside) c.take_plans.ensures.beside_fresh)
+
+pub returns-clause-taken : goal.returns-clause-taken
+returns-clause-taken g c k =
+    let specs = ap plan_specs c.in-Ok.ensures.plans ∙ specs_are c.args.uses.now in
+    omega (arith, c.take_plans.ensures.taken k, ap (needed_of k) specs)

@@ -1,0 +1,31 @@
+-- What a build answers.
+use Rattle.std.specs.Prelude.{◌≡◌, Bool, List, [], map, filter, Some, None}
+use Rattle.cts_def.specs.Protocols.{SpecData, UseData}
+use Rattle.cts_frame.specs.Chains.{framings_of as framings_in}
+use Rattle.cts_proto.specs.Meaning.{Meaning}
+use Rattle.cts_proto.specs.Stock.{stocked}
+use Rattle.cts_chain.specs.declared.build.ChainFault.{ChainFault}
+use Rattle.cts_chain.specs.declared.build.ChainFault.TheVariants.{ShelfEmpty, Memory}
+use Rattle.cts_chain.specs.Chains.{StagesStand, framings_of}
+use Rattle.cts_chain.specs.Shapes.{ChainData, IsIdle, writers}
+use Rattle.cts_chain.specs.Stocking.{needed, first_short}
+
+abbrev pub use_specs : List UseData → List SpecData
+use_specs uses = map (λ (u : UseData). u.spec) uses
+
+abbrev pub writes : UseData → Bool
+writes u = u.writes
+
+-- Enough boxes were there. The chain has the framings of the protocols that read, in order, and writes by those that write; nothing
+-- was fed to it.
+pub record IsBuilt (stock : List Meaning) (uses : List UseData) (c : ChainData) : Type 0 where
+  pub enough : first_short stock (use_specs uses) ≡ None
+  pub idle : IsIdle c
+  pub framings : framings_of c.stages ≡ framings_in uses
+  pub writing : writers c ≡ use_specs (filter writes uses)
+  pub stands : StagesStand c.stages [] []
+
+-- the first kind of which more boxes are needed than there are, and both numbers; want of memory is free
+abbrev pub FaultIs : List Meaning → List UseData → ChainFault → Type 0
+FaultIs stock uses (ShelfEmpty kind n s) = (first_short stock (use_specs uses) ≡ Some kind) × (n ≡ needed kind (use_specs uses)) × (s ≡ stocked kind stock)
+FaultIs stock uses Memory = Unit {0}

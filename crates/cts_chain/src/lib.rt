@@ -1,0 +1,21 @@
+//! Chains of boxed protocols.
+#![tactic(auto)]
+
+mod build;
+mod chain;
+mod laws;
+mod lift;
+mod part;
+mod plan;
+mod pulled;
+mod stages;
+mod stock;
+mod taking;
+mod tower;
+mod writing;
+
+pub use build::ChainFault;
+pub use chain::{Chain, Chained};
+pub use laws::chains;
+pub use part::Part;
+pub use pulled::ChainStep;

@@ -1,0 +1,49 @@
+// How packets of known length begin.
+ghost use Rattle.std.specs.Prelude.{◌≡◌, ◌≤◌, length, option_map};
+ghost use Rattle.std.specs.List.{find, list_all};
+ghost use Rattle.cts_bits.specs.Fields.{reach};
+ghost use Rattle.cts_def.specs.Beginnings.{begins_with, has_id, number_at};
+ghost use Rattle.cts_def.specs.Starts.{id_field_data, place_data};
+
+use cts_bits::{Place, read_int, read_uint};
+use cts_def::Start;
+
+fn number_at(place: &Place, signed: bool, bytes: &[u8]) -> i128
+    requires { reach place.now ≤ length bytes.now }
+    ensures { result ≡ number_at (place_data place.now) signed bytes.now }
+{
+    if signed {
+        i128::from(read_int(bytes, place))
+    } else {
+        i128::from(read_uint(bytes, place))
+    }
+}
+
+/// Whether the field lies within the bytes and has its value there.
+fn has_id(id: &(Place, i128, bool), bytes: &[u8]) -> bool
+    ensures { result ≡ has_id bytes.now (id_field_data id.now) }
+{
+    let (place, value, signed) = *id;
+    place.fits(bytes.len()) && number_at(&place, signed, bytes) == value
+}
+
+fn have_ids(ids: &[(Place, i128, bool)], bytes: &[u8]) -> bool
+    ensures { result ≡ list_all (λ i. has_id bytes.now (id_field_data i)) ids.now }
+{
+    ids.iter().all(|id| has_id(id, bytes))
+}
+
+/// Whether the bytes begin as the packet does: all its id fields lie within them and have their
+/// values there.
+pub fn begins_with(start: &Start, bytes: &[u8]) -> bool
+    ensures { result ≡ begins_with start.now bytes.now }
+{
+    have_ids(start.ids.as_slice(), bytes)
+}
+
+/// The first start with which the bytes begin, if they begin with one.
+pub fn first_start<'a>(starts: &'a [Start], bytes: &[u8]) -> Option<&'a Start>
+    ensures { option_map (λ s. s.now) result ≡ find (λ s. begins_with s bytes.now) starts.now }
+{
+    starts.iter().find(|start| begins_with(start, bytes))
+}

@@ -1,0 +1,10 @@
+pub mod Searches
+pub mod Same
+pub mod PutCounts
+pub mod AgainCut
+pub mod AgainPreidentified
+pub mod AgainTerminated
+pub mod AgainBytes
+pub mod AgainPlace
+pub mod AgainLength
+pub mod Again

@@ -1,0 +1,4 @@
+pub mod HeadSpans
+pub mod Spellings
+pub mod Putting
+pub mod ReadBack

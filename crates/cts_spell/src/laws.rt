@@ -1,0 +1,17 @@
+// Laws of the definitions. Each function does nothing: its contract is the law.
+ghost use Rattle.cts_spell.specs.ReadBack.{HeadsAreRead, SpellingsAreRead};
+
+/// What a protocol writes without a refusal it reads again, as one frame with the bytes that were
+/// written, nothing skipped and nothing left: PREIDENTIFIED always, with the time and names of the
+/// label, LENGTH with fill where its sync pattern and its field lie within the discarded bytes and
+/// share none, and TERMINATED where the termination that is written is the one that is looked for
+/// and is stripped, with fill and a sync pattern within the discarded bytes, or without both.
+pub fn spellings()
+    ensures { SpellingsAreRead }
+{}
+
+/// A head that was written is read again, whatever comes behind it: its time, its names and its
+/// count, and that it ends where it was written to.
+pub fn heads_are_read()
+    ensures { HeadsAreRead }
+{}

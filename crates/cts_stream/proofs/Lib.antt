@@ -1,0 +1,4 @@
+pub mod BurstFinding
+pub mod LengthFinding
+pub mod Cutting
+pub mod TerminatedFinding
