@@ -11,6 +11,16 @@ fn a_value_is_looked_up_before_and_after_its_packet(rt: HostRuntime) -> Result<(
     commands_end_so(&rt, WHOLE)
 }
 
+// The changes of an item's limits state, by its limits in the set that is chosen, and by the colours of its states.
+const EVENTS: &str = "\
+replay d s c|TELEMETRY T A BIG_ENDIAN;APPEND_ITEM LEN 16 UINT;APPEND_ITEM V 16 UINT;LIMITS DEFAULT 1 ENABLED 0 10 100 200;LIMITS NIGHT 1 ENABLED 0 10 2000 3000|INTERFACE I tcpip_client_interface.rb localhost 8080 8080 10.0 nil LENGTH 0 16 0 1;TARGET T|OPEN I;BYTES I 00040500;TRY SET NIGHT;BYTES I 00040500|Ok 0 0.000000 I OPENED;1 0.000000 I PACKET T A 00040500;EVENT T A V STALE RED_HIGH;2 0.000000 DESK/0 LIMITSSET NIGHT;TRIED 2 ok;3 0.000000 I PACKET T A 00040500;EVENT T A V RED_HIGH GREEN;END 4;
+replay d s c|TELEMETRY T A BIG_ENDIAN;APPEND_ITEM LEN 16 UINT;APPEND_ITEM V 16 UINT;STATE LOW 1280 GREEN;STATE HIGH 1281 RED|INTERFACE I tcpip_client_interface.rb localhost 8080 8080 10.0 nil LENGTH 0 16 0 1;TARGET T|OPEN I;BYTES I 0004050000040501;BYTES I 00040501|Ok 0 0.000000 I OPENED;1 0.000000 I PACKET T A 00040500;EVENT T A V STALE GREEN;2 0.000000 I PACKET T A 00040501;EVENT T A V GREEN RED;3 0.000000 I PACKET T A 00040501;END 4;";
+
+#[test]
+fn limits_events_stand_behind_their_entries(rt: HostRuntime) -> Result<(), Fail> {
+    commands_end_so(&rt, EVENTS)
+}
+
 // A packet of ten bytes with an item of each sort, and one that is never received.
 const DEFINITIONS: &str = "\
 TELEMETRY INST HS BIG_ENDIAN 'Health and status';\
