@@ -19,6 +19,3 @@ pub use order::Order;
 pub use place::{LAST_PLACE, Place, PlaceFault};
 pub use read::{read_bytes, read_int, read_uint};
 pub use write::{write_int, write_uint};
-
-#[cfg(test)]
-mod tests;

@@ -9,4 +9,6 @@ mod showing;
 #[cfg(test)]
 mod site_files;
 #[cfg(test)]
+mod starts;
+#[cfg(test)]
 mod statement_words;

@@ -14,7 +14,7 @@ use Rattle.cts_entry.specs.declared.what.NotSent.TheVariants.{NotConnected as No
 use Rattle.cts_entry.specs.declared.why.Why.{Why}
 use Rattle.cts_entry.specs.declared.why.Why.TheVariants.{PeerEnded, ReadFault, WriteFault, BadFrame, Stopped, NoMemory, Full}
 use Rattle.cts_entry.specs.declared.event.Event.{Event}
-use Rattle.cts_entry.specs.declared.event.Event.TheVariants.{SetTime, Opens, Piece, Finish, Write, Call, DrainLog, DrainSlot, Stop}
+use Rattle.cts_entry.specs.declared.event.Event.TheVariants.{SetTime, Opens, Piece, Finish, Write, Call, DrainLog, DrainSlot, Stop, Try}
 use Rattle.cts_entry.specs.Histories.{latest, connects, connects_maker, is_connected, is_stopped, entries_in, bytes_in}
 use Rattle.cts_entry.proofs.Allowing.{allowed_append}
 use Rattle.cts_entry.proofs.Appending.{entries-append, bytes-append}
@@ -22,7 +22,7 @@ use Rattle.cts_entry.specs.Legal.{is_ended, has_ended, IsLine, IsOn, StopsAfter,
 use Rattle.cts_frame.specs.Framing.{Output}
 use Rattle.cts_frame.specs.Cuts.{Pieces}
 use Rattle.cts_frame.specs.Packets.{Fault, fault_of}
-use Rattle.cts_core.specs.States.{Environment, State, opening, is_line, may_close, has_room, unsent}
+use Rattle.cts_core.specs.States.{Environment, State, Request, Trial, trial_desk, opening, is_line, may_close, has_room, unsent}
 use Rattle.cts_core.specs.Runs.{Did, Does, Receives, Closes, after, closing, closed_entry, Ending, Runs}
 use Rattle.cts_core.specs.Told.{history_of}
 use Rattle.cts_core.specs.Laws.{rules_of, IsAnsweredLegally, CoreIsLegal}
@@ -30,13 +30,13 @@ use Rattle.cts_told.specs.Routing.{time_in, sent_on, routed_as, said_of, posted_
 use Rattle.cts_told.proofs.Walks.{enough_of, said, said_kept, none_if, behind, connected_kept, packets_connect}
 
 -- nobody has ended
-abbrev Lasting : List Entry → Type 0
+abbrev pub Lasting : List Entry → Type 0
 Lasting history = list_any (λ (e : Entry). is_ended e.what) history ≡ false
 
-lasting_append : (xs ys : List Entry) → Lasting xs → Lasting ys → Lasting (xs ++ ys)
+pub lasting_append : (xs ys : List Entry) → Lasting xs → Lasting ys → Lasting (xs ++ ys)
 lasting_append xs ys h k = let a = list_any-append (λ (e : Entry). is_ended e.what) xs ys in grind arith
 
-none_ended : (by : ℕ) (history : List Entry) → Lasting history → has_ended by history ≡ false
+pub none_ended : (by : ℕ) (history : List Entry) → Lasting history → has_ended by history ≡ false
 none_ended by [] h = refl
 none_ended by (e ∷ es) h =
     let head : is_ended e.what ≡ false = grind arith in
@@ -72,13 +72,13 @@ sayable : (env : Environment) (before : List Entry) (by : ℕ) (o : Output) → 
 sayable env before by o line on = sayable_either (env.routing.is_interface by) env before by (env.routing.ident by o) o.bytes refl line on
 
 -- entries that an event appends behind a history: each is allowed, and nobody ends
-abbrev Follows : Environment → List Entry → List Entry → Type 0
+abbrev pub Follows : Environment → List Entry → List Entry → Type 0
 Follows env history entries = AllAllowed (rules_of env) history entries × Lasting entries
 
 one_follows : (env : Environment) (before : List Entry) (e : Entry) → Lasting before → Allows (rules_of env) before e.by e.what → is_ended e.what ≡ false → Follows env before (e ∷ [])
 one_follows env before e last says none = ((record { active = none_ended e.by before last; says = says }, tt), ap (λ (b : Bool). b || false) none)
 
-packets_follow : (env : Environment) (history : List Entry) (now : Time) (m : ℕ) (outs : List Output) (sofar : List Entry) → ((k : ℕ) → latest (connects_maker k) sofar ≡ None) → is_line env m ≡ true → is_connected m history ≡ true
+pub packets_follow : (env : Environment) (history : List Entry) (now : Time) (m : ℕ) (outs : List Output) (sofar : List Entry) → ((k : ℕ) → latest (connects_maker k) sofar ≡ None) → is_line env m ≡ true → is_connected m history ≡ true
     → Lasting (history ++ sofar) → Follows env (history ++ sofar) (posted_entries env.routing history now m outs)
 packets_follow env history now m [] sofar none line on last = (tt, refl)
 packets_follow env history now m (o ∷ outs) sofar none line on last =
@@ -93,7 +93,7 @@ packets_follow env history now m (o ∷ outs) sofar none line on last =
       lasting_append (e ∷ []) (posted_entries env.routing history now m outs) first.1 more.1,
     )
 
-stops_after : (history : List Entry) (why : Why) → may_close history why ≡ true → StopsAfter history why
+pub stops_after : (history : List Entry) (why : Why) → may_close history why ≡ true → StopsAfter history why
 stops_after history PeerEnded h = tt
 stops_after history ReadFault h = tt
 stops_after history WriteFault h = tt
@@ -173,7 +173,7 @@ event_leaves env s (Finish by why) did desks legal last d =
 event_leaves env s (Write by count) did desks legal last d = nothing_leaves env s.history did.entries legal d.appends
 event_leaves env s (Call desk body) did desks legal last d =
     let there : env.is_desk desk ≡ true = (let n = d.enabled in grind arith) in
-    subst (Leaves env s.history) (sym d.appends) (desks.legal s.history desk s.time body there legal, desks.none_ended s.history desk s.time body)
+    subst (Leaves env s.history) (sym d.appends) (desks.legal s.history desk s.time (Request body) there legal, desks.none_ended s.history desk s.time (Request body))
 event_leaves env s (DrainLog count) did desks legal last d = nothing_leaves env s.history did.entries legal d.appends
 event_leaves env s (DrainSlot by count) did desks legal last d = nothing_leaves env s.history did.entries legal d.appends
 event_leaves env s Stop did desks legal last d =
@@ -181,6 +181,7 @@ event_leaves env s Stop did desks legal last d =
     let n = d.enabled in
     let going : is_stopped s.history ≡ false = grind arith in
     subst (Leaves env s.history) (sym d.appends) (leaves env s.history (e ∷ []) legal (one_follows env s.history e last going refl) (within_free env s.history (e ∷ []) refl refl legal))
+event_leaves env s (Try words) did desks legal last d = subst (Leaves env s.history) (sym d.appends) (desks.legal s.history trial_desk s.time (Trial words) d.enabled legal, desks.none_ended s.history trial_desk s.time (Trial words))
 
 legal_of : (env : Environment) (history whole : List Entry) → whole ≡ history → IsLegal (rules_of env) history → IsLegal (rules_of env) whole
 legal_of env history whole same legal = subst (IsLegal (rules_of env)) (sym same) legal

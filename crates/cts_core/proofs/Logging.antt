@@ -8,7 +8,7 @@ use Rattle.std.proofs.lemmas.List.{take-append-le}
 use Rattle.std.proofs.Math.Seq.{take-add}
 use Rattle.cts_entry.specs.declared.entry.Entry.{Entry}
 use Rattle.cts_entry.specs.declared.event.Event.{Event}
-use Rattle.cts_entry.specs.declared.event.Event.TheVariants.{SetTime, Opens, Piece, Finish, Write, Call, DrainLog, DrainSlot, Stop}
+use Rattle.cts_entry.specs.declared.event.Event.TheVariants.{SetTime, Opens, Piece, Finish, Write, Call, DrainLog, DrainSlot, Stop, Try}
 use Rattle.cts_entry.specs.declared.event.Effect.{Effect}
 use Rattle.cts_entry.specs.Histories.{packets_from, commands_to}
 use Rattle.cts_core.specs.States.{Environment, State, opening, is_enabled, log_ahead, packets_log, commands_log}
@@ -33,6 +33,7 @@ drained_within env s (DrainLog count) e within =
     omega (arith, within, enough_of count (length (log_ahead s)) enough, length-drop s.log_cursor s.history)
 drained_within env s (DrainSlot by count) e within = omega (arith, within)
 drained_within env s Stop e within = omega (arith, within)
+drained_within env s (Try words) e within = omega (arith, within)
 
 module _ (env : Environment) (keep : Entry → Bool) (tells : Effect → List ℕ) where
   abbrev log_of : List Entry → List ℕ
@@ -92,6 +93,7 @@ packets_drain env s (Call desk body) = refl
 packets_drain env s (DrainLog count) = refl
 packets_drain env s (DrainSlot by count) = refl
 packets_drain env s Stop = refl
+packets_drain env s (Try words) = refl
 
 commands_drain : (env : Environment) (s : State) (event : Event) → commands_in (effect_of env s event) ≡ flat_map (lay_out env.layout (names_in env.routing)) (filter (commands_to env.is_logged) (take (drained event) (log_ahead s)))
 commands_drain env s (SetTime time) = refl
@@ -103,6 +105,7 @@ commands_drain env s (Call desk body) = refl
 commands_drain env s (DrainLog count) = refl
 commands_drain env s (DrainSlot by count) = refl
 commands_drain env s Stop = refl
+commands_drain env s (Try words) = refl
 
 pub core_is_logged : CoreIsLogged
 core_is_logged env events dids ending h =

@@ -3,7 +3,7 @@ use Rattle.std.proofs.Common.{◌≡◌, ℕ, Bool, true, false, List, [], ◌�
 use Rattle.std.proofs.lemmas.List.{append_cancel_left}
 use Rattle.cts_entry.specs.declared.entry.Entry.{Entry}
 use Rattle.cts_entry.specs.declared.event.Event.{Event}
-use Rattle.cts_entry.specs.declared.event.Event.TheVariants.{SetTime, Opens, Piece, Finish, Write, Call, DrainLog, DrainSlot, Stop}
+use Rattle.cts_entry.specs.declared.event.Event.TheVariants.{SetTime, Opens, Piece, Finish, Write, Call, DrainLog, DrainSlot, Stop, Try}
 use Rattle.cts_frame.specs.Framing.{Output}
 use Rattle.cts_frame.specs.Cuts.{Pieces}
 use Rattle.cts_frame.specs.Packets.{IsPackets, fault_of}
@@ -46,6 +46,7 @@ some_appended env s (Call desk body) sound e = (_, refl)
 some_appended env s (DrainLog count) sound e = ([], refl)
 some_appended env s (DrainSlot by count) sound e = ([], refl)
 some_appended env s Stop sound e = (_, refl)
+some_appended env s (Try words) sound e = (_, refl)
 
 one_received : (env : Environment) (s : State) (by : ℕ) (piece : List ℕ) (xs ys : List Entry) → AllSound (env.routing.chain by) → Receives env s by piece xs → Receives env s by piece ys → xs ≡ ys
 one_received env s by piece xs ys sound h k =
@@ -70,6 +71,7 @@ one_appended env s (Call desk body) xs ys sound h k = h ∙ sym k
 one_appended env s (DrainLog count) xs ys sound h k = h ∙ sym k
 one_appended env s (DrainSlot by count) xs ys sound h k = h ∙ sym k
 one_appended env s Stop xs ys sound h k = h ∙ sym k
+one_appended env s (Try words) xs ys sound h k = h ∙ sym k
 
 -- what stands next: the event is refused in one way, or does one thing
 

@@ -44,7 +44,7 @@ tells_no_other k e other = ap (λ (b : Bool). if b then connects e.what else Non
 abbrev packet_entry : SiteData → ℕ → Time → Output → Entry
 packet_entry site by now o = record { by = by; time = time_in o.heading now; what = Packet (ident_of site by o) o.bytes }
 
-either_way : (b : Bool) (o : Option Bool) → (if b then o else o) ≡ o
+pub either_way : (b : Bool) (o : Option Bool) → (if b then o else o) ≡ o
 either_way true o = refl
 either_way false o = refl
 

@@ -11,7 +11,7 @@ use Rattle.cts_entry.specs.declared.what.What.TheVariants.{Opened, Closed, Stop 
 use Rattle.cts_entry.specs.declared.why.Why.{Why}
 use Rattle.cts_entry.specs.declared.why.Why.TheVariants.{PeerEnded, ReadFault, WriteFault, BadFrame, Stopped, NoMemory, Full}
 use Rattle.cts_entry.specs.declared.event.Event.{Event}
-use Rattle.cts_entry.specs.declared.event.Event.TheVariants.{SetTime, Opens, Piece, Finish, Write, Call, DrainLog, DrainSlot, Stop}
+use Rattle.cts_entry.specs.declared.event.Event.TheVariants.{SetTime, Opens, Piece, Finish, Write, Call, DrainLog, DrainSlot, Stop, Try}
 use Rattle.cts_entry.specs.Histories.{latest, or_earlier, connects_maker, is_connected, is_own, has_own}
 use Rattle.cts_entry.specs.Queues.{spelled}
 use Rattle.cts_entry.specs.Places.{Posts, Stays}
@@ -23,7 +23,7 @@ use Rattle.cts_frame.specs.Packets.{IsPackets, Stages, cut_by, Fault, fault_of, 
 use Rattle.cts_frame.specs.Laws.{AllSound}
 use Rattle.cts_frame.proofs.Framings.{taken_none, ends_nil}
 use Rattle.cts_frame.proofs.Stagings.{has_one_packets}
-use Rattle.cts_core.specs.States.{Environment, State, is_line, opening, may_close, unsent, ahead, put_next}
+use Rattle.cts_core.specs.States.{Environment, State, Request, Trial, trial_desk, is_line, opening, may_close, unsent, ahead, put_next}
 use Rattle.cts_core.specs.Runs.{Did, Does, after, pieces_for, passed_for, pieces_after, cursor_after, Ending, Runs, Receives, Closes, closing, closed_entry}
 use Rattle.cts_core.specs.Told.{Connection, Line, IsStay, Told, ToldBy, told_from, told_after, turned, heard, put_for, one_or_none, history_of}
 use Rattle.cts_core.specs.Laws.{IsSoundEnvironment, IsAnsweredByDesks, CoreIsTold}
@@ -399,12 +399,16 @@ moves env s (Write by count) did m line sound desks on f d = write_any env s did
 moves env s (Call desk body) did m line sound desks on f d =
     let there : env.is_desk desk ≡ true = (let n = d.enabled in grind arith) in
     let apart = other_than env (first_desk + desk) m (desks.desks desk there) on in
-    let none = ap (has_own m) d.appends ∙ none_of m (first_desk + desk) (env.answer s.history desk s.time body).entries apart (desks.answers s.history desk s.time body) in
+    let none = ap (has_own m) d.appends ∙ none_of m (first_desk + desk) (env.answer s.history desk s.time (Request body)).entries apart (desks.answers s.history desk s.time (Request body)) in
     quiet_event env s (Call desk body) did m line f none refl (ap (put_for m) d.effect) refl
 moves env s (DrainLog count) did m line sound desks on f d = quiet_event env s (DrainLog count) did m line f (no_entries m did.entries d.appends) refl (ap (put_for m) d.effect) refl
 moves env s (DrainSlot by count) did m line sound desks on f d = drain_any env s did by m count line f d (eqb_tells by m)
 moves env s Stop did m line sound desks on f d =
     quiet_event env s Stop did m line f (one_entry m (record { by = server; time = s.time; what = StopEntry }) did.entries (other_than env server m desks.server on) d.appends) refl (ap (put_for m) d.effect) refl
+moves env s (Try words) did m line sound desks on f d =
+    let apart = other_than env (first_desk + trial_desk) m (desks.desks trial_desk d.enabled) on in
+    let none = ap (has_own m) d.appends ∙ none_of m (first_desk + trial_desk) (env.answer s.history trial_desk s.time (Trial words)).entries apart (desks.answers s.history trial_desk s.time (Trial words)) in
+    quiet_event env s (Try words) did m line f none refl (ap (put_for m) d.effect) refl
 
 -- any run
 

@@ -1,6 +1,6 @@
 -- What the world stands for after each event.
 use Rattle.std.proofs.Common.{◌≡◌, ℕ, ◌+◌, ◌-◌, ◌≤◌, ◌<◌, ◌^◌, Bool, true, false, ◌&&◌, not, List, [], ◌∷◌, ◌++◌, length, take, drop, Option, Some, None, Ok, Err, refl, sym, ◌∙◌, ap, subst, arith, unwrap_or, option_map, append_assoc, length-drop, ◌⊎◌, inl, inr}
-use Rattle.std.specs.Prelude.{◌==◌, ◌≢◌, nat_le, nat_lt, ℤ, set, if◌then◌else◌}
+use Rattle.std.specs.Prelude.{◌==◌, ◌≢◌, nat_le, nat_lt, max, ℤ, set, Result, if◌then◌else◌}
 use Rattle.std.proofs.lemmas.List.{append-nil, length-set, get_or-set_same, get_or-set_other, set-set, set-get_or, take_at, length-append, get_or-replicate, length-replicate}
 use Rattle.std.proofs.lemmas.Bool.{cases_eq, eq-eqb, ne_eqb, ltb-true}
 use Rattle.cts_def.specs.Sites.{SiteData}
@@ -11,8 +11,8 @@ use Rattle.cts_entry.specs.declared.what.What.TheVariants.{Opened, Closed, Stop 
 use Rattle.cts_entry.specs.declared.why.Why.{Why}
 use Rattle.cts_entry.specs.declared.why.Why.TheVariants.{BadFrame}
 use Rattle.cts_entry.specs.declared.event.Event.{Event}
-use Rattle.cts_entry.specs.declared.event.Event.TheVariants.{SetTime, Opens, Piece, Finish, Stop}
-use Rattle.cts_entry.specs.declared.event.Effect.TheVariants.{Posted}
+use Rattle.cts_entry.specs.declared.event.Event.TheVariants.{SetTime, Opens, Piece, Finish, Stop, Try}
+use Rattle.cts_entry.specs.declared.event.Effect.TheVariants.{Posted, Tried}
 use Rattle.cts_entry.specs.Histories.{or_earlier, latest, connects, connects_maker, is_connected, is_stopped, has_command, entries_in, bytes_in}
 use Rattle.cts_entry.proofs.Appending.{latest-append, connected-append}
 use Rattle.cts_frame.specs.Framing.{Framing, Output}
@@ -28,17 +28,20 @@ use Rattle.cts_frame.specs.LengthRow.{length_framing}
 use Rattle.cts_frame.proofs.Framings.{taken_none, ends_nil}
 use Rattle.cts_frame.proofs.LengthSound.{length_is_sound}
 use Rattle.cts_frame.proofs.Stagings.{plain_bytes, joined_append}
-use Rattle.cts_core.specs.States.{State, is_piece, is_enabled, is_line, has_room, takes_room, unsent, may_close, opening}
+use Rattle.cts_core.specs.States.{Answer, State, is_piece, is_enabled, is_line, has_room, takes_room, unsent, may_close, opening}
 use Rattle.cts_core.specs.Runs.{Did, Does, Appends, Receives, after, pieces_for, closed_entry, closing}
 use Rattle.cts_core.proofs.Keeping.{pieces_turned, pieces_grow, pieces_stay}
 use Rattle.cts_core.proofs.Passing.{nothing_unsent}
 use Rattle.cts_told.specs.Routing.{packet_entries}
 use Rattle.cts_told.proofs.Walks.{posted_packets}
 use Rattle.cts_frame.specs.Chains.{framings_at}
-use Rattle.cts_core.specs.Environments.{site_environment}
+use Rattle.cts_core.specs.Environments.{basis_of, site_environment}
+use Rattle.cts_core.specs.Trials.{tells, tried}
 use Rattle.cts_entry.specs.Legal.{most_bytes as bytes_limit, most_entries as entries_limit}
-use Rattle.cts_core.specs.Kept.{Bounds, Kept, CanAdd, GivesRoom, is_within}
-use Rattle.cts_core.specs.Worlds.{Held, HeldConnection, Represents, Steps, Takes, IsConnection, IsRest, connection_at, first_held, shut, lost, opened, closed, extended, posted, settled, shortened, packets_cut}
+use Rattle.cts_core.specs.Kept.{GivesRoom, is_within}
+use Rattle.cts_table.specs.States.{Shown}
+use Rattle.cts_table.specs.declared.basis.Basis.{Basis}
+use Rattle.cts_core.specs.Worlds.{Held, HeldConnection, IsSoundHeld, Represents, Steps, Takes, IsConnection, IsRest, connection_at, first_held, shut, lost, opened, closed, extended, posted, settled, shortened, packets_cut}
 use Rattle.cts_core.specs.declared.fault.WorldFault.{WorldFault}
 use Rattle.cts_core.specs.declared.fault.WorldFault.TheVariants.{NotEnabled as RefusedEvent, Full, Memory}
 use Rattle.cts_core.specs.Built.{is_built_site}
@@ -61,15 +64,15 @@ pub wants_memory : (site : SiteData) (w new : Held) (s : State) (event : Event) 
 wants_memory site w new s event kept h = (kept, stays site w new s kept h)
 
 -- what is left of the limits is what the definition says
-room_is : (site : SiteData) (w : Held) (s : State) (entries : List Entry) (n m : ℕ) → entries_in entries ≡ n → bytes_in entries ≡ m → Represents site w s → is_within w.bounds w.history n m ≡ has_room (site_environment site) s entries
+room_is : (site : SiteData) (w : Held) (s : State) (entries : List Entry) (n m : ℕ) → entries_in entries ≡ n → bytes_in entries ≡ m → Represents site w s → is_within w.basis w.history n m ≡ has_room (site_environment site) s entries
 room_is site w s entries n m e b h =
     let count : entries_in w.history + n ≡ entries_in (s.history ++ entries) = omega (arith, ap entries_in h.history, entries_grow s.history entries n e) in
     let size : bytes_in w.history + m ≡ bytes_in (s.history ++ entries) = omega (arith, ap bytes_in h.history, bytes_grow s.history entries m b) in
-    ap (λ (k : Bounds). is_within k w.history n m) h.bounds
+    ap (λ (k : Basis). is_within k w.history n m) h.basis
     ∙ (ap (λ (k : ℕ). nat_le k entries_limit && nat_le (bytes_in w.history + m) bytes_limit) count ∙ ap (λ (k : ℕ). nat_le (entries_in (s.history ++ entries)) entries_limit && nat_le k bytes_limit) size)
 
 finds_full : (site : SiteData) (w new : Held) (s : State) (event : Event) (entries : List Entry) (n m counted size : ℕ) → is_enabled (site_environment site) s event ≡ true → takes_room event ≡ true → Appends (site_environment site) s event entries
-    → entries_in entries ≡ n → bytes_in entries ≡ m → is_within w.bounds w.history n m ≡ false → counted ≡ entries_in w.history → size ≡ bytes_in w.history → new ≡ w → Represents site w s → Steps site s event w (Err (Full counted size)) new
+    → entries_in entries ≡ n → bytes_in entries ≡ m → is_within w.basis w.history n m ≡ false → counted ≡ entries_in w.history → size ≡ bytes_in w.history → new ≡ w → Represents site w s → Steps site s event w (Err (Full counted size)) new
 finds_full site w new s event entries n m counted size t takes appends e b full c k kept h =
     ((t, takes, (entries, appends, sym (room_is site w s entries n m e b h) ∙ full)), c ∙ ap entries_in h.history, k ∙ ap bytes_in h.history, kept, stays site w new s kept h)
 
@@ -81,21 +84,24 @@ line_test site by a b built same =
     and_same (nat_lt by (length site.interfaces)) a b (λ t. same (ltb-true by (length site.interfaces) t)) ∙ ap (λ (connection : Bool). connection && b) (sym (line_is site by built))
 
 pub may_open_is : (site : SiteData) (w : Held) (s : State) (by : ℕ) → is_built_site site ≡ true → Represents site w s
-    → (nat_lt by (length site.interfaces) && (not (connection_at w.connections by).connected && not (is_stopped w.history))) ≡ is_enabled (site_environment site) s (Opens by)
+    → (nat_lt by (length w.basis.site.interfaces) && (not (connection_at w.connections by).connected && not (is_stopped w.history))) ≡ is_enabled (site_environment site) s (Opens by)
 may_open_is site w s by built h =
-    line_test site by (not (connection_at w.connections by).connected && not (is_stopped w.history)) (not (is_connected by s.history) && not (is_stopped s.history)) built (λ m.
+    ap (λ (b : Basis). nat_lt by (length b.site.interfaces) && (not (connection_at w.connections by).connected && not (is_stopped w.history))) h.basis
+    ∙ line_test site by (not (connection_at w.connections by).connected && not (is_stopped w.history)) (not (is_connected by s.history) && not (is_stopped s.history)) built (λ m.
     ap (λ (c : Bool). not c && not (is_stopped w.history)) (h.connections by m).connected ∙ ap (λ (l : List Entry). not (is_connected by s.history) && not (is_stopped l)) h.history)
 
 pub may_finish_is : (site : SiteData) (w : Held) (s : State) (by : ℕ) (why : Why) → is_built_site site ≡ true → Represents site w s
-    → (nat_lt by (length site.interfaces) && ((connection_at w.connections by).connected && may_close w.history why)) ≡ is_enabled (site_environment site) s (Finish by why)
+    → (nat_lt by (length w.basis.site.interfaces) && ((connection_at w.connections by).connected && may_close w.history why)) ≡ is_enabled (site_environment site) s (Finish by why)
 may_finish_is site w s by why built h =
-    line_test site by ((connection_at w.connections by).connected && may_close w.history why) (is_connected by s.history && may_close s.history why) built (λ m.
+    ap (λ (b : Basis). nat_lt by (length b.site.interfaces) && ((connection_at w.connections by).connected && may_close w.history why)) h.basis
+    ∙ line_test site by ((connection_at w.connections by).connected && may_close w.history why) (is_connected by s.history && may_close s.history why) built (λ m.
     ap (λ (c : Bool). c && may_close w.history why) (h.connections by m).connected ∙ ap (λ (l : List Entry). is_connected by s.history && may_close l why) h.history)
 
 pub may_receive_is : (site : SiteData) (w : Held) (s : State) (by : ℕ) (piece : List ℕ) → is_built_site site ≡ true → Represents site w s
-    → (nat_lt by (length site.interfaces) && ((connection_at w.connections by).connected && is_piece piece)) ≡ is_enabled (site_environment site) s (Piece by piece)
+    → (nat_lt by (length w.basis.site.interfaces) && ((connection_at w.connections by).connected && is_piece piece)) ≡ is_enabled (site_environment site) s (Piece by piece)
 may_receive_is site w s by piece built h =
-    line_test site by ((connection_at w.connections by).connected && is_piece piece) (is_connected by s.history && is_piece piece) built (λ m. ap (λ (c : Bool). c && is_piece piece) (h.connections by m).connected)
+    ap (λ (b : Basis). nat_lt by (length b.site.interfaces) && ((connection_at w.connections by).connected && is_piece piece)) h.basis
+    ∙ line_test site by ((connection_at w.connections by).connected && is_piece piece) (is_connected by s.history && is_piece piece) built (λ m. ap (λ (c : Bool). c && is_piece piece) (h.connections by m).connected)
 
 -- ---- the connections after an event
 
@@ -133,7 +139,7 @@ pub stands_first : (site : SiteData) (w : Held) → w ≡ first_held site entrie
 stands_first site w e = subst (λ (x : Held). Represents site x opening) (sym e) (record {
   history = refl;
   time = refl;
-  bounds = refl;
+  basis = refl;
   uncommanded = refl;
   count = length-replicate (length site.interfaces) shut;
   connections = λ by m. subst (λ (x : HeldConnection). IsConnection opening by x) (sym (get_or-replicate (length site.interfaces) by shut shut m)) (record { connected = refl; rest = rest_of_none });
@@ -142,16 +148,17 @@ stands_first site w e = subst (λ (x : Held). Represents site x opening) (sym e)
 -- ---- the clock and the Stop
 
 pub time_set : (site : SiteData) (w : Held) (s : State) (time : Time) → time.micros < 1000000 → Represents site w s
-    → (did : Did) × Does (site_environment site) s (SetTime time) did × Represents site (record w { time = time }) (after s (SetTime time) did)
+    → (did : Did) × Does (site_environment site) s (SetTime time) did × (Posted ≡ did.effect) × Represents site (record w { time = time }) (after s (SetTime time) did)
 time_set site w s time m h =
     let did : Did = record { entries = []; effect = Posted } in
     let all : s.history ≡ s.history ++ [] = sym (append-nil s.history) in (
       did,
       record { enabled = below time.micros 1000000 m; appends = refl; room = λ takes. absurd (cc takes); effect = refl },
+      refl,
       record {
         history = h.history ∙ all;
         time = refl;
-        bounds = h.bounds;
+        basis = h.basis;
         uncommanded = ap has_command (sym all) ∙ h.uncommanded;
         count = h.count;
         connections = λ k m. connection_kept s (after s (SetTime time) did) k (connection_at w.connections k) (ap (is_connected k) (sym all)) (pieces_stay k (SetTime time) [] s.pieces refl refl) (h.connections k m);
@@ -163,14 +170,14 @@ stop_tells_none k true = refl
 stop_tells_none k false = refl
 
 pub stopped : (site : SiteData) (w new : Held) (s : State) → is_stopped w.history ≡ false → new ≡ record w { history = w.history ++ record { by = server; time = w.time; what = StopEntry } ∷ [] } → Represents site w s
-    → (did : Did) × Does (site_environment site) s Stop did × Represents site new (after s Stop did)
+    → (did : Did) × Does (site_environment site) s Stop did × (Posted ≡ did.effect) × Represents site new (after s Stop did)
 stopped site w new s off n h =
     let entry : Entry = record { by = server; time = s.time; what = StopEntry } in
     let did : Did = record { entries = entry ∷ []; effect = Posted } in
     let whole : Represents site (record w { history = w.history ++ record { by = server; time = w.time; what = StopEntry } ∷ [] }) (after s Stop did) = record {
       history = ap (λ (l : List Entry). l ++ record { by = server; time = w.time; what = StopEntry } ∷ []) h.history ∙ ap (λ (now : Time). s.history ++ record { by = server; time = now; what = StopEntry } ∷ []) h.time;
       time = h.time;
-      bounds = h.bounds;
+      basis = h.basis;
       uncommanded = uncommanded_kept s.history (entry ∷ []) h.uncommanded refl;
       count = h.count;
       connections = λ k m. connection_kept s (after s Stop did) k (connection_at w.connections k) (connected_kept k s.history (entry ∷ []) (stop_tells_none k (31 == k))) (pieces_stay k Stop (entry ∷ []) s.pieces (stop_tells_none k (31 == k)) refl) (h.connections k m);
@@ -182,6 +189,7 @@ stopped site w new s off n h =
         room = λ takes. absurd (cc takes);
         effect = refl;
       },
+      refl,
       subst (λ (x : Held). Represents site x (after s Stop did)) (sym n) whole,
     )
 
@@ -195,8 +203,8 @@ others_kept by s entry e k other = connected_kept k s.history (entry ∷ []) (te
 maker_told : (by : ℕ) (s : State) (entry : Entry) (on : Bool) → entry.by ≡ by → connects entry.what ≡ Some on → on ≡ is_connected by (s.history ++ entry ∷ [])
 maker_told by s entry on e t = sym (connected-append by s.history (entry ∷ []) ∙ ap (λ (o : Option Bool). unwrap_or (or_earlier o (latest (connects_maker by) s.history)) false) (tells_maker by entry e ∙ t))
 
-pub opens : (site : SiteData) (w new : Held) (s : State) (by : ℕ) → is_built_site site ≡ true → new ≡ opened by w → is_enabled (site_environment site) s (Opens by) ≡ true → is_within w.bounds w.history 1 0 ≡ true → Represents site w s
-    → (did : Did) × Does (site_environment site) s (Opens by) did × Represents site new (after s (Opens by) did)
+pub opens : (site : SiteData) (w new : Held) (s : State) (by : ℕ) → is_built_site site ≡ true → new ≡ opened by w → is_enabled (site_environment site) s (Opens by) ≡ true → is_within w.basis w.history 1 0 ≡ true → Represents site w s
+    → (did : Did) × Does (site_environment site) s (Opens by) did × (Posted ≡ did.effect) × Represents site new (after s (Opens by) did)
 opens site w new s by built n t fits h =
     let m : by < length site.interfaces = (enabled_line site by _ built t).0 in
     let entry : Entry = record { by = by; time = s.time; what = Opened } in
@@ -210,7 +218,7 @@ opens site w new s by built n t fits h =
     let whole : Represents site (opened by w) moved = record {
       history = ap (λ (l : List Entry). l ++ record { by = by; time = w.time; what = Opened } ∷ []) h.history ∙ ap (λ (now : Time). s.history ++ record { by = by; time = now; what = Opened } ∷ []) h.time;
       time = h.time;
-      bounds = h.bounds;
+      basis = h.basis;
       uncommanded = uncommanded_kept s.history (entry ∷ []) h.uncommanded refl;
       count = set_count w.connections (length site.interfaces) by connection h.count;
       connections = connections_set s moved w.connections (length site.interfaces) by connection h.count m h.connections mine (others_kept by s entry refl) (λ k other. pieces_stay k (Opens by) (entry ∷ []) s.pieces (tells_no_other k entry other) refl);
@@ -222,11 +230,12 @@ opens site w new s by built n t fits h =
         room = λ takes. sym (room_is site w s (entry ∷ []) 1 0 refl refl h) ∙ fits;
         effect = refl;
       },
+      refl,
       subst (λ (x : Held). Represents site x moved) (sym n) whole,
     )
 
 -- there is no room for an Opened
-pub open_full : (site : SiteData) (w new : Held) (s : State) (by counted size : ℕ) → is_enabled (site_environment site) s (Opens by) ≡ true → is_within w.bounds w.history 1 0 ≡ false → counted ≡ entries_in w.history → size ≡ bytes_in w.history → new ≡ w → Represents site w s
+pub open_full : (site : SiteData) (w new : Held) (s : State) (by counted size : ℕ) → is_enabled (site_environment site) s (Opens by) ≡ true → is_within w.basis w.history 1 0 ≡ false → counted ≡ entries_in w.history → size ≡ bytes_in w.history → new ≡ w → Represents site w s
     → Steps site s (Opens by) w (Err (Full counted size)) new
 open_full site w new s by counted size t full = finds_full site w new s (Opens by) (record { by = by; time = s.time; what = Opened } ∷ []) 1 0 counted size t refl refl refl refl full
 
@@ -269,7 +278,7 @@ none_waits site w s by m h = nothing_unsent (site_environment site) s by (below 
 
 pub finished : (site : SiteData) (w new : Held) (s : State) (by : ℕ) (why : Why) → is_built_site site ≡ true → length site.interfaces ≤ 16 → new ≡ closed by w why → is_enabled (site_environment site) s (Finish by why) ≡ true
     → length (connection_at w.connections by).rest < 2 ^ 64 → Represents site w s
-    → (did : Did) × Does (site_environment site) s (Finish by why) did × Represents site new (after s (Finish by why) did)
+    → (did : Did) × Does (site_environment site) s (Finish by why) did × (Posted ≡ did.effect) × Represents site new (after s (Finish by why) did)
 finished site w new s by why built few n t small h =
     let m : by < length site.interfaces = (enabled_line site by _ built t).0 in
     let rest = (h.connections by m).rest in
@@ -280,7 +289,7 @@ finished site w new s by why built few n t small h =
     let whole : Represents site (closed by w why) moved = record {
       history = ap (λ (l : List Entry). l ++ lost by w.time (connection_at w.connections by).rest why ∷ []) h.history ∙ ap (λ (x : Entry). s.history ++ x ∷ []) (closed_entry_is by w.time s.time why c h.time small refl refl);
       time = h.time;
-      bounds = h.bounds;
+      basis = h.basis;
       uncommanded = uncommanded_kept s.history (entry ∷ []) h.uncommanded refl;
       count = set_count w.connections (length site.interfaces) by shut h.count;
       connections = connections_set s moved w.connections (length site.interfaces) by shut h.count m h.connections (shut_connection by moved (maker_told by s entry false refl refl) (pieces_turned by (Finish by why) (entry ∷ []) s.pieces false (tells_maker by entry refl)))
@@ -298,6 +307,7 @@ finished site w new s by why built few n t small h =
         room = λ takes. absurd (cc takes);
         effect = refl;
       },
+      refl,
       subst (λ (x : Held). Represents site x moved) (sym n) whole,
     )
 
@@ -379,7 +389,7 @@ receiver : (site : SiteData) (w : Held) (s : State) (by : ℕ) (piece : List ℕ
 receiver site w s by piece built t h = let m : by < length site.interfaces = (enabled_line site by _ built t).0 in record { there = m; rest = (h.connections by m).rest }
 
 piece_full : (site : SiteData) (w new : Held) (s : State) (by : ℕ) (piece : List ℕ) (c : Cutting) (counted size : ℕ) → is_built_site site ≡ true → length site.interfaces ≤ 16 → is_enabled (site_environment site) s (Piece by piece) ≡ true
-    → IsCutting ((connection_at w.connections by).rest ++ piece) c → is_within w.bounds w.history (length c.frames) c.rest ≡ false → counted ≡ entries_in w.history → size ≡ bytes_in w.history → new ≡ w → Represents site w s
+    → IsCutting ((connection_at w.connections by).rest ++ piece) c → is_within w.basis w.history (length c.frames) c.rest ≡ false → counted ≡ entries_in w.history → size ≡ bytes_in w.history → new ≡ w → Represents site w s
     → Steps site s (Piece by piece) w (Err (Full counted size)) new
 piece_full site w new s by piece c counted size built few t i full e b kept h =
     let bytes = (connection_at w.connections by).rest ++ piece in
@@ -483,7 +493,7 @@ stands_whole site by w s piece c i r h did d e =
     record {
       history = ap (λ (l : List Entry). l ++ packet_entries (site_environment site).routing w.time by (frames_at bytes c.frames)) h.history ∙ ap (λ (l : List Entry). s.history ++ l) (packets_at site by w.time s.time bytes c h.time ∙ sym whole);
       time = h.time;
-      bounds = h.bounds;
+      basis = h.basis;
       uncommanded = uncommanded_kept s.history did.entries h.uncommanded (ap has_command whole ∙ packets_command site by s.time bytes c);
       count = set_count w.connections (length site.interfaces) by connection h.count;
       connections = connections_set s moved w.connections (length site.interfaces) by connection h.count r.there h.connections mine (λ j other. kept j) (λ j other. pieces_stay j (Piece by piece) did.entries s.pieces (none j) (piece_of_other j by piece other));
@@ -526,7 +536,7 @@ stands_bad site by w s piece c i r h did d stated e small =
           ∙ (ap (λ (l : List Entry). s.history ++ (l ++ lost by w.time rest why ∷ [])) (packets_at site by w.time s.time bytes c h.time)
           ∙ (ap (λ (x : Entry). s.history ++ (packets_of site by s.time bytes c ++ x ∷ [])) last ∙ ap (λ (l : List Entry). s.history ++ l) (sym bad))));
       time = h.time;
-      bounds = h.bounds;
+      basis = h.basis;
       uncommanded = uncommanded_kept s.history did.entries h.uncommanded (ap has_command bad ∙ bad_command site by s.time bytes rest c stated);
       count = set_count w.connections (length site.interfaces) by shut h.count;
       connections = connections_set s moved w.connections (length site.interfaces) by shut h.count r.there h.connections (shut_connection by moved off (pieces_turned by (Piece by piece) did.entries s.pieces false (tells by ∙ bad_tells by s.time rest stated)))
@@ -541,9 +551,9 @@ stands_posted site by w s piece c i r h did d (Some stated) e small =
     subst (λ (x : Held). Represents site x (after s (Piece by piece) did)) (sym (closed_piece_is site by w piece c stated (omega (arith, h.count, r.there)))) (stands_bad site by w s piece c i r h did d stated e small)
 
 received : (site : SiteData) (w new : Held) (s : State) (by : ℕ) (piece : List ℕ) (c : Cutting) → is_built_site site ≡ true → length site.interfaces ≤ 16 → is_enabled (site_environment site) s (Piece by piece) ≡ true
-    → IsCutting ((connection_at w.connections by).rest ++ piece) c → is_within w.bounds w.history (length c.frames) c.rest ≡ true → length ((connection_at w.connections by).rest ++ piece) < 2 ^ 64
+    → IsCutting ((connection_at w.connections by).rest ++ piece) c → is_within w.basis w.history (length c.frames) c.rest ≡ true → length ((connection_at w.connections by).rest ++ piece) < 2 ^ 64
     → new ≡ settled by (posted by (extended by w piece) (packets_cut site by (extended by w piece) c) c.rest) c.short → Represents site w s
-    → (did : Did) × Does (site_environment site) s (Piece by piece) did × Represents site new (after s (Piece by piece) did)
+    → (did : Did) × Does (site_environment site) s (Piece by piece) did × (Posted ≡ did.effect) × Represents site new (after s (Piece by piece) did)
 received site w new s by piece c built few t i room small n h =
     let rest = (connection_at w.connections by).rest in
     let r = receiver site w s by piece built t h in
@@ -556,6 +566,7 @@ received site w new s by piece c built few t i room small n h =
         room = λ takes. sym (room_is site w s (posts site by s.time (rest ++ piece) c) (length c.frames) c.rest (posts_count site by s.time (rest ++ piece) c) (posts_size site by s.time (rest ++ piece) c i) h) ∙ room;
         effect = refl;
       },
+      refl,
       subst (λ (x : Held). Represents site x (after s (Piece by piece) did)) (sym same) (stands_posted site by w s piece c i r h did refl c.short refl small),
     )
 
@@ -574,7 +585,7 @@ cutting_is : (by : ℕ) (w : Held) (piece : List ℕ) (c : Cutting) → by < len
 cutting_is by w piece c m i = subst (λ (bytes : List ℕ). IsCutting bytes c) (longer_rest by w piece m) i
 
 pub piece_done : (site : SiteData) (w new : Held) (s : State) (by : ℕ) (piece : List ℕ) → is_built_site site ≡ true → length site.interfaces ≤ 16 → is_enabled (site_environment site) s (Piece by piece) ≡ true
-    → length (connection_at (extended by w piece).connections by).rest < 2 ^ 64 → Takes site by (extended by w piece) (Ok tt) new → Represents site w s → Steps site s (Piece by piece) w (Ok tt) new
+    → length (connection_at (extended by w piece).connections by).rest < 2 ^ 64 → Takes site by (extended by w piece) (Ok tt) new → Represents site w s → Steps site s (Piece by piece) w (Ok Posted) new
 piece_done site w new s by piece built few t small taken h =
     let m = there_of site w s by piece built t h in
     received site w new s by piece taken.0 built few t (cutting_is by w piece taken.0 m taken.1) taken.2 (subst (λ (bytes : List ℕ). length bytes < 2 ^ 64) (longer_rest by w piece m) small) taken.3 h
@@ -604,29 +615,78 @@ taken_back by w mid piece m e =
     ∙ (ap (λ (bytes : List ℕ). record w { connections = set (set w.connections by longer) by (record connection { rest = bytes }) }) front
     ∙ ap (λ (cs : List HeldConnection). record w { connections = cs }) (set-set w.connections by longer connection ∙ set-get_or w.connections by shut)))
 
--- ---- room in the history
+-- ---- the site that is held
 
--- what is held with this history
-abbrev pub held_with : Time → Kept → List HeldConnection → Held
-held_with time k connections = record { time = time; history = k.entries; bounds = k.bounds; connections = connections }
+-- it is the one that is stood for
+pub built_of : (site : SiteData) (w : Held) (s : State) → IsSoundHeld w → Represents site w s → is_built_site site ≡ true
+built_of site w s sound h = subst (λ (b : Basis). is_built_site b.site ≡ true) h.basis sound.built
+
+pub few_of : (site : SiteData) (w : Held) (s : State) → length w.basis.site.interfaces ≤ 16 → Represents site w s → length site.interfaces ≤ 16
+few_of site w s few h = subst (λ (b : Basis). length b.site.interfaces ≤ 16) h.basis few
+
+pub takes_at : (site : SiteData) (w mid new : Held) (s : State) (by : ℕ) (r : Result (Unit {0}) WorldFault) → Represents site w s → mid.basis ≡ w.basis → Takes mid.basis.site by mid r new → Takes site by mid r new
+takes_at site w mid new s by r h same taken = subst (λ (b : Basis). Takes b.site by mid r new) (same ∙ h.basis) taken
+
+-- ---- room in the hall
+
+-- what is held with this hall
+abbrev pub held_with : Time → Shown → List HeldConnection → Held
+held_with time k connections = record { basis = k.basis; time = time; history = k.entries; connections = connections }
 
 -- room alone changes nothing that is held
-pub room_made : (time : Time) (k new : Kept) (connections : List HeldConnection) (n m : ℕ) → GivesRoom k n m (Ok tt) new → held_with time new connections ≡ held_with time k connections
-room_made time k new connections n m g = ap (λ (x : Kept). held_with time x connections) g.2
+pub room_made : (time : Time) (k new : Shown) (connections : List HeldConnection) (n m : ℕ) → GivesRoom k n m (Ok tt) new → held_with time new connections ≡ held_with time k connections
+room_made time k new connections n m g = ap (λ (x : Shown). held_with time x connections) g.1
 
-pub room_refused : (site : SiteData) (by : ℕ) (time : Time) (k new : Kept) (connections : List HeldConnection) (c : Cutting) (fault : WorldFault) → IsCutting (connection_at connections by).rest c → GivesRoom k (length c.frames) c.rest (Err fault) new
+pub room_refused : (site : SiteData) (by : ℕ) (time : Time) (k new : Shown) (connections : List HeldConnection) (c : Cutting) (fault : WorldFault) → IsCutting (connection_at connections by).rest c → GivesRoom k (length c.frames) c.rest (Err fault) new
     → Takes site by (held_with time k connections) (Err fault) (held_with time new connections)
 room_refused site by time k new connections c RefusedEvent i g = absurd g
-room_refused site by time k new connections c (Full counted size) i g = (c, i, g.0, g.1, g.2, ap (λ (x : Kept). held_with time x connections) g.3)
-room_refused site by time k new connections c Memory i g = ap (λ (x : Kept). held_with time x connections) g
+room_refused site by time k new connections c (Full counted size) i g = (c, i, g.0, g.1, g.2, ap (λ (x : Shown). held_with time x connections) g.3)
+room_refused site by time k new connections c Memory i g = ap (λ (x : Shown). held_with time x connections) g
 
 -- the room that was made for a cutting is that for its packets
-pub packets_fit : (site : SiteData) (by : ℕ) (now : Time) (bytes : List ℕ) (c : Cutting) (entries : List Entry) (k new : Kept) → IsCutting bytes c → entries ≡ packet_entries (site_environment site).routing now by (frames_at bytes c.frames)
-    → GivesRoom k (length c.frames) c.rest (Ok tt) new → CanAdd new entries × (length entries < new.places)
-packets_fit site by now bytes c entries k new i e g =
-    let many : entries_in entries ≡ length c.frames = ap entries_in e ∙ (packets_count site by now (frames_at bytes c.frames) ∙ frames_count bytes c.frames) in
-    let size : bytes_in entries ≡ c.rest = ap bytes_in e ∙ packets_bytes site by now bytes c.frames c.rest i.tiles i.within in
-    let count : length entries ≡ length c.frames = ap length e ∙ (packets_length site by now (frames_at bytes c.frames) ∙ frames_count bytes c.frames) in
-    let spare : new.spare_entries ≡ length c.frames = ap (λ (x : Kept). x.spare_entries) g.2 in
-    let left : new.spare_bytes ≡ c.rest = ap (λ (x : Kept). x.spare_bytes) g.2 in
-    (record { entries = omega (arith, many, spare); bytes = omega (arith, size, left); places = omega (arith, count, g.1) }, omega (arith, count, g.1))
+pub packets_fit : (site : SiteData) (by : ℕ) (now : Time) (bytes : List ℕ) (c : Cutting) (k new : Shown) → IsCutting bytes c → GivesRoom k (length c.frames) c.rest (Ok tt) new
+    → (entries_in (packet_entries (site_environment site).routing now by (frames_at bytes c.frames)) ≤ new.spare_entries) × (bytes_in (packet_entries (site_environment site).routing now by (frames_at bytes c.frames)) ≤ new.spare_bytes)
+packets_fit site by now bytes c k new i g =
+    let many : entries_in (packet_entries (site_environment site).routing now by (frames_at bytes c.frames)) ≡ length c.frames = packets_count site by now (frames_at bytes c.frames) ∙ frames_count bytes c.frames in
+    let size : bytes_in (packet_entries (site_environment site).routing now by (frames_at bytes c.frames)) ≡ c.rest = packets_bytes site by now bytes c.frames c.rest i.tiles i.within in
+    let spare : new.spare_entries ≡ max k.spare_entries (length c.frames) = ap (λ (x : Shown). x.spare_entries) g.1 in
+    let left : new.spare_bytes ≡ max k.spare_bytes c.rest = ap (λ (x : Shown). x.spare_bytes) g.1 in
+    (omega (arith, many, spare), omega (arith, size, left))
+
+-- ---- trial lines
+
+-- what a trial answers and appends is what the environment's desk does
+trial_here : (site : SiteData) (w : Held) (s : State) (words : List (List ℕ)) → Represents site w s → tried w.basis w.history w.time words ≡ tried (basis_of site) s.history s.time words
+trial_here site w s words h = λ i. tried (h.basis i) (h.history i) (h.time i) words
+
+pub trial_done : (site : SiteData) (w new : Held) (s : State) (words : List (List ℕ)) (front : ℕ) (text : List ℕ) (es : List Entry) → 1 ≤ w.basis.site.desks → front ≡ length w.history
+    → tried w.basis w.history w.time words ≡ record { text = Some text; entries = es } → ((k : ℕ) → latest (connects_maker k) es ≡ None) → has_command es ≡ false → new ≡ record w { history = w.history ++ es } → Represents site w s
+    → Steps site s (Try words) w (Ok (Tried front text)) new
+trial_done site w new s words front text es desks at answers none free n h =
+    let did : Did = record { entries = es; effect = Tried (length s.history) text } in
+    let moved : State = after s (Try words) did in
+    let same = sym (trial_here site w s words h) ∙ answers in
+    let some : 1 ≤ site.desks = subst (λ (b : Basis). 1 ≤ b.site.desks) h.basis desks in
+    let whole : Represents site (record w { history = w.history ++ es }) moved = record {
+      history = ap (λ (l : List Entry). l ++ es) h.history;
+      time = h.time;
+      basis = h.basis;
+      uncommanded = uncommanded_kept s.history es h.uncommanded free;
+      count = h.count;
+      connections = λ k m. connection_kept s moved k (connection_at w.connections k) (connected_kept k s.history es (none k)) (pieces_stay k (Try words) es s.pieces (none k) refl) (h.connections k m);
+    } in (
+      did,
+      record {
+        enabled = below 0 site.desks (omega (arith, some));
+        appends = sym (ap (λ (a : Answer). a.entries) same);
+        room = λ takes. absurd (cc takes);
+        effect = sym (ap (λ (a : Answer). Tried (length s.history) (unwrap_or a.text [])) same);
+      },
+      ap (λ (k : ℕ). Tried k text) (at ∙ ap length h.history),
+      subst (λ (x : Held). Represents site x moved) (sym n) whole,
+    )
+
+-- a look-up appends nothing
+pub trial_told : (site : SiteData) (w : Held) (s : State) (words : List (List ℕ)) (front : ℕ) (text : List ℕ) → 1 ≤ w.basis.site.desks → front ≡ length w.history → tried w.basis w.history w.time words ≡ tells text → Represents site w s
+    → Steps site s (Try words) w (Ok (Tried front text)) w
+trial_told site w s words front text desks at answers h = trial_done site w w s words front text [] desks at answers (λ k. refl) refl (ap (λ (l : List Entry). record w { history = l }) (sym (append-nil w.history))) h

@@ -6,8 +6,10 @@ use Rattle.cts_def.specs.Protocols.{SpecData, Burst, Fixed, Length, Terminated, 
 use Rattle.cts_def.specs.Sites.{InterfaceData, SiteData}
 use Rattle.cts_def.specs.Starts.{PlaceData}
 use Rattle.cts_def.specs.Spans.{is_little}
+use Rattle.cts_core.specs.Trials.{is_built_trial}
 use Rattle.cts_entry.specs.declared.event.Event.{Event}
-use Rattle.cts_entry.specs.declared.event.Event.TheVariants.{SetTime, Opens, Piece, Finish, Write, Call, DrainLog, DrainSlot, Stop}
+use Rattle.cts_scriptread.specs.Trials.{trial_of}
+use Rattle.cts_entry.specs.declared.event.Event.TheVariants.{SetTime, Opens, Piece, Finish, Write, Call, DrainLog, DrainSlot, Stop, Try}
 
 -- the first two bytes, the high one first
 abbrev pub is_first_two : PlaceData → Bool
@@ -53,3 +55,4 @@ is_built_event (Call desk body) = false
 is_built_event (DrainLog count) = false
 is_built_event (DrainSlot by count) = false
 is_built_event Stop = true
+is_built_event (Try words) = is_built_trial (trial_of words)

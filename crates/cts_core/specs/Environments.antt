@@ -1,7 +1,9 @@
 -- What a site gives to events: the environment in which they are done.
 use Rattle.std.specs.Prelude.{ℕ, false, Bool, ◌==◌, ◌&&◌, nat_lt, List, [], map, slice_index_or, Option, Some, None, if◌then◌else◌}
 use Rattle.std.specs.List.{list_any}
-use Rattle.cts_core.specs.States.{Answer, Environment}
+use Rattle.cts_core.specs.States.{Answer, Environment, Question, Request, Trial}
+use Rattle.cts_core.specs.Trials.{tried}
+use Rattle.cts_table.specs.declared.basis.Basis.{Basis}
 use Rattle.cts_def.specs.Makers.{router_of}
 use Rattle.cts_def.specs.Packets.{unknown}
 use Rattle.cts_def.specs.Sites.{InterfaceData, SiteData}
@@ -55,11 +57,20 @@ packet_names site Unknown = (unknown, unknown)
 
 -- ---- the environment
 
--- what is not defined yet: the spelling by write chains, the layout in logs, and what desks answer
+-- what is not defined yet: the spelling by write chains, the layout in logs, and what desks answer to requests
 pub record Undefined : Type 0 where
   pub spelling : ℕ → Heading → List ℕ → Option (List ℕ)
   pub layout : Heading → List ℕ → List ℕ
   pub answer : List Entry → ℕ → Time → List ℕ → Answer
+
+-- the limits of a server's history
+abbrev pub basis_of : SiteData → Basis
+basis_of site = record { site = site; entries = entries_limit; bytes = bytes_limit }
+
+-- a request is answered by what is not defined yet, and a trial line by what the site's history says
+abbrev pub answer_to : (List Entry → ℕ → Time → List ℕ → Answer) → SiteData → List Entry → ℕ → Time → Question → Answer
+answer_to answer site history desk now (Request body) = answer history desk now body
+answer_to answer site history desk now (Trial words) = tried (basis_of site) history now words
 
 -- The environment that a site gives, with these in their places.
 abbrev pub environment_with : Undefined → SiteData → Environment
@@ -78,7 +89,7 @@ environment_with u site = record {
   is_desk = is_desk site;
   is_logged = is_logged site;
   layout = u.layout;
-  answer = u.answer;
+  answer = answer_to u.answer site;
   most_entries = entries_limit;
   most_bytes = bytes_limit;
 }

@@ -9,7 +9,7 @@ use Rattle.cts_entry.specs.Legal.{Rules, is_ended, IsLegal}
 use Rattle.cts_frame.specs.Laws.{AllSound}
 use Rattle.cts_frame.specs.Packets.{capped}
 use Rattle.cts_told.specs.Routing.{queue, walk}
-use Rattle.cts_core.specs.States.{Environment, State, is_line, opening, ahead, unsent, packets_log, commands_log}
+use Rattle.cts_core.specs.States.{Environment, State, Question, is_line, opening, ahead, unsent, packets_log, commands_log}
 use Rattle.cts_core.specs.Runs.{Did, Ending, Runs}
 use Rattle.cts_core.specs.Logs.{drained_by, packets_logged, commands_logged}
 use Rattle.cts_core.specs.Cursors.{IsPassed}
@@ -32,7 +32,7 @@ HasOneRun = (env : Environment) (s : State) (events : List Event) (dids others :
 pub record IsAnsweredByDesks (env : Environment) : Type 0 where
   pub server : is_line env server ≡ false
   pub desks : (desk : ℕ) → env.is_desk desk ≡ true → is_line env (first_desk + desk) ≡ false
-  pub answers : (history : List Entry) (desk : ℕ) (time : Time) (body : List ℕ) → All (λ (e : Entry). e.by ≡ first_desk + desk) (env.answer history desk time body).entries
+  pub answers : (history : List Entry) (desk : ℕ) (time : Time) (question : Question) → All (λ (e : Entry). e.by ≡ first_desk + desk) (env.answer history desk time question).entries
 
 -- What the history of a run says of each interface and slot is what the events told of it.
 abbrev pub CoreIsTold : Type 0
@@ -58,8 +58,8 @@ rules_of env = record {
 
 -- what desks answer behind a legal history leaves it legal, its limits too, and no worker ends by it
 pub record IsAnsweredLegally (env : Environment) : Type 0 where
-  pub legal : (history : List Entry) (desk : ℕ) (time : Time) (body : List ℕ) → env.is_desk desk ≡ true → IsLegal (rules_of env) history → IsLegal (rules_of env) (history ++ (env.answer history desk time body).entries)
-  pub none_ended : (history : List Entry) (desk : ℕ) (time : Time) (body : List ℕ) → list_any (λ (e : Entry). is_ended e.what) (env.answer history desk time body).entries ≡ false
+  pub legal : (history : List Entry) (desk : ℕ) (time : Time) (question : Question) → env.is_desk desk ≡ true → IsLegal (rules_of env) history → IsLegal (rules_of env) (history ++ (env.answer history desk time question).entries)
+  pub none_ended : (history : List Entry) (desk : ℕ) (time : Time) (question : Question) → list_any (λ (e : Entry). is_ended e.what) (env.answer history desk time question).entries ≡ false
 
 -- The history of a run is legal.
 abbrev pub CoreIsLegal : Type 0

@@ -1,5 +1,5 @@
 -- What each event does, and what a list of events does.
-use Rattle.std.specs.Prelude.{◌≡◌, ℕ, ◌+◌, ◌==◌, Bool, true, false, if◌then◌else◌, List, [], ◌∷◌, ◌++◌, length, take, Option, Some, None, ◌⊎◌}
+use Rattle.std.specs.Prelude.{◌≡◌, ℕ, ◌+◌, ◌==◌, Bool, true, false, if◌then◌else◌, List, [], ◌∷◌, ◌++◌, length, take, Option, Some, None, unwrap_or, ◌⊎◌}
 use Rattle.cts_def.specs.declared.time.Time.{Time}
 use Rattle.cts_entry.specs.declared.entry.Entry.{Entry}
 use Rattle.cts_def.specs.Makers.{server}
@@ -7,15 +7,15 @@ use Rattle.cts_entry.specs.declared.what.What.TheVariants.{Opened, Closed, Stop 
 use Rattle.cts_entry.specs.declared.why.Why.{Why}
 use Rattle.cts_entry.specs.declared.why.Why.TheVariants.{BadFrame}
 use Rattle.cts_entry.specs.declared.event.Event.{Event}
-use Rattle.cts_entry.specs.declared.event.Event.TheVariants.{SetTime, Opens, Piece, Finish, Write, Call, DrainLog, DrainSlot, Stop}
+use Rattle.cts_entry.specs.declared.event.Event.TheVariants.{SetTime, Opens, Piece, Finish, Write, Call, DrainLog, DrainSlot, Stop, Try}
 use Rattle.cts_entry.specs.declared.event.Effect.{Effect}
-use Rattle.cts_entry.specs.declared.event.Effect.TheVariants.{Posted, Reply, Written, Logged, Routed}
+use Rattle.cts_entry.specs.declared.event.Effect.TheVariants.{Posted, Reply, Written, Logged, Routed, Tried}
 use Rattle.cts_entry.specs.Histories.{latest, connects_maker}
 use Rattle.cts_frame.specs.Framing.{Output}
 use Rattle.cts_frame.specs.Cuts.{Pieces}
 use Rattle.cts_frame.specs.Packets.{IsPackets, Fault, fault_of, loss_of}
 use Rattle.cts_told.specs.Routing.{posted_entries}
-use Rattle.cts_core.specs.States.{Environment, State, is_enabled, takes_room, has_room, put_next, unsent, log_ahead, packets_log, commands_log}
+use Rattle.cts_core.specs.States.{Environment, State, Question, Request, Trial, trial_desk, is_enabled, takes_room, has_room, put_next, unsent, log_ahead, packets_log, commands_log}
 
 -- a connection's Closed has what its chain gave to no packet, and how many of its queue were not put whole
 abbrev pub closed_entry : Time → ℕ → Why → ℕ → List Pieces → Entry
@@ -51,10 +51,11 @@ Appends env s (Opens by) entries = entries ≡ record { by = by; time = s.time; 
 Appends env s (Piece by piece) entries = Receives env s by piece entries
 Appends env s (Finish by why) entries = Closes env s by why entries
 Appends env s (Write by count) entries = entries ≡ []
-Appends env s (Call desk body) entries = entries ≡ (env.answer s.history desk s.time body).entries
+Appends env s (Call desk body) entries = entries ≡ (env.answer s.history desk s.time (Request body)).entries
 Appends env s (DrainLog count) entries = entries ≡ []
 Appends env s (DrainSlot by count) entries = entries ≡ []
 Appends env s Stop entries = entries ≡ record { by = server; time = s.time; what = StopEntry } ∷ []
+Appends env s (Try words) entries = entries ≡ (env.answer s.history trial_desk s.time (Trial words)).entries
 
 -- what an event gives besides
 abbrev pub effect_of : Environment → State → Event → Effect
@@ -63,10 +64,11 @@ effect_of env s (Opens by) = Posted
 effect_of env s (Piece by piece) = Posted
 effect_of env s (Finish by why) = Posted
 effect_of env s (Write by count) = Written by (put_next env s by count)
-effect_of env s (Call desk body) = Reply desk (length s.history) (env.answer s.history desk s.time body).text
+effect_of env s (Call desk body) = Reply desk (length s.history) (env.answer s.history desk s.time (Request body)).text
 effect_of env s (DrainLog count) = Logged (packets_log env (take count (log_ahead s))) (commands_log env (take count (log_ahead s)))
 effect_of env s (DrainSlot by count) = Routed by (put_next env s by count)
 effect_of env s Stop = Posted
+effect_of env s (Try words) = Tried (length s.history) (unwrap_or (env.answer s.history trial_desk s.time (Trial words)).text [])
 
 -- what an event did: the entries that it appended, and what it gave besides
 pub record Did : Type 0 where
@@ -91,6 +93,7 @@ time_after (Call desk body) now = now
 time_after (DrainLog count) now = now
 time_after (DrainSlot by count) now = now
 time_after Stop now = now
+time_after (Try words) now = now
 
 -- the piece that an event brings from a maker's connection
 abbrev pub pieces_for : ℕ → Event → List (List ℕ)
@@ -103,6 +106,7 @@ pieces_for m (Call desk body) = []
 pieces_for m (DrainLog count) = []
 pieces_for m (DrainSlot by count) = []
 pieces_for m Stop = []
+pieces_for m (Try words) = []
 
 -- how many entries a maker passes by an event
 abbrev pub passed_for : ℕ → Event → ℕ
@@ -115,6 +119,7 @@ passed_for m (Call desk body) = 0
 passed_for m (DrainLog count) = 0
 passed_for m (DrainSlot by count) = if by == m then count else 0
 passed_for m Stop = 0
+passed_for m (Try words) = 0
 
 -- What is kept of a maker's connection, where entries tell whether it is opened or closed: with either, what was kept before
 -- is given up, and else there is so much.
@@ -139,6 +144,7 @@ drained (Call desk body) = 0
 drained (DrainLog count) = count
 drained (DrainSlot by count) = 0
 drained Stop = 0
+drained (Try words) = 0
 
 -- what the core holds after an event that did this
 abbrev pub after : State → Event → Did → State

@@ -1,10 +1,12 @@
 -- What the running core holds, and the states of the defined core that it represents.
 use Rattle.std.specs.Prelude.{◌≡◌, ℕ, ◌-◌, ◌<◌, Bool, true, false, List, [], ◌∷◌, ◌++◌, map, length, take, drop, replicate, slice_index_or, slice_set, ℤ, Option, None, Some, Result, Ok, Err}
+use Rattle.std.specs.List.{list_any}
 use Rattle.cts_def.specs.Sites.{SiteData}
 use Rattle.cts_def.specs.declared.bad_cause.BadCause.TheVariants.{Short}
 use Rattle.cts_def.specs.declared.time.Time.{Time}
 use Rattle.cts_entry.specs.declared.entry.Entry.{Entry}
 use Rattle.cts_entry.specs.declared.event.Event.{Event}
+use Rattle.cts_entry.specs.declared.event.Effect.{Effect}
 use Rattle.cts_entry.specs.declared.what.What.TheVariants.{Opened, Closed}
 use Rattle.cts_entry.specs.declared.why.Why.{Why}
 use Rattle.cts_entry.specs.declared.why.Why.TheVariants.{BadFrame}
@@ -17,14 +19,16 @@ use Rattle.cts_frame.specs.LengthRow.{length_framing}
 use Rattle.cts_frame.specs.Packets.{joined}
 use Rattle.cts_told.specs.Routing.{packet_entries}
 use Rattle.cts_core.specs.Environments.{site_environment}
-use Rattle.cts_entry.specs.Legal.{most_entries as entries_limit, most_bytes as bytes_limit}
-use Rattle.cts_core.specs.Kept.{Bounds, is_within}
+use Rattle.cts_entry.specs.Legal.{is_ended, most_entries as entries_limit, most_bytes as bytes_limit}
+use Rattle.cts_core.specs.Kept.{is_within}
+use Rattle.cts_core.specs.Built.{is_built_site}
 use Rattle.cts_core.specs.Runs.{Did, Does, after, Refuses, NotEnabled, HistoryFull}
 use Rattle.cts_core.specs.States.{State}
 use Rattle.cts_core.specs.declared.connection.Connection.{Connection}
 use Rattle.cts_core.specs.declared.fault.WorldFault.{WorldFault}
 use Rattle.cts_core.specs.declared.fault.WorldFault.TheVariants.{NotEnabled as RefusedEvent, Full, Memory}
-use Rattle.cts_core.specs.declared.world.World.{World}
+use Rattle.cts_core.specs.declared.running.Running.TheInside.{Inside}
+use Rattle.cts_table.specs.declared.basis.Basis.{Basis}
 
 -- whether the connection of an interface stands, and the bytes that no packet has yet
 pub record HeldConnection : Type 0 where
@@ -46,22 +50,29 @@ abbrev pub connection_at : List HeldConnection → ℕ → HeldConnection
 connection_at connections by = slice_index_or connections by shut
 
 pub record Held : Type 0 where
+  -- the site, and the limits of its history
+  pub basis : Basis
   pub time : Time
   pub history : List Entry
-  pub bounds : Bounds
   -- the connections of the interfaces, in order
   pub connections : List HeldConnection
 
-abbrev pub held_in : World → Held
-held_in w = record { time = w.time; history = w.history.entries; bounds = w.history.bounds; connections = connections_in w.connections.items }
+abbrev pub held_inside : Inside → Held
+held_inside a = record { basis = a.hall.basis; time = a.time; history = a.hall.entries; connections = connections_in a.connections.items }
 
--- it has not ended: its history was not full at any event so far, and memory did not run out
-abbrev pub GoesOn : World → Type 0
-GoesOn w = w.ended ≡ None
+-- The site is built, each of its interfaces has its connection, which stands where the history says so, and no worker has ended.
+pub record IsSoundHeld (w : Held) : Type 0 where
+  pub built : is_built_site w.basis.site ≡ true
+  pub count : length w.connections ≡ length w.basis.site.interfaces
+  pub connected : (by : ℕ) → by < length w.connections → (connection_at w.connections by).connected ≡ is_connected by w.history
+  pub lasting : list_any (λ (e : Entry). is_ended e.what) w.history ≡ false
+
+abbrev pub IsSound : Inside → Type 0
+IsSound a = IsSoundHeld (held_inside a)
 
 -- what is held before anything has happened
 abbrev pub first_held : SiteData → ℕ → ℕ → Held
-first_held site entries bytes = record { time = record { seconds = 0; micros = 0 }; history = []; bounds = record { entries = entries; bytes = bytes }; connections = replicate (length site.interfaces) shut }
+first_held site entries bytes = record { basis = record { site = site; entries = entries; bytes = bytes }; time = record { seconds = 0; micros = 0 }; history = []; connections = replicate (length site.interfaces) shut }
 
 -- these bytes are what the cut of the pieces leaves, and no error stands there
 abbrev pub IsRest : List (List ℕ) → List ℕ → Type 0
@@ -78,7 +89,7 @@ pub record IsConnection (s : State) (by : ℕ) (c : HeldConnection) : Type 0 whe
 pub record Represents (site : SiteData) (w : Held) (s : State) : Type 0 where
   pub history : w.history ≡ s.history
   pub time : w.time ≡ s.time
-  pub bounds : w.bounds ≡ record { entries = entries_limit; bytes = bytes_limit }
+  pub basis : w.basis ≡ record { site = site; entries = entries_limit; bytes = bytes_limit }
   pub uncommanded : has_command s.history ≡ false
   pub count : length w.connections ≡ length site.interfaces
   pub connections : (by : ℕ) → by < length site.interfaces → IsConnection s by (connection_at w.connections by)
@@ -125,7 +136,7 @@ abbrev pub packets_cut : SiteData → ℕ → Held → Cutting → List Entry
 packets_cut site by w c = packet_entries (site_environment site).routing w.time by (frames_at (connection_at w.connections by).rest c.frames)
 
 abbrev pub has_room_for : Held → Cutting → Bool
-has_room_for w c = is_within w.bounds w.history (length c.frames) c.rest
+has_room_for w c = is_within w.basis w.history (length c.frames) c.rest
 
 -- What comes of a connection's rest: its packets are posted, and it is closed where an error stands; or else nothing is done.
 abbrev pub Takes : SiteData → ℕ → Held → Result (Unit {0}) WorldFault → Held → Type 0
@@ -138,16 +149,9 @@ Takes site by w (Err RefusedEvent) new = ⊥
 
 -- What a step answers, and the state that the world stands for then: the one after the event, where it was done, and else the
 -- same one as before, since nothing is changed.
-abbrev pub Steps : SiteData → State → Event → Held → Result (Unit {0}) WorldFault → Held → Type 0
-Steps site s event w (Ok done) new = (did : Did) × Does (site_environment site) s event did × Represents site new (after s event did)
+abbrev pub Steps : SiteData → State → Event → Held → Result Effect WorldFault → Held → Type 0
+Steps site s event w (Ok effect) new = (did : Did) × Does (site_environment site) s event did × (effect ≡ did.effect) × Represents site new (after s event did)
 Steps site s event w (Err RefusedEvent) new = Refuses (site_environment site) s event NotEnabled × (new ≡ w) × Represents site new s
 Steps site s event w (Err (Full entries bytes)) new =
     Refuses (site_environment site) s event HistoryFull × (entries ≡ entries_in s.history) × (bytes ≡ bytes_in s.history) × (new ≡ w) × Represents site new s
 Steps site s event w (Err Memory) new = (new ≡ w) × Represents site new s
-
--- what a world answers for good after this answer: that its history is full, or that memory ran out
-abbrev pub lasting : Result (Unit {0}) WorldFault → Option WorldFault
-lasting (Ok done) = None
-lasting (Err RefusedEvent) = None
-lasting (Err (Full entries bytes)) = Some (Full entries bytes)
-lasting (Err Memory) = Some Memory

@@ -6,14 +6,14 @@ mod built;
 mod connection;
 mod enabling;
 mod fault;
-mod history;
 mod laws;
 mod posting;
+mod running;
+mod trying;
 mod world;
 
-pub use built::is_built_site;
+pub use built::{is_built_event, is_built_site};
 pub use enabling::{is_piece, may_close, takes_room};
 pub use fault::WorldFault;
-pub use history::History;
 pub use laws::{core_is_legal, core_is_logged, core_is_told, cursors, runs};
 pub use world::World;

@@ -1,16 +1,19 @@
-// The entries of packets that a cutting has found.
+// The entries of packets that a cutting has found, and how entries are appended.
 ghost use Rattle.std.specs.Prelude.{◌≡◌, ◌<◌, ◌≤◌, length, IfOk};
 ghost use Rattle.cts_entry.specs.declared.what.What.TheVariants.{Packet};
 ghost use Rattle.cts_frame.specs.Cuttings.{Tiles, frames_at};
 ghost use Rattle.cts_frame.specs.Framing.{plain};
 ghost use Rattle.cts_told.specs.Routing.{packet_entries};
 ghost use Rattle.cts_core.specs.Environments.{ident_of, site_environment};
+ghost use Rattle.cts_core.specs.Kept.{CanAddAll, GivesRoom, added_all};
 
+use crate::fault::WorldFault;
 use cts_base::{Bytes, Memory};
 use cts_def::{Site, Time};
 use cts_entry::{Entry, What};
 use cts_frame::Cutting;
 use cts_ident::identify;
+use cts_table::{Hall, HallFault};
 use std::alloc::Global;
 
 /// An entry for each frame of a cutting of what came by an interface, in order, with the definition that it is.
@@ -48,4 +51,26 @@ fn packet(alloc: Global, site: &Site, by: u32, time: Time, bytes: &[u8]) -> Resu
             bytes: Bytes::copy(alloc, bytes)?,
         },
     })
+}
+
+/// Appends entries for which there is room, in order. It takes no memory.
+pub fn append_all(hall: &mut Hall, entries: Vec<Entry>)
+    requires { CanAddAll hall.old entries.items }
+    ensures { hall.new ≡ added_all hall.old entries.items }
+{
+    for entry in entries {
+        hall.append(entry);
+    }
+}
+
+/// Makes room for so many entries with so many bytes in them. Full comes before Memory, and after a refusal the hall is as
+/// before.
+pub fn make_room(hall: &mut Hall, entries: u64, bytes: u64) -> Result<(), WorldFault>
+    ensures { GivesRoom hall.old entries bytes result hall.new }
+{
+    match hall.room(entries, bytes) {
+        Ok(()) => Ok(()),
+        Err(HallFault::Full { entries, bytes }) => Err(WorldFault::Full { entries, bytes }),
+        Err(HallFault::Memory) => Err(WorldFault::Memory),
+    }
 }

@@ -1,4 +1,3 @@
-pub mod Builds
 pub mod Directives
 pub mod Lying
 pub mod Needs

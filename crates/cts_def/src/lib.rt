@@ -61,6 +61,3 @@ pub use start::Start;
 pub use state_def::StateDef;
 pub use time::Time;
 pub use weight::is_too_large;
-
-#[cfg(test)]
-mod tests;

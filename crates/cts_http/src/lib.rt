@@ -16,6 +16,3 @@ pub use laws::{connections_have_one_list_of_requests, waiting_is_bounded};
 pub use reader::Reader;
 pub use step::HttpStep;
 pub use texts::{refusal, response};
-
-#[cfg(test)]
-mod tests;

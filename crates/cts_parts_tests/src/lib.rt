@@ -17,6 +17,4 @@ mod outside;
 #[cfg(test)]
 mod read;
 #[cfg(test)]
-mod room;
-#[cfg(test)]
 mod world;

@@ -16,6 +16,3 @@ pub use keyword::{Spelled, keyword_in};
 pub use laws::{first_cause_is_told, first_statement_is_refused};
 pub use reading::{Reader, read_statements};
 pub use words::word_at;
-
-#[cfg(test)]
-mod tests;

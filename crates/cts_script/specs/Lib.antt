@@ -2,5 +2,6 @@ pub mod Spacing
 pub mod Names
 pub mod Lines
 pub mod Events
+pub mod Effects
 pub mod Transcripts
 pub mod Laws

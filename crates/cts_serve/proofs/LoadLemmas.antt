@@ -11,7 +11,6 @@ use Rattle.cts_plan.specs.declared.fault.SiteCause.{SiteCause}
 use Rattle.cts_plan.specs.SiteFiles.{site_of}
 use Rattle.cts_words.specs.declared.statement.Statement.{Statement}
 use Rattle.cts_core.specs.Built.{is_built_site}
-use Rattle.cts_serve.specs.Load.Built.{are_built_definitions}
 use Rattle.cts_serve.specs.Load.{is_taken, LoadsSite}
 use Rattle.cts_serve.specs.Load.Causes.{fetch_unloaded, or_unloaded}
 use Rattle.cts_serve.specs.Load.Fetching.{FetchGives, IsWhy, GivesStatements, Takes}
@@ -95,7 +94,7 @@ module _ {X : Type 0} (kind : FileKind) (is_built : X → Bool) (reads : List St
 -- ---- the files in their order
 
 abbrev TakesDefinitions : (List ℕ → Option (List ℕ)) → RequestData → Result DefinitionsData Unloaded → Type 0
-TakesDefinitions all r answer = Takes (judge_definitions (is_taken r are_built_definitions)) definitions_in (all r.definitions) answer
+TakesDefinitions all r answer = Takes judge_definitions definitions_in (all r.definitions) answer
 
 abbrev TakesSite : (List ℕ → Option (List ℕ)) → RequestData → DefinitionsData → Result SiteData Unloaded → Type 0
 TakesSite all r d answer = Takes (judge_site (is_taken r is_built_site) d) (site_in d) (all r.site) answer

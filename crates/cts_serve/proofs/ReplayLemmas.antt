@@ -16,7 +16,7 @@ use Rattle.cts_core.specs.Environments.{site_environment}
 use Rattle.cts_core.specs.Worlds.{Held, Represents}
 use Rattle.cts_serve.specs.Ending.Lines.{end_line}
 use Rattle.cts_serve.specs.Putting.{IsPut, FailsWithin}
-use Rattle.cts_serve.specs.Replay.Transcript.{events_of, all_entries, lines_of, transcript, next_line, replay_body}
+use Rattle.cts_serve.specs.Replay.Transcript.{events_of, all_entries, event_text, transcript, next_line, replay_body}
 use Rattle.cts_serve.specs.Replay.Steps.{DoesEvent, ReplayPuts, Replays}
 use Rattle.cts_serve.specs.declared.replay.halt.Halt.{Halt}
 use Rattle.cts_serve.specs.declared.replay.halt.Halt.TheVariants as halt
@@ -41,26 +41,26 @@ all_entries_append (d ∷ ds) es = ap (λ (t : List Entry). d.entries ++ t) (all
 transcript_append : (site : SiteData) (history : List Entry) (ds es : List Did) → transcript site history (ds ++ es) ≡ transcript site history ds ++ transcript site (history ++ all_entries ds) es
 transcript_append site history [] es = ap (λ (h : List Entry). transcript site h es) (sym (append-nil history))
 transcript_append site history (d ∷ ds) es =
-    ap (λ (t : List ℕ). lines_of site history d.entries ++ t) (transcript_append site (history ++ d.entries) ds es)
-    ∙ (sym (append_assoc (lines_of site history d.entries) (transcript site (history ++ d.entries) ds) (transcript site ((history ++ d.entries) ++ all_entries ds) es))
-    ∙ ap (λ (h : List Entry). (lines_of site history d.entries ++ transcript site (history ++ d.entries) ds) ++ transcript site h es) (append_assoc history d.entries (all_entries ds)))
+    ap (λ (t : List ℕ). event_text site history d ++ t) (transcript_append site (history ++ d.entries) ds es)
+    ∙ (sym (append_assoc (event_text site history d) (transcript site (history ++ d.entries) ds) (transcript site ((history ++ d.entries) ++ all_entries ds) es))
+    ∙ ap (λ (h : List Entry). (event_text site history d ++ transcript site (history ++ d.entries) ds) ++ transcript site h es) (append_assoc history d.entries (all_entries ds)))
 
 -- the transcript with one more event
 transcript_more : (site : SiteData) (ds es : List Did) (s : State) (d : Did) → s.history ≡ all_entries ds
-    → transcript site [] (ds ++ d ∷ es) ≡ transcript site [] ds ++ (lines_of site s.history d.entries ++ transcript site (s.history ++ d.entries) es)
+    → transcript site [] (ds ++ d ∷ es) ≡ transcript site [] ds ++ (event_text site s.history d ++ transcript site (s.history ++ d.entries) es)
 transcript_more site ds es s d h =
     transcript_append site [] ds (d ∷ es)
-    ∙ ap (λ (t : List Entry). transcript site [] ds ++ (lines_of site t d.entries ++ transcript site (t ++ d.entries) es)) (sym h)
+    ∙ ap (λ (t : List Entry). transcript site [] ds ++ (event_text site t d ++ transcript site (t ++ d.entries) es)) (sym h)
 
 pub goes_on : (site : SiteData) (events rest : List (ℕ × Event)) (x : ℕ × Event) (w new : Held) (text : List ℕ) (p : IsProgress site events (x ∷ rest) w text) (did : Did) → Does (site_environment site) p.state x.1 did → Represents site new (after p.state x.1 did)
-    → IsProgress site events rest new (text ++ lines_of site p.state.history did.entries)
+    → IsProgress site events rest new (text ++ event_text site p.state.history did)
 goes_on site events rest x w new text p did d h = record {
   state = after p.state x.1 did;
   prior = p.prior ++ did ∷ [];
   stands = h;
   history = ap (λ (t : List Entry). t ++ did.entries) p.history ∙ (ap (λ (t : List Entry). all_entries p.prior ++ t) (sym (append-nil did.entries)) ∙ sym (all_entries_append p.prior (did ∷ [])));
-  text_is = ap (λ (t : List ℕ). t ++ lines_of site p.state.history did.entries) p.text_is
-      ∙ (ap (λ (t : List ℕ). transcript site [] p.prior ++ t) (sym (append-nil (lines_of site p.state.history did.entries))) ∙ sym (transcript_more site p.prior [] p.state did p.history));
+  text_is = ap (λ (t : List ℕ). t ++ event_text site p.state.history did) p.text_is
+      ∙ (ap (λ (t : List ℕ). transcript site [] p.prior ++ t) (sym (append-nil (event_text site p.state.history did))) ∙ sym (transcript_more site p.prior [] p.state did p.history));
   runs = λ dids ending r. subst (λ (t : List Did). Runs (site_environment site) opening (events_of events) t ending) (sym (append_assoc p.prior (did ∷ []) dids)) (p.runs (did ∷ dids) ending (inr (did, dids, refl, d, r)));
   lines = λ dids. ap (λ (t : List Did). next_line t events) (append_assoc p.prior (did ∷ []) dids) ∙ p.lines (did ∷ dids);
 }
@@ -110,9 +110,9 @@ regroup a b c d = simp append_assoc
 
 -- the body of a run that goes on with this event begins with the text so far and the event's lines
 more_body : (site : SiteData) (events left : List (ℕ × Event)) (w : Held) (text : List ℕ) (p : IsProgress site events left w text) (did : Did) (dids : List Did) (ending : Ending)
-    → replay_body site (p.prior ++ did ∷ dids) ending ≡ (text ++ lines_of site p.state.history did.entries) ++ (transcript site (p.state.history ++ did.entries) dids ++ body_tail (p.prior ++ did ∷ dids) ending)
+    → replay_body site (p.prior ++ did ∷ dids) ending ≡ (text ++ event_text site p.state.history did) ++ (transcript site (p.state.history ++ did.entries) dids ++ body_tail (p.prior ++ did ∷ dids) ending)
 more_body site events left w text p did dids ending =
-    let lines = lines_of site p.state.history did.entries in
+    let lines = event_text site p.state.history did in
     let tail = body_tail (p.prior ++ did ∷ dids) ending in
     body_is site (p.prior ++ did ∷ dids) ending ∙ ap (λ (t : List ℕ). t ++ tail) (transcript_more site p.prior dids p.state did p.history)
     ∙ (ap (λ (t : List ℕ). (t ++ (lines ++ transcript site (p.state.history ++ did.entries) dids)) ++ tail) (sym p.text_is)
@@ -150,10 +150,10 @@ wants_first site events out =
 
 -- a put failed within the lines of an event that was done
 faulted : (site : SiteData) (events rest : List (ℕ × Event)) (x : ℕ × Event) (w : Held) (text : List ℕ) (p : IsProgress site events (x ∷ rest) w text) (did : Did) (old mid new : SinkSeen)
-    → Does (site_environment site) p.state x.1 did → IsPut text old mid → FailsWithin (lines_of site p.state.history did.entries) mid new → Replays site events (Err halt.WriteFault) old new
+    → Does (site_environment site) p.state x.1 did → IsPut text old mid → FailsWithin (event_text site p.state.history did) mid new → Replays site events (Err halt.WriteFault) old new
 faulted site events rest x w text p did old mid new d m fails =
     let r = has_run (site_environment site) (after p.state x.1 did) (events_of rest) (site_sound site) in
-    let lines = lines_of site p.state.history did.entries in
+    let lines = event_text site p.state.history did in
     let more = transcript site (p.state.history ++ did.entries) r.0 ++ body_tail (p.prior ++ did ∷ r.0) r.1 in
     record {
       dids = p.prior ++ did ∷ r.0;

@@ -4,7 +4,7 @@ use Rattle.cts_def.specs.Sites.{SiteData}
 use Rattle.cts_def.specs.declared.time.Time.{Time}
 use Rattle.cts_entry.specs.declared.entry.Entry.{Entry}
 use Rattle.cts_entry.specs.declared.event.Event.{Event}
-use Rattle.cts_entry.specs.declared.event.Event.TheVariants.{SetTime, Opens, Piece, Finish, Write, Call, DrainLog, DrainSlot, Stop}
+use Rattle.cts_entry.specs.declared.event.Event.TheVariants.{SetTime, Opens, Piece, Finish, Write, Call, DrainLog, DrainSlot, Stop, Try}
 use Rattle.cts_entry.specs.declared.why.Why.{Why}
 use Rattle.cts_entry.specs.Histories.{has_command}
 use Rattle.cts_frame.specs.Cuts.{Pieces}
@@ -15,7 +15,9 @@ use Rattle.std.specs.List.{list_all}
 use Rattle.cts_core.specs.States.{State, opening, is_enabled, unsent}
 use Rattle.cts_core.specs.Runs.{Did, Does, Receives, Closes, Appends, Refuses, Runs, Ending, Finished, NotEnabled, HistoryFull, after, closing, closed_entry, effect_of}
 use Rattle.cts_core.proofs.Passing.{nothing_unsent}
-use Rattle.cts_core.specs.Environments.{Undefined, environment_with}
+use Rattle.cts_core.specs.Environments.{Undefined, basis_of, environment_with}
+use Rattle.cts_core.proofs.Holding.{tried_free}
+use Rattle.cts_scriptread.specs.Trials.{trial_of}
 use Rattle.cts_core.specs.Built.{is_built_event, is_built_site}
 use Rattle.cts_serve.specs.Laws.{RestsOnNoStandIn}
 use Rattle.cts_core.proofs.Building.{and_tells, below, enabled_line}
@@ -57,6 +59,7 @@ module _ (u v : Undefined) (site : SiteData) (built : is_built_site site ≡ tru
   enabled_same s (DrainLog count) b = absurd (cc b)
   enabled_same s (DrainSlot by count) b = absurd (cc b)
   enabled_same s Stop b = refl
+  enabled_same s (Try words) b = refl
 
   effect_same : (s : State) (event : Event) → is_built_event event ≡ true → effect_of (environment_with u site) s event ≡ effect_of (environment_with v site) s event
   effect_same s (SetTime time) b = refl
@@ -68,6 +71,7 @@ module _ (u v : Undefined) (site : SiteData) (built : is_built_site site ≡ tru
   effect_same s (DrainLog count) b = absurd (cc b)
   effect_same s (DrainSlot by count) b = absurd (cc b)
   effect_same s Stop b = refl
+  effect_same s (Try words) b = refl
 
   appends : (s : State) (event : Event) (entries : List Entry) → is_built_event event ≡ true → has_command s.history ≡ false → is_enabled (environment_with u site) s event ≡ true
       → Appends (environment_with u site) s event entries → Appends (environment_with v site) s event entries
@@ -80,6 +84,7 @@ module _ (u v : Undefined) (site : SiteData) (built : is_built_site site ≡ tru
   appends s (DrainLog count) entries b none e a = absurd (cc b)
   appends s (DrainSlot by count) entries b none e a = absurd (cc b)
   appends s Stop entries b none e a = a
+  appends s (Try words) entries b none e a = a
 
   does : (s : State) (event : Event) (did : Did) → is_built_event event ≡ true → has_command s.history ≡ false → Does (environment_with u site) s event did → Does (environment_with v site) s event did
   does s event did b none d = record {
@@ -121,6 +126,7 @@ module _ (u v : Undefined) (site : SiteData) (built : is_built_site site ≡ tru
   uncommanded s (DrainLog count) did b d = absurd (cc b)
   uncommanded s (DrainSlot by count) did b d = absurd (cc b)
   uncommanded s Stop did b d = ap has_command d.appends
+  uncommanded s (Try words) did b d = ap has_command d.appends ∙ tried_free (basis_of site) s.history s.time (trial_of words)
 
   runs : (s : State) (events : List Event) (dids : List Did) (ending : Ending) → list_all is_built_event events ≡ true → has_command s.history ≡ false → Runs (environment_with u site) s events dids ending → Runs (environment_with v site) s events dids ending
   runs s [] dids ending all none h = h

@@ -5,14 +5,12 @@ use Rattle.cts_def.specs.Sites.{SiteData}
 use Rattle.cts_entry.specs.declared.event.Event.{Event}
 use Rattle.cts_outside.specs.Seen.{FilesSeen}
 use Rattle.cts_core.specs.Built.{is_built_site}
-use Rattle.cts_serve.specs.Load.Built.{are_built_definitions}
 use Rattle.cts_serve.specs.Load.Fetching.{IsFound, IsWhy, LoadCounts}
 use Rattle.cts_serve.specs.Load.Judging.{judge_definitions, judge_site, judge_script, definitions_in, site_in, events_in, file_unloaded, bytes_of}
 use Rattle.cts_serve.specs.Request.{RequestData}
 use Rattle.cts_serve.specs.declared.load.file_kind.FileKind.{FileKind}
 use Rattle.cts_serve.specs.declared.load.file_kind.FileKind.TheVariants.{Definitions, Site, Script}
 use Rattle.cts_serve.specs.declared.load.unloaded.Unloaded.{Unloaded}
-pub mod Built
 pub mod Scripts
 pub mod Causes
 pub mod Judging
@@ -34,7 +32,7 @@ events_asked files r script = events_in (site_asked files r) (bytes_of (files sc
 
 -- how the file of each kind is judged
 abbrev pub judged : (List ℕ → Option (List ℕ)) → RequestData → FileKind → List ℕ → Option Unloaded
-judged files r Definitions = judge_definitions (is_taken r are_built_definitions)
+judged files r Definitions = judge_definitions
 judged files r Site = judge_site (is_taken r is_built_site) (definitions_asked files r)
 judged files r Script = judge_script (site_asked files r)
 

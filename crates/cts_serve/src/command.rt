@@ -73,7 +73,7 @@ fn do_request<F: Files, O: Sink>(
                 let checked = put_counts(alloc, &site, out);
                 end_check(checked, out)
             }
-            Some(script) => replay_script(alloc, request, script, &site, files, out),
+            Some(script) => replay_script(alloc, request, script, site, files, out),
         },
         Err((kind, why)) => end_unloaded(alloc, request.name_of(kind), kind, why, out),
     }
@@ -84,19 +84,19 @@ fn replay_script<F: Files, O: Sink>(
     alloc: Global,
     request: &Request<'_>,
     script: &str,
-    site: &Site,
+    site: Site,
     files: &mut F,
     out: &mut O,
 ) -> Status
     requires asked { request.now.script ≡ Some script.now }
-    requires taken { IfSome (F.seen files.old).told (λ all. LoadsSite all request.now (Ok site.now)) }
-    requires built { is_built_site site.now ≡ true }
+    requires taken { IfSome (F.seen files.old).told (λ all. LoadsSite all request.now (Ok site)) }
+    requires built { is_built_site site ≡ true }
     ensures usage { result ≢ Status.Usage }
     ensures stays { (F.seen files.new).told ≡ (F.seen files.old).told }
     ensures caused { IsCaused result (F.seen files.old) (F.seen files.new) (O.seen out.old) (O.seen out.new) }
     ensures transcript { IfSome (F.seen files.old).told (λ all. Answers all (Some request.now) result (O.seen out.old) (O.seen out.new)) }
 {
-    match load_script(alloc, files, script, site) {
+    match load_script(alloc, files, script, &site) {
         Ok(events) => {
             let replayed = replay(alloc, site, events.as_slice(), out);
             end_replay(alloc, script, replayed, out)

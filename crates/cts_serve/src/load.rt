@@ -3,7 +3,6 @@ ghost use Rattle.std.specs.Prelude.{◌≡◌, true, IfOk, IfSome};
 ghost use Rattle.cts_core.specs.Built.{is_built_site};
 ghost use Rattle.cts_serve.specs.Load.{LoadsSite, SiteCounts, is_taken};
 
-pub mod built;
 pub mod configuration;
 pub mod fetch;
 pub mod file_kind;

@@ -4,7 +4,8 @@ ghost use Rattle.cts_core.specs.States.{opening};
 ghost use Rattle.cts_core.specs.Built.{is_built_site};
 ghost use Rattle.cts_serve.specs.Load.Scripts.{are_built_events};
 ghost use Rattle.cts_serve.specs.Replay.Steps.{Replays};
-ghost use Rattle.cts_core.specs.Worlds.{GoesOn, Represents, held_in};
+ghost use Rattle.cts_core.specs.Endings.{GoesOn, held_in};
+ghost use Rattle.cts_core.specs.Worlds.{Represents};
 
 pub mod halt;
 pub mod printing;
@@ -18,22 +19,26 @@ use cts_outside::Sink;
 use halt::Halt;
 use printing::put_end;
 use std::alloc::Global;
+use std::sync::Arc;
 use steps::do_event;
 
 /// Does the events of a script on a site, both of which have to be built, in order, each with its line, and puts the lines
 /// of each when it is done; then `END n`, or why the replay halts before it.
 pub fn replay<O: Sink>(
     alloc: Global,
-    site: &Site,
+    site: Site,
     events: &[(u32, Event)],
     out: &mut O,
 ) -> Result<(), Halt>
-    requires site { is_built_site site.now ≡ true }
+    requires site { is_built_site site ≡ true }
     requires events { are_built_events events.now ≡ true }
-    ensures { Replays site.now events.now result (O.seen out.old) (O.seen out.new) }
+    ensures { Replays site events.now result (O.seen out.old) (O.seen out.new) }
 {
+    let Ok(site) = Arc::new(alloc, site) else {
+        return Err(Halt::Memory);
+    };
     match World::new(alloc, site) {
-        Ok(world) => replay_from(alloc, site, events, world, out),
+        Ok(world) => replay_from(alloc, events, world, out),
         Err(_) => Err(Halt::Memory),
     }
 }
@@ -41,25 +46,23 @@ pub fn replay<O: Sink>(
 // Does the events in a world in which nothing has happened.
 fn replay_from<O: Sink>(
     alloc: Global,
-    site: &Site,
     events: &[(u32, Event)],
     mut world: World,
     out: &mut O,
 ) -> Result<(), Halt>
-    requires site { is_built_site site.now ≡ true }
     requires events { are_built_events events.now ≡ true }
-    requires world { Represents site.now (held_in world) opening }
+    requires world { Represents (held_in world).basis.site (held_in world) opening }
     requires going { GoesOn world }
-    ensures { Replays site.now events.now result (O.seen out.old) (O.seen out.new) }
+    ensures { Replays (held_in world).basis.site events.now result (O.seen out.old) (O.seen out.new) }
 {
     let mut left = events;
     'events: while let Some((next, after)) = left.split_first() {
-        match do_event(alloc, site, &mut world, next.0, &next.1, out) {
+        match do_event(alloc, &mut world, next.0, &next.1, out) {
             Ok(()) => left = after,
             Err(halt) => return Err(halt),
         }
     }
-    match put_end(alloc, world.history().len(), out) {
+    match put_end(alloc, world.hall().entries().len(), out) {
         Ok(()) => Ok(()),
         Err(Unput::WriteFault) => Err(Halt::WriteFault),
         Err(Unput::Memory) => Err(Halt::Memory),

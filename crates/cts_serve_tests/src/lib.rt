@@ -13,3 +13,5 @@ mod scripts;
 mod site;
 #[cfg(test)]
 mod table;
+#[cfg(test)]
+mod trials;

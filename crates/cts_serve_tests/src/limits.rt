@@ -29,7 +29,10 @@ fn a_piece_has_65536_bytes_at_most(rt: HostRuntime) -> Result<(), Fail> {
     );
     script.push_str("a5")?;
     let found = said(rt.alloc(), "replay d s c", "", SITE, script.as_str())?;
-    assert_eq!(rt; found.as_slice(), b"NotBuilt not built: c\n".as_slice());
+    assert_eq!(rt;
+        found.as_slice(),
+        b"ScriptRefused refused: c line 1: PieceSize\n".as_slice()
+    );
     Ok(())
 }
 

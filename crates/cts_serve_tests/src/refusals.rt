@@ -42,8 +42,8 @@ replay d s c|A 'b|-|-|ConfigRefused refused: d line 1: OpenQuote;
 replay d s c|;A &|-|-|ConfigRefused refused: d line 2: DanglingJoin;
 replay d s c|x|x|'|ConfigRefused refused: d line 1: UnknownKeyword;
 replay d s c|TELEMETRY T A BIG_ENDIAN;ITEM A 0 12 UINT \"\" LITTLE_ENDIAN|-|-|ConfigRefused refused: d line 2: BadPlace;
-replay d s c|TELEMETRY T A BIG_ENDIAN;APPEND_ITEM X 8 UINT;LIMITS DEFAULT 1 ENABLED 1 2 3 4;|x|'|NotBuilt not built: d;
-replay d s c|TELEMETRY T A BIG_ENDIAN;APPEND_ITEM X 8 UINT;STATE ON 1 GREEN;|x|-|NotBuilt not built: d;
+replay d s c|TELEMETRY T A BIG_ENDIAN;APPEND_ITEM X 8 UINT;LIMITS DEFAULT 1 ENABLED 1 2 3 4;|x|'|ConfigRefused refused: s line 1: UnknownKeyword;
+replay d s c|TELEMETRY T A BIG_ENDIAN;APPEND_ITEM X 8 UINT;STATE ON 1 GREEN;|x|-|ConfigRefused refused: s line 1: UnknownKeyword;
 replay d s c|; # no statement;|-|-|Absent absent: s;
 replay d s c||\"|-|ConfigRefused refused: s line 1: OpenQuote;
 replay d s c||INTERFACE I &|'|ConfigRefused refused: s line 1: DanglingJoin;
@@ -55,8 +55,8 @@ replay d s c||INTERFACE I tcpip_client_interface.rb h 1 1 nil nil;PROTOCOL READ 
 replay d s c|||-|Absent absent: c;
 replay d s c||INTERFACE I tcpip_client_interface.rb h 1 1 nil nil LENGTH 0 16 0 1|-|Absent absent: c;
 replay d s c||# one; INTERFACE I tcpip_client_interface.rb h 1 &\r;\t1 nil 'nil' LENGTH 0 16 0 1;;|OPEN I;x ';|ScriptRefused refused: c line 2: WrongCount;
-replay d s c||INTERFACE I tcpip_client_interface.rb h 1 1 nil nil LENGTH 0 16 0 1|x|NotBuilt not built: c;
-replay d s c|||OPEN I|NotBuilt not built: c;
+replay d s c||INTERFACE I tcpip_client_interface.rb h 1 1 nil nil LENGTH 0 16 0 1|x|ScriptRefused refused: c line 1: UnknownKeyword;
+replay d s c|||OPEN I|ScriptRefused refused: c line 1: UnknownMaker;
 replay d s c||INTERFACE I tcpip_client_interface.rb h 1 1 nil nil LENGTH 0 16 0 1|OPEN I|Ok 0 0.000000 I OPENED;END 1;";
 
 #[test]

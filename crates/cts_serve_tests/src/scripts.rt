@@ -27,33 +27,100 @@ fn connections_open_bring_packets_and_close(rt: HostRuntime) -> Result<(), Fail>
 const TWO: &str =
     "INTERFACE I tcpip_client_interface.rb h 8080 8080 10.0 nil LENGTH 0 16 0 1;INTERFACE j tcpip_client_interface.rb h 8081 8081 10.0 nil LENGTH 0 16 0 1";
 
-// What a script may say, with the lines at which its statements begin, and what no statement says yet.
+// What a script may say, with the lines at which its statements begin: nothing, comments, quoted and joined words, any case.
 const STATEMENTS: &str = "\
 ;;# nothing;|Ok END 0;
 ;OPEN J\r;|Ok 0 0.000000 J OPENED;END 1;
 OPEN I # first;;BYTES J &; 0003fF;\t'CLOSE' I \"PEER\"|ScriptRefused 0 0.000000 I OPENED;refused: c line 3: NotEnabled;
 OPEN I # first;OPEN J;BYTES J &; 0003fF;\t'CLOSE' I \"PEER\";CLOSE I PEER|ScriptRefused 0 0.000000 I OPENED;1 0.000000 J OPENED;2 0.000000 J PACKET UNKNOWN UNKNOWN 0003ff;3 0.000000 I CLOSED PEER held 0 0 0 0 skipped 0 empty 0 unposted 0 unsent 0;refused: c line 6: NotEnabled;
-open i;ByTeS i 00;close J PEER|ScriptRefused 0 0.000000 I OPENED;refused: c line 3: NotEnabled;
-OPEN K|NotBuilt not built: c;
-OPEN|NotBuilt not built: c;
-OPEN I I|NotBuilt not built: c;
-CLOSE I|NotBuilt not built: c;
-CLOSE I READ|NotBuilt not built: c;
-CLOSE I peer|NotBuilt not built: c;
-BYTES I|NotBuilt not built: c;
-BYTES I ''|NotBuilt not built: c;
-BYTES I 0|NotBuilt not built: c;
-BYTES I 0g|NotBuilt not built: c;
-BYTES I 00 11|NotBuilt not built: c;
-BYTES K 00|NotBuilt not built: c;
-OPEN I;TIME 5|NotBuilt not built: c;
-TRY OPEN I|NotBuilt not built: c;
-STOP|NotBuilt not built: c;
-OPEN I;;'|ScriptRefused refused: c line 3: WrongCount;";
+open i;ByTeS i 00;close J PEER|ScriptRefused 0 0.000000 I OPENED;refused: c line 3: NotEnabled;";
 
 #[test]
 fn each_statement_of_a_script_has_one_event(rt: HostRuntime) -> Result<(), Fail> {
     replays_end_so(&rt, TWO, STATEMENTS)
+}
+
+// Each cause of a line, with the line of the first one that has a cause: nothing of the lines in front of it is done.
+const CAUSES: &str = "\
+OPEN I;CONNECT I|ScriptRefused refused: c line 2: UnknownKeyword;
+OPEN I;;'STOP '|ScriptRefused refused: c line 3: UnknownKeyword;
+OPEN|ScriptRefused refused: c line 1: WrongCount;
+OPEN I I|ScriptRefused refused: c line 1: WrongCount;
+CLOSE I|ScriptRefused refused: c line 1: WrongCount;
+BYTES I|ScriptRefused refused: c line 1: WrongCount;
+BYTES I 00 11|ScriptRefused refused: c line 1: WrongCount;
+OPEN I;TIME 5|ScriptRefused refused: c line 2: WrongCount;
+STOP now|ScriptRefused refused: c line 1: WrongCount;
+WRITE I|ScriptRefused refused: c line 1: WrongCount;
+TRY|ScriptRefused refused: c line 1: WrongCount;
+TRY OPEN I|ScriptRefused refused: c line 1: WrongCount;
+TRY TLM raw T P I|ScriptRefused refused: c line 1: WrongCount;
+TRY TLM RAW T P|ScriptRefused refused: c line 1: WrongCount;
+TRY SET A B|ScriptRefused refused: c line 1: WrongCount;
+TRY CMD T C|ScriptRefused refused: c line 1: WrongCount;
+OPEN I;;'|ScriptRefused refused: c line 3: WrongCount;
+OPEN K|ScriptRefused refused: c line 1: UnknownMaker;
+BYTES K 00|ScriptRefused refused: c line 1: UnknownMaker;
+OPEN I;;WRITE K 1|ScriptRefused refused: c line 3: UnknownMaker;
+DRAIN I 1|ScriptRefused refused: c line 1: UnknownMaker;
+OPEN I;TIME 0 4294967296|ScriptRefused refused: c line 2: NotNumber;
+TIME -1 0|ScriptRefused refused: c line 1: NotNumber;
+CALL x y|ScriptRefused refused: c line 1: NotNumber;
+BYTES I 0|ScriptRefused refused: c line 1: BadHex;
+OPEN I;OPEN I;BYTES I 0g|ScriptRefused refused: c line 3: BadHex;
+OPEN I;BYTES I ''|ScriptRefused refused: c line 2: PieceSize;
+CLOSE I peer|ScriptRefused refused: c line 1: UnknownWhy;
+OPEN I;;CLOSE I FULL;OPEN K|ScriptRefused refused: c line 3: UnknownWhy;";
+
+#[test]
+fn each_cause_of_a_line_refuses_the_script(rt: HostRuntime) -> Result<(), Fail> {
+    replays_end_so(&rt, TWO, CAUSES)
+}
+
+// Lines of which nothing is done yet. A script is refused for its grammar before that is looked at, and where a line is not
+// done yet, none is.
+const UNDONE: &str = "\
+WRITE I 0|NotBuilt not built: c;
+OPEN I;write j 3|NotBuilt not built: c;
+CALL 0 '{}'|NotBuilt not built: c;
+DRAIN LOG 0|NotBuilt not built: c;
+STOP|NotBuilt not built: c;
+OPEN I;OPEN I;STOP|NotBuilt not built: c;
+TRY CMD 'T C'|NotBuilt not built: c;
+TRY CMD ''|NotBuilt not built: c;
+STOP;OPEN K|ScriptRefused refused: c line 2: UnknownMaker;
+DRAIN LOG 0;WRITE I x;TRY CMD|ScriptRefused refused: c line 2: NotNumber;";
+
+#[test]
+fn lines_of_commands_clients_logs_and_the_end_are_not_built(rt: HostRuntime) -> Result<(), Fail> {
+    replays_end_so(&rt, TWO, UNDONE)
+}
+
+// Why a connection ends. It ends by a Stop only behind one.
+const ENDS: &str = "\
+OPEN I;CLOSE I READ|Ok 0 0.000000 I OPENED;1 0.000000 I CLOSED READ held 0 0 0 0 skipped 0 empty 0 unposted 0 unsent 0;END 2;
+OPEN J;BYTES J 0003;close j WRITE|Ok 0 0.000000 J OPENED;1 0.000000 J CLOSED WRITE held 2 0 0 0 skipped 0 empty 0 unposted 0 unsent 0;END 2;
+CLOSE I READ|ScriptRefused refused: c line 1: NotEnabled;
+OPEN I;CLOSE I STOP|ScriptRefused 0 0.000000 I OPENED;refused: c line 2: NotEnabled;";
+
+#[test]
+fn connections_end_for_each_reason(rt: HostRuntime) -> Result<(), Fail> {
+    replays_end_so(&rt, TWO, ENDS)
+}
+
+// Entries have the time of the last line that sets it, which may go back; micros are below a million.
+const TIMES: &str = "\
+TIME 5 7|Ok END 0;
+TIME 5 7;OPEN I|Ok 0 5.000007 I OPENED;END 1;
+time 0x10 +007;OPEN I|Ok 0 16.000007 I OPENED;END 1;
+TIME 4294967295 999999;OPEN I|Ok 0 4294967295.999999 I OPENED;END 1;
+OPEN I;TIME 1 0;TIME 2 0;BYTES I 0002;TIME 0 999999;CLOSE I READ|Ok 0 0.000000 I OPENED;1 2.000000 I PACKET UNKNOWN UNKNOWN 0002;2 0.999999 I CLOSED READ held 0 0 0 0 skipped 0 empty 0 unposted 0 unsent 0;END 3;
+TIME 0 1000000|ScriptRefused refused: c line 1: NotEnabled;
+OPEN I;TIME 7 4294967295;OPEN J|ScriptRefused 0 0.000000 I OPENED;refused: c line 2: NotEnabled;";
+
+#[test]
+fn entries_have_the_time_that_was_set(rt: HostRuntime) -> Result<(), Fail> {
+    replays_end_so(&rt, TWO, TIMES)
 }
 
 // A script that brings the bytes of a connection in pieces: a cut after byte k where bit k is set.

@@ -93,10 +93,20 @@ pub fn commands_end_so<R: Abort + AllocGlobal>(rt: &R, rows: &str) -> Result<(),
 
 /// Each row has a script and how its replay ends, over the one site.
 pub fn replays_end_so<R: Abort + AllocGlobal>(rt: &R, site: &str, rows: &str) -> Result<(), Fail> {
+    replays_of_packets_end_so(rt, "", site, rows)
+}
+
+/// Each row has a script and how its replay ends, over the one site and its definitions.
+pub fn replays_of_packets_end_so<R: Abort + AllocGlobal>(
+    rt: &R,
+    definitions: &str,
+    site: &str,
+    rows: &str,
+) -> Result<(), Fail> {
     for row in rows.lines() {
         let (script, want) = cut(row)?;
         let want = lines(rt.alloc(), want)?;
-        let found = said(rt.alloc(), "replay d s c", "", site, script)?;
+        let found = said(rt.alloc(), "replay d s c", definitions, site, script)?;
         assert_eq!(rt; found, want, "at {row}");
     }
     Ok(())

@@ -8,3 +8,4 @@ pub mod AgainBytes
 pub mod AgainPlace
 pub mod AgainLength
 pub mod Again
+pub mod OneSpelling

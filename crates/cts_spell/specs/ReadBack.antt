@@ -48,6 +48,11 @@ SpellingsAreRead = (s : SpecData) (h : Heading) (bytes frame : List ℕ) → IsT
     → FitsHeading h → AreBytes (sync_of s) → AreBytes bytes → AreBytes frame
     → refusal s h bytes ≡ None → IsSpelling s h bytes frame → IsCut (framing_of s) frame (single (output_for s h bytes))
 
+-- Bytes that are not refused have one spelling.
+abbrev pub OneSpelling : Type 0
+OneSpelling = (s : SpecData) (h : Heading) (bytes one other : List ℕ) → IsTrue (is_sound_spec s) → refusal s h bytes ≡ None
+    → AreBytes one → AreBytes other → IsSpelling s h bytes one → IsSpelling s h bytes other → one ≡ other
+
 -- A head that was written is read again, whatever comes behind it, and it ends where it was written to.
 pub record HeadIsRead (h : HeadData) (behind : List ℕ) : Type 0 where
   pub whole : has_head (head_bytes h ++ behind) ≡ true

@@ -1,5 +1,5 @@
 // Laws of the definitions. Each function does nothing: its contract is the law.
-ghost use Rattle.cts_spell.specs.ReadBack.{HeadsAreRead, SpellingsAreRead};
+ghost use Rattle.cts_spell.specs.ReadBack.{HeadsAreRead, OneSpelling, SpellingsAreRead};
 
 /// What a protocol writes without a refusal it reads again, as one frame with the bytes that were
 /// written, nothing skipped and nothing left: PREIDENTIFIED always, with the time and names of the
@@ -8,6 +8,11 @@ ghost use Rattle.cts_spell.specs.ReadBack.{HeadsAreRead, SpellingsAreRead};
 /// and is stripped, with fill and a sync pattern within the discarded bytes, or without both.
 pub fn spellings()
     ensures { SpellingsAreRead }
+{}
+
+/// Bytes that are not refused have one spelling by a protocol and a label.
+pub fn one_spelling()
+    ensures { OneSpelling }
 {}
 
 /// A head that was written is read again, whatever comes behind it: its time, its names and its

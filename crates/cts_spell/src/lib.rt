@@ -14,5 +14,5 @@ mod put;
 pub use encode_fault::EncodeFault;
 pub use encoding::encode;
 pub use head::{Head, encode_head, read_head};
-pub use laws::{heads_are_read, spellings};
+pub use laws::{heads_are_read, one_spelling, spellings};
 pub use plain::FRAME_LIMIT;

@@ -44,31 +44,59 @@ fn a_head_is_written_in_big_endian(rt: HostRuntime) -> Result<(), Fail> {
     Ok(())
 }
 
-/// The lengths of the names of a target and a packet.
-const LENGTHS: &str = "1|1\n4|2\n255|1\n1|255\n255|255";
+/// What is read of a head, in words, and whether no part of it was read.
+fn told(alloc: Global, bytes: &[u8]) -> Result<String, Fail> {
+    let Some(head) = read_head(bytes) else {
+        return Err(Fail::new("no head"));
+    };
+    let (target, packet) = (head.target, head.packet);
+    let text = format!(in alloc;
+        "{} {} {} {} {} {} {} {}",
+        head.time.seconds,
+        head.time.micros,
+        target.0,
+        target.1,
+        packet.0,
+        packet.1,
+        head.begin,
+        head.count
+    )?;
+    Ok(text)
+}
+
+fn no_part_is_read(bytes: &[u8]) -> bool {
+    for count in 0..bytes.len() {
+        if read_head(&bytes[..count]).is_some() {
+            return false;
+        }
+    }
+    true
+}
+
+fn spelled(alloc: Global, target: &str, packet: &str) -> Result<Vec<u8>, Fail> {
+    let label = label_of(alloc, length_in(target)?, length_in(packet)?)?;
+    let mut out = Vec::new(alloc);
+    encode_head(&label, 4_294_967_295, &mut out)?;
+    Ok(out)
+}
+
+/// What is read of heads with names of these lengths.
+const HEADS: &str = "\
+4294967295 999999 9 10 11 12 16 4294967295|1|1
+4294967295 999999 9 13 14 16 20 4294967295|4|2
+4294967295 999999 9 264 265 266 270 4294967295|255|1
+4294967295 999999 9 10 11 266 270 4294967295|1|255
+4294967295 999999 9 264 265 520 524 4294967295|255|255";
 
 #[test]
 fn heads_are_read_whole_or_not(rt: HostRuntime) -> Result<(), Fail> {
     let alloc = rt.alloc();
-    for row in LENGTHS.lines() {
-        let (target, packet) = cut(row)?;
-        let (target, packet) = (length_in(target)?, length_in(packet)?);
-        let label = label_of(alloc, target, packet)?;
-        let mut out = Vec::new(alloc);
-        encode_head(&label, 4_294_967_295, &mut out)?;
-        for count in 0..out.len() {
-            assert!(rt; read_head(&out[..count]).is_none(), "at {count}");
-        }
-        out.push(7)?;
-        let Some(head) = read_head(&out) else {
-            return Err(Fail::new("no head"));
-        };
-        assert_eq!(rt; head.time, label.time);
-        assert_eq!(rt; head.target, (9, 9 + target));
-        assert_eq!(rt; head.packet, (10 + target, 10 + target + packet));
-        assert_eq!(rt; head.begin, 14 + target + packet);
-        assert_eq!(rt; head.count, 4_294_967_295);
-        assert_eq!(rt; out.len(), 15 + target + packet);
+    for row in HEADS.lines() {
+        let (want, rest) = cut(row)?;
+        let (target, packet) = cut(rest)?;
+        let bytes = spelled(alloc, target, packet)?;
+        assert!(rt; no_part_is_read(&bytes), "at {row}");
+        assert_eq!(rt; told(alloc, &bytes)?.as_str(), want, "at {row}");
     }
     Ok(())
 }

@@ -1,18 +1,19 @@
 -- What is owed after one entry more.
-use Rattle.std.proofs.Common.{◌≡◌, ◌≢◌, ◌∷◌, [], ◌++◌, ℕ, suc, zero, ◌+◌, ◌*◌, ◌≤◌, ◌<◌, Bool, true, false, ◌&&◌, ◌||◌, List, refl, ap, arith, inl, inr}
+use Rattle.std.proofs.Common.{◌≡◌, ◌≢◌, ◌∷◌, [], ◌++◌, ℕ, suc, zero, ◌+◌, ◌*◌, ◌≤◌, ◌<◌, Bool, true, false, ◌&&◌, ◌||◌, List, length, refl, ap, arith, inl, inr, append-nil, append_assoc}
 use Rattle.std.specs.Prelude.{unwrap_or, ◌==◌, ◌⊎◌, if◌then◌else◌}
 use Rattle.std.proofs.lemmas.Grind.{common_steps}
 use Rattle.std.proofs.lemmas.List.Folds.{list_any-append}
+use Rattle.std.proofs.lemmas.List.Sums.{sum_by-cons}
 use Rattle.cts_def.specs.Sites.{SiteData, IsSoundSite}
 use Rattle.cts_def.specs.declared.time.Time.{Time}
 use Rattle.cts_entry.specs.declared.entry.Entry.{Entry}
 use Rattle.cts_entry.specs.declared.what.What.{What}
 use Rattle.cts_entry.specs.declared.what.What.TheVariants.{Opened, Packet, Closed, Command, SetLimits, Enable, LimitsSetIs, Injected, Unrouted, Stop, Ended}
-use Rattle.cts_entry.specs.Histories.{or_earlier, latest, entries_for, is_connected, is_stopped, is_stop, connects_maker, connects}
-use Rattle.cts_entry.specs.Legal.{IsAllowed, Allows, has_ended, is_ended}
+use Rattle.cts_entry.specs.Histories.{or_earlier, latest, entries_for, is_connected, is_stopped, is_stop, connects_maker, connects, entries_in}
+use Rattle.cts_entry.specs.Legal.{IsAllowed, AllAllowed, Allows, has_ended, is_ended, most_entries}
 use Rattle.cts_entry.proofs.Appending.{connected-append}
 use Rattle.cts_table.specs.declared.basis.Basis.{Basis}
-use Rattle.cts_table.specs.Keeping.{rules_of, IsOfSite, IsSaid}
+use Rattle.cts_table.specs.Keeping.{rules_of, IsOfSite, IsSaid, AllOfSite, IsKept}
 use Rattle.cts_entry.specs.Workers.{is_worker, is_maker}
 use Rattle.cts_table.specs.Inner.{total, owed_to, owed}
 
@@ -101,3 +102,24 @@ pub owed_most : (site : SiteData) (h : List Entry) → owed site h ≤ 65
 owed_most site h =
     let all : total 32 (owed_to site h) ≤ 64 = total_le 32 (owed_to site h) (λ m. omega (arith, one_most (is_connected m h), two_most (has_ended m h) (is_worker site m))) in
     omega (arith, stop_most (is_stopped h))
+
+-- all entries with what is owed behind them
+owed_from : (b : Basis) (before es : List Entry) → IsSoundSite b.site → AllAllowed (rules_of b) before es → AllOfSite b.site before es →
+    owed b.site (before ++ es) + length es ≤ owed b.site before + 2 * entries_in es
+owed_from b before [] sound a o =
+    let same : owed b.site (before ++ []) ≡ owed b.site before = ap (owed b.site) (append-nil before) in
+    omega (arith, same)
+owed_from b before (e ∷ es) sound a o =
+    let step : owed b.site (before ++ e ∷ []) + 1 ≤ owed b.site before + 2 * entries_for e.what = owed_step b before e sound a.0 o.0 in
+    let rest : owed b.site ((before ++ e ∷ []) ++ es) + length es ≤ owed b.site (before ++ e ∷ []) + 2 * entries_in es = owed_from b (before ++ e ∷ []) es sound a.1 o.1 in
+    let same : owed b.site ((before ++ e ∷ []) ++ es) ≡ owed b.site (before ++ e ∷ es) = ap (owed b.site) (append_assoc before (e ∷ []) es) in
+    let sum : entries_in (e ∷ es) ≡ entries_for e.what + entries_in es = sum_by-cons (λ (y : Entry). entries_for y.what) e es in
+    omega (arith, step, rest, same, sum)
+
+-- how many entries there may be of all kinds
+pub few_kept : (b : Basis) (h : List Entry) → IsSoundSite b.site → IsKept b h → b.entries ≤ most_entries → length h ≤ 8000065
+few_kept b h sound kept few =
+    let all = owed_from b [] h sound kept.legal.each kept.of_site in
+    let most : owed b.site [] ≤ 65 = owed_most b.site [] in
+    let counted : entries_in h ≤ b.entries = kept.legal.entries in
+    omega (arith, all, most, counted, few)

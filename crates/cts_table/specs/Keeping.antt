@@ -1,19 +1,16 @@
 -- What a hall keeps of each entry, by what stands before it.
-use Rattle.std.specs.Prelude.{◌≡◌, ℕ, ◌<◌, ◌≤◌, Bool, true, false, ◌||◌, List, [], ◌∷◌, ◌++◌, length, Option, None, Some, is_some, slice_get, option_and_then}
-use Rattle.cts_def.specs.Items.{ItemData}
-use Rattle.cts_def.specs.Packets.{PacketData}
+use Rattle.std.specs.Prelude.{◌≡◌, ℕ, ◌<◌, ◌≤◌, true, ◌||◌, List, [], ◌∷◌, ◌++◌, length}
 use Rattle.cts_def.specs.Most.{most_sets}
 use Rattle.cts_def.specs.Sites.{SiteData}
-use Rattle.cts_def.specs.declared.state_def.StateDef.{StateDef}
 use Rattle.cts_def.specs.declared.ident.Ident.{Ident}
 use Rattle.cts_def.specs.declared.ident.Ident.TheVariants.{Known, Unknown}
-use Rattle.std.specs.List.{list_any}
 use Rattle.cts_entry.specs.declared.entry.Entry.{Entry}
 use Rattle.cts_entry.specs.declared.what.What.{What}
 use Rattle.cts_entry.specs.declared.what.What.TheVariants.{Opened, Packet, Closed, Command, SetLimits, Enable, LimitsSetIs, Injected, Unrouted, Stop, Ended}
 use Rattle.cts_entry.specs.Legal.{Rules, IsLegal}
 use Rattle.cts_table.specs.declared.basis.Basis.{Basis}
-use Rattle.cts_table.specs.Sets.{known_sets, with_set}
+use Rattle.cts_watch.specs.Items.{item_at, has_limits, has_colors}
+use Rattle.cts_watch.specs.Sets.{known_sets, with_set}
 use Rattle.cts_entry.specs.Workers.{is_interface, is_slot, is_desk, is_worker, is_maker, interface_of}
 
 -- what the history of a site is judged by
@@ -27,22 +24,10 @@ rules_of b = record {
   most_bytes = b.bytes;
 }
 
--- an item of a telemetry packet, by their numbers
-abbrev pub item_at : SiteData → ℕ → ℕ → Option ItemData
-item_at site packet item = option_and_then (λ (p : PacketData). slice_get p.items item) (slice_get site.definitions.telemetry packet)
-
 -- a definition of the site, or none
 abbrev pub IsIdent : SiteData → Ident → Type 0
 IsIdent site (Known packet) = packet < length site.definitions.telemetry
 IsIdent site Unknown = Unit {0}
-
-abbrev pub has_limits : Option ItemData → Bool
-has_limits None = false
-has_limits (Some item) = is_some item.limits
-
-abbrev pub has_colors : Option ItemData → Bool
-has_colors None = false
-has_colors (Some item) = list_any (λ (s : StateDef). is_some s.color) item.states
 
 -- the numbers, items and sets of what is said are ones of the site, and a worker ends
 abbrev pub IsSaid : SiteData → List Entry → ℕ → What → Type 0

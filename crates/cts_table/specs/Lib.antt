@@ -1,5 +1,5 @@
-pub mod Sets
 pub mod Keeping
 pub mod States
 pub mod Lookups
+pub mod Routes
 pub mod Inner

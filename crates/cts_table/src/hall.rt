@@ -6,13 +6,15 @@ ghost use Rattle.cts_def.specs.Sites.{IsSoundSite};
 ghost use Rattle.cts_entry.specs.Histories.{is_connected, is_stopped};
 ghost use Rattle.cts_entry.specs.Legal.{has_ended, most_bytes, most_entries};
 ghost use Rattle.cts_table.specs.Keeping.{IsKept};
+ghost use Rattle.cts_watch.specs.Watching.{watches};
 ghost use Rattle.cts_table.specs.States.{added, begun, CanAdd, IsRoomAnswer, with_room};
 
 use crate::kinds::connects;
 use crate::{Basis, HallFault, History};
 use cts_base::Memory;
 use cts_def::Site;
-use cts_entry::{Entry, MOST_BYTES, MOST_ENTRIES, Stands, What, bytes_for, entries_for};
+use cts_entry::{Entry, MOST_BYTES, MOST_ENTRIES, Stands, bytes_for, entries_for, is_stop};
+use cts_watch::watches;
 use std::alloc::Global;
 use std::marker::Model;
 use std::sync::Arc;
@@ -26,7 +28,9 @@ pub struct Hall {
     site: Arc<Site>,
     limit_entries: u64,
     limit_bytes: u64,
+    watched: bool,
     entries: Vec<Entry>,
+    stopped: bool,
     used_entries: u64,
     used_bytes: u64,
     spare_entries: u64,
@@ -77,12 +81,15 @@ impl Hall {
     {
         let rules: &Site = &site;
         let _desks = rules.desks;
+        let watched = watches(rules);
         let places = Vec::with_capacity(alloc, MOST_OWED)?;
         Ok(Hall {
             site,
             limit_entries: entries,
             limit_bytes: bytes,
+            watched,
             entries: places,
+            stopped: false,
             used_entries: 0,
             used_bytes: 0,
             spare_entries: 0,
@@ -125,7 +132,9 @@ impl Hall {
     {
         let entries = entries_for(&entry.what);
         let bytes = bytes_for(&entry.what);
+        let stops = is_stop(&entry.what);
         self.entries.push_reserved(entry);
+        self.stopped |= stops;
         self.used_entries += entries;
         self.used_bytes += bytes;
         self.spare_entries -= entries;
@@ -133,10 +142,17 @@ impl Hall {
     }
 
     /// The entries, in order.
-    pub(crate) fn entries(&self) -> &[Entry]
+    pub fn entries(&self) -> &[Entry]
         ensures { result.now ≡ self.now.entries }
     {
         self.entries.as_slice()
+    }
+
+    /// Whether an item of the site has limits or state colours, so that its limits state may change.
+    pub(crate) fn is_watched(&self) -> bool
+        ensures { result ≡ watches self.now.basis.site }
+    {
+        self.watched
     }
 
     /// The site of the history.
@@ -146,12 +162,14 @@ impl Hall {
         &self.site
     }
 
-    /// The entries are a history that the rules of the site allow, within the limits.
+    /// The entries are a history that the rules of the site allow, within the limits. A counted entry brings at most one more
+    /// that is not counted, its Closed, and at most 65 are owed besides.
     pub fn is_kept(&self)
         ensures kept { IsKept self.now.basis self.now.entries }
         ensures entries { self.now.basis.entries ≤ most_entries }
         ensures bytes { self.now.basis.bytes ≤ most_bytes }
         ensures site { IsSoundSite self.now.basis.site }
+        ensures few { length self.now.entries ≤ 8000065 }
     {
         let _site = &self.site;
     }
@@ -196,7 +214,7 @@ impl Hall {
         ensures server { has_ended server self.now.entries ≡ false }
     {
         self.is_kept();
-        self.entries.iter().any(|e| matches!(e.what, What::Stop))
+        self.stopped
     }
 
     /// The entries that the hall keeps, in order. It takes no memory.

@@ -10,9 +10,12 @@ mod history;
 mod kinds;
 mod looking;
 mod naming;
+mod routing;
+mod watching;
 
 pub use basis::Basis;
 pub use counts::Counts;
-pub use fault::{HallFault, Lookup};
+pub use cts_watch::{LimitsEvent, LimitsUsed};
+pub use fault::{HallFault, Lookup, NoRoute};
 pub use hall::Hall;
 pub use history::History;

@@ -1,14 +1,16 @@
 // What is looked up in a hall: counts, current bytes and values.
 ghost use Rattle.std.specs.Prelude.{◌≡◌, ◌<◌, length, Ok, IsTrue, slice_get};
 ghost use Rattle.std.specs.Option.{option_copied};
-ghost use Rattle.cts_table.specs.Lookups.{Answers, commands_in, count_value, counted, counts_of, current_of, every_length, is_long_of, is_short_of, is_whole, looked_up, packet_of, value_of_packet};
+ghost use Rattle.cts_table.specs.Lookups.{Answers, commands_in, count_value, counted, counts_of, every_length, is_long_of, is_short_of, is_whole, looked_up, packet_of, value_of_packet};
+ghost use Rattle.cts_watch.specs.Brought.{current_of};
 
-use crate::kinds::{brought, is_command, is_long, is_received, is_short};
+use crate::kinds::{is_command, is_long, is_received, is_short};
 use crate::naming::{has_packet_of, item_named, packet_of, place_of};
 use crate::{Counts, Hall, Lookup};
 use cts_base::spells;
 use cts_conv::{Value, ValueKind, plain, value_of};
 use cts_def::{Ident, Packet};
+use cts_watch::brought;
 use std::alloc::Global;
 
 impl Hall {

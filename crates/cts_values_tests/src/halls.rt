@@ -17,12 +17,12 @@ TELEMETRY T B BIG_ENDIAN;APPEND_ID_ITEM K 8 UINT 1";
 
 const SITE: &str = "INTERFACE I tcpip_server_interface.rb 1 1 nil nil;TARGET T";
 
-const NOW: Time = Time {
+pub const NOW: Time = Time {
     seconds: 0,
     micros: 0,
 };
 
-const LOSS: Loss = Loss {
+pub const LOSS: Loss = Loss {
     held: [0; 4],
     skipped: 0,
     empty: 0,
@@ -43,10 +43,15 @@ UnknownItem|T|B|X";
 
 /// A hall of these limits in which the one interface is connected.
 fn connected(alloc: Global, entries: u64, bytes: u64) -> Result<Hall, Fail> {
+    hall_of(alloc, DEFINITIONS, entries, bytes)
+}
+
+/// The same, over these definitions.
+pub fn hall_of(alloc: Global, definitions: &str, entries: u64, bytes: u64) -> Result<Hall, Fail> {
     if entries > 4_000_000 || bytes > 1_073_741_824 {
         return Err(Fail::new("no such limits"));
     }
-    let site = site_of(alloc, DEFINITIONS, SITE)?;
+    let site = site_of(alloc, definitions, SITE)?;
     if site.interfaces.as_slice().is_empty() {
         return Err(Fail::new("no interface"));
     }
@@ -71,7 +76,8 @@ fn receive(hall: &mut Hall, ident: Ident, bytes: Bytes) -> Result<(), HallFault>
     Ok(())
 }
 
-fn receives(alloc: Global, hall: &mut Hall, ident: Ident, digits: &str) -> Result<(), Fail> {
+/// The bytes of these digits are received.
+pub fn receives(alloc: Global, hall: &mut Hall, ident: Ident, digits: &str) -> Result<(), Fail> {
     let bytes = Bytes::of(bytes_of(alloc, digits)?);
     match receive(hall, ident, bytes) {
         Ok(()) => Ok(()),
@@ -148,7 +154,7 @@ fn short_and_long_packets_are_counted(rt: HostRuntime) -> Result<(), Fail> {
 }
 
 /// The connection ends behind a Stop, where there is none and the interface is connected.
-fn ends(hall: &mut Hall) {
+pub fn ends(hall: &mut Hall) {
     if hall.stopped() || hall.site().interfaces.as_slice().is_empty() {
         return;
     }

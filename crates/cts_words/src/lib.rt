@@ -20,6 +20,3 @@ pub use end::last;
 pub use fault::WordFault;
 pub use reading::statements;
 pub use statement::Statement;
-
-#[cfg(test)]
-mod tests;

@@ -2,6 +2,7 @@
 use Rattle.std.specs.Prelude.{ℕ, List, codes, Result, Ok, Err}
 use Rattle.cts_defline.specs.Causes.{cause_name}
 use Rattle.cts_plan.specs.Causes.{name_of_cause}
+use Rattle.cts_scriptread.specs.Causes.{name_of_cause as name_of_script_cause}
 use Rattle.cts_words.specs.declared.fault.WordFault.{WordFault}
 use Rattle.cts_words.specs.declared.fault.WordFault.TheVariants as words
 use Rattle.cts_serve.specs.declared.load.fetch.FetchFault.{FetchFault}
@@ -21,6 +22,7 @@ cause_text cause.NotText = codes "NotText"
 cause_text cause.WrongCount = codes "WrongCount"
 cause_text (cause.Definition c) = cause_name c
 cause_text (cause.Site c) = name_of_cause c
+cause_text (cause.Script c) = name_of_script_cause c
 
 -- the cause of a fault of the words; of a script it is that of a wrong number of words
 abbrev pub words_cause : FileKind → Cause → Cause

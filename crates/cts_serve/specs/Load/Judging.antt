@@ -1,5 +1,5 @@
 -- Why a file gives nothing, by its bytes, and what one says that is taken.
-use Rattle.std.specs.Prelude.{ℕ, nat_lt, Bool, List, [], length, Option, Some, None, Result, Ok, Err, unwrap_or, if◌then◌else◌}
+use Rattle.std.specs.Prelude.{ℕ, nat_lt, Bool, true, List, [], length, Option, Some, None, Result, Ok, Err, unwrap_or, if◌then◌else◌}
 use Rattle.std.specs.Result.{result_unwrap_or}
 use Rattle.cts_words.specs.declared.fault.WordFault.{WordFault}
 use Rattle.cts_words.specs.declared.statement.Statement.{Statement}
@@ -9,7 +9,8 @@ use Rattle.cts_def.specs.Sites.{SiteData}
 use Rattle.cts_defread.specs.Definitions.{definitions_of}
 use Rattle.cts_entry.specs.declared.event.Event.{Event}
 use Rattle.cts_plan.specs.SiteFiles.{site_of}
-use Rattle.cts_serve.specs.Load.Scripts.{has_events, script_events}
+use Rattle.cts_scriptread.specs.Scripts.{events_of}
+use Rattle.cts_serve.specs.Load.Scripts.{are_scripted}
 use Rattle.cts_serve.specs.Load.Causes.{words_unloaded, or_unloaded}
 use Rattle.cts_serve.specs.declared.load.file_kind.FileKind.{FileKind}
 use Rattle.cts_serve.specs.declared.load.file_kind.FileKind.TheVariants.{Definitions, Site, Script}
@@ -34,7 +35,7 @@ judge kind verdict bytes = if nat_lt file_limit (length bytes) then Some TooLarg
 abbrev pub unless_built : Bool → Option Unloaded
 unless_built built = if built then None else Some NotBuilt
 
--- A configuration file is refused at the line and for the cause that its reading finds, and as not built where what it
+-- A file is refused at the line and for the cause that its reading finds, and as not built where what it
 -- says does not pass the test.
 abbrev pub verdict : {X : Type 0} → (X → Bool) → Result X Unloaded → Option Unloaded
 verdict is_built (Err why) = Some why
@@ -46,14 +47,21 @@ definitions_read statements = or_unloaded cause.Definition (definitions_of state
 unfoldable pub site_read : DefinitionsData → List Statement → Result SiteData Unloaded
 site_read definitions statements = or_unloaded cause.Site (site_of definitions statements)
 
-abbrev pub judge_definitions : (DefinitionsData → Bool) → List ℕ → Option Unloaded
-judge_definitions are_built bytes = judge Definitions (λ statements. verdict are_built (definitions_read statements)) bytes
+unfoldable pub script_read : SiteData → List Statement → Result (List (ℕ × Event)) Unloaded
+script_read site statements = or_unloaded cause.Script (events_of site statements)
+
+-- all definitions are built
+abbrev pub takes_all : DefinitionsData → Bool
+takes_all definitions = true
+
+abbrev pub judge_definitions : List ℕ → Option Unloaded
+judge_definitions bytes = judge Definitions (λ statements. verdict takes_all (definitions_read statements)) bytes
 
 abbrev pub judge_site : (SiteData → Bool) → DefinitionsData → List ℕ → Option Unloaded
 judge_site is_built definitions bytes = judge Site (λ statements. verdict is_built (site_read definitions statements)) bytes
 
 abbrev pub judge_script : SiteData → List ℕ → Option Unloaded
-judge_script site bytes = judge Script (λ statements. unless_built (has_events site statements)) bytes
+judge_script site bytes = judge Script (λ statements. verdict are_scripted (script_read site statements)) bytes
 
 -- why a file gives nothing, if it does not: it is absent, or its bytes are judged so
 abbrev pub file_unloaded : (List ℕ → Option Unloaded) → Option (List ℕ) → Option Unloaded
@@ -82,5 +90,8 @@ no_site = record { definitions = no_definitions; interfaces = []; routers = []; 
 abbrev pub site_in : DefinitionsData → List ℕ → SiteData
 site_in definitions bytes = result_unwrap_or (site_read definitions (statements_in bytes)) no_site
 
+abbrev pub no_events : List (ℕ × Event)
+no_events = []
+
 abbrev pub events_in : SiteData → List ℕ → List (ℕ × Event)
-events_in site bytes = script_events site (statements_in bytes)
+events_in site bytes = result_unwrap_or (script_read site (statements_in bytes)) no_events

@@ -8,7 +8,7 @@ use Rattle.cts_entry.specs.Histories.{entries_in, bytes_in}
 use Rattle.cts_outside.specs.Seen.{SinkSeen}
 use Rattle.cts_core.specs.Environments.{site_environment}
 use Rattle.cts_serve.specs.Putting.{IsPut, FailsWithin}
-use Rattle.cts_serve.specs.Replay.Transcript.{events_of, lines_of, replay_answer, replay_body}
+use Rattle.cts_serve.specs.Replay.Transcript.{events_of, event_text, replay_answer, replay_body}
 use Rattle.cts_core.specs.Worlds.{Held, Represents}
 use Rattle.cts_serve.specs.declared.replay.halt.Halt.{Halt}
 use Rattle.cts_serve.specs.declared.replay.halt.Halt.TheVariants as halt
@@ -16,9 +16,9 @@ use Rattle.cts_serve.specs.declared.replay.halt.Halt.TheVariants as halt
 -- An event of this line was done and its lines were put, or why not.
 abbrev pub DoesEvent : SiteData → State → ℕ → Event → Result (Unit {0}) Halt → Held → SinkSeen → SinkSeen → Type 0
 DoesEvent site s line event (Ok done) w old new =
-    (did : Did) × Does (site_environment site) s event did × Represents site w (after s event did) × IsPut (lines_of site s.history did.entries) old new
+    (did : Did) × Does (site_environment site) s event did × Represents site w (after s event did) × IsPut (event_text site s.history did) old new
 DoesEvent site s line event (Err halt.WriteFault) w old new =
-    (did : Did) × Does (site_environment site) s event did × FailsWithin (lines_of site s.history did.entries) old new
+    (did : Did) × Does (site_environment site) s event did × FailsWithin (event_text site s.history did) old new
 DoesEvent site s line event (Err (halt.NotEnabled at)) w old new =
     Refuses (site_environment site) s event NotEnabled × (at ≡ line) × (new ≡ old)
 DoesEvent site s line event (Err (halt.HistoryFull entries bytes)) w old new =

@@ -1,12 +1,10 @@
 // Configuration files: definitions, and the site over them.
 ghost use Rattle.std.specs.Prelude.{◌≡◌, true, IfOk, IfSome};
 ghost use Rattle.cts_core.specs.Built.{is_built_site};
-ghost use Rattle.cts_serve.specs.Load.Built.{are_built_definitions};
 ghost use Rattle.cts_serve.specs.Load.{is_taken};
 ghost use Rattle.cts_serve.specs.Load.Fetching.{Takes, LoadCounts};
 ghost use Rattle.cts_serve.specs.Load.Judging.{judge_definitions, judge_site, definitions_in, site_in};
 
-use crate::load::built::are_built_definitions;
 use crate::load::file_kind::FileKind;
 use crate::load::statements::read_statements;
 use crate::load::unloaded::{Cause, Unloaded};
@@ -25,17 +23,12 @@ pub fn load_definitions<F: Files>(
     request: &Request<'_>,
 ) -> Result<Definitions, Unloaded>
     ensures stays { (F.seen files.new).told ≡ (F.seen files.old).told }
-    ensures content { IfSome (F.seen files.old).told (λ all. Takes (judge_definitions (is_taken request.now are_built_definitions)) definitions_in (all request.now.definitions) result) }
+    ensures content { IfSome (F.seen files.old).told (λ all. Takes judge_definitions definitions_in (all request.now.definitions) result) }
     ensures counts { LoadCounts result (F.seen files.old) (F.seen files.new) }
 {
     let found = read_statements(alloc, files, request.definitions, FileKind::Definitions)?;
     match read_definitions(alloc, &found) {
-        Ok(definitions) => {
-            if takes_definitions(request, &definitions) {
-                return Ok(definitions);
-            }
-            Err(Unloaded::NotBuilt)
-        }
+        Ok(definitions) => Ok(definitions),
         Err(DefFault::Refused { line, cause }) => Err(Unloaded::Refused {
             line,
             cause: Cause::Definition(cause),
@@ -72,13 +65,7 @@ pub fn load_plan<F: Files>(
     }
 }
 
-// A check takes all definitions, and a replay those that are built.
-fn takes_definitions(request: &Request<'_>, definitions: &Definitions) -> bool
-    ensures { result ≡ is_taken request.now are_built_definitions definitions.now }
-{
-    request.script.is_none() || are_built_definitions(definitions)
-}
-
+// A check takes each site, and a replay one that is built.
 fn takes_site(request: &Request<'_>, site: &Site) -> bool
     ensures { result ≡ is_taken request.now is_built_site site.now }
 {

@@ -8,6 +8,7 @@ use crate::load::file_kind::FileKind;
 use cts_base::Memory;
 use cts_defline::DefCause;
 use cts_plan::SiteCause;
+use cts_scriptread::ScriptCause;
 use cts_words::WordFault;
 
 /// Why a file gives nothing.
@@ -42,6 +43,8 @@ pub enum Cause {
     Definition(DefCause),
     /// A statement of the site is refused.
     Site(SiteCause),
+    /// A line of a script is refused.
+    Script(ScriptCause),
 }
 
 impl Cause {
@@ -58,6 +61,7 @@ impl Cause {
             Cause::WrongCount => b"WrongCount",
             Cause::Definition(cause) => cause.name().as_bytes(),
             Cause::Site(cause) => cause.name().as_bytes(),
+            Cause::Script(cause) => cause.name().as_bytes(),
         }
     }
 }

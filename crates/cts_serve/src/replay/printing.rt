@@ -1,29 +1,36 @@
-// What a replay prints of its entries.
-ghost use Rattle.std.specs.Prelude.{◌≡◌, take, drop, IfOk};
+// What a replay prints of an event.
+ghost use Rattle.std.specs.Prelude.{◌≡◌, ◌++◌, map, take, drop, IfOk};
+ghost use Rattle.std.specs.List.{filter};
+ghost use Rattle.cts_script.specs.Effects.{effect_line};
 ghost use Rattle.cts_serve.specs.Ending.Lines.{end_line};
 ghost use Rattle.cts_serve.specs.Putting.{PutsText};
-ghost use Rattle.cts_serve.specs.Replay.Transcript.{lines_of};
+ghost use Rattle.cts_serve.specs.Replay.Transcript.{line_event, lines_of};
+ghost use Rattle.cts_watch.specs.Events.{events_from};
+ghost use Rattle.cts_watch.proofs.Placed.{at_place};
 
 use crate::ending::lines;
 use crate::putting::{Unput, put_text};
 use cts_base::Memory;
 use cts_def::Site;
-use cts_entry::Entry;
+use cts_entry::{Effect, Entry};
 use cts_outside::Sink;
-use cts_script::entry_lines;
+use cts_script::{LimitsEvent, effect_line, entry_lines};
+use cts_table::{Hall, LimitsEvent as Change};
 use std::alloc::Global;
 
-/// Puts the lines of the entries from this number on, in one piece if there are any.
-pub fn put_entries<O: Sink>(
+/// Puts the lines of the entries from this number on, each with its limits events behind it, and behind them that of an effect,
+/// in one piece if there are any.
+pub fn put_event<O: Sink>(
     alloc: Global,
-    site: &Site,
-    history: &[Entry],
+    hall: &Hall,
     from: usize,
+    effect: &Effect,
     out: &mut O,
 ) -> Result<(), Unput>
-    ensures { PutsText (lines_of site.now (take from history.now) (drop from history.now)) result (O.seen out.old) (O.seen out.new) }
+    ensures { PutsText (lines_of hall.now.basis.site (take from hall.now.entries) (drop from hall.now.entries) ++ effect_line hall.now.basis.site effect.now) result (O.seen out.old) (O.seen out.new) }
 {
-    let text = lines_from(alloc, site, history, from)?;
+    let changes = hall.events(alloc, from as u64)?;
+    let text = event_text(alloc, hall.site(), hall.entries(), &changes, from, effect)?;
     put_text(out, &text)
 }
 
@@ -35,16 +42,67 @@ pub fn put_end<O: Sink>(alloc: Global, entries: usize, out: &mut O) -> Result<()
     put_text(out, &line)
 }
 
-// The lines of the entries from this number on, which have no limits events yet.
-fn lines_from(alloc: Global, site: &Site, history: &[Entry], from: usize) -> Result<Vec<u8>, Memory>
+// The lines of the entries from this number on, each with the changes of limits states at it.
+fn lines_from(
+    alloc: Global,
+    site: &Site,
+    history: &[Entry],
+    changes: &[Change],
+    from: usize,
+) -> Result<Vec<u8>, Memory>
+    requires { changes.now ≡ events_from site.now history.now from }
     ensures { IfOk result (λ v. v.items ≡ lines_of site.now (take from history.now) (drop from history.now)) }
 {
     let mut n = from.min(history.len());
     let mut lines = Vec::new(alloc);
     'entries: for entry in &history[n..] {
-        let text = entry_lines(alloc, site, n as u64, entry, &[])?;
+        let events = events_at(alloc, changes, n as u64)?;
+        let text = entry_lines(alloc, site, n as u64, entry, &events)?;
         lines.extend_from_slice(text.as_slice())?;
         n += 1;
     }
     Ok(lines)
+}
+
+// The changes at one entry, as they are printed.
+fn events_at(alloc: Global, changes: &[Change], n: u64) -> Result<Vec<LimitsEvent>, Memory>
+    ensures { IfOk result (λ v. v.items ≡ map line_event (filter (at_place n) changes.now)) }
+{
+    let mut found = Vec::new(alloc);
+    for change in changes {
+        if change.at == n {
+            found.push(line_event(change))?;
+        }
+    }
+    Ok(found)
+}
+
+fn line_event(change: &Change) -> LimitsEvent
+    ensures { result ≡ line_event change.now }
+{
+    LimitsEvent {
+        at: change.at,
+        packet: change.packet,
+        item: change.item,
+        before: change.before,
+        after: change.after,
+    }
+}
+
+// The lines of the entries from this number on, and that of an effect.
+fn event_text(
+    alloc: Global,
+    site: &Site,
+    history: &[Entry],
+    changes: &[Change],
+    from: usize,
+    effect: &Effect,
+) -> Result<Vec<u8>, Memory>
+    requires { changes.now ≡ events_from site.now history.now from }
+    ensures { IfOk result (λ v. v.items ≡ lines_of site.now (take from history.now) (drop from history.now) ++ effect_line site.now effect.now) }
+{
+    let mut text = lines_from(alloc, site, history, changes, from)?;
+    let line = effect_line(alloc, site, effect)?;
+    text.extend_from_slice(line.as_slice())?;
+    Ok(text)
 }

@@ -1,39 +1,37 @@
 // One event of a script: done, and its lines put.
-ghost use Rattle.std.specs.Prelude.{◌≡◌, true, length, OnOk};
+ghost use Rattle.std.specs.Prelude.{◌≡◌, true, OnOk};
+ghost use Rattle.cts_def.specs.Sites.{SiteData};
 ghost use Rattle.cts_core.specs.States.{State};
-ghost use Rattle.cts_core.specs.Built.{is_built_event, is_built_site};
+ghost use Rattle.cts_core.specs.Built.{is_built_event};
 ghost use Rattle.cts_serve.specs.Replay.Steps.{DoesEvent};
-ghost use Rattle.cts_core.specs.Worlds.{GoesOn, Represents, held_in};
+ghost use Rattle.cts_core.specs.Endings.{GoesOn, held_in};
+ghost use Rattle.cts_core.specs.Worlds.{Represents};
 
 use crate::putting::Unput;
 use crate::replay::halt::Halt;
-use crate::replay::printing::put_entries;
+use crate::replay::printing::put_event;
 use cts_core::{World, WorldFault};
-use cts_def::Site;
 use cts_entry::Event;
 use cts_outside::Sink;
 use std::alloc::Global;
 
-/// Does the event of this line, and puts the lines of its entries in one piece, if it has any.
+/// Does the event of this line, and puts the lines of its entries and of what it gives besides in one piece, if it has any.
 pub fn do_event<O: Sink>(
     alloc: Global,
-    site: &Site,
     world: &mut World,
     line: u32,
     event: &Event,
     out: &mut O,
 ) -> Result<(), Halt>
-    requires count { length (held_in world.old).connections ≡ length site.now.interfaces }
-    requires site { is_built_site site.now ≡ true }
     requires event { is_built_event event.now ≡ true }
     requires going { GoesOn world.old }
-    ensures does { (s : State) → Represents site.now (held_in world.old) s
-        → DoesEvent site.now s line event.now result (held_in world.new) (O.seen out.old) (O.seen out.new) }
+    ensures does { (site : SiteData) (s : State) → Represents site (held_in world.old) s
+        → DoesEvent site s line event.now result (held_in world.new) (O.seen out.old) (O.seen out.new) }
     ensures going { OnOk result (GoesOn world.new) }
 {
-    let before = world.history().len();
-    match world.step(alloc, site, event) {
-        Ok(()) => match put_entries(alloc, site, world.history(), before, out) {
+    let before = world.hall().entries().len();
+    match world.step(event) {
+        Ok(effect) => match put_event(alloc, world.hall(), before, &effect, out) {
             Ok(()) => Ok(()),
             Err(Unput::WriteFault) => Err(Halt::WriteFault),
             Err(Unput::Memory) => Err(Halt::Memory),

@@ -1,13 +1,13 @@
 use Rattle.std.proofs.Common.{◌≡◌, ℕ, true, List, length}
 use Rattle.cts_serve.specs.Load.Scripts.{are_built_events}
 use Rattle.cts_serve.specs.Putting.{IsPut}
-use Rattle.cts_core.specs.Worlds.{GoesOn, held_in}
+use Rattle.cts_core.specs.Endings.{GoesOn, held_in}
 use Rattle.cts_serve.proofs.ReplayLemmas.{IsProgress}
 use Rattle.cts_serve.proofs.replay.replay_from.Given as goal
 
 abbrev pub invariant-events : goal.invariant-events
 invariant-events g l = record {
-  progress : (text : List ℕ) × IsProgress l.site l.events l.left (held_in l.world) text × IsPut text (g.O.Sink.seen l.fn.out) (g.O.Sink.seen l.out);
+  progress : (text : List ℕ) × IsProgress (held_in l.initial.world).basis.site l.events l.left (held_in l.world) text × IsPut text (g.O.Sink.seen l.fn.out) (g.O.Sink.seen l.out);
   built : are_built_events l.left ≡ true;
   going : GoesOn l.world;
 }

@@ -1,7 +1,9 @@
+use Rattle.std.specs.Arc.{arc_value}
 use Rattle.std.proofs.Common.{◌≡◌, Result, Ok, Err, IfOk}
 use Rattle.cts_entry.specs.Legal.{most_entries as entries_limit, most_bytes as bytes_limit}
 use Rattle.cts_core.specs.States.{opening}
-use Rattle.cts_core.specs.Worlds.{Represents, first_held, held_in}
+use Rattle.cts_core.specs.Endings.{held_in}
+use Rattle.cts_core.specs.Worlds.{Represents, first_held}
 use Rattle.cts_core.specs.declared.world.World.{World}
 use Rattle.cts_core.proofs.WorldSteps.{stands_first}
 use Rattle.cts_core.proofs.world.World.new.Goals as goal
@@ -12,5 +14,5 @@ each (Err e) P Q f h = tt
 
 pub returns-clause-stands : goal.returns-clause-stands
 returns-clause-stands c =
-    let site = c.args.site.now in
+    let site = arc_value c.args.site in
     each c.with_limits.result (λ (w : World). held_in w ≡ first_held site entries_limit bytes_limit) (λ (w : World). Represents site (held_in w) opening) (λ (w : World) h. stands_first site (held_in w) h) c.with_limits.ensures.held

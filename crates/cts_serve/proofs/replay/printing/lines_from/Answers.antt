@@ -1,8 +1,13 @@
-use Rattle.std.proofs.Common.{◌≡◌, ℕ, ◌+◌, ◌-◌, ◌<◌, List, [], length, min, take, drop, arith, get_or, ap, subst, ◌∙◌, length-drop, length-take}
-use Rattle.std.proofs.lemmas.List.{drop_min}
+use Rattle.std.proofs.Common.{◌≡◌, ℕ, ◌+◌, ◌-◌, ◌<◌, ◌≤◌, List, [], ◌∷◌, ◌++◌, map, sym, append_assoc, length-append, length, min, take, drop, arith, get_or, ap, subst, ◌∙◌, length-drop, length-take}
+use Rattle.std.proofs.lemmas.List.{drop_min, drop_more, take-append-drop}
+use Rattle.std.specs.List.{filter}
+use Rattle.cts_def.specs.Sites.{SiteData}
+use Rattle.cts_watch.specs.Events.{events_from}
+use Rattle.cts_watch.specs.declared.types.LimitsEvent.{LimitsEvent as Change}
+use Rattle.cts_watch.proofs.Placed.{at_place, events_from_here}
 use Rattle.std.proofs.Math.Seq.{take-length}
 use Rattle.cts_entry.specs.declared.entry.Entry.{Entry}
-use Rattle.cts_serve.specs.Replay.Transcript.{limits_events}
+use Rattle.cts_serve.specs.Replay.Transcript.{limits_events, line_event, lines_of}
 use Rattle.cts_script.proofs.LineLemmas.{lines_behind-take_more}
 use Rattle.cts_script.specs.Transcripts.{entry_lines}
 use Rattle.cts_serve.proofs.replay.printing.lines_from.Goals as goal
@@ -17,6 +22,26 @@ slice_from n m es e =
 count_to : (n m : ℕ) (es : List Entry) → m ≡ min n (length es) → length (take n es) ≡ m
 count_to n m es e = grind (arith, length-take {A = Entry})
 
+-- what stands before an entry and behind it
+split_at : (es : List Entry) (from i : ℕ) (e : Entry) → i < length (drop from es) → e ≡ get_or (drop from es) i e → es ≡ (take from es ++ take i (drop from es)) ++ e ∷ drop (i + 1) (drop from es)
+split_at es from i e below is =
+    sym (take-append-drop from es)
+    ∙ (ap (λ (l : List Entry). take from es ++ l) (sym (take-append-drop i (drop from es)) ∙ ap (λ (l : List Entry). take i (drop from es) ++ l) (drop_more (drop from es) i e below ∙ ap (λ (x : Entry). x ∷ drop (i + 1) (drop from es)) (sym is)))
+    ∙ sym (append_assoc (take from es) (take i (drop from es)) (e ∷ drop (i + 1) (drop from es))))
+
+-- the changes at an entry are those that name its number
+changes_here : (site : SiteData) (es : List Entry) (from i n : ℕ) (e : Entry) (changes : List Change) → i < length (drop from es) → e ≡ get_or (drop from es) i e → length (take from es) + i ≡ n → changes ≡ events_from site es from
+    → map line_event (filter (at_place n) changes) ≡ limits_events site (take from es ++ take i (drop from es)) e
+changes_here site es from i n e changes below is number given =
+    let before : List Entry = take from es ++ take i (drop from es) in
+    let long : length before ≡ n = length-append (take from es) (take i (drop from es)) ∙ (omega (arith, length-take i (drop from es), below) ∙ number) in
+    let le : from ≤ length before = omega (arith, below, length-drop from es, length-take from es, long, number) in
+    ap (map line_event)
+    (ap (filter (at_place n)) given
+    ∙ (ap (λ (l : List Entry). filter (at_place n) (events_from site l from)) (split_at es from i e below is)
+    ∙ (ap (λ (k : ℕ). filter (at_place k) (events_from site (before ++ e ∷ drop (i + 1) (drop from es)) from)) (sym long)
+    ∙ events_from_here site before e (drop (i + 1) (drop from es)) from le)))
+
 pub entries-preserved : goal.entries-preserved
 entries-preserved c =
     let history = c.args.history.now in
@@ -27,5 +52,11 @@ entries-preserved c =
     let is : c.entry-item.result ≡ get_or (drop c.args.from history) index c.entry-item.result = subst (λ (es : List Entry). c.entry-item.result ≡ get_or es index c.entry-item.result) sliced c.entry-item.is in
     let more = lines_behind-take_more site (limits_events site) (take c.args.from history) (drop c.args.from history) index c.entry-item.result below is in
     let number : length (take c.args.from history) + index ≡ c.entries.n = omega (arith, count_to c.args.from c.min-n.result history c.min-n.ensures, c.entries.invariant.0) in
-    let line = ap (λ (n : ℕ). entry_lines site n c.entry-item.result []) number in
-    (omega (arith, c.entries.invariant.0), c.in_ok-extend_from_slice.ensures.items ∙ cc (more, line, c.entries.invariant.1, c.in_ok-text.ensures, c.as_slice.ensures))
+    let events = c.in_ok-events.ensures ∙ changes_here site history c.args.from index c.entries.n c.entry-item.result c.args.changes.now below is number c.requires in
+    let line = ap (λ (n : ℕ). entry_lines site n c.entry-item.result (limits_events site (take c.args.from history ++ take index (drop c.args.from history)) c.entry-item.result)) number ∙ ap (entry_lines site c.entries.n c.entry-item.result) (sym events) in
+    let text : c.as_slice.result.now ≡ entry_lines site c.entries.n c.entry-item.result c.in_ok-events.events.items = c.as_slice.ensures ∙ (c.in_ok-text.ensures ∙ ap (entry_lines site c.entries.n c.entry-item.result) c.deref.ensures.value) in
+    let so_far = lines_of site (take c.args.from history) (take index (drop c.args.from history)) in (
+      omega (arith, c.entries.invariant.0),
+      c.in_ok-extend_from_slice.ensures.items
+          ∙ (ap (λ (l : List ℕ). l ++ c.as_slice.result.now) c.entries.invariant.1 ∙ (ap (λ (l : List ℕ). so_far ++ l) (text ∙ sym line) ∙ sym more)),
+    )

@@ -2,7 +2,7 @@ use Rattle.std.proofs.Common.{arith, ap, ◌∙◌}
 use Rattle.std.specs.Option.{option_copied}
 use Rattle.cts_def.specs.declared.ident.Ident.TheVariants.{Known}
 use Rattle.cts_entry.specs.Histories.{or_earlier}
-use Rattle.cts_table.specs.Lookups.{brought_by}
+use Rattle.cts_watch.specs.Brought.{brought_by}
 use Rattle.cts_table.proofs.Latest.{told_step, copied_or}
 use Rattle.cts_table.proofs.hall.Hall.current.Goals as goal
 

@@ -1,0 +1,21 @@
+-- What a world holds, whether it goes on, and what it answers for good.
+use Rattle.std.specs.Prelude.{◌≡◌, Option, None, Some, Result, Ok, Err}
+use Rattle.cts_entry.specs.declared.event.Effect.{Effect}
+use Rattle.cts_core.specs.Worlds.{Held}
+use Rattle.cts_core.specs.declared.fault.WorldFault.{WorldFault}
+use Rattle.cts_core.specs.declared.fault.WorldFault.TheVariants.{NotEnabled as RefusedEvent, Full, Memory}
+use Rattle.cts_core.specs.declared.world.World.{World}
+
+abbrev pub held_in : World → Held
+held_in w = w.running
+
+-- it has not ended: its history was not full at any event so far, and memory did not run out
+abbrev pub GoesOn : World → Type 0
+GoesOn w = w.ended ≡ None
+
+-- what a world answers for good after this answer: that its history is full, or that memory ran out
+abbrev pub lasting : Result Effect WorldFault → Option WorldFault
+lasting (Ok effect) = None
+lasting (Err RefusedEvent) = None
+lasting (Err (Full entries bytes)) = Some (Full entries bytes)
+lasting (Err Memory) = Some Memory

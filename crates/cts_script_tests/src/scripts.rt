@@ -1,0 +1,229 @@
+// What no clause says: worked scripts with their events, which lines are refused and why, and that reading succeeds where
+// there is memory.
+use crate::read::{lines, site};
+use cts_def::Site;
+use cts_entry::Event;
+use cts_scriptread::{ScriptFault, read_events, read_script};
+use cts_words::statements;
+use std::alloc::{AllocError, Global};
+use std::process::Abort;
+use std::test::Fail;
+
+/// Each row has the events with their lines, a bar, and a script whose lines end with `;`.
+const EVENTS: &str = "\
+|
+|;;# nothing
+1 time 5 6,|TIME 5 6
+1 time 16 7,|time 0x10 +007
+1 time 4294967295 4294967295,|TIME 4294967295 4294967295
+2 opens 0,4 opens 1,|;OPEN I;;Open inst_int
+1 opens 16,2 opens 17,|OPEN OUT/0;OPEN out/1
+1 opens 18,2 opens 19,|OPEN Back/0;OPEN BACK/1
+1 piece 0 [0, 255],|BYTES I 00fF
+1 piece 19 [16],|BYTES & ;BACK/1 & ;10
+1 finish 0 PeerEnded,|CLOSE I PEER
+1 finish 0 ReadFault,|CLOSE I READ
+1 finish 16 WriteFault,|CLOSE OUT/0 WRITE
+1 finish 1 Stopped,|close INST_INT STOP
+1 write 1 0,2 write 0 18446744073709551615,|WRITE INST_INT 0;WRITE I 18446744073709551615
+1 call 3 [97, 32, 98],2 call 4294967295 [],|CALL 3 'a b';CALL 4294967295 ''
+1 log 3,2 slot 17 0,|DRAIN LOG 3;DRAIN OUT/1 0
+1 stop,3 stop,|STOP;;stop # now
+1 try 5,2 try 2,3 try 2,|TRY TLM RAW T P I;try SET A;Try CMD 'T C with A 1'";
+
+/// Each row has a line and its cause, a bar, and a script whose lines end with `;`.
+const CAUSES: &str = "\
+1 UnknownKeyword|CONNECT I
+1 UnknownKeyword|'' I
+2 UnknownKeyword|STOP;'STOP ' x
+1 WrongCount|TIME 5
+1 WrongCount|TIME 5 6 7
+1 WrongCount|OPEN
+1 WrongCount|BYTES I
+1 WrongCount|BYTES I 00 11
+1 WrongCount|CLOSE I
+1 WrongCount|WRITE I
+1 WrongCount|CALL 0 a b
+1 WrongCount|DRAIN LOG
+1 WrongCount|STOP now
+1 WrongCount|TRY
+1 WrongCount|TRY TLM RAW T P
+1 WrongCount|TRY TLM RAW T P I x
+1 WrongCount|TRY TLM raw T P I
+1 WrongCount|TRY tlm RAW T P I
+1 WrongCount|TRY SET
+1 WrongCount|TRY SET A B
+1 WrongCount|TRY CMD T C
+1 WrongCount|TRY LIMITS T
+1 UnknownMaker|OPEN X
+1 UnknownMaker|OPEN OUT
+1 UnknownMaker|OPEN OUT/2
+1 UnknownMaker|OPEN I/0
+1 UnknownMaker|OPEN /0
+1 UnknownMaker|OPEN ''
+1 UnknownMaker|OPEN DESK/0
+1 UnknownMaker|WRITE OUT/0 1
+1 UnknownMaker|DRAIN I 1
+1 UnknownMaker|DRAIN log 1
+1 UnknownMaker|CLOSE LOG PEER
+1 NotNumber|TIME x 0
+1 NotNumber|TIME 0 -1
+1 NotNumber|TIME 4294967296 0
+1 NotNumber|TIME 0 4294967296
+1 NotNumber|WRITE I 18446744073709551616
+1 NotNumber|WRITE I ''
+1 NotNumber|CALL 4294967296 x
+1 NotNumber|DRAIN LOG -1
+1 NotNumber|DRAIN OUT/0 1.0
+1 BadHex|BYTES I 0
+1 BadHex|BYTES I 0g
+1 BadHex|BYTES I 0x00
+1 PieceSize|BYTES I ''
+1 UnknownWhy|CLOSE I peer
+1 UnknownWhy|CLOSE I FULL";
+
+/// Two causes on one line, and two lines with causes.
+const ORDER: &str = "\
+1 UnknownKeyword|CONNECT
+1 WrongCount|OPEN X Y
+1 WrongCount|WRITE X x x
+1 UnknownMaker|WRITE X x
+1 UnknownMaker|DRAIN X x
+1 UnknownMaker|BYTES X 0
+1 UnknownMaker|BYTES X ''
+1 UnknownMaker|CLOSE X x
+1 BadHex|BYTES I z
+2 UnknownMaker|OPEN I;OPEN X;CONNECT
+3 UnknownWhy|OPEN I;BYTES I 00;CLOSE I x;CLOSE X x
+1 WrongCount|STOP 'now
+1 WrongCount|OPEN X 'now
+2 WrongCount|CONNECT;STOP 'now
+2 WrongCount|CONNECT;STOP &";
+
+fn numbers(alloc: Global, word: &str, first: u32, second: u64) -> Result<String, AllocError> {
+    format!(in alloc; "{word} {first} {second}")
+}
+
+fn bytes(alloc: Global, word: &str, number: u32, bytes: &[u8]) -> Result<String, AllocError> {
+    format!(in alloc; "{word} {number} {bytes:?}")
+}
+
+fn shown(alloc: Global, event: &Event) -> Result<String, AllocError> {
+    match event {
+        Event::SetTime(time) => numbers(alloc, "time", time.seconds, u64::from(time.micros)),
+        Event::Opens(by) => format!(in alloc; "opens {by}"),
+        Event::Piece(by, piece) => bytes(alloc, "piece", *by, piece.as_slice()),
+        Event::Finish(by, why) => format!(in alloc; "finish {by} {why:?}"),
+        Event::Write(interface, count) => numbers(alloc, "write", *interface, *count),
+        Event::Call(desk, text) => bytes(alloc, "call", *desk, text.as_slice()),
+        Event::DrainLog(count) => format!(in alloc; "log {count}"),
+        Event::DrainSlot(slot, count) => numbers(alloc, "slot", *slot, *count),
+        Event::Stop => format!(in alloc; "stop"),
+        Event::Try(words) => format!(in alloc; "try {}", words.len()),
+    }
+}
+
+fn all_shown(alloc: Global, events: &[(u32, Event)]) -> Result<String, AllocError> {
+    let mut out = String::new(alloc);
+    for (line, event) in events {
+        let event = shown(alloc, event)?;
+        out.push_str(format!(in alloc; "{line} {event},")?.as_str())?;
+    }
+    Ok(out)
+}
+
+fn answer(alloc: Global, found: Result<Vec<(u32, Event)>, ScriptFault>) -> Result<String, Fail> {
+    match found {
+        Ok(events) => Ok(all_shown(alloc, &events)?),
+        Err(ScriptFault::Refused { line, cause }) => Ok(format!(in alloc; "{line} {cause}")?),
+        Err(ScriptFault::Memory) => Err(Fail::new("out of memory")),
+    }
+}
+
+/// The events of a text, or the line and the cause of its refusal.
+fn outcome(alloc: Global, text: &[u8], site: &Site) -> Result<String, Fail> {
+    if text.len() > 1_000_000 {
+        return Err(Fail::new("too large"));
+    }
+    answer(alloc, read_script(alloc, text, site))
+}
+
+fn compare(rt: &impl Abort, alloc: Global, rows: &str) -> Result<(), Fail> {
+    let site = site(alloc)?;
+    for row in rows.lines() {
+        let Some((want, text)) = row.split_once('|') else {
+            return Err(Fail::new("no row"));
+        };
+        let text = lines(alloc, text)?;
+        let found = outcome(alloc, &text, &site)?;
+        assert_eq!(rt; found.as_str(), want, "at {row}");
+    }
+    Ok(())
+}
+
+#[test]
+fn each_line_says_its_event(rt: HostRuntime) -> Result<(), Fail> {
+    compare(&rt, rt.alloc(), EVENTS)
+}
+
+#[test]
+fn each_cause_has_its_line(rt: HostRuntime) -> Result<(), Fail> {
+    compare(&rt, rt.alloc(), CAUSES)
+}
+
+#[test]
+fn the_first_cause_and_the_first_line_count(rt: HostRuntime) -> Result<(), Fail> {
+    compare(&rt, rt.alloc(), ORDER)
+}
+
+#[test]
+fn what_is_no_text_is_refused_at_line_0(rt: HostRuntime) -> Result<(), Fail> {
+    let site = site(rt.alloc())?;
+    let found = outcome(rt.alloc(), b"CONNECT\n\xff", &site)?;
+    assert_eq!(rt; found.as_str(), "0 WrongCount");
+    Ok(())
+}
+
+#[test]
+fn statements_are_read_as_their_text(rt: HostRuntime) -> Result<(), Fail> {
+    let alloc = rt.alloc();
+    let site = site(alloc)?;
+    let found = statements(alloc, b"OPEN I\nSTOP\n")?;
+    let found = answer(alloc, read_events(alloc, &found, &site))?;
+    assert_eq!(rt; found.as_str(), "1 opens 0,2 stop,");
+    Ok(())
+}
+
+/// A piece of so many digits for the first interface.
+fn piece(alloc: Global, digits: u32) -> Result<Vec<u8>, AllocError> {
+    let mut text = b"BYTES I ".to_vec(alloc)?;
+    for _ in 0..digits {
+        text.push(b'5')?;
+    }
+    Ok(text)
+}
+
+fn is_read(alloc: Global, digits: u32) -> Result<String, Fail> {
+    let site = site(alloc)?;
+    let text = piece(alloc, digits)?;
+    if text.len() > 1_000_000 {
+        return Err(Fail::new("too large"));
+    }
+    match read_script(alloc, &text, &site) {
+        Ok(_) => Ok(format!(in alloc; "read")?),
+        Err(fault) => Ok(format!(in alloc; "{fault}")?),
+    }
+}
+
+#[test]
+fn a_piece_has_at_most_65536_bytes(rt: HostRuntime) -> Result<(), Fail> {
+    for (digits, want) in [
+        (131_072, "read"),
+        (131_073, "line 1: BadHex"),
+        (131_074, "line 1: PieceSize"),
+    ] {
+        let found = is_read(rt.alloc(), digits)?;
+        assert_eq!(rt; found.as_str(), want, "of {digits}");
+    }
+    Ok(())
+}

@@ -1,0 +1,6 @@
+pub mod Said
+pub mod Taken
+pub mod Rows
+pub mod OneEach
+pub mod Exact
+pub mod Refusing

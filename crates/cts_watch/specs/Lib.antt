@@ -1,0 +1,10 @@
+pub mod Gathered
+pub mod Brought
+pub mod Items
+pub mod Settings
+pub mod Sets
+pub mod Samples
+pub mod Events
+pub mod Watching
+pub mod Steps
+pub mod Keeping

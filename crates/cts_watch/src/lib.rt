@@ -1,0 +1,25 @@
+//! Limits over a history: the sets, each item's limits and limits state, and the changes of states.
+#![tactic(auto)]
+
+mod bringing;
+mod changes;
+mod choices;
+mod finding;
+mod kept;
+mod known;
+mod row;
+mod running;
+mod sampling;
+mod settings;
+mod table;
+mod types;
+mod watching;
+
+pub use bringing::brought;
+pub use changes::events;
+pub use choices::limits_set;
+pub use finding::limits_of;
+pub use known::{set_known, sets_known};
+pub use running::state_of;
+pub use types::{LimitsEvent, LimitsUsed};
+pub use watching::watches;
