@@ -46,12 +46,8 @@ fn told_by(alloc: Global, interface: &Interface, pieces: &str) -> Result<String,
         return Err(Fail::new("no chain"));
     };
     let mut out = String::new(alloc);
-    let mut last = ChainStep::More;
-    for piece in pieces.split(' ') {
-        let bytes = bytes_of(alloc, piece)?;
-        chain.feed(&bytes)?;
-        last = drain(alloc, &mut chain, &mut out)?;
-    }
+    let pieces = pieces.split(' ').collect::<Vec<&str>>(alloc)?;
+    let last = feed_all(alloc, &mut chain, pieces.as_slice(), &mut out)?;
     let loss = chain.reset();
     Ok(format!(in alloc;
         "{out}{last:?} {:?} {} {}",
@@ -59,23 +55,46 @@ fn told_by(alloc: Global, interface: &Interface, pieces: &str) -> Result<String,
     )?)
 }
 
-/// Appends the packets that the chain gives, and answers why there are no more.
-fn drain(alloc: Global, chain: &mut Chain, out: &mut String) -> Result<ChainStep, Fail>
+/// Feeds the pieces one after another, appends the packets that they give, and answers why there are no more behind the last one.
+fn feed_all(
+    alloc: Global,
+    chain: &mut Chain,
+    pieces: &[&str],
+    out: &mut String,
+) -> Result<ChainStep, Fail>
+    requires { IsIdle (⟦<Chain as Chained>⟧.shape chain.old) }
+    ensures { OnOk result (IsIdle (⟦<Chain as Chained>⟧.shape chain.new)) }
+{
+    let [piece, rest @ ..] = pieces else {
+        return Ok(ChainStep::More);
+    };
+    let bytes = bytes_of(alloc, piece)?;
+    chain.feed(&bytes)?;
+    let last = drain(alloc, chain, out, 100)?;
+    if rest.is_empty() {
+        return Ok(last);
+    }
+    feed_all(alloc, chain, rest, out)
+}
+
+/// Appends the packets that the chain gives, at most so many, and answers why there are no more.
+fn drain(alloc: Global, chain: &mut Chain, out: &mut String, most: u32) -> Result<ChainStep, Fail>
     requires { IsChain (⟦<Chain as Chained>⟧.shape chain.old) }
     ensures { OnOk result (IsIdle (⟦<Chain as Chained>⟧.shape chain.new)) }
 {
-    for _ in 0..100 {
-        match chain.next() {
-            ChainStep::Packet(_) => {
-                let digits = digits_of(alloc, chain.packet_bytes())?;
-                out.push_str(digits.as_str())?;
-                out.push(' ')?;
-            }
-            ChainStep::More => return Ok(ChainStep::More),
-            ChainStep::Bad { stage, cause } => return Ok(ChainStep::Bad { stage, cause }),
-        }
+    if most == 0 {
+        return Err(Fail::new("no end"));
     }
-    Err(Fail::new("no end"))
+    match chain.next() {
+        ChainStep::Packet(_) => {
+            let digits = digits_of(alloc, chain.packet_bytes())?;
+            out.push_str(digits.as_str())?;
+            out.push(' ')?;
+            drain(alloc, chain, out, most - 1)
+        }
+        ChainStep::More => Ok(ChainStep::More),
+        ChainStep::Bad { stage, cause } => Ok(ChainStep::Bad { stage, cause }),
+    }
 }
 
 /// Protocols, bytes, and the frames in which they are put, or why they are not.
