@@ -102,7 +102,24 @@ const WRITTEN: &str = "\
 BURST 1 nil true;PROTOCOL WRITE BURST 2 0xaa true|07|00aa0007
 BURST;PROTOCOL WRITE TERMINATED 0x0a 0x0a|07|070a
 TERMINATED 0x0a 0x0a;PROTOCOL READ LENGTH 0 8 0 1|0a|HoldsTermination
-BURST 0 0xaabb true|07|NoPlace";
+BURST 0 0xaabb true|07|NoPlace
+BURST 3 0xaabb true|07|aabb0007
+BURST 1 nil true||00
+TERMINATED 0x0a 0x0a|41|410a
+TERMINATED 0x0d0a 0x0d0a|41|410d0a
+TERMINATED 0x0d0a 0x0d0a|410d|410d0d0a
+TERMINATED 0x0d0a 0x0d0a|0d0a41|HoldsTermination
+TERMINATED 0x0a0a 0x0a0a|410a|HoldsTermination
+TERMINATED 0x0d0a 0x0d0a true 2 0x1acf true|41|1acf410d0a
+TERMINATED 0x0a 0x0a true 0 0x1acffc true|41|NoPlace
+TERMINATED 0x0a 0x0a true 0 0x1acffc true|0a|HoldsTermination
+LENGTH 0 16 0 1|6162|6162
+LENGTH 0 16 0 1 BIG_ENDIAN 0 nil nil true|61|NoPlace
+LENGTH 16 16 2 2 BIG_ENDIAN 4 0x1acf 4 true|61626364|1acf000361626364
+LENGTH 16 16 2 2 BIG_ENDIAN 4 0x1acf 4 true|616263|NoPlace
+LENGTH 16 16 2 2 BIG_ENDIAN 4 0x1acf 4 true|6162636465666768|LengthTooLarge
+PREIDENTIFIED 0xc0 3|7778797a|LengthTooLarge
+PREIDENTIFIED 0xc0 4|7778797a|c0000000050000000606544152474554065041434b4554000000047778797a";
 
 #[test]
 fn the_last_protocol_writes_first(rt: HostRuntime) -> Result<(), Fail> {
