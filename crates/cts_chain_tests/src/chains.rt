@@ -18,6 +18,9 @@ TERMINATED 0x0a 0x0a;PROTOCOL READ LENGTH 0 8 0 1|03110a220a|031122 More [0, 0, 
 TERMINATED 0x0a 0x0a;PROTOCOL READ LENGTH 0 8 0 1|05110a22|More [1, 2, 0, 0] 0 0
 BURST|0102|0102 More [0, 0, 0, 0] 0 0
 BURST|01 02|01 02 More [0, 0, 0, 0] 0 0
+FIXED 1|0105 06010708 02|010506 010708 02 More [0, 0, 0, 0] 0 0
+FIXED 1 0 nil true false true|01050602 01|010506 Bad { stage: 1, cause: UnknownStart } [2, 0, 0, 0] 0 0
+FIXED 1 2 0x1acf|ff1acf0105061a cf0107081acf021a|010506 010708 02 More [1, 0, 0, 0] 1 0
 LENGTH 0 32 0 1|00100000|More [4, 0, 0, 0] 0 0
 LENGTH 0 32 0 1|00100001|Bad { stage: 1, cause: TooLong } [4, 0, 0, 0] 0 0
 LENGTH 0 16 0 1|0004aabb0001 ff|0004aabb Bad { stage: 1, cause: Short(1) } [3, 0, 0, 0] 0 0

@@ -36,14 +36,18 @@ fn statements_of(alloc: Global, text: &str) -> Result<Vec<Statement>, Fail> {
     }
 }
 
-/// The site with one interface that has these protocol words, and those of the lines behind `;`.
+/// A target with one packet of three bytes, which begins with a byte 1.
+const DEFINITIONS: &str =
+    "TELEMETRY T A BIG_ENDIAN;APPEND_ID_ITEM K 8 UINT 1;APPEND_ITEM V 16 UINT";
+
+/// The site with one interface of the target that has these protocol words, and those of the lines behind `;`.
 pub fn site_of(alloc: Global, protocols: &str) -> Result<Site, Fail> {
-    let found = statements_of(alloc, "")?;
+    let found = statements_of(alloc, DEFINITIONS)?;
     let Ok(definitions) = read_definitions(alloc, &found) else {
         return Err(Fail::new("definitions are refused"));
     };
     let text = format!(in alloc;
-        "INTERFACE I tcpip_client_interface.rb localhost 8080 8080 10.0 nil {protocols}\n"
+        "INTERFACE I tcpip_client_interface.rb localhost 8080 8080 10.0 nil {protocols}\nTARGET T\n"
     )?;
     let found = statements_of(alloc, text.as_str())?;
     match read_site(alloc, &found, definitions) {
