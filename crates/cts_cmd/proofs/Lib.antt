@@ -2,7 +2,6 @@ pub mod Runs
 pub mod Firsts
 pub mod Params
 pub mod Failing
-pub mod Behind
 pub mod Written
 pub mod Unique
 pub mod Exact

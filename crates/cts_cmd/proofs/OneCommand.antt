@@ -1,8 +1,6 @@
 -- What is written over some bytes leaves no choice for them.
-use Rattle.std.proofs.Common.{◌≡◌, ℕ, ℤ, pos, ◌<◌, ◌≤◌, Bool, true, false, List, [], ◌∷◌, Option, Some, ◌++◌, ◌-◌, length, take, drop, inl, inr, refl, sym, ap, ◌∙◌, subst, arith}
-use Rattle.std.proofs.lemmas.Bool.{cases_Bool}
-use Rattle.std.proofs.lemmas.List.{append-nil, length-append, length-replicate}
-use Rattle.std.specs.Prelude.{int_le, slice_get, unwrap_or, replicate, unsigned_abs, if◌then◌else◌, ◌^◌}
+use Rattle.std.proofs.Common.{◌≡◌, ℕ, ℤ, pos, ◌<◌, Bool, true, false, List, [], ◌∷◌, Option, Some, sym, ap, ◌∙◌, subst}
+use Rattle.std.specs.Prelude.{slice_get, unwrap_or, replicate, unsigned_abs, if◌then◌else◌, ◌^◌}
 use Rattle.cts_bits.specs.declared.place.Place.{Place}
 use Rattle.cts_bits.specs.Bits.{twos_complement}
 use Rattle.cts_bits.specs.Fields.{IsFieldBit, KeepsOtherBits, bit_place_at, field, field_at}
@@ -14,15 +12,12 @@ use Rattle.cts_def.specs.declared.item_kind.Preset.TheVariants.{Whole, Raw}
 use Rattle.cts_def.specs.Beginnings.{number_at}
 use Rattle.cts_def.specs.Items.{ItemData}
 use Rattle.cts_def.specs.Packets.{DefinitionsData, PacketData}
-use Rattle.cts_def.specs.Spans.{is_number, is_signed}
+use Rattle.cts_def.specs.Spans.{is_signed}
 use Rattle.cts_def.specs.Starts.{PlaceData, place_data}
 use Rattle.cts_cmd.specs.declared.built.Built.{Built}
-use Rattle.cts_cmd.specs.declared.request.Given.{Given}
-use Rattle.cts_cmd.specs.declared.request.Given.TheVariants as given
-use Rattle.cts_cmd.specs.declared.request.Given.TheVariants.{Text}
 use Rattle.cts_cmd.specs.declared.request.Request.{Request}
 use Rattle.cts_cmd.specs.Builds.{IsBuilt, Writes, WritesAll, WritesNumber, place_of}
-use Rattle.cts_cmd.specs.Contents.{content, content_given}
+use Rattle.cts_cmd.specs.Contents.{content}
 
 field_bit_so : (p q : Place) → place_data p ≡ place_data q → (k : ℕ) → IsFieldBit q k → IsFieldBit p k
 field_bit_so p q e k b =

@@ -1,7 +1,7 @@
 -- Each text asks for something or fails somewhere.
-use Rattle.std.proofs.Common.{◌≡◌, ℕ, zero, suc, ◌+◌, ◌-◌, ◌<◌, ◌≤◌, ◌⊎◌, Bool, true, false, List, [], ◌∷◌, ◌++◌, length, take, drop, refl, sym, ap, ◌∙◌, subst, arith, ◌==◌, inl, inr}
+use Rattle.std.proofs.Common.{◌≡◌, ℕ, zero, suc, ◌+◌, ◌-◌, ◌<◌, ◌≤◌, ◌⊎◌, Bool, true, false, List, [], ◌∷◌, ◌++◌, length, take, drop, refl, sym, ◌∙◌, subst, arith, ◌==◌, inl, inr}
 use Rattle.std.specs.Prelude.{codes, not}
-use Rattle.std.specs.List.{list_all, position_or_len}
+use Rattle.std.specs.List.{position_or_len}
 use Rattle.std.proofs.lemmas.Bool.{cases_Bool, cases_lt, eqb-true}
 use Rattle.std.proofs.lemmas.List.Sums.{prefix_len-le-length}
 use Rattle.cts_base.specs.Names.{spells}
@@ -11,7 +11,7 @@ use Rattle.cts_cmd.specs.declared.request.Request.{Request}
 use Rattle.cts_cmd.specs.declared.text_fault.TextCause.{TextCause}
 use Rattle.cts_cmd.specs.declared.text_fault.TextCause.TheVariants.{NoTarget, NoCommand, NoWith, NoName, NoValue, OpenQuote, NoComma}
 use Rattle.cts_cmd.specs.Words.{is_over, is_white, is_comma, is_quote, is_white_or_comma, begins_with_quote, IsBehindWhite, IsWordFirst}
-use Rattle.cts_cmd.specs.Texts.{given_by, AreParams, Fails, FailsFirst, FailsInParams, FailsInTail, FailsValue, IsCommandText, IsHead, IsLastParam, IsParamFirst, IsTail, IsValueFirst, IsWith}
+use Rattle.cts_cmd.specs.Texts.{given_by, AreParams, Fails, FailsFirst, FailsInParams, FailsInTail, FailsValue, IsHead, IsParamFirst, IsTail, IsValueFirst, IsWith}
 use Rattle.cts_cmd.specs.Laws.{IsFault, IsRequest}
 use Rattle.cts_cmd.proofs.Runs.{behind_run, none_passes, over_behind, parts_at, passes_before, word_run}
 use Rattle.cts_cmd.proofs.Firsts.{behind_itself, behind_unique, comma_there, nothing_there, word_begins, word_here}

@@ -14,14 +14,14 @@ use Rattle.cts_def.specs.declared.item_kind.Preset.{Preset}
 use Rattle.cts_def.specs.declared.item_kind.Preset.TheVariants.{Whole}
 use Rattle.cts_def.specs.Beginnings.{number_at}
 use Rattle.cts_def.specs.Items.{ItemData, has_color, has_default_of, has_range_of_its_kind, is_from_start, is_parameter, is_plain, span_of}
-use Rattle.cts_def.specs.Packets.{DefinitionsData, PacketData, are_before_the_end, is_command, length_of}
+use Rattle.cts_def.specs.Packets.{DefinitionsData, PacketData, are_before_the_end, is_command, is_named, length_of}
 use Rattle.cts_def.specs.Spans.{bytes_needed, is_signed}
 use Rattle.cts_def.specs.Starts.{PlaceData, place_data}
 use Rattle.cts_cmd.specs.declared.request.Checks.{Checks}
 use Rattle.cts_cmd.specs.declared.request.Given.{Given}
 use Rattle.cts_cmd.specs.declared.request.Request.{Request}
 use Rattle.cts_cmd.specs.Builds.{IsBuilt, IsNamedAt, Writes, WritesAll, WritesNumber, lies_within, place_of}
-use Rattle.cts_cmd.specs.Checks.{has_names, has_target, refusal_among, refusal_at}
+use Rattle.cts_cmd.specs.Checks.{has_target, refusal_among, refusal_at}
 use Rattle.cts_cmd.specs.Contents.{content}
 
 pub writes_number : (i : ItemData) (z : ℤ) (p : Place) (signed : Bool) (old new : List ℕ) → place_data p ≡ place_of i → signed ≡ is_signed i.kind → reach p ≤ length old
@@ -98,16 +98,16 @@ found_nowhere test commands e =
     find_at test commands ∙ slice_get_past commands (position_or_len test commands) past
 
 pub place_known : (commands : List PacketData) (r : Request) (k : Checks) (target name : List ℕ) (known : Bool) (o : Option PacketData) → target ≡ r.target → name ≡ r.command
-    → known ≡ true → known ≡ list_any (has_target target) commands → find (has_names target name) commands ≡ o → refusal_among commands r k ≡ refusal_at o r k
+    → known ≡ true → known ≡ list_any (has_target target) commands → find (is_named target name) commands ≡ o → refusal_among commands r k ≡ refusal_at o r k
 place_known commands r k target name known o t n is e f =
     let at : list_any (has_target r.target) commands ≡ true = ap (λ (x : List ℕ). list_any (has_target x) commands) (sym t) ∙ sym e ∙ is in
-    let found : find (has_names r.target r.command) commands ≡ o = ap (λ (x : List ℕ). find (has_names x r.command) commands) (sym t) ∙ ap (λ (x : List ℕ). find (has_names target x) commands) (sym n) ∙ f in
+    let found : find (is_named r.target r.command) commands ≡ o = ap (λ (x : List ℕ). find (is_named x r.command) commands) (sym t) ∙ ap (λ (x : List ℕ). find (is_named target x) commands) (sym n) ∙ f in
     rw at (ap (λ (x : Option PacketData). refusal_at x r k) found)
 
-pub named_at : (commands : List PacketData) (r : Request) (target name : List ℕ) (n : ℕ) (it : PacketData) → target ≡ r.target → name ≡ r.command → slice_get commands n ≡ Some it → has_names target name it ≡ true
-    → position (has_names target name) commands ≡ Some n → IsNamedAt commands r n
+pub named_at : (commands : List PacketData) (r : Request) (target name : List ℕ) (n : ℕ) (it : PacketData) → target ≡ r.target → name ≡ r.command → slice_get commands n ≡ Some it → is_named target name it ≡ true
+    → position (is_named target name) commands ≡ Some n → IsNamedAt commands r n
 named_at commands r target name n it t m number named at =
-    record { it = it; first = ap (λ (x : List ℕ). position (has_names x r.command) commands) (sym t) ∙ ap (λ (x : List ℕ). position (has_names target x) commands) (sym m) ∙ at; number = number; named = ap (λ (x : List ℕ). has_names x r.command it) (sym t) ∙ ap (λ (x : List ℕ). has_names target x it) (sym m) ∙ named }
+    record { it = it; first = ap (λ (x : List ℕ). position (is_named x r.command) commands) (sym t) ∙ ap (λ (x : List ℕ). position (is_named target x) commands) (sym m) ∙ at; number = number; named = ap (λ (x : List ℕ). is_named x r.command it) (sym t) ∙ ap (λ (x : List ℕ). is_named target x it) (sym m) ∙ named }
 
 all_at : (p : PacketData → Bool) (xs : List PacketData) (n : ℕ) (d : PacketData) → list_all p xs ≡ true → n < length xs → p (get_or xs n d) ≡ true
 all_at p [] n d all lt = absurd (omega arith)
@@ -122,6 +122,6 @@ pub built_of : (d : DefinitionsData) (r : Request) (n : ℕ) (bytes : List ℕ) 
 built_of d r n bytes commands it params same is named given w =
     let that : it ≡ named.it = is ∙ get_or_from_slice_get commands n named.it it named.number in
     record {
-      command = record { it = named.it; first = subst (λ cs. position (has_names r.target r.command) cs ≡ Some n) same named.first; number = subst (λ cs. slice_get cs n ≡ Some named.it) same named.number; named = named.named };
+      command = record { it = named.it; first = subst (λ cs. position (is_named r.target r.command) cs ≡ Some n) same named.first; number = subst (λ cs. slice_get cs n ≡ Some named.it) same named.number; named = named.named };
       bytes = subst (λ ps. WritesAll (content ps) named.it.items (replicate named.it.length 0) bytes) given (subst (λ p. WritesAll (content params) p.items (replicate p.length 0) bytes) that w);
     }

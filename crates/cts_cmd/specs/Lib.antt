@@ -1,7 +1,6 @@
 pub mod Words
 pub mod Texts
 pub mod Seen
-pub mod Characters
 pub mod Contents
 pub mod Checks
 pub mod Builds

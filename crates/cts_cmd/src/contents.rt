@@ -25,9 +25,8 @@ ghost use Rattle.cts_cmd.specs.Contents.{
 };
 
 use crate::Given;
-use crate::characters::text_bytes;
 use cts_base::{Bytes, Memory, spells};
-use cts_def::{Item, ItemKind, Overflow, Preset, StateDef};
+use cts_def::{Item, ItemKind, Overflow, Preset, StateDef, text_bytes};
 use std::alloc::Global;
 
 /// The least number of so many bits.

@@ -7,7 +7,6 @@
 
 mod build_command;
 mod built;
-mod characters;
 mod contents;
 mod hazards;
 mod laws;

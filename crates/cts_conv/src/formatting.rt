@@ -5,18 +5,17 @@ ghost use Rattle.std.specs.Str.Parse.{digits_value};
 ghost use Rattle.cts_conv.specs.Formatting.{base_of, by_format, by_parts, cut, directive_text, filled_up, fixed_digits, fixed_text, fraction_of, formatted_text, has_flag, is_small, is_text, number_filled_up, parts_in, precision_of, rounded, undoubled, units_text, whole_text, width_of, with_gap, with_units_text, digits_in};
 ghost use Rattle.cts_conv.specs.Plains.{plain_text};
 ghost use Rattle.cts_conv.specs.Raws.{is_raw_of};
-ghost use Rattle.cts_conv.specs.Views.{parts_view};
+ghost use Rattle.cts_def.specs.Views.{parts_view};
 
 use crate::Value;
 use crate::converting::converted;
 use crate::digits::{digits_in, put_decimal, put_last_digits};
 use crate::plains::put_plain;
-use crate::reading::{FormatText, has_byte, parts_of};
 use crate::states::PARTS;
 use crate::texts::{put_text, put_times};
 use crate::widths::{number_of, precision_of};
 use cts_base::{Bytes, Memory};
-use cts_def::Item;
+use cts_def::{FormatText, Item, parts_of};
 use std::alloc::Global;
 
 /// The text of the item's converted value by its format, which is the part of C's formats that [`cts_def::is_format`] takes, and
@@ -249,8 +248,8 @@ fn put_number(
     requires { width_of (parts_view format.now) < 2 ^ 32 }
     ensures { OnOk result (out.new.items ≡ out.old.items ++ number_filled_up (parts_view format.now) negative digits.now) }
 {
-    let sign = sign_text(has_byte(format.flags, b'+'), negative);
-    put_filled_up(out, format, has_byte(format.flags, b'0'), sign, digits)
+    let sign = sign_text(format.has_flag(b'+'), negative);
+    put_filled_up(out, format, format.has_flag(b'0'), sign, digits)
 }
 
 fn sign_text(plus: bool, negative: bool) -> &'static [u8]
@@ -278,7 +277,7 @@ fn put_filled_up(
 {
     let shown = sign.len().saturating_add(char_count(body));
     let gap = number_of(format.width).saturating_sub(shown);
-    put_with_gap(out, gap, has_byte(format.flags, b'-'), zeros, sign, body)
+    put_with_gap(out, gap, format.has_flag(b'-'), zeros, sign, body)
 }
 
 fn put_with_gap(

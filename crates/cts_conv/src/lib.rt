@@ -13,7 +13,6 @@ mod pieces;
 mod plains;
 mod polynomial;
 mod raws;
-mod reading;
 mod segments;
 mod states;
 mod texts;

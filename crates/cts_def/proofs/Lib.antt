@@ -1,6 +1,9 @@
+pub mod Behind
 pub mod Directives
 pub mod Lying
 pub mod Needs
 pub mod NoPlace
 pub mod OneFormat
+pub mod ReadParts
 pub mod Sums
+pub mod Utf8

@@ -18,18 +18,18 @@ front_same xs ys r s len e = (
 )
 
 -- what follows the percent sign
-abbrev directive : FormatParts → List ℕ
+abbrev pub directive : FormatParts → List ℕ
 directive p = p.flags ++ (p.width ++ written_tail p.precision (p.letter ∷ p.after))
 
-found : (p : FormatParts) → AreFormatParts p → behind_percent (written p) ≡ Some (directive p)
+pub found : (p : FormatParts) → AreFormatParts p → behind_percent (written p) ≡ Some (directive p)
 found p a = behind_plain p.before (directive p) a.before ∙ behind_first p.flags p.width p.precision p.letter p.after a.flags a.width a.letter
 
-flags_of : (flags width : List ℕ) (precision : Option (List ℕ)) (c : ℕ) (after : List ℕ) → are_flags flags ≡ true → is_width flags width ≡ true → fits_letter precision c ≡ true
+pub flags_of : (flags width : List ℕ) (precision : Option (List ℕ)) (c : ℕ) (after : List ℕ) → are_flags flags ≡ true → is_width flags width ≡ true → fits_letter precision c ≡ true
     → flags_len [] (flags ++ (width ++ written_tail precision (c ∷ after))) ≡ length flags
 flags_of flags width None c after f w h = let g = letter_is c h in flags_counted flags width c after f w (no_flag c (omega arith))
 flags_of flags width (Some digits) c after f w h = flags_counted flags width 46 (digits ++ c ∷ after) f w refl
 
-width_of : (flags width : List ℕ) (precision : Option (List ℕ)) (c : ℕ) (after : List ℕ) → is_width flags width ≡ true → fits_letter precision c ≡ true
+pub width_of : (flags width : List ℕ) (precision : Option (List ℕ)) (c : ℕ) (after : List ℕ) → is_width flags width ≡ true → fits_letter precision c ≡ true
     → prefix_len is_ascii_digit (width ++ written_tail precision (c ∷ after)) ≡ length width
 width_of flags width None c after w h =
     let b = both (list_all is_ascii_digit width) (nat_le (length width) 3 && (not (begins_with_zero width) || list_any (nat_eq 48) flags)) w in
@@ -43,7 +43,7 @@ record SameTail (o p : Option (List ℕ)) (c d : ℕ) (xs ys : List ℕ) : Type 
   letter : c ≡ d
   after : xs ≡ ys
 
-precision_of : (digits : List ℕ) (c : ℕ) (after : List ℕ) → is_precision digits && c == 102 ≡ true → (c ≡ 102) × (prefix_len is_ascii_digit (digits ++ c ∷ after) ≡ length digits)
+pub precision_of : (digits : List ℕ) (c : ℕ) (after : List ℕ) → is_precision digits && c == 102 ≡ true → (c ≡ 102) × (prefix_len is_ascii_digit (digits ++ c ∷ after) ≡ length digits)
 precision_of digits c after h =
     let b = both (is_precision digits) (c == 102) h in
     let d = both (list_all is_ascii_digit digits) (nat_le 1 (length digits) && not (is_above_twelve digits)) b.0 in

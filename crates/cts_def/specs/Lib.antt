@@ -1,4 +1,5 @@
 pub mod Beginnings
+pub mod Characters
 pub mod FormatParts
 pub mod Formats
 pub mod Items
@@ -6,7 +7,10 @@ pub mod Makers
 pub mod Most
 pub mod Packets
 pub mod Protocols
+pub mod Readings
 pub mod Sites
 pub mod Spans
 pub mod Starts
+pub mod Utf8
+pub mod Views
 pub mod Weights

@@ -1,6 +1,7 @@
 -- Packets and definitions: what contracts see of them, and the rules that they keep.
 use Rattle.std.specs.Prelude.{◌≡◌, ℕ, ◌+◌, ◌≤◌, max, Bool, true, false, not, ◌&&◌, List, [], ◌∷◌, map, length, codes, IsTrue}
 use Rattle.std.specs.List.{filter, list_any, list_all, AllByRecursion, IsDistinct}
+use Rattle.cts_base.specs.Names.{spells}
 use Rattle.cts_def.specs.Items.{ItemData, span_of, is_same, is_to_the_end, is_parameter, is_telemetry_item}
 use Rattle.cts_def.specs.Most.{most_bytes, most_items, most_items_in_all, most_packets, most_sets}
 use Rattle.cts_def.specs.Spans.{Lies, bytes_needed, is_variable}
@@ -13,6 +14,10 @@ pub record PacketData : Type 0 where
   pub length : ℕ
   pub variable : Bool
   pub hazardous : Bool
+
+-- the packet or command has these names, which may be written in any case
+abbrev pub is_named : List ℕ → List ℕ → PacketData → Bool
+is_named target name p = spells target p.target && spells name p.name
 
 -- the greatest of some numbers, and 0 of none
 abbrev pub greatest : List ℕ → ℕ

@@ -61,7 +61,7 @@ fn is_plain(text: &[u8]) -> bool
 }
 
 // What stands behind the first `%` that is not doubled, if there is one.
-fn behind_percent(text: &[u8]) -> Option<&[u8]>
+pub(crate) fn behind_percent(text: &[u8]) -> Option<&[u8]>
     ensures { option_map (λ r. r.now) result ≡ behind_percent text.now }
 {
     let mut rest = text;
@@ -85,7 +85,7 @@ fn behind_directive(text: &[u8]) -> Option<&[u8]>
     behind_flags(&text[flags_len(text)..])
 }
 
-fn flags_len(text: &[u8]) -> usize
+pub(crate) fn flags_len(text: &[u8]) -> usize
     ensures value { result ≡ flags_len [] text.now }
     ensures within { result ≤ length text.now }
 {
@@ -109,7 +109,7 @@ fn is_flag(c: u8) -> bool
     c == b'-' || c == b'0' || c == b'+'
 }
 
-fn has_byte(bytes: &[u8], c: u8) -> bool
+pub(crate) fn has_byte(bytes: &[u8], c: u8) -> bool
     ensures { result ≡ list_any (nat_eq c) bytes.now }
 {
     bytes.iter().any(|b| c == *b)
@@ -126,7 +126,7 @@ fn behind_flags(text: &[u8]) -> Option<&[u8]>
     }
 }
 
-fn digits_len(text: &[u8]) -> usize
+pub(crate) fn digits_len(text: &[u8]) -> usize
     ensures value { result ≡ prefix_len is_ascii_digit text.now }
     ensures within { result ≤ length text.now }
 {

@@ -6,6 +6,8 @@ ghost use Rattle.cts_bits.specs.Places.{IsBadSize, IsBeforeStart, reach_of};
 ghost use Rattle.cts_def.specs.Spans.{HasNoPlace, Lies, bytes_needed, is_misplaced, is_number, is_spelled};
 ghost use Rattle.cts_def.specs.FormatParts.{AreFormatParts, FormatParts, FormatsHaveOneSetOfParts, written};
 ghost use Rattle.cts_def.specs.Formats.{is_format};
+ghost use Rattle.cts_def.specs.Readings.{parts_of};
+ghost use Rattle.cts_def.specs.Utf8.{CharactersAreUtf8};
 ghost use Rattle.cts_def.specs.Makers.{first_desk, first_slot, scribe, server};
 ghost use Rattle.cts_def.specs.Most.{most_bytes, most_items, most_items_in_all, most_packets, most_segments, most_sets, most_states};
 ghost use Rattle.cts_def.specs.Packets.{LengthsAreLeast};
@@ -55,6 +57,19 @@ pub fn formats_have_parts(text: &[u8])
 /// A format is written of one set of parts: two that are written as one text are equal.
 pub fn formats_have_one_set_of_parts()
     ensures { FormatsHaveOneSetOfParts }
+{}
+
+/// A format has the parts that are read from it, and is written of them; and any parts that are written are read again.
+pub fn formats_have_the_parts_that_are_read(text: &[u8])
+    ensures parts { is_format text.now ≡ true → AreFormatParts (parts_of text.now) }
+    ensures written { is_format text.now ≡ true → written (parts_of text.now) ≡ text.now }
+    ensures read { (p : FormatParts) → AreFormatParts p → parts_of (written p) ≡ p }
+{}
+
+/// A text has the bytes of which it is the UTF-8, where each of its characters is one of U+0000 to U+00FF, and no bytes
+/// otherwise.
+pub fn characters_are_spelled_in_utf8()
+    ensures { CharactersAreUtf8 }
 {}
 
 /// An item lies in a number of bytes exactly where that is at least what it needs.

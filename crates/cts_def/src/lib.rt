@@ -3,10 +3,12 @@
 #![tactic(auto)]
 
 mod bad_cause;
+mod characters;
 mod color;
 mod conversion;
 mod definitions;
 mod format;
+mod format_text;
 mod id_fields;
 mod ident;
 mod interface;
@@ -31,19 +33,21 @@ mod time;
 mod weight;
 
 pub use bad_cause::BadCause;
+pub use characters::text_bytes;
 pub use color::Color;
 pub use conversion::{Conversion, Segment};
 pub use definitions::Definitions;
 pub use format::is_format;
+pub use format_text::{FormatText, parts_of};
 pub use ident::Ident;
 pub use interface::{Interface, Router};
 pub use item::Item;
 pub use item_kind::{ItemKind, Overflow, Preset};
 pub use label::Label;
 pub use laws::{
-    constants_are_their_words, formats_have_one_set_of_parts, formats_have_parts,
-    items_lie_where_they_have_room, lengths_are_least, misplaced_numbers_have_no_place,
-    number_has_a_place, spellings_of_numbers,
+    characters_are_spelled_in_utf8, constants_are_their_words, formats_have_one_set_of_parts,
+    formats_have_parts, formats_have_the_parts_that_are_read, items_lie_where_they_have_room,
+    lengths_are_least, misplaced_numbers_have_no_place, number_has_a_place, spellings_of_numbers,
 };
 pub use limits::Limits;
 pub use limits_setup::LimitsSetup;

@@ -1,7 +1,6 @@
 pub mod Causes
 pub mod Fields
 pub mod Forms
-pub mod Laws
 pub mod Lines
 pub mod Numbers
 pub mod Refusals

@@ -30,7 +30,8 @@ use Rattle.cts_defline.specs.declared.open.PacketKind.{PacketKind}
 use Rattle.cts_defline.specs.declared.open.PacketKind.TheVariants as «kind»
 use Rattle.cts_defline.specs.Forms.{size_at, keyword_of}
 use Rattle.cts_reader.specs.Words.{word_at}
-use Rattle.cts_defline.specs.Numbers.{whole, decimal, bound, persistence, order_of, kind_of, text_bytes}
+use Rattle.cts_def.specs.Characters.{text_bytes}
+use Rattle.cts_defline.specs.Numbers.{whole, decimal, bound, persistence, order_of, kind_of}
 
 -- ---- definitions and items
 

@@ -1,6 +1,6 @@
--- The numbers and texts that words spell, where a definition asks for one. A word that spells none reads as 0 or as the
+-- The numbers that words spell, where a definition asks for one. A word that spells none reads as 0 or as the
 -- first choice, and nothing uses that: its statement is refused.
-use Rattle.std.specs.Prelude.{ℕ, ℤ, pos, neg_ℤ, ◌+◌, ◌-◌, ◌*◌, ◌^◌, Bool, ◌&&◌, ◌||◌, ◌==◌, nat_lt, nat_le, int_le, unsigned_abs, List, [], ◌∷◌, take, drop, codes, Option, Some, None, option_map, is_some, unwrap_or, find, Result, Ok, Err, if◌then◌else◌}
+use Rattle.std.specs.Prelude.{ℕ, ℤ, pos, neg_ℤ, ◌-◌, ◌^◌, Bool, ◌&&◌, ◌||◌, int_le, unsigned_abs, List, [], ◌∷◌, codes, Option, Some, None, option_map, is_some, unwrap_or, find, Result, Ok, Err, if◌then◌else◌}
 use Rattle.cts_base.specs.Wholes.{whole_of}
 use Rattle.cts_base.specs.Decimals.{decimal_of}
 use Rattle.cts_base.specs.declared.decimal.Decimal.{Decimal}
@@ -10,8 +10,6 @@ use Rattle.cts_bits.specs.declared.order.Order.TheVariants.{Big, Little}
 use Rattle.cts_def.specs.declared.item_kind.ItemKind.{ItemKind}
 use Rattle.cts_def.specs.declared.item_kind.ItemKind.TheVariants.{Uint, Int, Str, Block}
 use Rattle.cts_def.specs.Items.{is_same}
-use Rattle.hex.specs.Hex.{decode_of}
-use Rattle.hex.specs.declared.FromHexError.{FromHexError}
 
 -- ---- numbers
 
@@ -97,34 +95,3 @@ kind_of word =
     else if is_same word (codes "STRING") then Some Str
     else if is_same word (codes "BLOCK") then Some Block
     else None
-
--- ---- texts as bytes
-
--- a byte before others, where they are known
-abbrev pub before : ℕ → Option (List ℕ) → Option (List ℕ)
-before byte None = None
-before byte (Some bytes) = Some (byte ∷ bytes)
-
--- the characters of a text as bytes, where each is one of U+0000 to U+00FF: one byte below 128 stands for itself, and
--- the others are spelled by 194 or 195 and a byte from 128 to 191
-abbrev pub characters : List ℕ → Option (List ℕ)
-characters [] = Some []
-characters (c ∷ []) = if nat_lt c 128 then Some (c ∷ []) else None
-characters (c ∷ d ∷ rest) =
-    if nat_lt c 128 then before c (characters (d ∷ rest))
-    else if (c == 194 || c == 195) && nat_le 128 d && nat_lt d 192 then before ((c - 194) * 64 + d) (characters rest)
-    else None
-
--- a text begins with `0x`
-abbrev pub is_marked : List ℕ → Bool
-is_marked word = is_same (take 2 word) (codes "0x")
-
-abbrev pub or_characters : List ℕ → Result (List ℕ) FromHexError → Option (List ℕ)
-or_characters word (Ok bytes) = Some bytes
-or_characters word (Err e) = characters word
-
--- The bytes of a default: of a BLOCK `0x` and an even number of hexadecimal digits are those bytes, and any other text is
--- its characters.
-abbrev pub text_bytes : ItemKind → List ℕ → Option (List ℕ)
-text_bytes Block word = if is_marked word then or_characters word (decode_of (drop 2 word)) else characters word
-text_bytes _ word = characters word

@@ -16,7 +16,8 @@ use Rattle.cts_defline.specs.declared.line.Line.TheVariants as line
 use Rattle.cts_defline.specs.Forms.{keyword_of}
 use Rattle.cts_reader.specs.Words.{word_at}
 use Rattle.cts_defline.specs.Lines.{color_of, line_in, no_value, or_big, overflow_of}
-use Rattle.cts_defline.specs.Numbers.{bound, decimal, kind_of, persistence, text_bytes, whole}
+use Rattle.cts_def.specs.Characters.{text_bytes}
+use Rattle.cts_defline.specs.Numbers.{bound, decimal, kind_of, persistence, whole}
 
 -- ---- items and parameters
 

@@ -8,10 +8,10 @@ use crate::ItemLine;
 use crate::fixed::{kind_of, order_of};
 use crate::form::size_at;
 use crate::numbers::{bound, whole};
-use crate::texts::{name, text_bytes};
+use crate::texts::name;
 use cts_base::{Bytes, Memory};
 use cts_bits::Order;
-use cts_def::{ItemKind, Preset};
+use cts_def::{ItemKind, Preset, text_bytes};
 use cts_reader::word_at;
 use std::alloc::Global;
 

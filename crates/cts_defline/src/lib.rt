@@ -25,7 +25,7 @@ mod words;
 pub use cause::{DefCause, DefFault};
 pub use details::{Detail, LimitsLine};
 pub use keyword::{Field, Keyword};
-pub use laws::{characters_are_spelled_in_utf8, statements_say_their_words};
+pub use laws::statements_say_their_words;
 pub use line::{ItemLine, Line, PacketLine};
 pub use open::{Open, PacketKind};
 pub use reading::read_line;

@@ -10,12 +10,12 @@ use Rattle.std.proofs.lemmas.List.Sums.{fails_before_first, position_or_len_is}
 use Rattle.std.specs.List.{IsDistinct, position, position_or_len}
 use Rattle.cts_base.specs.Names.{in_upper_case, spells}
 use Rattle.cts_def.specs.Items.{is_same}
-use Rattle.cts_def.specs.Packets.{DefinitionsData, PacketData, have_same_names, is_of}
+use Rattle.cts_def.specs.Packets.{DefinitionsData, PacketData, have_same_names, is_of, is_named}
 use Rattle.cts_def.specs.Sites.{SiteData, targets_at}
 use Rattle.cts_def.specs.declared.ident.Ident.{Ident}
 use Rattle.cts_def.specs.declared.ident.Ident.TheVariants.{Known, Unknown}
 use Rattle.cts_def.specs.Makers.{first_slot, router_of}
-use Rattle.cts_ident.specs.Identification.{IsFirstMatch, IsMatch, first_of, is_named, router_targets, worker_packets, worker_targets}
+use Rattle.cts_ident.specs.Identification.{IsFirstMatch, IsMatch, first_of, router_targets, worker_packets, worker_targets}
 use Rattle.cts_ident.specs.Matches.{at_place}
 use Rattle.cts_ident.proofs.Firsts.{first_is_place, passes}
 

@@ -1,10 +1,9 @@
 -- Which packet or command some bytes, or some names, are: the first that fits, in order of definition, among those of
 -- the targets that a connection reaches.
-use Rattle.std.specs.Prelude.{ℕ, ◌≡◌, ◌+◌, ◌<◌, Bool, ◌&&◌, nat_lt, List, [], ◌∷◌, map, length, Option, Some, None, IsTrue, slice_get, slice_index_or, if◌then◌else◌}
+use Rattle.std.specs.Prelude.{ℕ, ◌≡◌, ◌+◌, ◌<◌, Bool, nat_lt, List, [], ◌∷◌, map, length, Option, Some, None, IsTrue, slice_get, slice_index_or, if◌then◌else◌}
 use Rattle.std.specs.List.{filter, find}
-use Rattle.cts_base.specs.Names.{spells}
 use Rattle.cts_def.specs.Beginnings.{begins_with, start_of}
-use Rattle.cts_def.specs.Packets.{DefinitionsData, PacketData, is_of}
+use Rattle.cts_def.specs.Packets.{DefinitionsData, PacketData, is_named, is_of}
 use Rattle.cts_def.specs.Sites.{RouterData, SiteData, routed_targets, targets_at}
 use Rattle.cts_def.specs.declared.ident.Ident.{Ident}
 use Rattle.cts_def.specs.Makers.{first_slot, router_of}
@@ -34,10 +33,6 @@ first_of targets packets test = number_of (find (λ (c : ℕ × PacketData). tes
 -- all id fields of the packet lie within the bytes and have their values there
 abbrev pub fits : List ℕ → PacketData → Bool
 fits bytes p = begins_with (start_of p) bytes
-
--- the packet's target and name are these in any case
-abbrev pub is_named : List ℕ → List ℕ → PacketData → Bool
-is_named target name p = spells target p.target && spells name p.name
 
 -- ---- connections
 

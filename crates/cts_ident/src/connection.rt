@@ -59,17 +59,7 @@ pub(crate) fn is_reached(interfaces: &[Interface], number: u32, target: &Name) -
     ensures { result ≡ list_any (is_same target.now) (targets_at interfaces.now number) }
 {
     match interfaces.get(number as usize) {
-        Some(interface) => has_target(interface, target),
+        Some(interface) => interface.has_target(target),
         None => false,
     }
-}
-
-fn has_target(interface: &Interface, target: &Name) -> bool
-    ensures { result ≡ list_any (is_same target.now) interface.now.targets }
-{
-    interface
-        .targets
-        .as_slice()
-        .iter()
-        .any(|other| target == other)
 }

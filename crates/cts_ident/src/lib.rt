@@ -6,7 +6,6 @@
 
 mod connection;
 mod matches;
-mod names;
 mod naming;
 mod search;
 

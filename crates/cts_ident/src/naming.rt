@@ -1,13 +1,12 @@
 // Packets and commands by their names.
 ghost use Rattle.std.specs.Prelude.{◌≡◌, ◌<◌, ◌↔◌, ℕ, length, IsTrue};
 ghost use Rattle.std.specs.List.{IsDistinct};
-ghost use Rattle.cts_def.specs.Packets.{have_same_names};
+ghost use Rattle.cts_def.specs.Packets.{have_same_names, is_named};
 ghost use Rattle.cts_def.specs.Sites.{targets_at};
 ghost use Rattle.cts_def.specs.declared.ident.Ident.{Ident};
 ghost use Rattle.cts_ident.specs.Identification.{
   IsMatch,
   first_of,
-  is_named,
   is_worker,
   named,
   router_targets,

@@ -2,7 +2,7 @@
 ghost use Rattle.std.specs.Prelude.{◌≡◌, ◌<◌, ◌≤◌, ◌↔◌, ◌&&◌, ℕ, length, IsTrue, IfSome};
 ghost use Rattle.std.specs.List.{position};
 ghost use Rattle.cts_def.specs.Most.{most_packets};
-ghost use Rattle.cts_def.specs.Packets.{PacketData, is_of};
+ghost use Rattle.cts_def.specs.Packets.{PacketData, is_named, is_of};
 ghost use Rattle.cts_def.specs.Sites.{routed_targets, targets_at};
 ghost use Rattle.cts_def.specs.declared.ident.Ident.{Ident};
 ghost use Rattle.cts_ident.specs.Identification.{
@@ -12,14 +12,12 @@ ghost use Rattle.cts_ident.specs.Identification.{
   identified_command,
   first_of,
   fits,
-  is_named,
   router_targets,
 };
 ghost use Rattle.cts_ident.specs.Matches.{at_place};
 
 use crate::connection::{commands, is_routed, routes, telemetry};
 use crate::matches::fits;
-use crate::names::is_named;
 use cts_def::{Ident, Interface, Packet, Site};
 
 /// The first telemetry packet, in order of definition, of the interface's targets, all of whose id fields lie within the
@@ -120,7 +118,7 @@ fn place_named(
     ensures { result ≡ position (λ (p : PacketData). is_of (routed_targets interfaces.now routes.now) p && is_named target.now name.now p) packets.now }
 {
     packets.iter().position(|other| is_routed(interfaces, routes, &other.target)
-        && is_named(other, target, name))
+        && other.is_named(target, name))
 }
 
 // The packet at this place.

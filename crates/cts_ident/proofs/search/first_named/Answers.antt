@@ -1,6 +1,6 @@
 use Rattle.std.proofs.Common.{◌∙◌, sym, ap}
 use Rattle.cts_def.specs.Sites.{routed_targets}
-use Rattle.cts_ident.specs.Identification.{is_named}
+use Rattle.cts_def.specs.Packets.{is_named}
 use Rattle.cts_ident.specs.Matches.{at_place}
 use Rattle.cts_ident.proofs.Firsts.{first_is_place}
 use Rattle.cts_ident.proofs.search.first_named.Goals as goal

@@ -1,7 +1,7 @@
 use Rattle.std.proofs.Common.{◌∙◌, ap, sym, ℕ, List}
-use Rattle.cts_defline.specs.Numbers.{characters}
-use Rattle.cts_defline.proofs.Characters.{behind, behind_more}
-use Rattle.cts_defline.proofs.texts.characters.Goals as goal
+use Rattle.cts_def.specs.Characters.{characters}
+use Rattle.cts_def.proofs.Behind.{behind, behind_more}
+use Rattle.cts_def.proofs.characters.characters.Goals as goal
 
 pub loop-rest-preserved : goal.loop-rest-preserved
 loop-rest-preserved c =

@@ -4,8 +4,8 @@ use Rattle.std.specs.Prelude.{nat_lt, if◌then◌else◌}
 use Rattle.std.specs.List.{flat_map, list_all}
 use Rattle.std.proofs.lemmas.Bool.{and_from, and_parts}
 use Rattle.std.proofs.lemmas.Bool.Decides.{nat_tests}
-use Rattle.cts_defline.specs.Laws.{CharactersAreUtf8, as_utf8}
-use Rattle.cts_defline.specs.Numbers.{before, characters}
+use Rattle.cts_def.specs.Utf8.{CharactersAreUtf8, as_utf8}
+use Rattle.cts_def.specs.Characters.{before, characters}
 
 abbrev are_bytes : List ℕ → Bool
 are_bytes bytes = list_all (λ (b : ℕ). nat_lt b 256) bytes
