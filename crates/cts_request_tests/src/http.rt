@@ -7,7 +7,7 @@ use std::test::Fail;
 const CALL: &[u8] =
     b"POST / HTTP/1.1\r\nContent-Length: 50\r\n\r\n{\"jsonrpc\":\"2.0\",\"method\":\"get_limits_set\",\"id\":1}";
 
-/// Each row has what is wanted, a bar, and a head with `;` for each line end.
+/// Each row has what is wanted, a bar, and a request with `;` for each line end, `^` for a line feed alone, and `~` for a byte 0.
 const HEADS: &str = "\
 501|POST / HTTP/1.1;Transfer-Encoding: chunked;;
 405|GET / HTTP/1.1;;
@@ -15,6 +15,10 @@ const HEADS: &str = "\
 400|POST / HTTP/1.1;Content-Length: x;;
 400|POST / HTTP/1.1;Content-Length:;;
 400|GET / HTTP/1.1;Content-Length: -1;;
+400|POST / HTTP/1.1;Content-Length: +1;;
+400|POST / HTTP/1.1;X: a~b;Content-Length: 0;;
+again|POST / HTTP/1.1^Content-Length: 2^^{}
+more|POST / HTTP/1.1^Content-Length: 2^^{
 413|POST / HTTP/1.1;Content-Length: 999999999999999999999999999999;;
 413|POST / HTTP/1.1;Content-Length: 1048577;;
 more|POST / HTTP/1.1;Content-Length: 1048576;;
@@ -34,6 +38,19 @@ fn answer_to(alloc: Global, bytes: &[u8]) -> Result<HttpStep, Fail> {
     Ok(reader.next())
 }
 
+/// What is answered to two pieces, where the first one is asked of too.
+fn answer_in_two(alloc: Global, first: &[u8], second: &[u8]) -> Result<HttpStep, Fail> {
+    let mut reader = Reader::new(alloc);
+    reader.feed(first)?;
+    match reader.next() {
+        HttpStep::More => {
+            reader.feed(second)?;
+            Ok(reader.next())
+        }
+        step => Ok(step),
+    }
+}
+
 /// What is answered, in a word.
 fn word_of(alloc: Global, step: HttpStep) -> Result<String, Fail> {
     match step {
@@ -48,11 +65,11 @@ fn word_of(alloc: Global, step: HttpStep) -> Result<String, Fail> {
 fn bytes_of(alloc: Global, row: &str) -> Result<Vec<u8>, Fail> {
     let mut bytes = Vec::new(alloc);
     for c in row.as_bytes() {
-        if *c == b';' {
-            bytes.push(b'\r')?;
-            bytes.push(b'\n')?;
-        } else {
-            bytes.push(*c)?;
+        match *c {
+            b';' => bytes.extend_from_slice(b"\r\n")?,
+            b'^' => bytes.push(b'\n')?,
+            b'~' => bytes.push(0)?,
+            other => bytes.push(other)?,
         }
     }
     Ok(bytes)
@@ -122,14 +139,27 @@ fn a_refusal_stays(rt: HostRuntime) -> Result<(), Fail> {
 }
 
 #[test]
-fn each_head_has_its_answer(rt: HostRuntime) -> Result<(), Fail> {
+fn each_request_has_its_answer_however_it_is_cut(rt: HostRuntime) -> Result<(), Fail> {
     for row in HEADS.lines() {
         let Some((want, text)) = row.split_once('|') else {
             return Err(Fail::new("no row"));
         };
-        let step = answer_to(rt.alloc(), &bytes_of(rt.alloc(), text)?)?;
-        assert_eq!(rt; word_of(rt.alloc(), step)?.as_str(), want, "at {row}");
+        let bytes = bytes_of(rt.alloc(), text)?;
+        for cut in 0..bytes.len() {
+            let step = answer_in_two(rt.alloc(), &bytes[..cut], &bytes[cut..])?;
+            assert_eq!(rt; word_of(rt.alloc(), step)?.as_str(), want, "at {row}");
+        }
     }
+    Ok(())
+}
+
+#[test]
+fn a_target_is_text(rt: HostRuntime) -> Result<(), Fail> {
+    let step = answer_to(
+        rt.alloc(),
+        b"POST /\xff HTTP/1.1\r\nContent-Length: 0\r\n\r\n",
+    )?;
+    assert_eq!(rt; step, HttpStep::Refuse(400));
     Ok(())
 }
 

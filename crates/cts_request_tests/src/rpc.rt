@@ -28,14 +28,21 @@ C|{'jsonrpc':'2.0','method':'m','params':[[{'a':-9223372036854775808}]],'id':'x'
 C|{'jsonrpc':'2.0','method':'m','id':18446744073709551615,'more':1.5}
 c|{'jsonrpc':'1.0','jsonrpc':'2.0','method':7,'method':'m'}
 c|{'jsonrpc':'2.0','method':'m','params':[{'a':1.5,'a':2}]}
+C|{'jsonrpc': '2.0', 'method': 'subtract', 'params': [42, 23], 'id': 1}
+c|{'jsonrpc': '2.0', 'method': 'update', 'params': [1,2,3,4,5]}
+C|{'jsonrpc': '2.0', 'method': 'foobar', 'id': '1'}
 p|{
 p|
+p|{'jsonrpc': '2.0', 'method': 'foobar, 'params': 'bar', 'baz]
 p|{'jsonrpc':'2.0','method':'m'}x
 p|{'jsonrpc':'2.0','method':'\\ud800'}
 p|{'jsonrpc':'2.0','method':'m','params':[1e400]}
 p|{'jsonrpc':'2.0','method':'m','params':[01]}
 r|1
 r|null
+r|[]
+r|[1]
+r|{'jsonrpc': '2.0', 'method': 1, 'params': 'bar'}
 r|[{'jsonrpc':'2.0','method':'m'}]
 r|{}
 r|{'method':'m'}
@@ -52,9 +59,12 @@ r|{'jsonrpc':'2.0','method':'m','id':[]}
 r|{'jsonrpc':'2.0','method':'m','params':{},'id':{}}
 A|{'jsonrpc':'2.0','method':'m','params':{},'id':1}
 a|{'jsonrpc':'2.0','method':'no such','params':{'a':1}}
+A|{'jsonrpc': '2.0', 'method': 'subtract', 'params': {'subtrahend': 23, 'minuend': 42}, 'id': 3}
 A|{'jsonrpc':'2.0','method':'m','params':[1.5],'id':null}
 A|{'jsonrpc':'2.0','method':'m','params':[[],{'a':[1e2]}],'id':1}
 a|{'jsonrpc':'2.0','method':'m','params':[-0]}
+a|{'jsonrpc':'2.0','method':'m','params':[1.0]}
+a|{'jsonrpc':'2.0','method':'m','params':[-9223372036854775809]}
 a|{'jsonrpc':'2.0','method':'m','params':[18446744073709551616]}";
 
 /// The body of a row.
@@ -82,6 +92,8 @@ fn bodies_are_calls_or_say_why_not(rt: HostRuntime) -> Result<(), Fail> {
 fn a_body_is_text(rt: HostRuntime) -> Result<(), Fail> {
     let body = b"{\"jsonrpc\":\"2.0\",\"method\":\"\xff\"}";
     assert_eq!(rt; letter(&read(rt.alloc(), body)), b'p');
+    let marked = b"\xef\xbb\xbf{\"jsonrpc\":\"2.0\",\"method\":\"m\"}";
+    assert_eq!(rt; letter(&read(rt.alloc(), marked)), b'p');
     Ok(())
 }
 
