@@ -1,6 +1,7 @@
 -- What a build answers.
-use Rattle.std.specs.Prelude.{◌≡◌, Bool, List, [], map, filter, Some, None}
+use Rattle.std.specs.Prelude.{◌≡◌, Bool, List, [], ◌∷◌, map, filter, flat_map, Some, None}
 use Rattle.cts_def.specs.Protocols.{SpecData, UseData}
+use Rattle.cts_def.specs.Sites.{InterfaceData}
 use Rattle.cts_frame.specs.Chains.{framings_of as framings_in}
 use Rattle.cts_proto.specs.Meaning.{Meaning}
 use Rattle.cts_proto.specs.Stock.{stocked}
@@ -24,6 +25,28 @@ pub record IsBuilt (stock : List Meaning) (uses : List UseData) (c : ChainData) 
   pub framings : framings_of c.stages ≡ framings_in uses
   pub writing : writers c ≡ use_specs (filter writes uses)
   pub stands : StagesStand c.stages [] []
+
+-- A chain of these protocols, to which nothing was fed: it has the framings of those that read, in order, and writes by those
+-- that write.
+pub record IsFresh (uses : List UseData) (c : ChainData) : Type 0 where
+  pub idle : IsIdle c
+  pub framings : framings_of c.stages ≡ framings_in uses
+  pub writing : writers c ≡ use_specs (filter writes uses)
+  pub stands : StagesStand c.stages [] []
+
+-- the uses of each chain, and those of all of them
+abbrev pub chains_in : List InterfaceData → List (List UseData)
+chains_in interfaces = map (λ (i : InterfaceData). i.chain) interfaces
+
+abbrev pub uses_in : List InterfaceData → List UseData
+uses_in interfaces = flat_map (λ (i : InterfaceData). i.chain) interfaces
+
+-- such chains of these lists of protocols, in order
+abbrev pub AreFresh : List (List UseData) → List ChainData → Type 0
+AreFresh [] [] = Unit {0}
+AreFresh (uses ∷ more) (c ∷ cs) = IsFresh uses c × AreFresh more cs
+AreFresh [] (c ∷ cs) = ⊥
+AreFresh (uses ∷ more) [] = ⊥
 
 -- the first kind of which more boxes are needed than there are, and both numbers; want of memory is free
 abbrev pub FaultIs : List Meaning → List UseData → ChainFault → Type 0

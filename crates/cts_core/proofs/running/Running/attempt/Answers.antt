@@ -17,7 +17,7 @@ use Rattle.cts_core.proofs.WorldSteps.{trial_done, trial_told}
 use Rattle.cts_core.proofs.running.Running.attempt.Goals as goal
 
 pub returns-in_ok-text-in-Some-Value : goal.returns-in_ok-text-in-Some-Value
-returns-in_ok-text-in-Some-Value c =
+returns-in_ok-text-in-Some-Value g c =
     let w = c.args.self.now in
     let desks : 1 ≤ w.basis.site.desks = subst (λ (x : Held). 1 ≤ x.basis.site.desks) c.self.view_is c.is_kept.ensures.site.some_desks in
     let front = c.count-front.ensures ∙ ap (λ (x : Held). length x.history) c.self.view_is in
@@ -26,7 +26,7 @@ returns-in_ok-text-in-Some-Value c =
     λ site s h. trial_told site w s c.args.words.now c.count-front.result c.in_ok-text-in-Some-Value.text desks front (ap (found_for w.basis w.history w.time) asks ∙ says) h
 
 pub returns-in_ok-text-in-Some-Set : goal.returns-in_ok-text-in-Some-Set
-returns-in_ok-text-in-Some-Set c =
+returns-in_ok-text-in-Some-Set g c =
     let w = c.args.self.now in
     let desks : 1 ≤ w.basis.site.desks = subst (λ (x : Held). 1 ≤ x.basis.site.desks) c.self.view_is c.is_kept.ensures.site.some_desks in
     let front = c.count-front.ensures ∙ ap (λ (x : Held). length x.history) c.self.view_is in

@@ -7,26 +7,26 @@ use Rattle.cts_core.proofs.WorldSteps.{built_of, few_of, may_receive_is, not_ena
 use Rattle.cts_core.proofs.running.Running.receive.Goals as goal
 
 pub returns-then-not-may_receive : goal.returns-then-not-may_receive
-returns-then-not-may_receive c =
+returns-then-not-may_receive g c =
     let off : c.may_receive.result ≡ false = search rules in
     let w = c.args.self.now in
     λ site s h. not_enabled site w w s (Piece c.args.by c.args.piece.now) c.may_receive.result (c.may_receive.ensures.test ∙ may_receive_is site w s c.args.by c.args.piece.now (built_of site w s c.may_receive.ensures.sound h) h) off refl h
 
 pub extend-requires : goal.extend-requires
-extend-requires c = (is_open c.args.self.now c.args.by (is_piece c.args.piece.now) c.may_receive.ensures.sound (sym c.may_receive.ensures.test ∙ (search rules))).there
+extend-requires g c = (is_open c.args.self.now c.args.by (is_piece c.args.piece.now) c.may_receive.ensures.sound (sym c.may_receive.ensures.test ∙ (search rules))).there
 
 pub take-requires-clause-there : goal.take-requires-clause-there
-take-requires-clause-there c =
+take-requires-clause-there g c =
     let is = is_open c.args.self.now c.args.by (is_piece c.args.piece.now) c.may_receive.ensures.sound (sym c.may_receive.ensures.test ∙ (search rules)) in
     subst (λ (x : Held). c.args.by < length x.connections) (sym c.in_ok-extend.ensures.ok) (length_extended c.args.by c.args.self.now c.args.piece.now is.there)
 
 pub take-requires-clause-connected : goal.take-requires-clause-connected
-take-requires-clause-connected c =
+take-requires-clause-connected g c =
     let is = is_open c.args.self.now c.args.by (is_piece c.args.piece.now) c.may_receive.ensures.sound (sym c.may_receive.ensures.test ∙ (search rules)) in
     ap (λ (x : Held). (connection_at x.connections c.args.by).connected) c.in_ok-extend.ensures.ok ∙ (flag_extended c.args.by c.args.self.now c.args.piece.now is.there ∙ is.flag)
 
 pub returns-in-Ok : goal.returns-in-Ok
-returns-in-Ok c =
+returns-in-Ok g c =
     let w = c.args.self.now in
     let on : c.may_receive.result ≡ true = search rules in
     let longer = c.in_ok-extend.ensures.ok in
@@ -39,7 +39,7 @@ returns-in-Ok c =
     (subst (λ (n : ℕ). n < 2 ^ 64) small c.take.ensures.small) (takes_at site w (extended c.args.by w c.args.piece.now) c.take.new.self s c.args.by (Ok tt) h refl taken) h
 
 pub returns-in-Err : goal.returns-in-Err
-returns-in-Err c =
+returns-in-Err g c =
     let w = c.args.self.now in
     let fault = c.in-Err.fault in
     let on : c.may_receive.result ≡ true = search rules in
