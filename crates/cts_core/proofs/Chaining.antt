@@ -1,25 +1,22 @@
 -- What the chain of a connection stands for.
-use Rattle.std.proofs.Common.{◌≡◌, ℕ, suc, Bool, true, false, List, [], ◌∷◌, ◌++◌, map, Option, Some, None, refl, sym, ◌∙◌, ap, subst}
+use Rattle.std.proofs.Common.{◌≡◌, ℕ, suc, Bool, true, false, List, [], ◌∷◌, ◌++◌, map, Option, None, refl, sym, ◌∙◌, ap, subst}
 use Rattle.std.proofs.lemmas.List.{map-append}
-use Rattle.cts_def.specs.declared.bad_cause.BadCause.{BadCause}
 use Rattle.cts_def.specs.Sites.{SiteData}
 use Rattle.cts_entry.specs.Histories.{is_connected}
 use Rattle.cts_frame.specs.Chains.{framings_at}
 use Rattle.cts_frame.specs.Cuts.{Pieces, IsCut}
 use Rattle.cts_frame.specs.Framing.{Framing, IsSound, Output, plain}
-use Rattle.cts_frame.specs.Packets.{Fault, CutEach, cut_by, IsStage, IsPackets, or_fault}
+use Rattle.cts_frame.specs.Packets.{Fault, cut_by, IsStage, or_fault}
 use Rattle.cts_frame.specs.Rows.{framing_of}
 use Rattle.cts_frame.proofs.Framings.{taken_none, ends_nil}
 use Rattle.cts_frame.proofs.OneCut.{one_cut}
 use Rattle.cts_frame.proofs.SoFarLaws.{all_is_taken}
 use Rattle.cts_frame.proofs.Sound.{is_sound}
 use Rattle.cts_proto.specs.Meaning.{Meaning, framing}
-use Rattle.cts_chain.specs.Chains.{StagesStand, AllDrained, AllSettled, Renewed, framings_of, last_fault, specs_of}
-use Rattle.cts_chain.specs.Laws.{AreOf}
+use Rattle.cts_chain.specs.Chains.{StagesStand, AllDrained, AllSettled, Renewed, framings_of, last_fault}
 use Rattle.cts_chain.specs.Shapes.{ChainData, IsSameChain, writers}
-use Rattle.cts_chain.proofs.Keeping.{renewed_drained}
 use Rattle.cts_chain.proofs.Planning.{framings_are}
-use Rattle.cts_chain.proofs.Settled.{settled_gives_all, renewed_stands}
+use Rattle.cts_chain.proofs.Settled.{renewed_stands}
 use Rattle.cts_core.specs.States.{State}
 use Rattle.cts_core.specs.Takings.{IsRenewed}
 use Rattle.cts_core.specs.Worlds.{HeldConnection, IsConnection, writers_at}
@@ -53,6 +50,12 @@ none_failed k (m ∷ ms) packets s h =
 
 -- ---- the same protocols
 
+pub all_renewed : (old new : List Meaning) → Renewed old new → AllDrained new
+all_renewed [] [] r = tt
+all_renewed [] (n ∷ ns) r = absurd r
+all_renewed (m ∷ ms) [] r = absurd r
+all_renewed (m ∷ ms) (n ∷ ns) r = (r.0.drained, all_renewed ms ns r.1)
+
 pub same_framings : (old new : ChainData) → IsSameChain old new → framings_of new.stages ≡ framings_of old.stages
 same_framings old new same = framings_are new.stages ∙ (ap (map framing_of) same.stages ∙ sym (framings_are old.stages))
 
@@ -76,7 +79,7 @@ begins site t by c on framings writing none drained stands =
 -- a chain that begins anew
 pub begins_anew : (site : SiteData) (s t : State) (by : ℕ) (on : Bool) (old new : HeldConnection) → IsRenewed on old new → IsConnection site s by old → on ≡ is_connected by t.history → t.pieces by ≡ [] → IsConnection site t by new
 begins_anew site s t by on old new r h told none =
-    begins site t by new (r.connected_is ∙ told) (same_framings old.chain new.chain r.same ∙ h.framings) (r.same.writers ∙ h.writing) none (renewed_drained old.chain.stages new.chain.stages r.renewed) (renewed_stands old.chain.stages new.chain.stages r.renewed)
+    begins site t by new (r.connected_is ∙ told) (same_framings old.chain new.chain r.same ∙ h.framings) (r.same.writers ∙ h.writing) none (all_renewed old.chain.stages new.chain.stages r.renewed) (renewed_stands old.chain.stages new.chain.stages r.renewed)
 
 -- one more piece
 pub plain_more : (pieces : List (List ℕ)) (piece : List ℕ) → map plain pieces ++ plain piece ∷ [] ≡ map plain (pieces ++ piece ∷ [])

@@ -1,7 +1,7 @@
 -- How the packets of a chain are gathered, one by one.
-use Rattle.std.proofs.Common.{◌≡◌, ℕ, ◌+◌, ◌-◌, ◌≤◌, ◌<◌, List, [], ◌∷◌, ◌++◌, length, map, Option, Some, None, refl, sym, ◌∙◌, ap, subst, arith, append_assoc, unwrap_or, drop, slice_range}
+use Rattle.std.proofs.Common.{◌≡◌, ℕ, ◌-◌, ◌<◌, List, [], ◌∷◌, ◌++◌, length, Option, Some, None, refl, sym, ◌∙◌, ap, subst, arith, append_assoc, unwrap_or, drop, slice_range}
 use Rattle.std.proofs.lemmas.List.{append-nil, length-append, map-append, length-take-le, length-drop}
-use Rattle.cts_chain.specs.Chains.{StagesStand, AllSettled, Place, IsPlace, Rises, bytes_of, last_fault, packet_at, time_in as stamp_time, waiting}
+use Rattle.cts_chain.specs.Chains.{StagesStand, AllSettled, Place, IsPlace, Rises, last_fault, packet_at, time_in as stamp_time, waiting}
 use Rattle.cts_chain.specs.Shapes.{ChainData, IsChain, IsSameChain}
 use Rattle.cts_def.specs.declared.bad_cause.BadCause.{BadCause}
 use Rattle.cts_def.specs.Sites.{SiteData}
@@ -11,7 +11,7 @@ use Rattle.cts_entry.specs.declared.what.What.TheVariants.{Packet}
 use Rattle.cts_entry.specs.declared.why.Why.{Why}
 use Rattle.cts_entry.specs.declared.why.Why.TheVariants.{BadFrame}
 use Rattle.cts_frame.specs.Framing.{Output, plain}
-use Rattle.cts_frame.specs.Packets.{Fault, joined}
+use Rattle.cts_frame.specs.Packets.{Fault}
 use Rattle.cts_proto.specs.Founds.{heading_at}
 use Rattle.cts_proto.specs.Meaning.{Meaning}
 use Rattle.cts_proto.specs.declared.step.Stamp.{Stamp}

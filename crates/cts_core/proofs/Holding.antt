@@ -1,11 +1,11 @@
 -- What a running core holds stays sound, and what it may append to its hall.
-use Rattle.std.proofs.Common.{◌≡◌, ℕ, zero, suc, map, get_or, ◌≤◌, ◌<◌, Bool, true, false, ◌||◌, List, [], ◌∷◌, ◌++◌, length, Option, Some, None, refl, sym, ◌∙◌, ap, subst, arith, append-nil, inl, inr, ◌⊎◌}
-use Rattle.std.specs.Prelude.{◌==◌, ◌≢◌, ◌+◌, ◌&&◌, not, nat_le, nat_lt, set, unwrap_or, if◌then◌else◌}
+use Rattle.std.proofs.Common.{◌≡◌, ℕ, zero, suc, map, get_or, ◌≤◌, ◌<◌, Bool, true, false, ◌||◌, List, [], ◌∷◌, ◌++◌, length, Option, Some, None, Err, refl, sym, ◌∙◌, ap, subst, arith, append-nil, inl, inr, ◌⊎◌}
+use Rattle.std.specs.Prelude.{◌==◌, ◌≢◌, ◌+◌, ◌&&◌, not, nat_le, nat_lt, max, set, unwrap_or, if◌then◌else◌}
 use Rattle.std.proofs.lemmas.Bool.{cases_eq, ltb-true}
 use Rattle.std.proofs.lemmas.Bool.Decides.{nat_tests}
 use Rattle.std.proofs.lemmas.List.{length-set, get_or-set_same, get_or-set_other, length-map}
 use Rattle.std.proofs.lemmas.Option.{slice_get_within}
-use Rattle.cts_def.specs.Makers.{first_desk, server, router_of}
+use Rattle.cts_def.specs.Makers.{first_desk, server}
 use Rattle.cts_def.specs.Packets.{PacketData}
 use Rattle.cts_def.specs.Sites.{SiteData}
 use Rattle.cts_def.specs.declared.ident.Ident.{Ident}
@@ -30,7 +30,7 @@ use Rattle.cts_table.specs.Keeping.{rules_of, IsIdent, AllOfSite}
 use Rattle.cts_table.specs.States.{Shown, CanAdd}
 use Rattle.cts_core.specs.Built.{is_built_site}
 use Rattle.cts_core.specs.Environments.{site_environment, ident_by, ident_of}
-use Rattle.cts_core.specs.Kept.{CanAddAll, is_within}
+use Rattle.cts_core.specs.Kept.{CanAddAll, GivesRoom, is_within}
 use Rattle.cts_core.specs.States.{Environment, trial_desk}
 use Rattle.cts_core.specs.Trials.{chooses, found_for}
 use Rattle.cts_base.specs.Names.{in_upper_case, is_name}
@@ -38,8 +38,13 @@ use Rattle.cts_scriptread.specs.Trials.{Asked, Value, Set, Command}
 use Rattle.cts_watch.specs.Sets.{is_set_known}
 use Rattle.cts_chain.specs.Chains.{last_fault}
 use Rattle.cts_frame.specs.Packets.{capped}
-use Rattle.cts_core.specs.Takings.{CanPost, Takes, entries_of, lost}
-use Rattle.cts_core.specs.Worlds.{Held, HeldConnection, IsSoundHeld, changed, connection_at, first_held, no_chain, shut}
+use Rattle.cts_core.specs.Takings.{AllIdle, CanPost, Posts, Takes, entries_of, lost}
+use Rattle.cts_core.specs.Worlds.{Held, HeldConnection, IsSoundHeld, changed, connection_at, first_held, held_with, no_chain, shut}
+use Rattle.cts_chain.specs.Builds.{AreFresh}
+use Rattle.cts_def.specs.Protocols.{UseData}
+use Rattle.cts_frame.proofs.Fronts.{le_tells}
+use Rattle.cts_core.specs.declared.fault.WorldFault.{WorldFault}
+use Rattle.cts_core.specs.declared.fault.WorldFault.TheVariants.{NotEnabled, Full, Memory}
 use Rattle.cts_core.proofs.Building.{and_tells, below, ident_is}
 use Rattle.cts_core.proofs.Legality.{Lasting, lasting_append, none_ended, packets_follow}
 use Rattle.cts_core.proofs.Postings.{connected_kept, either_way, packets_count, packets_length, tells_maker, tells_no_other}
@@ -95,6 +100,12 @@ sound_more w entries h none last = record {
 pub sound_clock : (w : Held) (time : Time) → IsSoundHeld w → IsSoundHeld (record w { time = time })
 sound_clock w time h = record { built = h.built; count = h.count; connected = h.connected; lasting = h.lasting; small = h.small }
 
+pub fresh_idle : (chains : List (List UseData)) (cs : List ChainData) → AreFresh chains cs → AllIdle cs
+fresh_idle [] [] f = tt
+fresh_idle [] (c ∷ cs) f = absurd f
+fresh_idle (uses ∷ chains) [] f = absurd f
+fresh_idle (uses ∷ chains) (c ∷ cs) f = (f.0.idle, fresh_idle chains cs f.1)
+
 none_stands : (cs : List ChainData) (by : ℕ) → (connection_at (map shut cs) by).connected ≡ false
 none_stands [] by = refl
 none_stands (c ∷ cs) zero = refl
@@ -121,7 +132,7 @@ pub is_shut : (w : Held) (by : ℕ) → IsSoundHeld w → (nat_lt by (length w.b
 is_shut w by h t =
     let parts = and_tells _ _ t in
     let inner = and_tells _ _ parts.1 in
-    let m = ltb-true by (length w.basis.site.interfaces) parts.0 in
+    let m : by < length w.basis.site.interfaces = ltb-true by (length w.basis.site.interfaces) parts.0 in
     let there : by < length w.connections = omega (arith, m, h.count) in
     record { interface = m; line = parts.0; there = there; off = sym (h.connected by there) ∙ off_of _ inner.0; going = off_of _ inner.1 }
 
@@ -138,7 +149,7 @@ pub is_open : (w : Held) (by : ℕ) (test : Bool) → IsSoundHeld w → (nat_lt 
 is_open w by test h t =
     let parts = and_tells _ _ t in
     let inner = and_tells _ _ parts.1 in
-    let m = ltb-true by (length w.basis.site.interfaces) parts.0 in
+    let m : by < length w.basis.site.interfaces = ltb-true by (length w.basis.site.interfaces) parts.0 in
     let there : by < length w.connections = omega (arith, m, h.count) in
     record { interface = m; line = parts.0; there = there; flag = inner.0; on = sym (h.connected by there) ∙ inner.0; passes = inner.1 }
 
@@ -275,6 +286,24 @@ within_capped b history n m small = ap (λ (t : Bool). nat_le (entries_in histor
 -- entries of packets count one each
 pub entries_count : (site : SiteData) (by : ℕ) (now : Time) (packets : List Output) (entries : List Entry) → entries ≡ entries_of site by now packets → entries_in entries ≡ length entries
 entries_count site by now packets entries e = ap entries_in e ∙ (packets_count site by now packets ∙ (sym (packets_length site by now packets) ∙ sym (ap length e)))
+
+-- room that was made for entries of packets
+pub room_fits : (k : Shown) (entries : List Entry) (n m : ℕ) → n ≡ entries_in entries → m ≡ capped (bytes_in entries) → k.basis.bytes ≤ bytes_limit → is_within k.basis k.entries n m ≡ true
+    → (entries_in entries ≤ max k.spare_entries n) × (bytes_in entries ≤ max k.spare_bytes m)
+room_fits k entries n m e b small t =
+    let le : bytes_in k.entries + m ≤ k.basis.bytes = le_tells (bytes_in k.entries + m) k.basis.bytes (and_tells _ _ t).1 in
+    (omega (arith, e), omega (arith, le, small, b))
+
+-- it was asked for as many entries and bytes as they count
+pub room_same : (k : Shown) (entries : List Entry) (n m : ℕ) → n ≡ entries_in entries → m ≡ capped (bytes_in entries) → k.basis.bytes ≤ bytes_limit → is_within k.basis k.entries n m ≡ is_within k.basis k.entries (entries_in entries) (bytes_in entries)
+room_same k entries n m e b small = ap (λ (x : ℕ). is_within k.basis k.entries x m) e ∙ (ap (is_within k.basis k.entries (entries_in entries)) b ∙ within_capped k.basis k.entries (entries_in entries) (bytes_in entries) small)
+
+-- where there is none, nothing is posted
+pub not_posted : (time : Time) (k new : Shown) (connections : List HeldConnection) (by : ℕ) (entries : List Entry) (why : Option Why) (n m : ℕ) (fault : WorldFault) → is_within k.basis k.entries n m ≡ is_within k.basis k.entries (entries_in entries) (bytes_in entries)
+    → GivesRoom k n m (Err fault) new → Posts by (held_with time k connections) entries why (Err fault) (held_with time new connections)
+not_posted time k new connections by entries why n m NotEnabled same g = absurd g
+not_posted time k new connections by entries why n m (Full counted size) same g = (sym same ∙ g.0, g.1, g.2, ap (λ (x : Shown). held_with time x connections) g.3)
+not_posted time k new connections by entries why n m Memory same g = ap (λ (x : Shown). held_with time x connections) g
 
 -- a connection that was fed a piece may post what was taken
 pub can_post : (w mid : Held) (by : ℕ) (piece : List ℕ) (entries : List Entry) (why : Option Why) (test : Bool) → length w.basis.site.interfaces ≤ 16 → IsOpen w by test → Takes by w piece entries why mid → CanPost by mid entries why

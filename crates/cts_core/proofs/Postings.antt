@@ -1,17 +1,14 @@
 -- What the history says when the entries of an event are appended.
-use Rattle.std.proofs.Common.{◌≡◌, ℕ, suc, ◌+◌, ◌-◌, ◌≤◌, Bool, true, false, ◌||◌, List, [], ◌∷◌, ◌++◌, length, drop, slice_range, None, refl, sym, ◌∙◌, ap, arith, unwrap_or}
+use Rattle.std.proofs.Common.{◌≡◌, ℕ, suc, ◌+◌, Bool, true, false, ◌||◌, List, [], ◌∷◌, ◌++◌, length, None, refl, sym, ◌∙◌, ap, arith, unwrap_or}
 use Rattle.std.specs.Prelude.{◌==◌, ◌≢◌, Option, is_some, if◌then◌else◌}
 use Rattle.std.proofs.lemmas.List.Folds.{list_any-append}
 use Rattle.std.proofs.lemmas.List.Sums.{sum_by-cons}
 use Rattle.std.proofs.lemmas.Bool.{eq-eqb, ne_eqb}
-use Rattle.std.proofs.lemmas.List.{length-take-le, length-drop, length-map}
 use Rattle.cts_def.specs.declared.time.Time.{Time}
 use Rattle.cts_entry.specs.declared.entry.Entry.{Entry}
-use Rattle.cts_entry.specs.Histories.{or_earlier, latest, connects, connects_maker, is_connected, commanded, has_command, entries_for, entries_in, bytes_for, bytes_in}
+use Rattle.cts_entry.specs.Histories.{or_earlier, latest, connects, connects_maker, is_connected, commanded, has_command, entries_for, entries_in, bytes_in}
 use Rattle.cts_entry.proofs.Appending.{connected-append, entries-append, bytes-append}
-use Rattle.cts_frame.specs.Framing.{Output, plain}
-use Rattle.cts_frame.specs.Cuttings.{Tiles, frames_at}
-use Rattle.cts_frame.proofs.LengthFrames.{tiles_end}
+use Rattle.cts_frame.specs.Framing.{Output}
 use Rattle.cts_told.specs.Routing.{packet_entries, time_in}
 use Rattle.cts_entry.specs.declared.what.What.TheVariants.{Packet}
 use Rattle.cts_def.specs.Sites.{SiteData}

@@ -1,13 +1,12 @@
 -- What the world stands for after each event.
 use Rattle.std.proofs.Common.{◌≡◌, ℕ, zero, suc, ◌+◌, ◌≤◌, ◌<◌, Bool, true, false, ◌&&◌, not, List, [], ◌∷◌, ◌++◌, length, map, filter, Option, Some, None, Ok, Err, refl, sym, ◌∙◌, ap, subst, arith, unwrap_or, append_assoc, ◌⊎◌, inl, inr}
-use Rattle.std.specs.Prelude.{◌==◌, ◌≢◌, nat_le, nat_lt, set, slice_index_or, Result, if◌then◌else◌}
+use Rattle.std.specs.Prelude.{◌==◌, ◌≢◌, nat_le, nat_lt, set, slice_index_or, if◌then◌else◌}
 use Rattle.std.proofs.lemmas.List.{append-nil, length-set, get_or-set_same, get_or-set_other, set-set, length-map}
 use Rattle.std.proofs.lemmas.Bool.{cases_eq, eq-eqb, ne_eqb, ltb-true}
 use Rattle.cts_chain.specs.Builds.{AreFresh, IsFresh, use_specs, writes}
 use Rattle.cts_chain.specs.Chains.{StagesStand, framings_of, loss_in}
 use Rattle.cts_chain.specs.Laws.{AreOf}
 use Rattle.cts_chain.specs.Shapes.{ChainData, writers}
-use Rattle.cts_chain.proofs.Keeping.{renewed_drained}
 use Rattle.cts_chain.proofs.Settled.{settled_gives_all, renewed_stands}
 use Rattle.cts_def.specs.Makers.{first_slot, server}
 use Rattle.cts_def.specs.Protocols.{UseData}
@@ -29,7 +28,7 @@ use Rattle.cts_frame.specs.Packets.{IsPackets, loss_of, Fault, fault_of}
 use Rattle.cts_frame.proofs.Chainings.{interface_framings}
 use Rattle.cts_core.specs.States.{Answer, State, is_piece, is_enabled, is_line, has_room, takes_room, unsent, may_close, opening}
 use Rattle.cts_core.specs.Runs.{Did, Does, Appends, Receives, after, pieces_for, closed_entry, closing}
-use Rattle.cts_core.proofs.Chaining.{begins, begins_anew, plain_more, same_framings}
+use Rattle.cts_core.proofs.Chaining.{all_renewed, begins, begins_anew, plain_more, same_framings}
 use Rattle.cts_core.proofs.Keeping.{pieces_turned, pieces_grow, pieces_stay}
 use Rattle.cts_core.proofs.Passing.{nothing_unsent}
 use Rattle.cts_told.specs.Routing.{packet_entries}
@@ -264,11 +263,14 @@ opens site w new s by built n t fits h =
       subst (λ (x : Held). Represents site x moved) (sym n.2) whole,
     )
 
--- there is no room for an Opened
-pub open_full : (site : SiteData) (w new : Held) (s : State) (by counted size : ℕ) → is_enabled (site_environment site) s (Opens by) ≡ true → is_within w.basis w.history 1 0 ≡ false → counted ≡ entries_in w.history → size ≡ bytes_in w.history → new ≡ w → Represents site w s
-    → Steps site s (Opens by) w (Err (Full counted size)) new
-open_full site w new s by counted size t full c k kept h =
-    finds_full site w new s (Opens by) (record { by = by; time = s.time; what = Opened } ∷ []) 1 0 counted size t refl refl refl refl full c k (unmoved w new kept) h
+-- there is no room for an Opened, or no memory for it
+pub open_refused : (site : SiteData) (time : Time) (k new : Shown) (connections : List HeldConnection) (s : State) (by : ℕ) (fault : WorldFault) → is_enabled (site_environment site) s (Opens by) ≡ true → GivesRoom k 1 0 (Err fault) new
+    → Represents site (held_with time k connections) s → Steps site s (Opens by) (held_with time k connections) (Err fault) (held_with time new connections)
+open_refused site time k new connections s by RefusedEvent t g h = absurd g
+open_refused site time k new connections s by (Full counted size) t g h =
+    let w = held_with time k connections in
+    finds_full site w (held_with time new connections) s (Opens by) (record { by = by; time = s.time; what = Opened } ∷ []) 1 0 counted size t refl refl refl refl g.0 g.1 g.2 (unmoved w (held_with time new connections) (ap (λ (x : Shown). held_with time x connections) g.3)) h
+open_refused site time k new connections s by Memory t g h = unmoved (held_with time k connections) (held_with time new connections) (ap (λ (x : Shown). held_with time x connections) g)
 
 -- ---- a connection ends
 
@@ -460,7 +462,7 @@ stands_bad site w s by piece entries why c h k did reason d shutting r =
     sym (connected-append by s.history did.entries ∙ ap (λ (t : Option Bool). unwrap_or (or_earlier t (latest (connects_maker by) s.history)) false) (tells by ∙ tells_maker by tail refl)) in
     let mine : IsConnection site moved by shutting =
     begins site moved by shutting (r.connected_is ∙ off) (same_framings c.chain shutting.chain r.same ∙ k.framings) (r.same.writers ∙ k.writing) (pieces_turned by (Piece by piece) did.entries s.pieces false (tells by ∙ tells_maker by tail refl))
-    (renewed_drained c.chain.stages shutting.chain.stages r.renewed) (renewed_stands c.chain.stages shutting.chain.stages r.renewed) in
+    (all_renewed c.chain.stages shutting.chain.stages r.renewed) (renewed_stands c.chain.stages shutting.chain.stages r.renewed) in
     record {
       history = ap (λ (l : List Entry). (l ++ entries) ++ lost by w.time c reason ∷ []) h.history
           ∙ (append_assoc s.history entries (lost by w.time c reason ∷ []) ∙ (ap (λ (x : Entry). s.history ++ (entries ++ x ∷ [])) last ∙ ap (λ (l : List Entry). s.history ++ l) (sym d)));
@@ -480,7 +482,7 @@ set_twice w by entries c shutting reason new m r n =
     let same = get_or-set_same w.connections by c (shut no_chain) m in (
       subst (λ (x : HeldConnection). IsRenewed false x shutting) same r,
       n ∙ (ap (λ (x : HeldConnection). record w { history = (w.history ++ entries) ++ lost by w.time x reason ∷ []; connections = set (set w.connections by c) by shutting }) same
-      ∙ ap (λ (cs : List HeldConnection). record w { history = (w.history ++ entries) ++ lost by w.time c reason ∷ []; connections = cs }) (set-set w.connections by c shutting)),
+          ∙ ap (λ (cs : List HeldConnection). record w { history = (w.history ++ entries) ++ lost by w.time c reason ∷ []; connections = cs }) (set-set w.connections by c shutting)),
     )
 
 stands_settled : (site : SiteData) (w new : Held) (s : State) (by : ℕ) (piece : List ℕ) (entries : List Entry) (why : Option Why) (c : HeldConnection) → Represents site w s → (k : IsFed site w s by piece entries why c)
@@ -520,8 +522,8 @@ received site w new s by piece entries why c t h k room settles =
 
 pub piece_done : (site : SiteData) (w mid new : Held) (s : State) (by : ℕ) (piece : List ℕ) (entries : List Entry) (why : Option Why) → is_built_site site ≡ true → is_enabled (site_environment site) s (Piece by piece) ≡ true
     → Takes by w piece entries why mid → Posts by mid entries why (Ok tt) new → Represents site w s → Steps site s (Piece by piece) w (Ok Posted) new
-piece_done site w mid new s by piece entries why built t k posts h =
-    let p = subst (λ (x : Held). Posts by x entries why (Ok tt) new) k.3 posts in
+piece_done site w mid new s by piece entries why built t k q h =
+    let p = subst (λ (x : Held). Posts by x entries why (Ok tt) new) k.3 q in
     received site w new s by piece entries why k.0 t h (is_fed site w mid s by piece entries why built t h k) p.0 p.1
 
 refused : (site : SiteData) (w new : Held) (s : State) (by : ℕ) (piece : List ℕ) (entries : List Entry) (why : Option Why) (c : HeldConnection) (fault : WorldFault) → is_enabled (site_environment site) s (Piece by piece) ≡ true → Represents site w s
@@ -537,8 +539,8 @@ refused site w new s by piece entries why c Memory t h k p = record { history = 
 
 pub piece_refused : (site : SiteData) (w mid new : Held) (s : State) (by : ℕ) (piece : List ℕ) (entries : List Entry) (why : Option Why) (fault : WorldFault) → is_built_site site ≡ true → is_enabled (site_environment site) s (Piece by piece) ≡ true
     → Takes by w piece entries why mid → Posts by mid entries why (Err fault) new → Represents site w s → Steps site s (Piece by piece) w (Err fault) new
-piece_refused site w mid new s by piece entries why fault built t k posts h =
-    refused site w new s by piece entries why k.0 fault t h (is_fed site w mid s by piece entries why built t h k) (subst (λ (x : Held). Posts by x entries why (Err fault) new) k.3 posts)
+piece_refused site w mid new s by piece entries why fault built t k p h =
+    refused site w new s by piece entries why k.0 fault t h (is_fed site w mid s by piece entries why built t h k) (subst (λ (x : Held). Posts by x entries why (Err fault) new) k.3 p)
 
 -- ---- the site that is held
 

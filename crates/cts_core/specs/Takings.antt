@@ -1,5 +1,5 @@
 -- What a connection's chain makes of a piece, and what it stands for.
-use Rattle.std.specs.Prelude.{◌≡◌, ◌<◌, ℕ, Bool, true, false, List, [], ◌∷◌, ◌++◌, length, Option, None, Some, Result, Ok, Err}
+use Rattle.std.specs.Prelude.{◌≡◌, ◌<◌, ℕ, Bool, true, false, List, [], ◌∷◌, ◌++◌, length, slice_set, Option, None, Some, Result, Ok, Err}
 use Rattle.cts_chain.specs.Chains.{StagesStand, AllSettled, Renewed, last_fault, loss_in}
 use Rattle.cts_chain.specs.Shapes.{ChainData, IsIdle, IsSameChain}
 use Rattle.cts_def.specs.Makers.{first_slot}
@@ -82,7 +82,7 @@ IsClosed by w why new = (c : HeldConnection) × IsRenewed false (connection_at w
 -- A piece went through the chain of a connection. These are the entries of its packets, which are not posted yet.
 abbrev pub Takes : ℕ → Held → List ℕ → List Entry → Option Why → Held → Type 0
 Takes by w piece entries why new =
-    (c : HeldConnection) × (c.connected ≡ (connection_at w.connections by).connected) × TakesPiece w.basis.site by w.time (connection_at w.connections by).chain piece entries why c.chain × (new ≡ changed by w [] c)
+    (c : HeldConnection) × (c.connected ≡ (connection_at w.connections by).connected) × TakesPiece w.basis.site by w.time (connection_at w.connections by).chain piece entries why c.chain × (new ≡ record w { connections = slice_set w.connections by c })
 
 -- these are entries of packets of an interface whose connection stands, and why it has to be closed
 pub record CanPost (by : ℕ) (w : Held) (entries : List Entry) (why : Option Why) : Type 0 where

@@ -17,54 +17,49 @@ use std::alloc::Global;
 
 /// A chain of protocols, as the running core uses it: it cuts the pieces that come on a connection into packets, and puts
 /// commands into frames.
-pub trait Framer: Drop {
-    /// Its protocols, and where the last packet stands.
-    ghost shape: { Self → ChainData };
-
+pub trait Framer: Chained + Drop {
     /// Takes a piece, of which the next packets are cut. After `Memory` nothing has changed but the room.
     fn feed(&mut self, piece: &[u8]) -> Result<(), Memory>
-        requires { IsIdle (shape self.old) }
-        ensures ok { OnOk result (FedFirst (shape self.old).stages piece.now (shape self.new).stages) }
-        ensures chain { IsChain (shape self.new) }
-        ensures same { IsSameChain (shape self.old) (shape self.new) }
-        ensures idle { OnErr result (IsIdle (shape self.new)) };
+        requires { IsIdle (Self.shape self.old) }
+        ensures ok { OnOk result (FedFirst (Self.shape self.old).stages piece.now (Self.shape self.new).stages) }
+        ensures chain { IsChain (Self.shape self.new) }
+        ensures same { IsSameChain (Self.shape self.old) (Self.shape self.new) }
+        ensures idle { OnErr result (IsIdle (Self.shape self.new)) };
 
     /// The next packet, or why there is none.
     fn next(&mut self) -> ChainStep
-        requires { IsChain (shape self.old) }
-        ensures rises { Rises (shape self.old).stages (given_by result (shape self.new).lent (shape self.new).place) (shape self.new).stages }
-        ensures answers { Answers (shape self.new).stages (shape self.new).lent (shape self.new).place result }
-        ensures left { Leaves result (shape self.new) }
-        ensures chain { IsChain (shape self.new) }
-        ensures same { IsSameChain (shape self.old) (shape self.new) };
+        requires { IsChain (Self.shape self.old) }
+        ensures rises { Rises (Self.shape self.old).stages (given_by result (Self.shape self.new).lent (Self.shape self.new).place) (Self.shape self.new).stages }
+        ensures answers { Answers (Self.shape self.new).stages (Self.shape self.new).lent (Self.shape self.new).place result }
+        ensures left { Leaves result (Self.shape self.new) }
+        ensures chain { IsChain (Self.shape self.new) }
+        ensures same { IsSameChain (Self.shape self.old) (Self.shape self.new) };
 
     /// Lends the packet of the last `next`.
     fn packet_bytes(&self) -> &[u8]
-        requires { IsGiving (shape self.now) }
-        ensures { result.now ≡ (packet_at (shape self.now).lent (shape self.now).place).bytes };
+        requires { IsGiving (Self.shape self.now) }
+        ensures { result.now ≡ (packet_at (Self.shape self.now).lent (Self.shape self.now).place).bytes };
 
     /// Lends the names that the packet of the last `next` brought along: its target's and its own.
     fn packet_names(&self) -> Option<(&[u8], &[u8])>
-        requires { IsGiving (shape self.now) }
-        ensures { option_map {U = List ℕ × List ℕ} (λ n. (n.0.now, n.1.now)) result ≡ option_map {U = List ℕ × List ℕ} (λ h. (h.target, h.packet)) (packet_at (shape self.now).lent (shape self.now).place).heading };
+        requires { IsGiving (Self.shape self.now) }
+        ensures { option_map {U = List ℕ × List ℕ} (λ n. (n.0.now, n.1.now)) result ≡ option_map {U = List ℕ × List ℕ} (λ h. (h.target, h.packet)) (packet_at (Self.shape self.now).lent (Self.shape self.now).place).heading };
 
     /// Gives up what the stages hold, and says what is lost.
     fn reset(&mut self) -> Loss
-        requires { IsIdle (shape self.old) }
-        ensures loss { result ≡ loss_in (shape self.old).stages }
-        ensures renewed { Renewed (shape self.old).stages (shape self.new).stages }
-        ensures idle { IsIdle (shape self.new) }
-        ensures same { IsSameChain (shape self.old) (shape self.new) };
+        requires { IsIdle (Self.shape self.old) }
+        ensures loss { result ≡ loss_in (Self.shape self.old).stages }
+        ensures renewed { Renewed (Self.shape self.old).stages (Self.shape self.new).stages }
+        ensures idle { IsIdle (Self.shape self.new) }
+        ensures same { IsSameChain (Self.shape self.old) (Self.shape self.new) };
 
     /// Appends a packet in the frames of the protocols that write. After a refusal nothing was appended.
     fn encode(&self, label: &Label, packet: &[u8], out: &mut Vec<u8>) -> Result<(), EncodeFault>
-        requires { IsChain (shape self.now) }
-        ensures { Writes (writers (shape self.now)) (heading_of label.now) packet.now out.old.items out.new.items result };
+        requires { IsChain (Self.shape self.now) }
+        ensures { Writes (writers (Self.shape self.now)) (heading_of label.now) packet.now out.old.items out.new.items result };
 }
 
 impl Framer for Chain {
-    ghost shape = { λ c. ⟦<Chain as Chained>⟧.shape c };
-
     fn feed(&mut self, piece: &[u8]) -> Result<(), Memory> {
         Chain::feed(self, piece)
     }
@@ -91,10 +86,7 @@ impl Framer for Chain {
 }
 
 /// What the chains of a site's interfaces are taken from.
-pub trait Supplier<C: Framer> {
-    /// The boxes that are there.
-    ghost stock: { Self → List Meaning };
-
+pub trait Supplier<C: Framer>: Stocked {
     /// Builds a chain for each interface, in order.
     ///
     /// # Errors
@@ -103,14 +95,12 @@ pub trait Supplier<C: Framer> {
     /// `Memory`.
     fn build_all(&mut self, alloc: Global, interfaces: &[Interface]) -> Result<Vec<C>, ChainFault>
         requires { length interfaces.now ≤ 16 }
-        ensures enough { OnOk result (first_short (stock self.old) (use_specs (uses_in interfaces.now)) ≡ None) }
+        ensures enough { OnOk result (first_short (Self.stock self.old) (use_specs (uses_in interfaces.now)) ≡ None) }
         ensures fresh { IfOk result (λ chains. AreFresh (chains_in interfaces.now) (map C.shape chains.items)) }
-        ensures fault { IfErr result (λ e. FaultIs (stock self.old) (uses_in interfaces.now) e) };
+        ensures fault { IfErr result (λ e. FaultIs (Self.stock self.old) (uses_in interfaces.now) e) };
 }
 
 impl Supplier<Chain> for Shelf {
-    ghost stock = { λ s. ⟦<Shelf as Stocked>⟧.stock s };
-
     fn build_all(
         &mut self,
         alloc: Global,

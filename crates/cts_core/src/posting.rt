@@ -120,6 +120,8 @@ fn ident<C: Framer>(site: &Site, by: u32, chain: &C) -> Ident
     requires giving { IsGiving (C.shape chain.now) }
     ensures { result ≡ ident_of site.now by (packet_at (C.shape chain.now).lent (C.shape chain.now).place) }
 {
+    // A site has at most sixteen interfaces, so they are workers by their numbers.
+    let _interfaces = site.interfaces.len();
     match chain.packet_names() {
         Some((target, packet)) => named(site, by, target, packet),
         None => identify(site, by, chain.packet_bytes()),

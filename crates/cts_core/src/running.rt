@@ -149,7 +149,7 @@ impl<C: Framer> Running<C> {
 
     // Puts a piece through the chain of a connection, and takes its packets. Nothing is posted yet.
     fn take(&mut self, by: u32, piece: &[u8]) -> Result<Taken, Memory>
-        requires interface { by < length self.old.basis.site.interfaces }
+        requires { by < length self.old.basis.site.interfaces }
         ensures takes { IfOk result (λ t. Takes by self.old piece.now t.entries.items t.why self.new) }
         ensures unmoved { IsUnmoved self.old self.new }
     {
@@ -161,8 +161,8 @@ impl<C: Framer> Running<C> {
     // Posts the packets of a connection, and closes it where a stage has failed. Where there is no room or no memory for all
     // of this, nothing is done.
     fn post(&mut self, by: u32, taken: Taken) -> Result<(), WorldFault>
-        requires can { CanPost by self.old taken.entries.items taken.why }
-        ensures posts { Posts by self.old taken.entries.items taken.why result self.new }
+        requires { CanPost by self.old taken.entries.items taken.why }
+        ensures { Posts by self.old taken.entries.items taken.why result self.new }
     {
         let count = taken.entries.len();
         make_room(&mut self.hall, count as u64, weight(&taken.entries))?;

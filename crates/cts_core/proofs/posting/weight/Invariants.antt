@@ -4,7 +4,7 @@ use Rattle.cts_frame.specs.Packets.{capped}
 use Rattle.cts_core.proofs.posting.weight.Given as goal
 
 abbrev pub invariant-left : goal.invariant-left
-invariant-left l = capped (l.bytes + bytes_in l.left) ≡ capped (bytes_in l.entries)
+invariant-left l = (capped (l.bytes + bytes_in l.left) ≡ capped (bytes_in l.entries)) × (capped l.bytes ≡ l.bytes)
 
 abbrev pub decreases-left : goal.decreases-left
 decreases-left l = length l.left

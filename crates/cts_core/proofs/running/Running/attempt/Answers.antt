@@ -1,4 +1,4 @@
-use Rattle.std.proofs.Common.{◌≡◌, ◌≤◌, ℕ, List, ◌++◌, Some, sym, ap, ◌∙◌, subst}
+use Rattle.std.proofs.Common.{◌≡◌, ◌≤◌, List, Some, sym, ap, ◌∙◌, subst}
 use Rattle.std.specs.Prelude.{◌&&◌, None, false, option_map, length}
 use Rattle.cts_entry.specs.Histories.{latest, connects_maker, has_command}
 use Rattle.cts_core.specs.Trials.{value_kind, value_text}
@@ -10,7 +10,7 @@ use Rattle.cts_core.specs.Kept.{is_within}
 use Rattle.cts_base.specs.Names.{in_upper_case, is_name}
 use Rattle.cts_watch.specs.Sets.{is_set_known}
 use Rattle.cts_core.specs.States.{Answer}
-use Rattle.cts_core.specs.Trials.{chooses, found_for, tells}
+use Rattle.cts_core.specs.Trials.{found_for, tells}
 use Rattle.cts_core.specs.Worlds.{Held}
 use Rattle.cts_core.proofs.Holding.{chosen_quiet, chosen_free}
 use Rattle.cts_core.proofs.WorldSteps.{trial_done, trial_told}

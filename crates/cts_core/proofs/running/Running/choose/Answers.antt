@@ -1,5 +1,5 @@
-use Rattle.std.proofs.Common.{rules, ◌≡◌, ◌≤◌, ℕ, ◌+◌, true, false, ◌&&◌, [], ◌∷◌, ◌++◌, sym, ap, ◌∙◌, subst, arith, Some}
-use Rattle.std.specs.Prelude.{Bool, List, codes}
+use Rattle.std.proofs.Common.{rules, ◌≡◌, ℕ, ◌+◌, true, ◌&&◌, [], ◌∷◌, sym, ap, ◌∙◌, subst, arith, Some}
+use Rattle.std.specs.Prelude.{Bool, List}
 use Rattle.cts_base.specs.Names.{in_upper_case, is_name}
 use Rattle.cts_def.specs.Makers.{first_desk}
 use Rattle.cts_entry.specs.declared.entry.Entry.{Entry}
@@ -7,7 +7,7 @@ use Rattle.cts_entry.specs.declared.what.What.TheVariants.{LimitsSetIs}
 use Rattle.cts_table.specs.States.{Shown, CanAdd, added, with_room}
 use Rattle.cts_watch.specs.Sets.{is_set_known}
 use Rattle.cts_core.specs.Kept.{is_within}
-use Rattle.cts_core.specs.States.{Answer, trial_desk}
+use Rattle.cts_core.specs.States.{trial_desk}
 use Rattle.cts_core.specs.Trials.{Chosen, chooses}
 use Rattle.cts_core.specs.Worlds.{Held, IsSoundHeld, held_with}
 use Rattle.cts_core.proofs.Holding.{can_choose, sound_chosen}

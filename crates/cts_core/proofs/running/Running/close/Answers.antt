@@ -1,17 +1,17 @@
-use Rattle.std.proofs.Common.{◌≡◌, ◌<◌, [], ◌∷◌, ◌++◌, length, set, sym, ap, ◌∙◌, subst}
+use Rattle.std.proofs.Common.{◌≡◌, ◌<◌, false, length, set, sym, ap, ◌∙◌, subst}
 use Rattle.cts_def.specs.declared.loss.Loss.{Loss}
 use Rattle.cts_chain.specs.Chains.{loss_in}
 use Rattle.cts_entry.specs.declared.entry.Entry.{Entry}
 use Rattle.cts_entry.specs.declared.what.What.TheVariants.{Closed}
 use Rattle.cts_entry.specs.Legal.{StopsAfter}
-use Rattle.cts_table.specs.States.{Shown, added}
+use Rattle.cts_table.specs.States.{added}
 use Rattle.cts_core.specs.Takings.{IsClosed, IsRenewed, lost}
 use Rattle.cts_core.specs.Worlds.{Held, HeldConnection, IsSoundHeld, connection_at, held_with}
 use Rattle.cts_core.proofs.Holding.{IsOpen, stands_at, can_close, sound_closed, held_at}
 use Rattle.cts_core.proofs.running.Running.close.Goals as goal
 
-pub close-requires-2 : goal.close-requires-2
-close-requires-2 g c =
+pub close-requires : goal.close-requires
+close-requires g c =
     let w = held_with c.self.inside.time c.self.inside.hall c.self.inside.connections.items in
     let there : c.args.by < length w.connections = subst (λ (x : Held). c.args.by < length x.connections) (sym c.self.view_is) c.requires.there in
     let is : IsOpen w c.args.by _ = stands_at w c.args.by c.self.invariant there (ap (λ (x : Held). (connection_at x.connections c.args.by).connected) c.self.view_is ∙ c.requires.connected) in

@@ -1,7 +1,7 @@
-use Rattle.std.proofs.Common.{rules, ◌≡◌, true, false, refl, sym, ap, ◌∙◌}
+use Rattle.std.proofs.Common.{rules, ◌≡◌, true, false, refl, sym, ◌∙◌}
 use Rattle.cts_entry.specs.declared.event.Event.TheVariants.{Finish}
 use Rattle.cts_core.specs.States.{may_close}
-use Rattle.cts_core.proofs.Holding.{IsOpen, is_open}
+use Rattle.cts_core.proofs.Holding.{is_open}
 use Rattle.cts_core.proofs.Legality.{stops_after}
 use Rattle.cts_core.proofs.WorldSteps.{built_of, may_finish_is, not_enabled, finished}
 use Rattle.cts_core.proofs.running.Running.finish.Goals as goal

@@ -1,14 +1,15 @@
-use Rattle.std.proofs.Common.{rules, ◌≡◌, ◌≤◌, [], ◌∷◌, ◌++◌, ◌&&◌, not, length, set, true, false, refl, sym, ap, ◌∙◌, subst, arith}
+use Rattle.std.proofs.Common.{rules, ◌≡◌, ◌&&◌, not, length, set, true, false, refl, sym, ap, ◌∙◌, subst, arith, Err}
 use Rattle.std.specs.Prelude.{nat_lt}
+use Rattle.std.proofs.lemmas.Result.{err_from_is_err_and}
 use Rattle.cts_entry.specs.declared.entry.Entry.{Entry}
 use Rattle.cts_entry.specs.declared.event.Event.TheVariants.{Opens}
 use Rattle.cts_entry.specs.declared.what.What.TheVariants.{Opened}
 use Rattle.cts_entry.specs.Histories.{is_stopped}
 use Rattle.cts_table.specs.States.{Shown, CanAdd, added}
 use Rattle.cts_core.specs.Takings.{IsOpened, IsRenewed}
-use Rattle.cts_core.specs.Worlds.{Held, HeldConnection, IsSoundHeld, Represents, connection_at, held_with}
+use Rattle.cts_core.specs.Worlds.{Held, HeldConnection, IsSoundHeld, Represents, Steps, connection_at, held_with}
 use Rattle.cts_core.proofs.Holding.{IsShut, is_shut, can_open, sound_opened, held_at}
-use Rattle.cts_core.proofs.WorldSteps.{built_of, may_open_is, not_enabled, open_full, opens, wants_memory, unmoved}
+use Rattle.cts_core.proofs.WorldSteps.{built_of, may_open_is, not_enabled, open_refused, opens}
 use Rattle.cts_core.proofs.running.Running.open.Goals as goal
 
 pub returns-then-not-may_open : goal.returns-then-not-may_open
@@ -16,6 +17,19 @@ returns-then-not-may_open g c =
     let off : c.may_open.result ≡ false = search rules in
     let w = c.args.self.now in
     λ site s h. not_enabled site w w s (Opens c.args.by) c.may_open.result (c.may_open.ensures.test ∙ may_open_is site w s c.args.by (built_of site w s c.may_open.ensures.sound h) h) off refl h
+
+pub returns-in_err-make_room : goal.returns-in_err-make_room
+returns-in_err-make_room g c =
+    let k = c.self.inside.hall in
+    let connections = c.self.inside.connections.items in
+    let fault = c.in_err-make_room.field-0.0 in
+    let new = held_with c.self.inside.time c.make_room.new.hall connections in
+    let on : c.may_open.result ≡ true = search rules in
+    let p = err_from_is_err_and c.from_residual.result c.from_residual.ensures.1 in
+    rw (p.1, p.2) (λ site s h.
+    let built = built_of site c.args.self.now s c.may_open.ensures.sound h in
+    subst (λ (x : Held). Steps site s (Opens c.args.by) x (Err fault) new) c.self.view_is
+    (open_refused site c.self.inside.time k c.make_room.new.hall connections s c.args.by fault (sym (may_open_is site c.args.self.now s c.args.by built h) ∙ (sym c.may_open.ensures.test ∙ on)) c.in_err-make_room.ensures (subst (λ (x : Held). Represents site x s) (sym c.self.view_is) h)))
 
 pub opened-requires : goal.opened-requires
 opened-requires g c =

@@ -1,7 +1,7 @@
-use Rattle.std.proofs.Common.{rules, ◌≡◌, ℕ, ◌<◌, true, false, length, refl, sym, ◌∙◌, subst, Ok, Err}
+use Rattle.std.proofs.Common.{rules, ◌≡◌, true, false, refl, sym, ◌∙◌}
+use Rattle.std.proofs.lemmas.Result.{err_from_is_err_and}
 use Rattle.cts_entry.specs.declared.event.Event.TheVariants.{Piece}
 use Rattle.cts_core.specs.States.{is_piece}
-use Rattle.cts_core.specs.Worlds.{Held}
 use Rattle.cts_core.proofs.Holding.{is_open, can_post}
 use Rattle.cts_core.proofs.WorldSteps.{built_of, may_receive_is, not_enabled, piece_done, piece_refused}
 use Rattle.cts_core.proofs.running.Running.receive.Goals as goal
@@ -25,9 +25,10 @@ pub returns-in_err-post : goal.returns-in_err-post
 returns-in_err-post g c =
     let w = c.args.self.now in
     let on : c.may_receive.result ≡ true = search rules in
-    λ site s h.
+    let p = err_from_is_err_and c.from_residual-in_err-post.result c.from_residual-in_err-post.ensures.1 in
+    rw (p.1, p.2) (λ site s h.
     let built = built_of site w s c.may_receive.ensures.sound h in
-    piece_refused site w c.take.new.self c.post.new.self s c.args.by c.args.piece.now _ _ c.in_err-post.field-0.0 built (sym (may_receive_is site w s c.args.by c.args.piece.now built h) ∙ (sym c.may_receive.ensures.test ∙ on)) c.in_ok-taken.ensures.takes c.in_err-post.ensures.posts h
+    piece_refused site w c.take.new.self c.post.new.self s c.args.by c.args.piece.now _ _ c.in_err-post.field-0.0 built (sym (may_receive_is site w s c.args.by c.args.piece.now built h) ∙ (sym c.may_receive.ensures.test ∙ on)) c.in_ok-taken.ensures.takes c.in_err-post.ensures h)
 
 pub returns : goal.returns
 returns g c =
@@ -35,4 +36,4 @@ returns g c =
     let on : c.may_receive.result ≡ true = search rules in
     λ site s h.
     let built = built_of site w s c.may_receive.ensures.sound h in
-    piece_done site w c.take.new.self c.post.new.self s c.args.by c.args.piece.now _ _ built (sym (may_receive_is site w s c.args.by c.args.piece.now built h) ∙ (sym c.may_receive.ensures.test ∙ on)) c.in_ok-taken.ensures.takes c.in_ok-post.ensures.posts h
+    piece_done site w c.take.new.self c.post.new.self s c.args.by c.args.piece.now _ _ built (sym (may_receive_is site w s c.args.by c.args.piece.now built h) ∙ (sym c.may_receive.ensures.test ∙ on)) c.in_ok-taken.ensures.takes c.in_ok-post.ensures h

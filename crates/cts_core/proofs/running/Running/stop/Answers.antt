@@ -1,7 +1,5 @@
-use Rattle.std.proofs.Common.{rules, ◌≡◌, [], ◌∷◌, ◌++◌, not, true, false, refl, sym, ◌∙◌, ap, subst}
-use Rattle.cts_def.specs.Makers.{server}
+use Rattle.std.proofs.Common.{rules, ◌≡◌, not, true, false, refl, sym, ◌∙◌, ap, subst}
 use Rattle.cts_entry.specs.declared.event.Event.TheVariants.{Stop}
-use Rattle.cts_entry.specs.declared.what.What.TheVariants.{Stop as StopEntry}
 use Rattle.cts_entry.specs.Histories.{is_stopped}
 use Rattle.cts_table.specs.States.{Shown}
 use Rattle.cts_core.specs.Worlds.{Held, IsSoundHeld, Represents, held_with}
