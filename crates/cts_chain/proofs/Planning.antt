@@ -13,7 +13,7 @@ use Rattle.cts_proto.specs.Meaning.{Meaning}
 use Rattle.cts_proto.specs.Stock.{one_if_same, stocked}
 use Rattle.cts_chain.specs.declared.part.Part.{Part}
 use Rattle.cts_chain.specs.declared.plan.Plan.{Plan}
-use Rattle.cts_chain.specs.Builds.{use_specs, writes, IsBuilt}
+use Rattle.cts_chain.specs.Builds.{use_specs, writes, IsFresh}
 use Rattle.cts_chain.specs.Plans.{Planned, plan_data, part_by, planned_of, read_by, reading, beside_by, beside_of, AllSoundUses, plan_specs, parts_in}
 use Rattle.cts_chain.specs.Chains.{framings_of, specs_of, Ready, AllConfigured, AllDrained, AllFresh, StagesStand}
 use Rattle.cts_chain.specs.Shapes.{ChainData, writers, writers_of, AllSoundSpecs}
@@ -141,8 +141,8 @@ enough_of ms ss h k =
     by_kind kind.Terminated a b c d e = not_lt (stocked kind.Terminated ms) (needed kind.Terminated ss) d
     by_kind kind.Preidentified a b c d e = not_lt (stocked kind.Preidentified ms) (needed kind.Preidentified ss) e
 
-pub enough_plans : (ms : List Meaning) (ps : List Planned) (uses : List UseData) → ps ≡ map planned_of uses → first_short ms (use_specs uses) ≡ None → (k : Kind) → needed k (plan_specs ps) ≤ stocked k ms
-enough_plans ms ps uses e h k = omega (arith, enough_of ms (use_specs uses) h k, ap (needed k) (ap plan_specs e ∙ specs_are uses))
+pub enough_plans : (ms : List Meaning) (ps : List Planned) (uses : List UseData) → ps ≡ map planned_of uses → ((k : Kind) → needed k (use_specs uses) ≤ stocked k ms) → (k : Kind) → needed k (plan_specs ps) ≤ stocked k ms
+enough_plans ms ps uses e h k = omega (arith, h k, ap (needed k) (ap plan_specs e ∙ specs_are uses))
 
 -- ---- what was built
 
@@ -168,16 +168,15 @@ same_length : (ms : List Meaning) → length (framings_of ms) ≡ length ms
 same_length [] = refl
 same_length (m ∷ ms) = omega (arith, same_length ms)
 
-pub is_built : (stock : List Meaning) (uses : List UseData) (ps : List Planned) (c : ChainData) → IsTrue (is_chain uses) → first_short stock (use_specs uses) ≡ None → ps ≡ map planned_of uses → AllSoundUses uses
-    → specs_of c.stages ≡ reading ps → specs_of c.beside ≡ beside_of ps → c.parts ≡ parts_in ps → AllFresh c.stages → AllFresh c.beside → IsBuilt stock uses c
-is_built stock uses ps c chain enough plans sound stages beside parts fresh others =
+pub is_fresh : (uses : List UseData) (ps : List Planned) (c : ChainData) → IsTrue (is_chain uses) → ps ≡ map planned_of uses → AllSoundUses uses
+    → specs_of c.stages ≡ reading ps → specs_of c.beside ≡ beside_of ps → c.parts ≡ parts_in ps → AllFresh c.stages → AllFresh c.beside → IsFresh uses c
+is_fresh uses ps c chain plans sound stages beside parts fresh others =
     let read : specs_of c.stages ≡ use_specs (filter reads uses) = stages ∙ (ap reading plans ∙ reading_is uses) in
     let framings : framings_of c.stages ≡ framings_in uses = framings_are c.stages ∙ (ap (map framing_of) read ∙ use_framings (filter reads uses)) in
     let writing : writers c ≡ use_specs (filter writes uses) = (λ i. writers_of (parts i) (stages i) (beside i)) ∙ (ap (λ p. writers_of (parts_in p) (reading p) (beside_of p)) plans ∙ writing_is uses sound) in
     let few = chains_have_stages uses chain in
     let len : length c.stages ≡ length (framings_in uses) = sym (same_length c.stages) ∙ ap length framings in
     record {
-      enough = enough;
       idle = record {
         chain = record {
           some = omega (arith, few.0, len);

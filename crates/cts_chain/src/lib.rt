@@ -14,7 +14,7 @@ mod taking;
 mod tower;
 mod writing;
 
-pub use build::ChainFault;
+pub use build::{ChainFault, build_all};
 pub use chain::{Chain, Chained};
 pub use laws::chains;
 pub use part::Part;

@@ -1,12 +1,23 @@
-// Whether a shelf has the boxes that a chain needs.
-ghost use Rattle.std.specs.Prelude.{◌≡◌, ◌≤◌, length, map, Some};
+// Whether a shelf has the boxes that chains need.
+ghost use Rattle.std.specs.Prelude.{◌≡◌, ◌≤◌, ◌*◌, length, map, Some, IfSome, IfNone, None};
+ghost use Rattle.cts_def.specs.declared.proto_spec.Kind.{Kind as KindOf};
 ghost use Rattle.cts_def.specs.Protocols.{UseData, kind_of, spec_data};
 ghost use Rattle.cts_proto.specs.Stock.{number_of, one_if_same, stocked};
-ghost use Rattle.cts_chain.specs.Builds.{use_specs};
-ghost use Rattle.cts_chain.specs.Stocking.{needed as needed_of, is_short as short_of, first_short as first_short_of};
+ghost use Rattle.cts_chain.specs.Builds.{use_specs, uses_in};
+ghost use Rattle.cts_chain.specs.Stocking.{needed as needed_of, needs_at, is_short_by, first_short_by};
 
-use cts_def::{Kind, ProtoSpec, ProtoUse};
+use cts_def::{Interface, Kind, ProtoSpec, ProtoUse};
 use cts_proto::{Shelf, Stocked};
+
+/// How many boxes of each kind are needed.
+#[derive(Clone, Copy, Debug, PartialEq, Eq)]
+pub(crate) struct Needs {
+    pub bursts: u32,
+    pub fixed: u32,
+    pub lengths: u32,
+    pub terminated: u32,
+    pub preidentified: u32,
+}
 
 fn number(kind: Kind) -> u32
     ensures { result ≡ number_of kind }
@@ -41,7 +52,7 @@ pub(crate) fn kind(spec: &ProtoSpec) -> Kind
 }
 
 /// How many of these uses are of this kind.
-pub(crate) fn needed(uses: &[ProtoUse], wanted: Kind) -> u32
+fn needed(uses: &[ProtoUse], wanted: Kind) -> u32
     requires { length uses.now ≤ 4 }
     ensures count { result ≡ needed_of wanted (use_specs uses.now) }
     ensures few { result ≤ length uses.now }
@@ -53,27 +64,89 @@ pub(crate) fn needed(uses: &[ProtoUse], wanted: Kind) -> u32
     one_if(kind(&first.spec), wanted) + more
 }
 
-fn is_short(shelf: &Shelf, uses: &[ProtoUse], kind: Kind) -> bool
-    requires { length uses.now ≤ 4 }
-    ensures { result ≡ short_of (⟦<Shelf as Stocked>⟧.stock shelf.now) (use_specs uses.now) kind }
+/// How many protocols of the chain of an interface are of this kind.
+fn needed_by(interface: &Interface, wanted: Kind) -> u32
+    ensures count { result ≡ needed_of wanted (use_specs interface.now.chain) }
+    ensures few { result ≤ 4 }
 {
-    shelf.count(kind) < needed(uses, kind)
+    needed(interface.chain.as_slice(), wanted)
+}
+
+/// How many protocols of the chains of all these interfaces are of this kind.
+fn needed_by_all(interfaces: &[Interface], wanted: Kind) -> u32
+    requires { length interfaces.now ≤ 16 }
+    ensures count { result ≡ needed_of wanted (use_specs (uses_in interfaces.now)) }
+    ensures few { result ≤ 4 * length interfaces.now }
+{
+    let Some((first, rest)) = interfaces.split_first() else {
+        return 0;
+    };
+    let more = needed_by_all(rest, wanted);
+    needed_by(first, wanted) + more
+}
+
+impl Needs {
+    /// What these uses need.
+    pub fn of_uses(uses: &[ProtoUse]) -> Needs
+        requires { length uses.now ≤ 4 }
+        ensures { (k : KindOf) → needs_at result k ≡ needed_of k (use_specs uses.now) }
+    {
+        Needs {
+            bursts: needed(uses, Kind::Burst),
+            fixed: needed(uses, Kind::Fixed),
+            lengths: needed(uses, Kind::Length),
+            terminated: needed(uses, Kind::Terminated),
+            preidentified: needed(uses, Kind::Preidentified),
+        }
+    }
+
+    /// What the chains of all these interfaces need.
+    pub fn of_interfaces(interfaces: &[Interface]) -> Needs
+        requires { length interfaces.now ≤ 16 }
+        ensures { (k : KindOf) → needs_at result k ≡ needed_of k (use_specs (uses_in interfaces.now)) }
+    {
+        Needs {
+            bursts: needed_by_all(interfaces, Kind::Burst),
+            fixed: needed_by_all(interfaces, Kind::Fixed),
+            lengths: needed_by_all(interfaces, Kind::Length),
+            terminated: needed_by_all(interfaces, Kind::Terminated),
+            preidentified: needed_by_all(interfaces, Kind::Preidentified),
+        }
+    }
+
+    /// How many boxes of this kind are needed.
+    pub fn at(self, kind: Kind) -> u32
+        ensures { result ≡ needs_at self kind }
+    {
+        match kind {
+            Kind::Burst => self.bursts,
+            Kind::Fixed => self.fixed,
+            Kind::Length => self.lengths,
+            Kind::Terminated => self.terminated,
+            Kind::Preidentified => self.preidentified,
+        }
+    }
+}
+
+fn is_short(shelf: &Shelf, needs: Needs, kind: Kind) -> bool
+    ensures { result ≡ is_short_by (⟦<Shelf as Stocked>⟧.stock shelf.now) (needs_at needs) kind }
+{
+    shelf.count(kind) < needs.at(kind)
 }
 
 /// The first kind, in their order, of which more boxes are needed than the shelf holds.
-pub(crate) fn first_short(shelf: &Shelf, uses: &[ProtoUse]) -> Option<Kind>
-    requires { length uses.now ≤ 4 }
-    ensures { result ≡ first_short_of (⟦<Shelf as Stocked>⟧.stock shelf.now) (use_specs uses.now) }
+pub(crate) fn first_short(shelf: &Shelf, needs: Needs) -> Option<Kind>
+    ensures { result ≡ first_short_by (⟦<Shelf as Stocked>⟧.stock shelf.now) (needs_at needs) }
 {
-    if is_short(shelf, uses, Kind::Burst) {
+    if is_short(shelf, needs, Kind::Burst) {
         Some(Kind::Burst)
-    } else if is_short(shelf, uses, Kind::Fixed) {
+    } else if is_short(shelf, needs, Kind::Fixed) {
         Some(Kind::Fixed)
-    } else if is_short(shelf, uses, Kind::Length) {
+    } else if is_short(shelf, needs, Kind::Length) {
         Some(Kind::Length)
-    } else if is_short(shelf, uses, Kind::Terminated) {
+    } else if is_short(shelf, needs, Kind::Terminated) {
         Some(Kind::Terminated)
-    } else if is_short(shelf, uses, Kind::Preidentified) {
+    } else if is_short(shelf, needs, Kind::Preidentified) {
         Some(Kind::Preidentified)
     } else {
         None

@@ -4,25 +4,38 @@ ghost use Rattle.std.specs.Arc.{arc_value};
 ghost use Rattle.cts_core.specs.Endings.{lasting};
 
 use crate::fault::WorldFault;
+use crate::framer::{Framer, Supplier};
 use crate::running::Running;
-use cts_base::Memory;
+use cts_chain::ChainFault;
 use cts_def::Site;
 use cts_entry::{Effect, Event, MOST_BYTES, MOST_ENTRIES};
 use cts_table::Hall;
 use std::alloc::Global;
+use std::marker::Model;
 use std::sync::Arc;
 
-/// The server's core: its history, and of the connections that stand the bytes that no packet has yet.
+/// The server's core: its history, and the connections of its interfaces with their chains of protocols.
 #[derive(Drop)]
-pub struct World {
+pub struct World<C: Framer> {
     /// What it holds.
-    pub(crate) running: Running,
+    running: Running<C>,
     /// What it answers for good, once its history was full or memory ran out.
-    pub(crate) ended: Option<WorldFault>,
+    ended: Option<WorldFault>,
 }
 
-impl World {
-    ghost use Rattle.std.specs.Prelude.{◌≡◌, ◌≤◌, true, Some, Err, IfOk};
+impl<C: Framer> Model for World<C> {
+    ghost use Rattle.cts_core.specs.Endings.{WorldData};
+
+    ghost Value = { WorldData };
+
+    ghost view = { λ a. record { held = a.running; ended = a.ended } };
+}
+
+impl<C: Framer> World<C> {
+    ghost use Rattle.std.specs.Prelude.{◌≡◌, ◌≤◌, length, true, None, Some, Err, IfErr, IfOk, List, OnOk};
+    ghost use Rattle.cts_chain.specs.Builds.{AreFresh, FaultIs, chains_in, use_specs, uses_in};
+    ghost use Rattle.cts_chain.specs.Shapes.{ChainData};
+    ghost use Rattle.cts_chain.specs.Stocking.{first_short};
     ghost use Rattle.cts_core.specs.Built.{is_built_event, is_built_site};
     ghost use Rattle.cts_core.specs.States.{State, opening};
     ghost use Rattle.cts_core.specs.Endings.{GoesOn, held_in, lasting};
@@ -30,32 +43,53 @@ impl World {
     ghost use Rattle.cts_def.specs.Sites.{SiteData};
     ghost use Rattle.cts_entry.specs.Legal.{most_entries as entries_limit, most_bytes as bytes_limit};
 
-    /// A world of a site in which nothing has happened, with the limits of a server.
-    pub fn new(alloc: Global, site: Arc<Site>) -> Result<World, Memory>
+    /// A world of a site in which nothing has happened, with the limits of a server. The boxes of its chains are taken from the
+    /// shelf.
+    ///
+    /// # Errors
+    ///
+    /// `ShelfEmpty` with the first kind, in their order, of which all chains of the site together need more boxes than the shelf
+    /// holds, and `Memory`.
+    pub fn new<B: Supplier<C>>(
+        alloc: Global,
+        site: Arc<Site>,
+        shelf: &mut B,
+    ) -> Result<World<C>, ChainFault>
         requires { is_built_site (arc_value site) ≡ true }
         ensures stands { IfOk result (λ world. Represents (arc_value site) (held_in world) opening) }
         ensures going { IfOk result (λ world. GoesOn world) }
+        ensures enough { OnOk result (first_short (B.stock shelf.old) (use_specs (uses_in (arc_value site).interfaces)) ≡ None) }
+        ensures fault { IfErr result (λ e. FaultIs (B.stock shelf.old) (uses_in (arc_value site).interfaces) e) }
     {
-        World::with_limits(alloc, site, MOST_ENTRIES, MOST_BYTES)
+        World::with_limits(alloc, site, shelf, MOST_ENTRIES, MOST_BYTES)
     }
 
     /// A world of a site in which nothing has happened, with these limits.
-    pub fn with_limits(
+    pub fn with_limits<B: Supplier<C>>(
         alloc: Global,
         site: Arc<Site>,
+        shelf: &mut B,
         entries: u64,
         bytes: u64,
-    ) -> Result<World, Memory>
+    ) -> Result<World<C>, ChainFault>
         requires built { is_built_site (arc_value site) ≡ true }
         requires entries { entries ≤ entries_limit }
         requires bytes { bytes ≤ bytes_limit }
-        ensures held { IfOk result (λ world. held_in world ≡ first_held (arc_value site) entries bytes) }
+        ensures held { IfOk result (λ world. (chains : List ChainData) × AreFresh (chains_in (arc_value site).interfaces) chains × (held_in world ≡ first_held (arc_value site) entries bytes chains)) }
+        ensures few { length (arc_value site).interfaces ≤ 16 }
         ensures going { IfOk result (λ world. GoesOn world) }
+        ensures enough { OnOk result (first_short (B.stock shelf.old) (use_specs (uses_in (arc_value site).interfaces)) ≡ None) }
+        ensures fault { IfErr result (λ e. FaultIs (B.stock shelf.old) (uses_in (arc_value site).interfaces) e) }
     {
-        Ok(World {
-            running: Running::new(alloc, site, entries, bytes)?,
-            ended: None,
-        })
+        let interfaces = site.interfaces.as_slice();
+        let chains = shelf.build_all(alloc, interfaces)?;
+        match Running::new(alloc, site, chains, entries, bytes) {
+            Ok(running) => Ok(World {
+                running,
+                ended: None,
+            }),
+            Err(_) => Err(ChainFault::Memory),
+        }
     }
 
     /// The history with its site.
@@ -66,8 +100,9 @@ impl World {
         self.running.hall()
     }
 
-    /// Does one event, which has to be built. Its entries then stand at the end of the history. Where it is not done,
-    /// nothing is changed; and once the history was full or memory ran out, the world answers that to every event.
+    /// Does one event, which has to be built. Its entries then stand at the end of the history. Where it is not enabled,
+    /// nothing is changed. Where the history is full or memory runs out nothing is appended, and the world answers that to
+    /// every further event.
     pub fn step(&mut self, event: &Event) -> Result<Effect, WorldFault>
         requires { is_built_event event.now ≡ true }
         ensures step { (site : SiteData) (s : State) → GoesOn self.old → Represents site (held_in self.old) s → Steps site s event.now (held_in self.old) result (held_in self.new) }

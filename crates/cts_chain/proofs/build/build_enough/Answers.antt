@@ -2,16 +2,16 @@ use Rattle.std.proofs.Common.{arith, ap, subst, sym, ◌∙◌, map}
 use Rattle.cts_chain.specs.Chains.{AllFresh, specs_of}
 use Rattle.cts_chain.specs.Plans.{plan_data, plan_specs}
 use Rattle.cts_chain.specs.Stocking.{needed as needed_of}
-use Rattle.cts_chain.proofs.Planning.{enough_plans, specs_are, is_built}
-use Rattle.cts_chain.proofs.chain.Chain.build.Goals as goal
+use Rattle.cts_chain.proofs.Planning.{enough_plans, specs_are, is_fresh}
+use Rattle.cts_chain.proofs.build.build_enough.Goals as goal
 
 pub take_plans-requires-clause-enough : goal.take_plans-requires-clause-enough
 take_plans-requires-clause-enough g c k =
-    enough_plans _ (map plan_data c.in-Ok.plans.items) c.args.uses.now c.in-Ok.ensures.plans (sym c.first_short.ensures ∙ c.in_default.is) k
+    enough_plans _ (map plan_data c.in-Ok.plans.items) c.args.uses.now c.in-Ok.ensures.plans c.requires.enough k
 
-pub returns-clause-ok : goal.returns-clause-ok
-returns-clause-ok g c =
-    is_built _ c.args.uses.now (map plan_data c.in-Ok.plans.items) _ c.requires (sym c.first_short.ensures ∙ c.in_default.is) c.in-Ok.ensures.plans c.in-Ok.ensures.sound
+pub returns-clause-fresh : goal.returns-clause-fresh
+returns-clause-fresh g c =
+    is_fresh c.args.uses.now (map plan_data c.in-Ok.plans.items) _ c.requires.chain c.in-Ok.ensures.plans c.in-Ok.ensures.sound
     (ap specs_of c.of.ensures.stages ∙ rw (c.reserve.ensures.items, c.new-stages.ensures.items) at c.take_plans.ensures.stages)
     (ap specs_of c.of.ensures.beside ∙ rw (c.reserve-else-is_err.ensures.items, c.new-beside.ensures.items) at c.take_plans.ensures.beside)
     (c.of.ensures.parts ∙ rw (c.reserve-else-is_err-2.ensures.items, c.new-parts.ensures.items) at c.take_plans.ensures.parts)
