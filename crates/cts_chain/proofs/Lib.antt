@@ -5,3 +5,4 @@ pub mod Settled
 pub mod Keeping
 pub mod WritingSteps
 pub mod Planning
+pub mod ChainSpelling
