@@ -88,6 +88,7 @@ impl Chain {
         ensures ok { OnOk result (FedFirst (⟦<Chain as Chained>⟧.shape self.old).stages piece.now (⟦<Chain as Chained>⟧.shape self.new).stages) }
         ensures chain { IsChain (⟦<Chain as Chained>⟧.shape self.new) }
         ensures same { IsSameChain (⟦<Chain as Chained>⟧.shape self.old) (⟦<Chain as Chained>⟧.shape self.new) }
+        ensures place { (⟦<Chain as Chained>⟧.shape self.new).place ≡ (⟦<Chain as Chained>⟧.shape self.old).place }
         ensures kept { OnErr result (Reserved (⟦<Chain as Chained>⟧.shape self.old).stages (⟦<Chain as Chained>⟧.shape self.new).stages) }
         ensures idle { OnErr result (IsIdle (⟦<Chain as Chained>⟧.shape self.new)) }
     {
@@ -144,6 +145,7 @@ impl Chain {
         ensures renewed { Renewed (⟦<Chain as Chained>⟧.shape self.old).stages (⟦<Chain as Chained>⟧.shape self.new).stages }
         ensures idle { IsIdle (⟦<Chain as Chained>⟧.shape self.new) }
         ensures same { IsSameChain (⟦<Chain as Chained>⟧.shape self.old) (⟦<Chain as Chained>⟧.shape self.new) }
+        ensures place { (⟦<Chain as Chained>⟧.shape self.new).place ≡ (⟦<Chain as Chained>⟧.shape self.old).place }
     {
         reset_stages(&mut self.stages)
     }
