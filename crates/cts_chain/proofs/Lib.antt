@@ -6,3 +6,4 @@ pub mod Keeping
 pub mod WritingSteps
 pub mod Planning
 pub mod Counting
+pub mod ChainSpelling

@@ -2,7 +2,8 @@
 ghost use Rattle.std.specs.Prelude.{◌≡◌, ℕ, List, OnOk, OnErr, length, map, option_map};
 ghost use Rattle.cts_chain.specs.Chains.{Answers, FedFirst, given_by, loss_in, packet_at, Renewed, Reserved, Rises};
 ghost use Rattle.cts_chain.specs.Shapes.{ChainData, IsChain, IsGiving, IsIdle, IsSameChain, Leaves, writers};
-ghost use Rattle.cts_chain.specs.Writing.{Writes};
+ghost use Rattle.cts_chain.specs.Writing.{Writes, chain_spelling};
+ghost use Rattle.cts_spell.specs.Spelled.{Spells};
 ghost use Rattle.cts_spell.specs.Spellings.{heading_of};
 
 use crate::part::Part;
@@ -87,6 +88,7 @@ impl Chain {
         ensures ok { OnOk result (FedFirst (⟦<Chain as Chained>⟧.shape self.old).stages piece.now (⟦<Chain as Chained>⟧.shape self.new).stages) }
         ensures chain { IsChain (⟦<Chain as Chained>⟧.shape self.new) }
         ensures same { IsSameChain (⟦<Chain as Chained>⟧.shape self.old) (⟦<Chain as Chained>⟧.shape self.new) }
+        ensures place { (⟦<Chain as Chained>⟧.shape self.new).place ≡ (⟦<Chain as Chained>⟧.shape self.old).place }
         ensures kept { OnErr result (Reserved (⟦<Chain as Chained>⟧.shape self.old).stages (⟦<Chain as Chained>⟧.shape self.new).stages) }
         ensures idle { OnErr result (IsIdle (⟦<Chain as Chained>⟧.shape self.new)) }
     {
@@ -143,6 +145,7 @@ impl Chain {
         ensures renewed { Renewed (⟦<Chain as Chained>⟧.shape self.old).stages (⟦<Chain as Chained>⟧.shape self.new).stages }
         ensures idle { IsIdle (⟦<Chain as Chained>⟧.shape self.new) }
         ensures same { IsSameChain (⟦<Chain as Chained>⟧.shape self.old) (⟦<Chain as Chained>⟧.shape self.new) }
+        ensures place { (⟦<Chain as Chained>⟧.shape self.new).place ≡ (⟦<Chain as Chained>⟧.shape self.old).place }
     {
         reset_stages(&mut self.stages)
     }
@@ -155,7 +158,8 @@ impl Chain {
     /// The refusal of the first protocol that refuses what it is to write, and `Memory`. Then nothing was appended.
     pub fn encode(&self, label: &Label, packet: &[u8], out: &mut Vec<u8>) -> Result<(), EncodeFault>
         requires { IsChain (⟦<Chain as Chained>⟧.shape self.now) }
-        ensures { Writes (writers (⟦<Chain as Chained>⟧.shape self.now)) (heading_of label.now) packet.now out.old.items out.new.items result }
+        ensures put { Writes (writers (⟦<Chain as Chained>⟧.shape self.now)) (heading_of label.now) packet.now out.old.items out.new.items result }
+        ensures spelled { Spells (chain_spelling (writers (⟦<Chain as Chained>⟧.shape self.now)) (heading_of label.now) packet.now) out.old.items out.new.items result }
     {
         write_from(
             self.alloc,

@@ -16,6 +16,6 @@ mod writing;
 
 pub use build::{ChainFault, build_all};
 pub use chain::{Chain, Chained};
-pub use laws::chains;
+pub use laws::{chains, chains_spell};
 pub use part::Part;
 pub use pulled::ChainStep;

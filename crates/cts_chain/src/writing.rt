@@ -1,9 +1,10 @@
 // How the protocols of a chain write.
-ghost use Rattle.std.specs.Prelude.{map, [], length};
+ghost use Rattle.std.specs.Prelude.{map, [], length, Some};
 ghost use Rattle.cts_chain.specs.Chains.{AllConfigured, specs_of};
 ghost use Rattle.cts_chain.specs.Shapes.{AllSoundSpecs, writers_of};
-ghost use Rattle.cts_chain.specs.Writing.{Writes};
+ghost use Rattle.cts_chain.specs.Writing.{Writes, chain_spelling};
 ghost use Rattle.cts_frame.specs.Framing.{Heading};
+ghost use Rattle.cts_spell.specs.Spelled.{Spells};
 ghost use Rattle.cts_spell.specs.Spellings.{heading_of};
 
 use crate::part::Part;
@@ -25,7 +26,8 @@ pub(crate) fn write_from<P: Protocol>(
     requires stages { AllConfigured (map P.meaning stages.now) }
     requires beside { AllConfigured (map P.meaning beside.now) }
     requires sound { AllSoundSpecs (writers_of parts.now (specs_of (map P.meaning stages.now)) (specs_of (map P.meaning beside.now))) }
-    ensures { Writes (writers_of parts.now (specs_of (map P.meaning stages.now)) (specs_of (map P.meaning beside.now))) (heading_of label.now) packet.now out.old.items out.new.items result }
+    ensures put { Writes (writers_of parts.now (specs_of (map P.meaning stages.now)) (specs_of (map P.meaning beside.now))) (heading_of label.now) packet.now out.old.items out.new.items result }
+    ensures spelled { Spells (chain_spelling (writers_of parts.now (specs_of (map P.meaning stages.now)) (specs_of (map P.meaning beside.now))) (heading_of label.now) packet.now) out.old.items out.new.items result }
 {
     let Some((part, parts)) = parts.split_first() else {
         return put(packet, out);
@@ -58,7 +60,8 @@ pub(crate) fn write_from<P: Protocol>(
 
 /// The packet alone, where no protocol writes.
 fn put(packet: &[u8], out: &mut Vec<u8>) -> Result<(), EncodeFault>
-    ensures { (h : Heading) → Writes [] h packet.now out.old.items out.new.items result }
+    ensures put { (h : Heading) → Writes [] h packet.now out.old.items out.new.items result }
+    ensures spelled { Spells (Some packet.now) out.old.items out.new.items result }
 {
     match out.extend_from_slice(packet) {
         Ok(()) => Ok(()),

@@ -5,5 +5,5 @@ mod fixed;
 mod found;
 mod starts;
 
-pub use fixed::Fixed;
+pub use fixed::{Fixed, FixedSearch};
 pub use starts::{begins_with, first_start};

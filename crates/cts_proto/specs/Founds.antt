@@ -1,5 +1,6 @@
 -- What a search finds where a frame may begin.
 use Rattle.std.specs.Prelude.{◌≡◌, ℕ, ◌≤◌, ◌<◌, true, List, ◌++◌, length, take, drop, slice_range, Option, Some, None}
+use Rattle.cts_def.specs.declared.bad_cause.BadCause.{BadCause}
 use Rattle.cts_proto.specs.declared.step.Found.{Found}
 use Rattle.cts_proto.specs.declared.step.Found.TheVariants.{Frame, Nothing, Fault}
 use Rattle.cts_proto.specs.declared.step.Stamp.{Stamp}
@@ -46,3 +47,8 @@ pub record IsFirstPlace (sync bytes : List ℕ) (place : ℕ) : Type 0 where
   pub within : place ≤ length bytes
   pub clear : NoneBegins sync (take place bytes) (drop place bytes)
   pub synced : Agree sync (drop place bytes)
+
+-- how many of so many bytes were looked at in vain where cutting ends there: all, unless an error stands there
+abbrev pub seen_by : Option BadCause → ℕ → ℕ
+seen_by None len = len
+seen_by (Some cause) len = 0

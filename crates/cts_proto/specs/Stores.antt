@@ -1,13 +1,19 @@
 -- What the store of a protocol's bytes means.
-use Rattle.std.specs.Prelude.{ℕ, ◌+◌, ◌-◌, List, drop, vec_len, vec_capacity, Option, Some, None}
+use Rattle.std.specs.Prelude.{ℕ, ◌+◌, ◌-◌, List, take, drop, vec_len, vec_capacity, Option, Some, None}
 use Rattle.cts_def.specs.Protocols.{SpecData}
+use Rattle.cts_frame.specs.Framing.{Framing}
 use Rattle.cts_proto.specs.declared.step.Stamp.{Stamp}
 use Rattle.cts_proto.specs.declared.store.Store.{Store}
+use Rattle.cts_proto.specs.Founds.{NothingStands}
 use Rattle.cts_proto.specs.Meaning.{Meaning}
 
 -- the bytes that are in no frame given and not skipped
 abbrev pub left : Store → List ℕ
 left s = drop s.begin s.bytes.items
+
+-- Nothing stands in as many of the bytes that are left as were looked at, so a search may go on behind them.
+abbrev pub Looked : Framing → Store → Type 0
+Looked f s = NothingStands f (take s.seen (left s))
 
 -- the store of a protocol with this spec
 abbrev pub meaning_of : SpecData → Store → Meaning

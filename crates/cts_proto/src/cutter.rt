@@ -3,7 +3,8 @@ ghost use Rattle.std.specs.Prelude.{◌≡◌, ℕ, ◌+◌, ◌-◌, ◌^◌, �
 ghost use Rattle.cts_def.specs.Protocols.{SpecData, kind_of, spec_data};
 ghost use Rattle.cts_proto.specs.Founds.{StampFits};
 ghost use Rattle.cts_proto.specs.Meaning.{Meaning, Steps};
-ghost use Rattle.cts_proto.specs.Stores.{left, meaning_of, moved_stamp as moved_by};
+ghost use Rattle.cts_frame.specs.Rows.{framing_of};
+ghost use Rattle.cts_proto.specs.Stores.{Looked, left, meaning_of, moved_stamp as moved_by};
 
 use crate::gap::first_place;
 use crate::protocol::Protocol;
@@ -22,17 +23,17 @@ pub struct Cutter<S: Search> {
     spec: ProtoSpec,
     store: Store,
     ghost of_its_kind: { kind_of (spec_data spec) ≡ S.mine },
+    ghost looked: { Looked (framing_of (spec_data spec)) store },
 }
 
 impl<S: Search> Cutter<S> {
-    /// One that is not configured, with a spec of the search's kind. It takes no memory.
-    pub fn blank(alloc: Global, search: S, spec: ProtoSpec) -> Cutter<S>
-        requires { kind_of (spec_data spec) ≡ S.mine }
-        ensures { (⟦<Cutter<S> as Protocol>⟧.meaning result).spec ≡ spec_data spec }
+    /// One that is not configured. It takes no memory.
+    pub fn blank(alloc: Global) -> Cutter<S>
+        ensures { kind_of (⟦<Cutter<S> as Protocol>⟧.meaning result).spec ≡ S.mine }
     {
         Cutter {
-            search,
-            spec,
+            search: S::new(),
+            spec: S::blank_spec(alloc),
             store: Store::blank(alloc),
         }
     }
@@ -85,12 +86,14 @@ impl<S: Search> Protocol for Cutter<S> {
 fn next_of<S: Search>(search: &S, spec: &ProtoSpec, store: &mut Store) -> Step
     requires kind { kind_of (spec_data spec.now) ≡ S.mine }
     requires configured { store.old.configured ≡ true }
-    ensures { Steps (meaning_of (spec_data spec.now) store.old) result (meaning_of (spec_data spec.now) store.new) store.new.bytes.items }
+    requires looked { Looked (framing_of (spec_data spec.now)) store.old }
+    ensures step { Steps (meaning_of (spec_data spec.now) store.old) result (meaning_of (spec_data spec.now) store.new) store.new.bytes.items }
+    ensures looked { Looked (framing_of (spec_data spec.now)) store.new }
 {
     loop {
         let gap = first_place(sync_of(spec), store.left());
         store.skip(gap);
-        match search.find(spec, store.left(), 0) {
+        match search.find(spec, store.left(), store.seen) {
             Found::Frame {
                 len,
                 start,

@@ -2,6 +2,7 @@
 ghost use Rattle.std.specs.Prelude.{◌≡◌, ℕ, ◌+◌, ◌≤◌, List, [], ◌∷◌, ◌++◌, length, true, OnOk, OnErr, IsTrue};
 ghost use Rattle.cts_def.specs.Protocols.{kind_of, spec_data, is_sound_spec};
 ghost use Rattle.cts_frame.specs.Framing.{Output};
+ghost use Rattle.cts_spell.specs.Spelled.{Spells, spelling_of};
 ghost use Rattle.cts_spell.specs.Spellings.{Encodes, heading_of};
 ghost use Rattle.cts_proto.specs.Meaning.{Meaning, Blank, Fed, Roomier, Steps, Stands, GivenUp, output_in};
 
@@ -73,5 +74,6 @@ pub trait Protocol: Drop {
     fn encode(&self, label: &Label, bytes: &[u8], out: &mut Vec<u8>) -> Result<(), EncodeFault>
         requires configured { (meaning self.now).configured ≡ true }
         requires sound { IsTrue (is_sound_spec (meaning self.now).spec) }
-        ensures { Encodes (meaning self.now).spec (heading_of label.now) bytes.now out.old.items out.new.items result };
+        ensures put { Encodes (meaning self.now).spec (heading_of label.now) bytes.now out.old.items out.new.items result }
+        ensures spelled { Spells (spelling_of (meaning self.now).spec (heading_of label.now) bytes.now) out.old.items out.new.items result };
 }

@@ -8,11 +8,19 @@ ghost use Rattle.cts_proto.specs.Founds.{Finds, NothingStands};
 
 use crate::step::Found;
 use cts_def::{Kind, ProtoSpec};
+use std::alloc::Global;
 
 /// The search for a frame by protocols of one kind.
 pub trait Search: Drop {
     /// The kind of its protocols.
     ghost mine: { KindOf };
+
+    /// The search. It takes no memory.
+    fn new() -> Self;
+
+    /// A spec of its kind. It takes no memory.
+    fn blank_spec(alloc: Global) -> ProtoSpec
+        ensures { kind_of (spec_data result) ≡ mine };
 
     /// The kind of its protocols.
     fn kind(&self) -> Kind

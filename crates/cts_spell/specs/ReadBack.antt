@@ -51,7 +51,7 @@ SpellingsAreRead = (s : SpecData) (h : Heading) (bytes frame : List ℕ) → IsT
 -- Bytes that are not refused have one spelling.
 abbrev pub OneSpelling : Type 0
 OneSpelling = (s : SpecData) (h : Heading) (bytes one other : List ℕ) → IsTrue (is_sound_spec s) → refusal s h bytes ≡ None
-    → AreBytes one → AreBytes other → IsSpelling s h bytes one → IsSpelling s h bytes other → one ≡ other
+    → IsSpelling s h bytes one → IsSpelling s h bytes other → one ≡ other
 
 -- A head that was written is read again, whatever comes behind it, and it ends where it was written to.
 pub record HeadIsRead (h : HeadData) (behind : List ℕ) : Type 0 where

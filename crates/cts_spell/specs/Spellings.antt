@@ -6,7 +6,7 @@ use Rattle.cts_def.specs.Protocols.{LengthData, PreidentifiedData, SpecData, Bur
 use Rattle.cts_def.specs.Starts.{PlaceData}
 use Rattle.cts_def.specs.declared.label.Label.{Label}
 use Rattle.cts_frame.specs.Framing.{Heading}
-use Rattle.cts_frame.specs.Heads.{HeadData, head_bytes}
+use Rattle.cts_frame.specs.Heads.{AreBytes, HeadData, head_bytes}
 use Rattle.cts_frame.specs.Patterns.{first_place}
 use Rattle.cts_frame.specs.Rows.{frame_limit, is_over, reach, field}
 use Rattle.cts_spell.specs.declared.encode_fault.EncodeFault.{EncodeFault}
@@ -74,6 +74,7 @@ count_of l total = count_by l.value_offset l.per_count total
 
 -- the fourth step: the bytes with the number in the field, all other bits as they were
 pub record HasField (p : PlaceData) (number : ℕ) (old new : List ℕ) : Type 0 where
+  pub bytes : AreBytes new
   pub len : length new ≡ length old
   pub value : field p new ≡ number
   pub others : (k : ℕ) → ((j : ℕ) → j < p.bits → k ≡ bit_place_at p.order p.offset p.bits j → ⊥) → slice_index (bits_of new) k ≡ slice_index (bits_of old) k

@@ -1,9 +1,10 @@
 // Frames with a count in a field.
-ghost use Rattle.std.specs.Prelude.{◌≡◌, ◌≤◌, ◌<◌, ◌+◌, ◌^◌, true, nat_le, take, drop, vec_len};
+ghost use Rattle.std.specs.Prelude.{◌≡◌, ◌≤◌, ◌<◌, ◌+◌, ◌^◌, true, nat_le, length, take, drop, vec_len};
 ghost use Rattle.cts_bits.specs.Fields.{reach, size_of};
 ghost use Rattle.cts_def.specs.Protocols.{Length};
 ghost use Rattle.cts_def.specs.Starts.{place_data};
 ghost use Rattle.cts_frame.specs.Framing.{Heading};
+ghost use Rattle.cts_frame.specs.Heads.{AreBytes};
 ghost use Rattle.cts_spell.specs.Putting.{CountsFor, length_row};
 ghost use Rattle.cts_frame.specs.Rows.{is_over};
 ghost use Rattle.cts_spell.specs.Spellings.{Encodes, HasField, count_by};
@@ -73,6 +74,15 @@ fn count_for(
     }
 }
 
+/// Writes the number into the field.
+fn write_field(buffer: &mut [u8], place: &Place, number: u64)
+    requires room { reach place.now ≤ length buffer.old }
+    requires spelled { number < 2 ^ size_of place.now }
+    ensures { HasField (place_data place.now) number buffer.old buffer.new }
+{
+    write_uint(buffer, place, number);
+}
+
 /// Writes the count into its field in the bytes from this place on.
 fn write_count(out: &mut Vec<u8>, start: usize, place: &Place, count: u64)
     requires room { start + reach place.now ≤ vec_len out.old }
@@ -80,7 +90,7 @@ fn write_count(out: &mut Vec<u8>, start: usize, place: &Place, count: u64)
     ensures front { take start out.new.items ≡ take start out.old.items }
     ensures field { HasField (place_data place.now) count (drop start out.old.items) (drop start out.new.items) }
 {
-    write_uint(&mut out[start..], place, count);
+    write_field(&mut out[start..], place, count);
 }
 
 /// Appends zero bytes and the bytes, with the sync pattern over the first of them and the count in its field.
@@ -95,7 +105,8 @@ pub(crate) fn encode_counted(
     bytes: &[u8],
 ) -> Result<(), EncodeFault>
     requires { 1 ≤ per_count }
-    ensures { (h : Heading) → Encodes (Length (length_row (place_data place.now) value_offset.now per_count discard sync.now max true)) h bytes.now out.old.items out.new.items result }
+    ensures put { (h : Heading) → Encodes (Length (length_row (place_data place.now) value_offset.now per_count discard sync.now max true)) h bytes.now out.old.items out.new.items result }
+    ensures bytes { AreBytes sync.now }
 {
     let start = out.len();
     put_ended(out, discard as usize, bytes, &[])?;

@@ -3,6 +3,7 @@ ghost use Rattle.std.specs.Prelude.{◌≤◌, IsTrue, length};
 ghost use Rattle.cts_frame.specs.Framing.{Heading};
 ghost use Rattle.cts_spell.specs.Putting.{plain_data};
 ghost use Rattle.cts_def.specs.Protocols.{is_sound_spec, spec_data};
+ghost use Rattle.cts_spell.specs.Spelled.{Spells, spelling_of};
 ghost use Rattle.cts_spell.specs.Spellings.{Encodes, heading_of};
 
 use crate::EncodeFault;
@@ -25,7 +26,8 @@ pub fn encode(
     out: &mut Vec<u8>,
 ) -> Result<(), EncodeFault>
     requires { IsTrue (is_sound_spec (spec_data spec.now)) }
-    ensures { Encodes (spec_data spec.now) (heading_of label.now) bytes.now out.old.items out.new.items result }
+    ensures put { Encodes (spec_data spec.now) (heading_of label.now) bytes.now out.old.items out.new.items result }
+    ensures spelled { Spells (spelling_of (spec_data spec.now) (heading_of label.now) bytes.now) out.old.items out.new.items result }
 {
     match spec {
         ProtoSpec::Burst {

@@ -1,5 +1,6 @@
 // Laws of the definitions. Each function does nothing: its contract is the law.
 ghost use Rattle.cts_spell.specs.ReadBack.{HeadsAreRead, OneSpelling, SpellingsAreRead};
+ghost use Rattle.cts_spell.specs.Spelled.{SpellingsAreBytes, SpellingsAreTold};
 
 /// What a protocol writes without a refusal it reads again, as one frame with the bytes that were
 /// written, nothing skipped and nothing left: PREIDENTIFIED always, with the time and names of the
@@ -13,6 +14,13 @@ pub fn spellings()
 /// Bytes that are not refused have one spelling by a protocol and a label.
 pub fn one_spelling()
     ensures { OneSpelling }
+{}
+
+/// The spelling by a protocol is a function of the label and the bytes: there is none exactly where the bytes are refused,
+/// and else the one frame that is their spelling. What is written of bytes is bytes.
+pub fn spellings_are_told()
+    ensures told { SpellingsAreTold }
+    ensures bytes { SpellingsAreBytes }
 {}
 
 /// A head that was written is read again, whatever comes behind it: its time, its names and its

@@ -1,8 +1,8 @@
 -- What stands where a frame may begin that ends with a termination.
-use Rattle.std.proofs.Common.{◌≡◌, ℕ, ◌+◌, ◌-◌, ◌≤◌, ◌<◌, ◌⊎◌, inr, Bool, true, false, cond, List, length, take, drop, refl, sym, ◌∙◌, ap, arith, Option, Some, None, min}
-use Rattle.std.specs.Prelude.{nat_le}
+use Rattle.std.proofs.Common.{◌≡◌, ℕ, ◌+◌, ◌-◌, ◌≤◌, ◌<◌, ◌⊎◌, inr, Bool, true, false, cond, List, ◌++◌, length, take, drop, refl, sym, ◌∙◌, ap, arith, Option, Some, None, min}
+use Rattle.std.specs.Prelude.{◌==◌, max, nat_le}
 use Rattle.std.proofs.lemmas.Bool.Decides.{nat_tests}
-use Rattle.std.proofs.lemmas.List.{length-drop, length-take, length-take-le, drop-take}
+use Rattle.std.proofs.lemmas.List.{length-drop, length-take, length-take-le, drop-take, take-append-drop}
 use Rattle.cts_def.specs.Protocols.{TerminatedData, Terminated}
 use Rattle.cts_def.specs.declared.bad_cause.BadCause.TheVariants.{TooLong}
 use Rattle.cts_frame.specs.Cuts.{Ends}
@@ -12,9 +12,10 @@ use Rattle.cts_frame.specs.Rows.{frame_limit, framing_of, end_states, terminated
 use Rattle.cts_frame.specs.Stating.{Long}
 use Rattle.cts_frame.proofs.Fronts.{le_test, first_fits}
 use Rattle.cts_frame.proofs.TerminatedSteady.{terminated_steady}
-use Rattle.cts_proto.specs.Founds.{FindsFrame, output_at}
+use Rattle.cts_proto.specs.Founds.{FindsFrame, NothingStands, output_at}
 use Rattle.cts_proto.specs.StatedLaws.{StandsBy}
 use Rattle.cts_proto.proofs.Finding.{all_stand_by, span_front}
+use Rattle.cts_stream.specs.Seen.{first_unseen}
 use Rattle.cts_stream.proofs.Cutting.{take_min, take_fewer, take_turns, first_cut}
 
 not_full : (m n : ℕ) → n < m → nat_le m n ≡ false
@@ -81,3 +82,31 @@ module _ (t : TerminatedData) (u : List ℕ) (a : Agree t.sync u) where
 pub end_within : (b : Bool) (m n end : ℕ) → m ≤ n → end ≡ cond b m n → end ≤ n
 end_within true m n end h e = omega (arith, h, e)
 end_within false m n end h e = omega (arith, e)
+
+-- ---- no termination ends within bytes in which nothing stands
+
+from_by : (b : Bool) (seen s r from : ℕ) → from ≡ cond b s (max s (seen - r)) → (b ≡ false → 1 ≤ r) → (s ≤ from) × ((k : ℕ) → k < from - s → (s + k + r < seen) × (1 ≤ r))
+from_by true seen s r from e some = (omega (arith, e), λ k h. absurd (omega (arith, e, h)))
+from_by false seen s r from e some = (omega (arith, e), λ k h. (omega (arith, e, h), some refl))
+
+not_none : (n : ℕ) → (n == 0) ≡ false → 1 ≤ n
+not_none n h = grind (arith, nat_tests)
+
+from_sync : (seen s r from : ℕ) → from ≡ first_unseen seen s r → (s ≤ from) × ((k : ℕ) → k < from - s → (s + k + r < seen) × (1 ≤ r))
+from_sync seen s r from e = from_by (r == 0) seen s r from e (not_none r)
+
+pub order_seen : (seen s r from : ℕ) → from ≡ first_unseen seen s r → s ≤ from
+order_seen seen s r from e = (from_sync seen s r from e).0
+
+pub none_seen : (t : TerminatedData) (u : List ℕ) (m seen from : ℕ) → Agree t.sync u → length t.sync ≤ length u → NothingStands (framing_of (Terminated t)) (take seen u) → m ≡ min (length u) frame_limit
+    → from ≡ first_unseen seen (length t.sync) (length t.read) → (k : ℕ) → k < from - length t.sync → first_place t.read (drop (length t.sync) (take m u)) ≡ Some k → ⊥
+none_seen t u m seen from a room nothing e at k h f =
+    let near = (from_sync seen (length t.sync) (length t.read) from at).1 k h in
+    let found : first_place t.read (looked_in t u) ≡ Some k = same_first t u (drop (length t.sync) (take m u)) m (Some k) e refl (sym f) in
+    let n : ℕ = length t.sync + k + length t.read in
+    let end : ℕ = cond t.strip (length t.sync + k) n in
+    let whole = (terminated_found t u a k found n end (min t.discard end) refl (omega (arith, near.1)) room refl refl).whole in
+    let seen_u : List ℕ = take seen u in
+    let front : take n seen_u ≡ take n u = take_fewer n seen u (omega (arith, near.0)) in
+    let parts : seen_u ≡ take n u ++ drop n seen_u = sym (take-append-drop n seen_u) ∙ ap (λ (x : List ℕ). x ++ drop n seen_u) front in
+    nothing.no_frame (take n u) (drop n seen_u) parts whole

@@ -7,8 +7,10 @@ ghost use Rattle.cts_proto.specs.Founds.{Finds};
 ghost use Rattle.cts_stream.specs.Parameters.{burst_data};
 
 use crate::length::FRAME_LIMIT;
+use crate::protocols::no_bytes;
 use cts_def::{BadCause, Kind, ProtoSpec};
 use cts_proto::{Found, Search};
+use std::alloc::Global;
 
 /// The search by BURST: a frame is all that came at once, from the sync pattern on.
 #[derive(Drop)]
@@ -18,6 +20,18 @@ impl Search for BurstSearch {
     ghost use Rattle.cts_def.specs.declared.proto_spec.Kind.TheVariants as kinds;
 
     ghost mine = { kinds.Burst };
+
+    fn new() -> Self {
+        BurstSearch
+    }
+
+    fn blank_spec(alloc: Global) -> ProtoSpec {
+        ProtoSpec::Burst {
+            discard: 0,
+            sync: no_bytes(alloc),
+            fill: false,
+        }
+    }
 
     fn kind(&self) -> Kind {
         Kind::Burst

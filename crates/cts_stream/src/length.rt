@@ -8,9 +8,11 @@ ghost use Rattle.cts_proto.specs.Founds.{Finds};
 ghost use Rattle.cts_stream.specs.Judged.{stated_as, Tells};
 ghost use Rattle.cts_stream.specs.Parameters.{length_data};
 
-use cts_bits::{Place, read_uint};
+use crate::protocols::no_bytes;
+use cts_bits::{Order, Place, read_uint};
 use cts_def::{BadCause, Kind, ProtoSpec};
 use cts_proto::{Found, Search};
+use std::alloc::Global;
 
 /// The greatest number of bytes in a frame.
 pub(crate) const FRAME_LIMIT: usize = 1_048_576;
@@ -23,6 +25,25 @@ impl Search for LengthSearch {
     ghost use Rattle.cts_def.specs.declared.proto_spec.Kind.TheVariants as kinds;
 
     ghost mine = { kinds.Length };
+
+    fn new() -> Self {
+        LengthSearch
+    }
+
+    fn blank_spec(alloc: Global) -> ProtoSpec {
+        let Ok(place) = Place::new(0, 16, Order::Big) else {
+            unreachable!();
+        };
+        ProtoSpec::Length {
+            place,
+            value_offset: 0,
+            per_count: 1,
+            discard: 0,
+            sync: no_bytes(alloc),
+            max: None,
+            fill: false,
+        }
+    }
 
     fn kind(&self) -> Kind {
         Kind::Length
