@@ -1,5 +1,5 @@
 -- All that is kept stands for one entry more.
-use Rattle.std.proofs.Common.{◌≡◌, ◌≢◌, ◌∷◌, [], ◌++◌, ℕ, zero, suc, ◌+◌, ◌<◌, ◌≤◌, ◌-◌, ◌^◌, Bool, true, false, List, length, set, get_or, refl, sym, ◌∙◌, ap, subst, arith, Option, Some, None, map, append-nil, take, unwrap_or}
+use Rattle.std.proofs.Common.{◌≡◌, ◌≢◌, ◌∷◌, [], ◌++◌, ℕ, zero, suc, ◌+◌, ◌<◌, ◌≤◌, ◌-◌, ◌^◌, Bool, true, false, List, length, set, get_or, refl, sym, ◌∙◌, ap, subst, arith, Option, Some, None, map, append-nil, append_assoc, take, unwrap_or}
 use Rattle.std.specs.Prelude.{◌==◌, ◌&&◌, if◌then◌else◌, slice_get, All}
 use Rattle.std.proofs.lemmas.Grind.{common_steps}
 use Rattle.cts_def.specs.declared.ident.Ident.TheVariants.{Known, Unknown}
@@ -16,11 +16,12 @@ use Rattle.cts_watch.specs.declared.kept.Kept.{Kept}
 use Rattle.cts_watch.specs.declared.types.LimitsEvent.{LimitsEvent}
 use Rattle.cts_watch.specs.Gathered.{gathered_from}
 use Rattle.cts_watch.specs.Brought.{brought_by}
-use Rattle.cts_watch.specs.Events.{events, events_at, packet_events}
+use Rattle.cts_watch.specs.Events.{events_at, packet_events}
 use Rattle.cts_watch.specs.Settings.{watched, choice_told, current_set, sets_told, persistence_told, enabling_told}
+use Rattle.cts_watch.specs.Following.{IsWatchOf, WatchData}
 use Rattle.cts_watch.specs.Keeping.{CanStep, CanNote, ItemTells, ItemsTell, Tell, begun, given, turned, with_one, took_all, took_row, row_changes, row_at, noted, noted_changes, begun_rows}
-use Rattle.std.proofs.lemmas.List.{take_more, length-take-le}
-use Rattle.cts_watch.proofs.Telling.{events_more, chosen_more}
+use Rattle.std.proofs.lemmas.List.{take_more, length-append, length-take-le}
+use Rattle.cts_watch.proofs.Telling.{chosen_more, gathered_from_more}
 use Rattle.cts_watch.proofs.Tells.{Quiet, item_after, row_quiet, row_took, row_with, changes_are}
 
 -- an entry that says nothing of a packet and its items
@@ -236,26 +237,31 @@ pub begun_tells : (p : ℕ) (packets : List PacketData) → Tell p [] packets (b
 begun_tells p [] = tt
 begun_tells p (packet ∷ packets) = (items_begun packet p 0 packet.items, begun_tells (p + 1) packets)
 
--- ---- one more entry of a list
+-- ---- one more entry behind a history and some entries
 
-module _ (site : SiteData) (h : List Entry) (i : ℕ) (e : Entry) (current : List ℕ) (lt : i < length h) (is : e ≡ get_or h i e) (c : current ≡ current_set (take i h)) where
-  more : take (i + 1) h ≡ take i h ++ e ∷ []
-  more = take_more h i e lt ∙ ap (λ (x : Entry). take i h ++ x ∷ []) (sym is)
+module _ (site : SiteData) (h entries : List Entry) (n : ℕ) (e : Entry) (w : WatchData) (lt : n < length entries) (is : e ≡ get_or entries n e) (t : IsWatchOf site (h ++ take n entries) w) where
+  more : h ++ take (n + 1) entries ≡ (h ++ take n entries) ++ e ∷ []
+  more = ap (λ (x : List Entry). h ++ x) (take_more entries n e lt ∙ ap (λ (x : Entry). take n entries ++ x ∷ []) (sym is)) ∙ sym (append_assoc h (take n entries) (e ∷ []))
 
-  pub noted_take : (rows : List (List Kept)) → Tell 0 (take i h) site.definitions.telemetry rows → Tell 0 (take (i + 1) h) site.definitions.telemetry (noted site current e rows)
-  noted_take rows t =
-      subst (λ (x : List Entry). Tell 0 x site.definitions.telemetry (noted site current e rows)) (sym more)
-      (subst (λ (x : List ℕ). Tell 0 (take i h ++ e ∷ []) site.definitions.telemetry (noted site x e rows)) (sym c) (noted_tells site (take i h) e.by e.time e.what rows t))
+  pub watch_more : (new : WatchData) → new.rows ≡ noted site w.current e w.rows → new.current ≡ unwrap_or (choice_told e) w.current → IsWatchOf site (h ++ take (n + 1) entries) new
+  watch_more new rows current = record {
+    tells = subst (λ (x : List Entry). Tell 0 x site.definitions.telemetry new.rows) (sym more)
+        (subst (λ (x : List (List Kept)). Tell 0 ((h ++ take n entries) ++ e ∷ []) site.definitions.telemetry x) (sym rows)
+        (subst (λ (x : List ℕ). Tell 0 ((h ++ take n entries) ++ e ∷ []) site.definitions.telemetry (noted site x e w.rows)) (sym t.current) (noted_tells site (h ++ take n entries) e.by e.time e.what w.rows t.tells)));
+    current = current ∙ ap (λ (x : List ℕ). unwrap_or (choice_told e) x) t.current ∙ sym (ap current_set more ∙ chosen_more (h ++ take n entries) e);
+  }
 
-  pub events_take : (rows : List (List Kept)) (found : List LimitsEvent) → Tell 0 (take i h) site.definitions.telemetry rows → found ≡ events site (take i h) →
-      found ++ noted_changes site current i e rows ≡ events site (take (i + 1) h)
-  events_take rows found t f =
-      let n : length (take i h) ≡ i = length-take-le i h (omega (arith, lt)) in
-      ap (λ (x : List LimitsEvent). x ++ noted_changes site current i e rows) f
-      ∙ ap (λ (x : List ℕ). events site (take i h) ++ noted_changes site x i e rows) c
-      ∙ ap (λ (m : ℕ). events site (take i h) ++ noted_changes site (current_set (take i h)) m e rows) (sym n)
-      ∙ ap (λ (x : List LimitsEvent). events site (take i h) ++ x) (noted_events site (take i h) e.by e.time e.what rows t)
-      ∙ sym (ap (events site) more ∙ events_more site (take i h) e)
+  pub long : length (h ++ take n entries) ≡ length h + n
+  long = length-append h (take n entries) ∙ ap (λ (m : ℕ). length h + m) (length-take-le n entries (omega (arith, lt)))
 
-  pub choice_take : unwrap_or (choice_told e) current ≡ current_set (take (i + 1) h)
-  choice_take = ap (λ (x : List ℕ). unwrap_or (choice_told e) x) c ∙ sym (ap current_set more ∙ chosen_more (take i h) e)
+  pub changes_more : noted_changes site w.current (length h + n) e w.rows ≡ events_at site (h ++ take n entries) e
+  changes_more =
+      ap (λ (x : List ℕ). noted_changes site x (length h + n) e w.rows) t.current
+      ∙ ap (λ (m : ℕ). noted_changes site (current_set (h ++ take n entries)) m e w.rows) (sym long)
+      ∙ noted_events site (h ++ take n entries) e.by e.time e.what w.rows t.tells
+
+  pub gathered_one : gathered_from (events_at site) h (take (n + 1) entries) ≡ gathered_from (events_at site) h (take n entries) ++ noted_changes site w.current (length h + n) e w.rows
+  gathered_one =
+      ap (gathered_from (events_at site) h) (take_more entries n e lt ∙ ap (λ (x : Entry). take n entries ++ x ∷ []) (sym is))
+      ∙ gathered_from_more (events_at site) h (take n entries) e
+      ∙ ap (λ (x : List LimitsEvent). gathered_from (events_at site) h (take n entries) ++ x) (sym changes_more)

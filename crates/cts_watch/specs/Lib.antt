@@ -1,3 +1,4 @@
+pub mod Following
 pub mod Gathered
 pub mod Brought
 pub mod Items

@@ -1,6 +1,6 @@
 -- Which limits sets are known.
 use Rattle.std.specs.Prelude.{ℕ, Bool, false, List, [], ◌∷◌, ◌++◌, length, Option, None, Some, if◌then◌else◌}
-use Rattle.std.specs.List.{list_any}
+use Rattle.std.specs.List.{IsDistinct, list_any}
 use Rattle.cts_def.specs.Items.{is_same}
 use Rattle.cts_def.specs.Sites.{SiteData}
 use Rattle.cts_entry.specs.declared.entry.Entry.{Entry}
@@ -62,3 +62,7 @@ sets_known site history = length (known_sets site history)
 abbrev pub news : List (List ℕ) → Option (List ℕ) → ℕ
 news sets None = 0
 news sets (Some name) = if is_among sets name then 0 else 1
+
+-- No known set is known twice.
+abbrev pub SetsAreApart : SiteData → List Entry → Type 0
+SetsAreApart site history = IsDistinct is_same (known_sets site history)
