@@ -39,11 +39,7 @@ fn built_site(alloc: Global) -> Result<Arc<Site>, Fail>
 }
 
 /// What the world answers to an event, in words.
-fn answer<C: Framer>(
-    alloc: Global,
-    world: &mut World<C>,
-    event: &Event,
-) -> Result<String, Fail> {
+fn answer<C: Framer>(alloc: Global, world: &mut World<C>, event: &Event) -> Result<String, Fail> {
     if !is_built_event(event) {
         return Err(Fail::new("not built"));
     }
@@ -186,7 +182,8 @@ fn a_trial_of_a_full_history_says_so_and_the_world_goes_on(rt: HostRuntime) -> R
 const CHAINS: &str = "\
 BURST|0105060708|0 0.000000 I OPENED;1 0.000000 I PACKET T A 0105060708;
 PREIDENTIFIED 0xab|ab000000050000000601540141000000030205 06|0 0.000000 I OPENED;1 5.000006 I PACKET T A 020506;
-TERMINATED 0x0a 0x0a;PROTOCOL READ LENGTH 0 8 0 1|03110a00 0a01|0 0.000000 I OPENED;1 0.000000 I PACKET UNKNOWN UNKNOWN 031100;";
+TERMINATED 0x0a 0x0a;PROTOCOL READ LENGTH 0 8 0 1|03110a00 0a01|0 0.000000 I OPENED;1 0.000000 I PACKET UNKNOWN UNKNOWN 031100;
+TERMINATED 0x0a 0x0a;PROTOCOL READ LENGTH 0 8 0 1|000a020a01|0 0.000000 I OPENED;1 0.000000 I CLOSED BAD 2 SHORT 0 held 1 2 0 0 skipped 0 empty 0 unposted 0 unsent 0;";
 
 /// What the history says after the pieces came by the one interface.
 fn told_by<C: Framer, B: Supplier<C>>(
@@ -195,8 +192,14 @@ fn told_by<C: Framer, B: Supplier<C>>(
     pieces: &str,
     shelf: &mut B,
 ) -> Result<String, Fail> {
-    let text = format!(in alloc; "INTERFACE I tcpip_client_interface.rb h 1 1 10.0 nil {protocols};TARGET T")?;
-    let site = site_of(alloc, "TELEMETRY T A BIG_ENDIAN;APPEND_ID_ITEM K 8 UINT 1", text.as_str())?;
+    let text = format!(in alloc;
+        "INTERFACE I tcpip_client_interface.rb h 1 1 10.0 nil {protocols};TARGET T"
+    )?;
+    let site = site_of(
+        alloc,
+        "TELEMETRY T A BIG_ENDIAN;APPEND_ID_ITEM K 8 UINT 1",
+        text.as_str(),
+    )?;
     if !is_built_site(&site) {
         return Err(Fail::new("not built"));
     }
@@ -224,7 +227,9 @@ fn lines_of<C: Framer>(alloc: Global, world: &World<C>) -> Result<String, Fail> 
 }
 
 #[test]
-fn packets_bring_their_own_time_and_names_and_chains_end_with_all_losses(rt: HostRuntime) -> Result<(), Fail> {
+fn packets_bring_their_own_time_and_names_and_chains_end_with_all_losses(
+    rt: HostRuntime,
+) -> Result<(), Fail> {
     let alloc = rt.alloc();
     for row in CHAINS.lines() {
         let Some((protocols, rest)) = row.split_once('|') else {
@@ -241,7 +246,8 @@ fn packets_bring_their_own_time_and_names_and_chains_end_with_all_losses(rt: Hos
 
 /// Whether the first kind that is short over all interfaces is told.
 fn short_of<C: Framer, B: Supplier<C>>(alloc: Global, shelf: &mut B) -> Result<ChainFault, Fail> {
-    let text = "INTERFACE I tcpip_client_interface.rb h 1 1 10.0 nil TERMINATED 0x0a 0x0a;INTERFACE J tcpip_client_interface.rb h 2 2 10.0 nil TERMINATED 0x0a 0x0a";
+    let text =
+        "INTERFACE I tcpip_client_interface.rb h 1 1 10.0 nil TERMINATED 0x0a 0x0a;INTERFACE J tcpip_client_interface.rb h 2 2 10.0 nil TERMINATED 0x0a 0x0a";
     let site = site_of(alloc, "", text)?;
     if !is_built_site(&site) {
         return Err(Fail::new("not built"));
