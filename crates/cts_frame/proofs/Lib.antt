@@ -14,9 +14,6 @@ pub mod FixedSteady
 pub mod PreidentifiedSteady
 pub mod BurstSound
 pub mod Sound
-pub mod LengthSound
-pub mod LengthFrames
-pub mod LengthFinds
 pub mod Chainings
 pub mod SyncPattern
 pub mod SoFarLaws

@@ -15,5 +15,3 @@ pub mod Frames
 pub mod Errors
 pub mod RowLaws
 pub mod WorkedCuts
-pub mod LengthRow
-pub mod Cuttings

@@ -1,11 +1,9 @@
-//! Tests of the parts of a running server over sites that were read: frames, worlds, names, lines of the history and more. They
+//! Tests of the parts of a running server over sites that were read: worlds, names, lines of the history and more. They
 //! stand above these crates, so that none of them is proved a second time for them.
 #![tactic(auto)]
 
 #[cfg(test)]
 mod colors;
-#[cfg(test)]
-mod frames;
 #[cfg(test)]
 mod history;
 #[cfg(test)]
