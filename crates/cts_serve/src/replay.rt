@@ -16,6 +16,7 @@ use cts_core::World;
 use cts_def::Site;
 use cts_entry::Event;
 use cts_outside::Sink;
+use cts_watch::Follower;
 use halt::Halt;
 use printing::put_end;
 use std::alloc::Global;
@@ -55,9 +56,12 @@ fn replay_from<O: Sink>(
     requires going { GoesOn world }
     ensures { Replays (held_in world).basis.site events.now result (O.seen out.old) (O.seen out.new) }
 {
+    let Ok(mut follower) = Follower::begin(alloc, world.hall().site()) else {
+        return Err(Halt::Memory);
+    };
     let mut left = events;
     'events: while let Some((next, after)) = left.split_first() {
-        match do_event(alloc, &mut world, next.0, &next.1, out) {
+        match do_event(alloc, &mut world, &mut follower, next.0, &next.1, out) {
             Ok(()) => left = after,
             Err(halt) => return Err(halt),
         }

@@ -1,11 +1,12 @@
 // What a replay prints of an event.
-ghost use Rattle.std.specs.Prelude.{◌≡◌, ◌++◌, map, take, drop, IfOk};
+ghost use Rattle.std.specs.Prelude.{◌≡◌, ◌≤◌, ◌++◌, length, map, take, drop, IfOk, OnOk};
 ghost use Rattle.std.specs.List.{filter};
 ghost use Rattle.cts_script.specs.Effects.{effect_line};
 ghost use Rattle.cts_serve.specs.Ending.Lines.{end_line};
 ghost use Rattle.cts_serve.specs.Putting.{PutsText};
 ghost use Rattle.cts_serve.specs.Replay.Transcript.{line_event, lines_of};
 ghost use Rattle.cts_watch.specs.Events.{events_from};
+ghost use Rattle.cts_watch.specs.Following.{Follows};
 ghost use Rattle.cts_watch.proofs.Placed.{at_place};
 
 use crate::ending::lines;
@@ -16,22 +17,43 @@ use cts_entry::{Effect, Entry};
 use cts_outside::Sink;
 use cts_script::{LimitsEvent, effect_line, entry_lines};
 use cts_table::{Hall, LimitsEvent as Change};
+use cts_watch::Follower;
 use std::alloc::Global;
 
 /// Puts the lines of the entries from this number on, each with its limits events behind it, and behind them that of an effect,
-/// in one piece if there are any.
+/// in one piece if there are any. The follower has to stand for the entries before them, and then stands for all.
 pub fn put_event<O: Sink>(
     alloc: Global,
     hall: &Hall,
+    follower: &mut Follower,
     from: usize,
     effect: &Effect,
     out: &mut O,
 ) -> Result<(), Unput>
-    ensures { PutsText (lines_of hall.now.basis.site (take from hall.now.entries) (drop from hall.now.entries) ++ effect_line hall.now.basis.site effect.now) result (O.seen out.old) (O.seen out.new) }
+    requires within { from ≤ length hall.now.entries }
+    requires follows { Follows hall.now.basis.site (take from hall.now.entries) follower.old }
+    ensures follows { OnOk result (Follows hall.now.basis.site hall.now.entries follower.new) }
+    ensures puts { PutsText (lines_of hall.now.basis.site (take from hall.now.entries) (drop from hall.now.entries) ++ effect_line hall.now.basis.site effect.now) result (O.seen out.old) (O.seen out.new) }
 {
-    let changes = hall.events(alloc, from as u64)?;
+    let changes = changes_from(alloc, hall, follower, from)?;
     let text = event_text(alloc, hall.site(), hall.entries(), &changes, from, effect)?;
     put_text(out, &text)
+}
+
+// The changes of limits states at the entries from this number on.
+fn changes_from(
+    alloc: Global,
+    hall: &Hall,
+    follower: &mut Follower,
+    from: usize,
+) -> Result<Vec<Change>, Memory>
+    requires within { from ≤ length hall.now.entries }
+    requires follows { Follows hall.now.basis.site (take from hall.now.entries) follower.old }
+    ensures changes { IfOk result (λ v. v.items ≡ events_from hall.now.basis.site hall.now.entries from) }
+    ensures follows { IfOk result (λ _. Follows hall.now.basis.site hall.now.entries follower.new) }
+{
+    hall.is_kept();
+    follower.follow(alloc, hall.site(), &hall.entries()[from..])
 }
 
 /// Puts the number of entries. A replay is done only where this is put too.

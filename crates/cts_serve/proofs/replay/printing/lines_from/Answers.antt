@@ -1,4 +1,4 @@
-use Rattle.std.proofs.Common.{◌≡◌, ℕ, ◌+◌, ◌-◌, ◌<◌, ◌≤◌, List, [], ◌∷◌, ◌++◌, map, sym, append_assoc, length-append, length, min, take, drop, arith, get_or, ap, subst, ◌∙◌, length-drop, length-take}
+use Rattle.std.proofs.Common.{◌≡◌, ℕ, ◌+◌, ◌-◌, ◌<◌, ◌≤◌, List, ◌∷◌, ◌++◌, map, sym, append_assoc, length-append, length, min, take, drop, arith, get_or, ap, subst, ◌∙◌, length-drop, length-take}
 use Rattle.std.proofs.lemmas.List.{drop_min, drop_more, take-append-drop}
 use Rattle.std.specs.List.{filter}
 use Rattle.cts_def.specs.Sites.{SiteData}

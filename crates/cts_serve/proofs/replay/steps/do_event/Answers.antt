@@ -1,4 +1,7 @@
-use Rattle.std.proofs.Common.{refl, subst, ◌∙◌, Err}
+use Rattle.std.proofs.Common.{ℕ, List, length, ap, refl, subst, ◌∙◌, Err}
+use Rattle.cts_entry.specs.declared.entry.Entry.{Entry}
+use Rattle.cts_serve.specs.Putting.{FailsWithin, IsPut}
+use Rattle.cts_serve.proofs.FollowingLemmas.{text_is}
 use Rattle.cts_core.specs.Endings.{held_in}
 use Rattle.cts_core.specs.Worlds.{Steps}
 use Rattle.cts_core.specs.declared.fault.WorldFault.{WorldFault}
@@ -13,3 +16,18 @@ pub returns-in-Err-Full-clause-does : goal.returns-in-Err-Full-clause-does
 returns-in-Err-Full-clause-does g c = λ site s h.
     let r = subst (λ (f : WorldFault). Steps site s c.args.event.now (held_in c.args.world.now) (Err f) (held_in c.step.new.self)) c.in-Err-Full.field-0-is (c.in-Err-Full.ensures.step site s c.requires.going h) in
     (r.0, c.in-Err-Full.entries-is ∙ r.1, c.in-Err-Full.bytes-is ∙ r.2, refl)
+
+pub returns-in-Ok-put_event-clause-does : goal.returns-in-Ok-put_event-clause-does
+returns-in-Ok-put_event-clause-does g c = λ site s h.
+    let r = c.in-Ok.ensures.step site s c.requires.going h in
+    let same = text_is site s c.args.event.now r.0 (held_in c.args.world.now) (held_in c.step.new.self) h r.3 (length c.entries-before.result.now) c.hall-in-Ok.result.now.entries c.hall-in-Ok.result.now.basis c.in-Ok.effect
+    (ap (λ (t : List Entry). length t) (c.entries-before.ensures ∙ c.hall.ensures.entries)) c.hall-in-Ok.ensures.entries c.hall-in-Ok.ensures.basis r.2 in
+    (r.0, r.1, r.3, subst (λ (t : List ℕ). IsPut t (g.O.Sink.seen c.args.out.now) (g.O.Sink.seen c.put_event.new.out)) same c.in-Ok-put_event.ensures.puts)
+
+pub returns-in-Err-WriteFault-clause-does : goal.returns-in-Err-WriteFault-clause-does
+returns-in-Err-WriteFault-clause-does g c = λ site s h.
+    let r = c.in-Ok.ensures.step site s c.requires.going h in
+    let same = text_is site s c.args.event.now r.0 (held_in c.args.world.now) (held_in c.step.new.self) h r.3 (length c.entries-before.result.now) c.hall-in-Ok.result.now.entries c.hall-in-Ok.result.now.basis c.in-Ok.effect
+    (ap (λ (t : List Entry). length t) (c.entries-before.ensures ∙ c.hall.ensures.entries)) c.hall-in-Ok.ensures.entries c.hall-in-Ok.ensures.basis r.2 in
+    let fails = rw c.in-Err-WriteFault.field-0-is at c.in-Err-WriteFault.ensures.puts in
+    (r.0, r.1, subst (λ (t : List ℕ). FailsWithin t (g.O.Sink.seen c.args.out.now) (g.O.Sink.seen c.put_event.new.out)) same fails)
