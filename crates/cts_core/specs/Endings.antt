@@ -4,13 +4,17 @@ use Rattle.cts_entry.specs.declared.event.Effect.{Effect}
 use Rattle.cts_core.specs.Worlds.{Held}
 use Rattle.cts_core.specs.declared.fault.WorldFault.{WorldFault}
 use Rattle.cts_core.specs.declared.fault.WorldFault.TheVariants.{NotEnabled as RefusedEvent, Full, Memory}
-use Rattle.cts_core.specs.declared.world.World.{World}
 
-abbrev pub held_in : World → Held
-held_in w = w.running
+-- what contracts see of a world: what it holds, and what it answers for good, if its history was full or memory ran out
+pub record WorldData : Type 0 where
+  pub held : Held
+  pub ended : Option WorldFault
+
+abbrev pub held_in : WorldData → Held
+held_in w = w.held
 
 -- it has not ended: its history was not full at any event so far, and memory did not run out
-abbrev pub GoesOn : World → Type 0
+abbrev pub GoesOn : WorldData → Type 0
 GoesOn w = w.ended ≡ None
 
 -- what a world answers for good after this answer: that its history is full, or that memory ran out

@@ -4,25 +4,39 @@ ghost use Rattle.std.specs.Arc.{arc_value};
 ghost use Rattle.cts_core.specs.Endings.{lasting};
 
 use crate::fault::WorldFault;
+use crate::framer::{Framer, Supplier};
 use crate::running::Running;
-use cts_base::Memory;
+use cts_chain::ChainFault;
 use cts_def::Site;
 use cts_entry::{Effect, Event, MOST_BYTES, MOST_ENTRIES};
 use cts_table::Hall;
 use std::alloc::Global;
+use std::marker::Model;
 use std::sync::Arc;
 
-/// The server's core: its history, and of the connections that stand the bytes that no packet has yet.
+/// The server's core: its history, and the connections of its interfaces with their chains of protocols.
 #[derive(Drop)]
-pub struct World {
+pub struct World<C: Framer> {
     /// What it holds.
-    pub(crate) running: Running,
+    running: Running,
+    /// The chains of its interfaces.
+    chains: Vec<C>,
     /// What it answers for good, once its history was full or memory ran out.
-    pub(crate) ended: Option<WorldFault>,
+    ended: Option<WorldFault>,
 }
 
-impl World {
-    ghost use Rattle.std.specs.Prelude.{◌≡◌, ◌≤◌, true, Some, Err, IfOk};
+impl<C: Framer> Model for World<C> {
+    ghost use Rattle.cts_core.specs.Endings.{WorldData};
+
+    ghost Value = { WorldData };
+
+    ghost view = { λ a. record { held = a.running; ended = a.ended } };
+}
+
+impl<C: Framer> World<C> {
+    ghost use Rattle.std.specs.Prelude.{◌≡◌, ◌≤◌, true, None, Some, Err, IfErr, IfOk, OnOk};
+    ghost use Rattle.cts_chain.specs.Builds.{FaultIs, use_specs, uses_in};
+    ghost use Rattle.cts_chain.specs.Stocking.{first_short};
     ghost use Rattle.cts_core.specs.Built.{is_built_event, is_built_site};
     ghost use Rattle.cts_core.specs.States.{State, opening};
     ghost use Rattle.cts_core.specs.Endings.{GoesOn, held_in, lasting};
@@ -30,32 +44,52 @@ impl World {
     ghost use Rattle.cts_def.specs.Sites.{SiteData};
     ghost use Rattle.cts_entry.specs.Legal.{most_entries as entries_limit, most_bytes as bytes_limit};
 
-    /// A world of a site in which nothing has happened, with the limits of a server.
-    pub fn new(alloc: Global, site: Arc<Site>) -> Result<World, Memory>
+    /// A world of a site in which nothing has happened, with the limits of a server. The boxes of its chains are taken from the
+    /// shelf.
+    ///
+    /// # Errors
+    ///
+    /// `ShelfEmpty` with the first kind, in their order, of which all chains of the site together need more boxes than the shelf
+    /// holds, and `Memory`.
+    pub fn new<B: Supplier<C>>(
+        alloc: Global,
+        site: Arc<Site>,
+        shelf: &mut B,
+    ) -> Result<World<C>, ChainFault>
         requires { is_built_site (arc_value site) ≡ true }
         ensures stands { IfOk result (λ world. Represents (arc_value site) (held_in world) opening) }
         ensures going { IfOk result (λ world. GoesOn world) }
+        ensures enough { OnOk result (first_short (B.stock shelf.old) (use_specs (uses_in (arc_value site).interfaces)) ≡ None) }
+        ensures fault { IfErr result (λ e. FaultIs (B.stock shelf.old) (uses_in (arc_value site).interfaces) e) }
     {
-        World::with_limits(alloc, site, MOST_ENTRIES, MOST_BYTES)
+        World::with_limits(alloc, site, shelf, MOST_ENTRIES, MOST_BYTES)
     }
 
     /// A world of a site in which nothing has happened, with these limits.
-    pub fn with_limits(
+    pub fn with_limits<B: Supplier<C>>(
         alloc: Global,
         site: Arc<Site>,
+        shelf: &mut B,
         entries: u64,
         bytes: u64,
-    ) -> Result<World, Memory>
+    ) -> Result<World<C>, ChainFault>
         requires built { is_built_site (arc_value site) ≡ true }
         requires entries { entries ≤ entries_limit }
         requires bytes { bytes ≤ bytes_limit }
         ensures held { IfOk result (λ world. held_in world ≡ first_held (arc_value site) entries bytes) }
         ensures going { IfOk result (λ world. GoesOn world) }
+        ensures enough { OnOk result (first_short (B.stock shelf.old) (use_specs (uses_in (arc_value site).interfaces)) ≡ None) }
+        ensures fault { IfErr result (λ e. FaultIs (B.stock shelf.old) (uses_in (arc_value site).interfaces) e) }
     {
-        Ok(World {
-            running: Running::new(alloc, site, entries, bytes)?,
-            ended: None,
-        })
+        let chains = shelf.build_all(alloc, site.interfaces.as_slice())?;
+        match Running::new(alloc, site, entries, bytes) {
+            Ok(running) => Ok(World {
+                running,
+                chains,
+                ended: None,
+            }),
+            Err(_) => Err(ChainFault::Memory),
+        }
     }
 
     /// The history with its site.

@@ -2,9 +2,8 @@ use Rattle.std.specs.Arc.{arc_value}
 use Rattle.std.proofs.Common.{◌≡◌, Result, Ok, Err, IfOk}
 use Rattle.cts_entry.specs.Legal.{most_entries as entries_limit, most_bytes as bytes_limit}
 use Rattle.cts_core.specs.States.{opening}
-use Rattle.cts_core.specs.Endings.{held_in}
+use Rattle.cts_core.specs.Endings.{WorldData, held_in}
 use Rattle.cts_core.specs.Worlds.{Represents, first_held}
-use Rattle.cts_core.specs.declared.world.World.{World}
 use Rattle.cts_core.proofs.WorldSteps.{stands_first}
 use Rattle.cts_core.proofs.world.World.new.Goals as goal
 
@@ -13,6 +12,6 @@ each (Ok x) P Q f h = f x h
 each (Err e) P Q f h = tt
 
 pub returns-clause-stands : goal.returns-clause-stands
-returns-clause-stands c =
+returns-clause-stands g c =
     let site = arc_value c.args.site in
-    each c.with_limits.result (λ (w : World). held_in w ≡ first_held site entries_limit bytes_limit) (λ (w : World). Represents site (held_in w) opening) (λ (w : World) h. stands_first site (held_in w) h) c.with_limits.ensures.held
+    each c.with_limits.result (λ w. held_in w ≡ first_held site entries_limit bytes_limit) (λ w. Represents site (held_in w) opening) (λ w h. stands_first site (held_in w) h) c.with_limits.ensures.held
