@@ -10,15 +10,15 @@ ghost use Rattle.cts_core.specs.Worlds.{Represents};
 use crate::putting::Unput;
 use crate::replay::halt::Halt;
 use crate::replay::printing::put_event;
-use cts_core::{World, WorldFault};
+use cts_core::{Framer, World, WorldFault};
 use cts_entry::Event;
 use cts_outside::Sink;
 use std::alloc::Global;
 
 /// Does the event of this line, and puts the lines of its entries and of what it gives besides in one piece, if it has any.
-pub fn do_event<O: Sink>(
+pub fn do_event<C: Framer, O: Sink>(
     alloc: Global,
-    world: &mut World,
+    world: &mut World<C>,
     line: u32,
     event: &Event,
     out: &mut O,

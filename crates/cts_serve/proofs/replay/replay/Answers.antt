@@ -8,7 +8,7 @@ use Rattle.cts_serve.specs.Replay.Transcript.{event_text}
 use Rattle.cts_core.specs.Endings.{held_in}
 use Rattle.cts_core.proofs.Building.{and_tells}
 use Rattle.cts_serve.proofs.ReplayLemmas.{IsProgress, begun, goes_on, put_then, halts, wants, ends_well, ends_within}
-use Rattle.cts_serve.proofs.replay.replay_from.Goals as goal
+use Rattle.cts_serve.proofs.replay.replay.Goals as goal
 
 pub events-init : goal.events-init
 events-init g c = record { progress = ([], begun (held_in c.args.world).basis.site c.args.events.now (held_in c.args.world) c.requires.world, (refl, sym (appended-nil _))); built = c.requires.events; going = c.requires.going }

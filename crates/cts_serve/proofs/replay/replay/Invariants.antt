@@ -3,7 +3,7 @@ use Rattle.cts_serve.specs.Load.Scripts.{are_built_events}
 use Rattle.cts_serve.specs.Putting.{IsPut}
 use Rattle.cts_core.specs.Endings.{GoesOn, held_in}
 use Rattle.cts_serve.proofs.ReplayLemmas.{IsProgress}
-use Rattle.cts_serve.proofs.replay.replay_from.Given as goal
+use Rattle.cts_serve.proofs.replay.replay.Given as goal
 
 abbrev pub invariant-events : goal.invariant-events
 invariant-events g l = record {

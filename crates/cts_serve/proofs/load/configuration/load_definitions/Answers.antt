@@ -1,9 +1,9 @@
-use Rattle.std.proofs.Common.{refl, ap, sym, ◌∙◌}
+use Rattle.std.proofs.Common.{refl, ap}
 use Rattle.std.proofs.lemmas.Result.{err_from_is_err_and}
 use Rattle.cts_serve.specs.Load.Judging.{takes_all, definitions_in, definitions_read, no_definitions}
 use Rattle.cts_serve.specs.Request.{RequestData}
 use Rattle.cts_serve.specs.declared.load.file_kind.FileKind.TheVariants.{Definitions}
-use Rattle.cts_serve.proofs.LoadLemmas.{gives_none, refuses, lacks, takes, definitions_ok, definitions_err}
+use Rattle.cts_serve.proofs.LoadLemmas.{gives_none, refuses, takes, definitions_ok, definitions_err}
 use Rattle.cts_serve.proofs.load.configuration.load_definitions.Goals as goal
 
 pub returns-in_err-found-clause-content : goal.returns-in_err-found-clause-content
