@@ -1,11 +1,9 @@
 -- What a hall shows when several entries are appended.
-use Rattle.std.proofs.Common.{◌≡◌, ◌+◌, ◌-◌, ◌≤◌, List, [], ◌∷◌, ◌++◌, refl, sym, ◌∙◌, ap, subst, arith, append_assoc, append-nil}
+use Rattle.std.proofs.Common.{◌≡◌, ◌+◌, ◌-◌, List, [], ◌∷◌, ◌++◌, arith, append_assoc, append-nil}
 use Rattle.std.proofs.lemmas.List.Sums.{sum_by-cons}
 use Rattle.cts_entry.specs.declared.entry.Entry.{Entry}
 use Rattle.cts_entry.specs.Histories.{entries_for, entries_in, bytes_for, bytes_in}
-use Rattle.cts_entry.specs.Legal.{AllAllowed}
 use Rattle.cts_entry.proofs.Appending.{entries-append, bytes-append}
-use Rattle.cts_table.specs.Keeping.{rules_of, AllOfSite}
 use Rattle.cts_table.specs.States.{Shown, CanAdd, added}
 use Rattle.cts_core.specs.Kept.{CanAddAll, added_all}
 

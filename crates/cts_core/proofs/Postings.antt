@@ -1,17 +1,14 @@
 -- What the history says when the entries of an event are appended.
-use Rattle.std.proofs.Common.{◌≡◌, ℕ, suc, ◌+◌, ◌-◌, ◌≤◌, Bool, true, false, ◌||◌, List, [], ◌∷◌, ◌++◌, length, drop, slice_range, None, refl, sym, ◌∙◌, ap, arith, unwrap_or}
+use Rattle.std.proofs.Common.{◌≡◌, ℕ, suc, ◌+◌, Bool, true, false, ◌||◌, List, [], ◌∷◌, ◌++◌, length, None, refl, sym, ◌∙◌, ap, arith, unwrap_or}
 use Rattle.std.specs.Prelude.{◌==◌, ◌≢◌, Option, is_some, if◌then◌else◌}
 use Rattle.std.proofs.lemmas.List.Folds.{list_any-append}
 use Rattle.std.proofs.lemmas.List.Sums.{sum_by-cons}
 use Rattle.std.proofs.lemmas.Bool.{eq-eqb, ne_eqb}
-use Rattle.std.proofs.lemmas.List.{length-take-le, length-drop, length-map}
 use Rattle.cts_def.specs.declared.time.Time.{Time}
 use Rattle.cts_entry.specs.declared.entry.Entry.{Entry}
-use Rattle.cts_entry.specs.Histories.{or_earlier, latest, connects, connects_maker, is_connected, commanded, has_command, entries_for, entries_in, bytes_for, bytes_in}
+use Rattle.cts_entry.specs.Histories.{or_earlier, latest, connects, connects_maker, is_connected, commanded, has_command, entries_for, entries_in, bytes_in}
 use Rattle.cts_entry.proofs.Appending.{connected-append, entries-append, bytes-append}
-use Rattle.cts_frame.specs.Framing.{Output, plain}
-use Rattle.cts_frame.specs.Cuttings.{Tiles, frames_at}
-use Rattle.cts_frame.proofs.LengthFrames.{tiles_end}
+use Rattle.cts_frame.specs.Framing.{Output}
 use Rattle.cts_told.specs.Routing.{packet_entries, time_in}
 use Rattle.cts_entry.specs.declared.what.What.TheVariants.{Packet}
 use Rattle.cts_def.specs.Sites.{SiteData}
@@ -65,19 +62,3 @@ packets_count site by now (o ∷ outs) =
 pub packets_length : (site : SiteData) (by : ℕ) (now : Time) (outs : List Output) → length (packet_entries (site_environment site).routing now by outs) ≡ length outs
 packets_length site by now [] = refl
 packets_length site by now (o ∷ outs) = ap suc (packets_length site by now outs)
-
-span_length : (bytes : List ℕ) (from end : ℕ) → from ≤ end → end ≤ length bytes → length (slice_range bytes from end) ≡ end - from
-span_length bytes from end h k = length-take-le (end - from) (drop from bytes) (omega (arith, length-drop from bytes))
-
--- the bytes of packets that lie one after another
-packets_bytes_from : (site : SiteData) (by : ℕ) (now : Time) (bytes : List ℕ) (from : ℕ) (spans : List (ℕ × ℕ)) (end : ℕ) → Tiles from spans end → end ≤ length bytes → bytes_in (packet_entries (site_environment site).routing now by (frames_at bytes spans)) + from ≡ end
-packets_bytes_from site by now bytes from [] end t h = omega (arith, t)
-packets_bytes_from site by now bytes from (s ∷ ss) end t h =
-    let more : bytes_in (packet_entries (site_environment site).routing now by (frames_at bytes (s ∷ ss))) ≡ length (slice_range bytes s.0 s.1) + bytes_in (packet_entries (site_environment site).routing now by (frames_at bytes ss)) = sum_by-cons (λ (e : Entry). bytes_for e.what) (packet_entry site by now (plain (slice_range bytes s.0 s.1))) (packet_entries (site_environment site).routing now by (frames_at bytes ss)) in
-    omega (arith, more, packets_bytes_from site by now bytes s.1 ss end t.2 h, span_length bytes s.0 s.1 (omega (arith, t.1)) (omega (arith, tiles_end s.1 ss end t.2, h)), t.0, t.1)
-
-pub packets_bytes : (site : SiteData) (by : ℕ) (now : Time) (bytes : List ℕ) (spans : List (ℕ × ℕ)) (end : ℕ) → Tiles 0 spans end → end ≤ length bytes → bytes_in (packet_entries (site_environment site).routing now by (frames_at bytes spans)) ≡ end
-packets_bytes site by now bytes spans end t h = omega (arith, packets_bytes_from site by now bytes 0 spans end t h)
-
-pub frames_count : (bytes : List ℕ) (spans : List (ℕ × ℕ)) → length (frames_at bytes spans) ≡ length spans
-frames_count bytes spans = length-map spans (λ (s : ℕ × ℕ). plain (slice_range bytes s.0 s.1))

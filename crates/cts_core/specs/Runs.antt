@@ -15,7 +15,7 @@ use Rattle.cts_frame.specs.Framing.{Output}
 use Rattle.cts_frame.specs.Cuts.{Pieces}
 use Rattle.cts_frame.specs.Packets.{IsPackets, Fault, fault_of, loss_of}
 use Rattle.cts_told.specs.Routing.{posted_entries}
-use Rattle.cts_core.specs.States.{Environment, State, Question, Request, Trial, trial_desk, is_enabled, takes_room, has_room, put_next, unsent, log_ahead, packets_log, commands_log}
+use Rattle.cts_core.specs.States.{Environment, State, Request, Trial, trial_desk, is_enabled, takes_room, has_room, put_next, unsent, log_ahead, packets_log, commands_log}
 
 -- a connection's Closed has what its chain gave to no packet, and how many of its queue were not put whole
 abbrev pub closed_entry : Time → ℕ → Why → ℕ → List Pieces → Entry

@@ -1,5 +1,5 @@
 -- What desk 0 finds for a trial line, and what it appends: this stands in for calls until desks answer them.
-use Rattle.std.specs.Prelude.{◌≡◌, ℕ, ◌+◌, Bool, true, false, ◌&&◌, List, [], ◌∷◌, ◌++◌, codes, Option, Some, None, Result, Ok, Err, if◌then◌else◌}
+use Rattle.std.specs.Prelude.{◌≡◌, ℕ, ◌+◌, Bool, true, false, ◌&&◌, List, [], ◌∷◌, ◌++◌, codes, Option, Some, None, Result, Ok, Err}
 use Rattle.cts_base.specs.Names.{in_upper_case, is_name}
 use Rattle.cts_conv.specs.Plains.{plain_text}
 use Rattle.cts_conv.specs.declared.value.Value.{Value}

@@ -1,53 +1,44 @@
 -- What the running core holds, and the states of the defined core that it represents.
-use Rattle.std.specs.Prelude.{◌≡◌, ℕ, ◌-◌, ◌<◌, Bool, true, false, List, [], ◌∷◌, ◌++◌, map, length, take, drop, replicate, slice_index_or, slice_set, ℤ, Option, None, Some, Result, Ok, Err}
+use Rattle.std.specs.Prelude.{◌≡◌, ℕ, ◌<◌, ◌≤◌, Bool, true, false, List, [], ◌++◌, filter, map, length, slice_index_or, slice_set, None, Result, Ok, Err}
 use Rattle.std.specs.List.{list_any}
+use Rattle.cts_chain.specs.Builds.{use_specs, writes}
+use Rattle.cts_chain.specs.Chains.{StagesStand, AllSettled, framings_of, last_fault}
+use Rattle.cts_chain.specs.Shapes.{ChainData, writers}
+use Rattle.cts_def.specs.Protocols.{SpecData}
 use Rattle.cts_def.specs.Sites.{SiteData}
-use Rattle.cts_def.specs.declared.bad_cause.BadCause.TheVariants.{Short}
 use Rattle.cts_def.specs.declared.time.Time.{Time}
 use Rattle.cts_entry.specs.declared.entry.Entry.{Entry}
 use Rattle.cts_entry.specs.declared.event.Event.{Event}
 use Rattle.cts_entry.specs.declared.event.Effect.{Effect}
-use Rattle.cts_entry.specs.declared.what.What.TheVariants.{Opened, Closed}
-use Rattle.cts_entry.specs.declared.why.Why.{Why}
-use Rattle.cts_entry.specs.declared.why.Why.TheVariants.{BadFrame}
 use Rattle.cts_entry.specs.Histories.{is_connected, has_command, entries_in, bytes_in}
-use Rattle.cts_frame.specs.Cuts.{IsCut}
-use Rattle.cts_frame.specs.Cuttings.{IsCutting, frames_at}
-use Rattle.cts_frame.specs.declared.cutting.Cutting.{Cutting}
-use Rattle.cts_frame.specs.Framing.{Output}
-use Rattle.cts_frame.specs.LengthRow.{length_framing}
-use Rattle.cts_frame.specs.Packets.{joined}
-use Rattle.cts_told.specs.Routing.{packet_entries}
+use Rattle.cts_frame.specs.Chains.{framings_at, uses_at}
+use Rattle.cts_frame.specs.Framing.{Output, plain}
 use Rattle.cts_core.specs.Environments.{site_environment}
 use Rattle.cts_entry.specs.Legal.{is_ended, most_entries as entries_limit, most_bytes as bytes_limit}
-use Rattle.cts_core.specs.Kept.{is_within}
 use Rattle.cts_core.specs.Built.{is_built_site}
 use Rattle.cts_core.specs.Runs.{Did, Does, after, Refuses, NotEnabled, HistoryFull}
 use Rattle.cts_core.specs.States.{State}
-use Rattle.cts_core.specs.declared.connection.Connection.{Connection}
 use Rattle.cts_core.specs.declared.fault.WorldFault.{WorldFault}
 use Rattle.cts_core.specs.declared.fault.WorldFault.TheVariants.{NotEnabled as RefusedEvent, Full, Memory}
-use Rattle.cts_core.specs.declared.running.Running.TheInside.{Inside}
+use Rattle.cts_table.specs.States.{Shown}
 use Rattle.cts_table.specs.declared.basis.Basis.{Basis}
 
--- whether the connection of an interface stands, and the bytes that no packet has yet
+-- whether the connection of an interface stands, and the chain of its protocols
 pub record HeldConnection : Type 0 where
   pub connected : Bool
-  pub rest : List ℕ
+  pub chain : ChainData
 
--- what is held of a connection that does not stand
-abbrev pub shut : HeldConnection
-shut = record { connected = false; rest = [] }
+-- a connection that does not stand
+abbrev pub shut : ChainData → HeldConnection
+shut chain = record { connected = false; chain = chain }
 
-abbrev pub connection_in : Connection → HeldConnection
-connection_in c = record { connected = c.connected; rest = c.rest.items }
-
-abbrev pub connections_in : List Connection → List HeldConnection
-connections_in connections = map connection_in connections
+-- the chain of no interface
+abbrev pub no_chain : ChainData
+no_chain = record { stages = []; beside = []; parts = []; lent = []; place = record { start = 0; end = 0; stamp = None } }
 
 -- the connection of the interface of this number, and one that does not stand where there is no such interface
 abbrev pub connection_at : List HeldConnection → ℕ → HeldConnection
-connection_at connections by = slice_index_or connections by shut
+connection_at connections by = slice_index_or connections by (shut no_chain)
 
 pub record Held : Type 0 where
   -- the site, and the limits of its history
@@ -57,32 +48,38 @@ pub record Held : Type 0 where
   -- the connections of the interfaces, in order
   pub connections : List HeldConnection
 
-abbrev pub held_inside : Inside → Held
-held_inside a = record { basis = a.hall.basis; time = a.time; history = a.hall.entries; connections = connections_in a.connections.items }
+-- what is held with this hall
+abbrev pub held_with : Time → Shown → List HeldConnection → Held
+held_with time k connections = record { basis = k.basis; time = time; history = k.entries; connections = connections }
 
--- The site is built, each of its interfaces has its connection, which stands where the history says so, and no worker has ended.
+-- The site is built, each of its interfaces has its connection, which stands where the history says so, no worker has ended, and
+-- the limit of bytes is no greater than that of a server.
 pub record IsSoundHeld (w : Held) : Type 0 where
   pub built : is_built_site w.basis.site ≡ true
   pub count : length w.connections ≡ length w.basis.site.interfaces
   pub connected : (by : ℕ) → by < length w.connections → (connection_at w.connections by).connected ≡ is_connected by w.history
   pub lasting : list_any (λ (e : Entry). is_ended e.what) w.history ≡ false
+  pub small : w.basis.bytes ≤ bytes_limit
 
-abbrev pub IsSound : Inside → Type 0
-IsSound a = IsSoundHeld (held_inside a)
+-- what is held before anything has happened, with these chains
+abbrev pub first_held : SiteData → ℕ → ℕ → List ChainData → Held
+first_held site entries bytes chains =
+    record { basis = record { site = site; entries = entries; bytes = bytes }; time = record { seconds = 0; micros = 0 }; history = []; connections = map shut chains }
 
--- what is held before anything has happened
-abbrev pub first_held : SiteData → ℕ → ℕ → Held
-first_held site entries bytes = record { basis = record { site = site; entries = entries; bytes = bytes }; time = record { seconds = 0; micros = 0 }; history = []; connections = replicate (length site.interfaces) shut }
+-- the specs of the protocols of this interface that write, in order
+abbrev pub writers_at : SiteData → ℕ → List SpecData
+writers_at site by = use_specs (filter writes (uses_at site by))
 
--- these bytes are what the cut of the pieces leaves, and no error stands there
-abbrev pub IsRest : List (List ℕ) → List ℕ → Type 0
-IsRest pieces rest = (given : List Output) × IsCut length_framing (joined pieces) (record { outs = given; skipped = 0; empty = 0; rest = rest; bad = None })
-
--- A connection stands where the history says so, and of its pieces only what no packet has yet is held; of one that does not
--- stand there are none.
-pub record IsConnection (s : State) (by : ℕ) (c : HeldConnection) : Type 0 where
+-- A connection stands where the history says so. Its chain has the interface's protocols, was fed the pieces that came since the
+-- connection was opened, has given all their packets, and has not failed.
+pub record IsConnection (site : SiteData) (s : State) (by : ℕ) (c : HeldConnection) : Type 0 where
   pub connected : c.connected ≡ is_connected by s.history
-  pub rest : IsRest (s.pieces by) c.rest
+  pub framings : framings_of c.chain.stages ≡ framings_at site by
+  pub writing : writers c.chain ≡ writers_at site by
+  pub packets : List Output
+  pub stands : StagesStand c.chain.stages (map plain (s.pieces by)) packets
+  pub settled : AllSettled c.chain.stages
+  pub unfailed : last_fault 1 c.chain.stages ≡ None
 
 -- What is held represents a state: the history and the time are the state's, each interface has its connection, and no command
 -- stands yet.
@@ -92,66 +89,25 @@ pub record Represents (site : SiteData) (w : Held) (s : State) : Type 0 where
   pub basis : w.basis ≡ record { site = site; entries = entries_limit; bytes = bytes_limit }
   pub uncommanded : has_command s.history ≡ false
   pub count : length w.connections ≡ length site.interfaces
-  pub connections : (by : ℕ) → by < length site.interfaces → IsConnection s by (connection_at w.connections by)
+  pub connections : (by : ℕ) → by < length site.interfaces → IsConnection site s by (connection_at w.connections by)
 
 -- ---- what an event makes of it
 
--- a connection is opened, and has no bytes yet
-abbrev pub opened : ℕ → Held → Held
-opened by w = record w {
-  history = w.history ++ record { by = by; time = w.time; what = Opened } ∷ [];
-  connections = slice_set w.connections by (record { connected = true; rest = [] });
-}
+-- entries stand behind the others, and a connection has become this one
+abbrev pub changed : ℕ → Held → List Entry → HeldConnection → Held
+changed by w entries c = record w { history = w.history ++ entries; connections = slice_set w.connections by c }
 
--- a piece stands behind the rest of its connection
-abbrev pub extended : ℕ → Held → List ℕ → Held
-extended by w piece = record w { connections = slice_set w.connections by (record (connection_at w.connections by) { rest = (connection_at w.connections by).rest ++ piece }) }
+-- what the hall shows and the clock are as before
+pub record IsUnmoved (old new : Held) : Type 0 where
+  pub history : new.history ≡ old.history
+  pub time : new.time ≡ old.time
+  pub basis : new.basis ≡ old.basis
 
--- the last bytes of a connection's rest are taken back
-abbrev pub shortened : ℕ → Held → ℕ → Held
-shortened by w count = record w { connections = slice_set w.connections by (record (connection_at w.connections by) { rest = take (length (connection_at w.connections by).rest - count) (connection_at w.connections by).rest }) }
-
--- entries are posted for the first bytes of a connection's rest
-abbrev pub posted : ℕ → Held → List Entry → ℕ → Held
-posted by w entries count = record w {
-  history = w.history ++ entries;
-  connections = slice_set w.connections by (record (connection_at w.connections by) { rest = drop count (connection_at w.connections by).rest });
-}
-
--- the Closed of a connection, whose rest is lost
-abbrev pub lost : ℕ → Time → List ℕ → Why → Entry
-lost by now rest why = record { by = by; time = now; what = Closed why (record { held = length rest ∷ 0 ∷ 0 ∷ 0 ∷ []; skipped = 0; empty = 0 }) 0 0 }
-
--- a connection is closed
-abbrev pub closed : ℕ → Held → Why → Held
-closed by w why = record w { history = w.history ++ lost by w.time (connection_at w.connections by).rest why ∷ []; connections = slice_set w.connections by shut }
-
--- where an error stands at a connection's rest, the connection is closed
-abbrev pub settled : ℕ → Held → Option ℤ → Held
-settled by w None = w
-settled by w (Some stated) = closed by w (BadFrame 1 (Short stated))
-
--- the packets of a cutting of a connection's rest
-abbrev pub packets_cut : SiteData → ℕ → Held → Cutting → List Entry
-packets_cut site by w c = packet_entries (site_environment site).routing w.time by (frames_at (connection_at w.connections by).rest c.frames)
-
-abbrev pub has_room_for : Held → Cutting → Bool
-has_room_for w c = is_within w.basis w.history (length c.frames) c.rest
-
--- What comes of a connection's rest: its packets are posted, and it is closed where an error stands; or else nothing is done.
-abbrev pub Takes : SiteData → ℕ → Held → Result (Unit {0}) WorldFault → Held → Type 0
-Takes site by w (Ok done) new =
-    (c : Cutting) × IsCutting (connection_at w.connections by).rest c × (has_room_for w c ≡ true) × (new ≡ settled by (posted by w (packets_cut site by w c) c.rest) c.short)
-Takes site by w (Err (Full entries bytes)) new =
-    (c : Cutting) × IsCutting (connection_at w.connections by).rest c × (has_room_for w c ≡ false) × (entries ≡ entries_in w.history) × (bytes ≡ bytes_in w.history) × (new ≡ w)
-Takes site by w (Err Memory) new = new ≡ w
-Takes site by w (Err RefusedEvent) new = ⊥
-
--- What a step answers, and the state that the world stands for then: the one after the event, where it was done, and else the
--- same one as before, since nothing is changed.
+-- What a step answers, and the state that the world stands for then: the one after the event, where it was done, and the same
+-- one as before, where it is not enabled, since nothing is changed. Where the history is full or memory ran out, nothing was
+-- appended and no clock set; what chains hold is given up.
 abbrev pub Steps : SiteData → State → Event → Held → Result Effect WorldFault → Held → Type 0
 Steps site s event w (Ok effect) new = (did : Did) × Does (site_environment site) s event did × (effect ≡ did.effect) × Represents site new (after s event did)
 Steps site s event w (Err RefusedEvent) new = Refuses (site_environment site) s event NotEnabled × (new ≡ w) × Represents site new s
-Steps site s event w (Err (Full entries bytes)) new =
-    Refuses (site_environment site) s event HistoryFull × (entries ≡ entries_in s.history) × (bytes ≡ bytes_in s.history) × (new ≡ w) × Represents site new s
-Steps site s event w (Err Memory) new = (new ≡ w) × Represents site new s
+Steps site s event w (Err (Full entries bytes)) new = Refuses (site_environment site) s event HistoryFull × (entries ≡ entries_in s.history) × (bytes ≡ bytes_in s.history) × IsUnmoved w new
+Steps site s event w (Err Memory) new = IsUnmoved w new

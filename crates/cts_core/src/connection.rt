@@ -1,71 +1,98 @@
 // The connection of one interface.
-ghost use Rattle.std.specs.Prelude.{◌≡◌, ◌≤◌, ◌-◌, true, [], replicate, take, drop, length, vec_len, IfOk};
+ghost use Rattle.std.specs.Prelude.{◌≡◌, ◌<◌, true, false, length, map, IfOk};
+ghost use Rattle.cts_chain.specs.Chains.{loss_in};
+ghost use Rattle.cts_chain.specs.Shapes.{IsIdle};
+ghost use Rattle.cts_core.specs.Takings.{AllIdle, IsRenewed, TakesPiece};
+ghost use Rattle.cts_core.specs.Worlds.{shut};
 
+use crate::framer::Framer;
+use crate::posting::{Taken, take_packets};
 use cts_base::Memory;
+use cts_def::{Loss, Site, Time};
 use std::alloc::Global;
+use std::marker::Model;
 
-/// Whether the connection of an interface stands, and the bytes that no packet has yet.
-#[derive(Debug, Drop)]
-pub(crate) struct Connection {
-    /// Whether it stands. One that does not has no bytes.
-    pub connected: bool,
-    /// The bytes that came on it, beyond those of its packets.
-    pub rest: Vec<u8>,
+/// Whether the connection of an interface stands, and the chain of its protocols, which has given all that it can.
+#[derive(Drop)]
+pub(crate) struct Connection<C: Framer> {
+    connected: bool,
+    chain: C,
 }
 
-impl Connection {
-    ghost use Rattle.cts_core.specs.Worlds.{connection_in, connections_in, shut};
+impl<C: Framer> Model for Connection<C> {
+    ghost use Rattle.cts_chain.specs.Shapes.{IsIdle};
+    ghost use Rattle.cts_core.specs.Worlds.{HeldConnection};
 
-    /// The connections of so many interfaces, of which none stands.
-    pub fn none_stands(alloc: Global, count: usize) -> Result<Vec<Connection>, Memory>
-        ensures { IfOk result (λ v. connections_in v.items ≡ replicate count shut) }
+    ghost Value = { HeldConnection };
+
+    ghost view = { λ a. record { connected = a.connected; chain = C.shape a.chain } };
+
+    ghost invariant = { λ a. IsIdle (C.shape a.chain) };
+}
+
+impl<C: Framer> Connection<C> {
+    /// A connection that does not stand, with this chain.
+    fn of(chain: C) -> Connection<C>
+        requires { IsIdle (C.shape chain) }
+        ensures { result ≡ shut (C.shape chain) }
     {
-        let mut connections = Vec::with_capacity(alloc, count)?;
-        for _ in 0..count {
-            connections.push(Connection {
-                connected: false,
-                rest: Vec::new(alloc),
-            })?;
+        Connection {
+            connected: false,
+            chain,
+        }
+    }
+
+    /// Connections with these chains, in order, of which none stands.
+    pub fn all_shut(alloc: Global, chains: Vec<C>) -> Result<Vec<Connection<C>>, Memory>
+        requires { AllIdle (map C.shape chains.items) }
+        ensures { IfOk result (λ v. v.items ≡ map shut (map C.shape chains.items)) }
+    {
+        let mut connections = Vec::with_capacity(alloc, chains.len())?;
+        for chain in chains {
+            connections.push(Connection::of(chain))?;
         }
         Ok(connections)
     }
 
-    /// It stands from now on, and has no bytes.
+    /// Whether it stands.
+    pub fn is_connected(&self) -> bool
+        ensures { result ≡ self.now.connected }
+    {
+        self.connected
+    }
+
+    /// It stands from now on, and its chain begins anew.
     pub fn open(&mut self)
-        ensures { connection_in self.new ≡ record { connected = true; rest = [] } }
+        ensures { IsRenewed true self.old self.new }
     {
         self.connected = true;
-        self.rest.clear();
+        let _ = self.chain.reset();
     }
 
-    /// It stands no more, and its bytes are lost.
-    pub fn close(&mut self)
-        ensures { connection_in self.new ≡ shut }
+    /// It stands no more. Says what its chain gave to no packet.
+    pub fn close(&mut self) -> Loss
+        ensures loss { result ≡ loss_in self.old.chain.stages }
+        ensures shut { IsRenewed false self.old self.new }
     {
         self.connected = false;
-        self.rest.clear();
+        self.chain.reset()
     }
 
-    /// Gives up the first bytes and keeps the room for more. Where there is nothing to give up it
-    /// touches no byte, so that a long frame may come in small pieces.
-    pub fn drop_front(&mut self, count: usize)
-        requires { count ≤ vec_len self.old.rest }
-        ensures { connection_in self.new ≡ record { connected = self.old.connected; rest = drop count self.old.rest.items } }
+    /// Puts a piece through its chain, and takes the packets that the chain gives. Where no memory is found for all of this,
+    /// they are lost.
+    pub fn take(
+        &mut self,
+        alloc: Global,
+        site: &Site,
+        by: u32,
+        time: Time,
+        piece: &[u8],
+    ) -> Result<Taken, Memory>
+        requires { by < length site.now.interfaces }
+        ensures connected { self.new.connected ≡ self.old.connected }
+        ensures ok { IfOk result (λ t. TakesPiece site.now by time self.old.chain piece.now t.entries.items t.why self.new.chain) }
     {
-        if count == 0 {
-            return;
-        }
-        let left = self.rest.len() - count;
-        self.rest.copy_within(count.., 0);
-        self.rest.truncate(left);
-    }
-
-    /// Gives up the last bytes.
-    pub fn take_back(&mut self, count: usize)
-        requires { count ≤ vec_len self.old.rest }
-        ensures { connection_in self.new ≡ record { connected = self.old.connected; rest = take (length self.old.rest.items - count) self.old.rest.items } }
-    {
-        let left = self.rest.len() - count;
-        self.rest.truncate(left);
+        self.chain.feed(piece)?;
+        take_packets(alloc, site, by, time, &mut self.chain)
     }
 }

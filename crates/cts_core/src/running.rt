@@ -1,60 +1,70 @@
-// What a running core holds, and what each event makes of it: the interfaces of a site, whose frames state their length.
+// What a running core holds, and what each event makes of it: the interfaces of a site, each with its chain of protocols.
 ghost use Rattle.std.specs.Prelude.{◌≡◌, ◌≤◌, length, nat_lt};
 ghost use Rattle.std.specs.Arc.{arc_value};
 
 use crate::connection::Connection;
 use crate::enabling::{is_piece, may_close};
 use crate::fault::WorldFault;
-use crate::posting::{append_all, make_room, packets};
+use crate::framer::Framer;
+use crate::posting::{Taken, append_all, make_room, weight};
 use cts_base::Memory;
-use cts_def::{BadCause, Loss, SERVER, Site, Time};
+use cts_def::{SERVER, Site, Time};
 use cts_entry::{Effect, Event, Why};
-use cts_frame::cut_length;
 use cts_table::Hall;
 use std::alloc::Global;
 use std::marker::Model;
 use std::sync::Arc;
 
-/// The history, and of the connections that stand the bytes that no packet has yet.
+/// The history, and the connections of the interfaces.
 #[derive(Drop)]
-pub(crate) struct Running {
+pub(crate) struct Running<C: Framer> {
     pub(crate) alloc: Global,
     /// What the clock shows.
     pub(crate) time: Time,
     /// All entries so far, with their site.
     pub(crate) hall: Hall,
     /// The connections of the interfaces, in order of the site.
-    connections: Vec<Connection>,
+    connections: Vec<Connection<C>>,
 }
 
-impl Model for Running {
-    ghost use Rattle.cts_core.specs.Worlds.{Held, IsSound, held_inside};
+impl<C: Framer> Model for Running<C> {
+    ghost use Rattle.cts_core.specs.Worlds.{Held, IsSoundHeld, held_with};
 
     ghost Value = { Held };
 
-    ghost view = { held_inside };
+    ghost view = { λ a. held_with a.time a.hall a.connections.items };
 
-    ghost invariant = { IsSound };
+    ghost invariant = { λ a. IsSoundHeld (held_with a.time a.hall a.connections.items) };
 }
 
-impl Running {
-    ghost use Rattle.std.specs.Prelude.{◌≡◌, ◌&&◌, ◌<◌, ◌≤◌, ◌^◌, nat_lt, not, length, ◌∷◌, true, IfOk, OnOk, OnErr};
+impl<C: Framer> Running<C> {
+    ghost use Rattle.std.specs.Prelude.{◌≡◌, ◌&&◌, ◌<◌, ◌≤◌, nat_lt, not, length, map, true, IfOk, OnErr, Option};
     ghost use Rattle.cts_core.specs.Built.{is_built_event, is_built_site};
     ghost use Rattle.cts_core.specs.States.{State, is_piece, may_close};
-    ghost use Rattle.cts_core.specs.Worlds.{IsSoundHeld, Represents, Steps, Takes, closed, connection_at, extended, first_held, opened, settled, shortened};
+    ghost use Rattle.cts_core.specs.Takings.{CanPost, IsClosed, Posts, Settles, Takes, blamed};
+    ghost use Rattle.cts_core.specs.Worlds.{IsSoundHeld, IsUnmoved, Represents, Steps, connection_at, first_held};
+    ghost use Rattle.cts_chain.specs.Builds.{AreFresh, chains_in};
+    ghost use Rattle.cts_frame.specs.Packets.{Fault};
     ghost use Rattle.cts_def.specs.Sites.{SiteData};
     ghost use Rattle.cts_entry.specs.declared.event.Event.TheVariants as event;
     ghost use Rattle.cts_entry.specs.Histories.{is_connected, is_stopped};
     ghost use Rattle.cts_entry.specs.Legal.{StopsAfter, most_entries as entries_limit, most_bytes as bytes_limit};
 
-    /// Nothing has happened on a site that is built.
-    pub fn new(alloc: Global, site: Arc<Site>, entries: u64, bytes: u64) -> Result<Running, Memory>
+    /// Nothing has happened on a site that is built. The chains are those of its interfaces, in order, to which nothing was fed.
+    pub fn new(
+        alloc: Global,
+        site: Arc<Site>,
+        chains: Vec<C>,
+        entries: u64,
+        bytes: u64,
+    ) -> Result<Running<C>, Memory>
         requires built { is_built_site (arc_value site) ≡ true }
+        requires fresh { AreFresh (chains_in (arc_value site).interfaces) (map C.shape chains.items) }
         requires entries { entries ≤ entries_limit }
         requires bytes { bytes ≤ bytes_limit }
-        ensures { IfOk result (λ running. running ≡ first_held (arc_value site) entries bytes) }
+        ensures held { IfOk result (λ running. running ≡ first_held (arc_value site) entries bytes (map C.shape chains.items)) }
     {
-        let connections = Connection::none_stands(alloc, interfaces_of(&site))?;
+        let connections = Connection::all_shut(alloc, chains)?;
         Ok(Running {
             alloc,
             time: Time {
@@ -132,91 +142,57 @@ impl Running {
         if !self.may_receive(by, piece) {
             return Err(WorldFault::NotEnabled);
         }
-        self.extend(by, piece)?;
-        match self.take(by) {
-            Ok(()) => Ok(Effect::Posted),
-            Err(fault) => {
-                self.take_back(by, piece.len());
-                Err(fault)
-            }
-        }
+        let taken = self.take(by, piece)?;
+        self.post(by, taken)?;
+        Ok(Effect::Posted)
     }
 
-    // Puts a piece behind the rest of its connection.
-    fn extend(&mut self, by: u32, piece: &[u8]) -> Result<(), Memory>
-        requires { by < length self.old.connections }
-        ensures ok { OnOk result (self.new ≡ extended by self.old piece.now) }
-        ensures err { OnErr result (self.new ≡ self.old) }
+    // Puts a piece through the chain of a connection, and takes its packets. Nothing is posted yet.
+    fn take(&mut self, by: u32, piece: &[u8]) -> Result<Taken, Memory>
+        requires { by < length self.old.basis.site.interfaces }
+        ensures takes { IfOk result (λ t. Takes by self.old piece.now t.entries.items t.why self.new) }
+        ensures unmoved { IsUnmoved self.old self.new }
     {
-        let connection = &mut self.connections[by as usize];
-        connection.rest.extend_from_slice(piece)?;
-        Ok(())
-    }
-
-    // Takes the last bytes of a connection's rest back.
-    fn take_back(&mut self, by: u32, count: usize)
-        requires there { by < length self.old.connections }
-        requires within { count ≤ length (connection_at self.old.connections by).rest }
-        ensures { self.new ≡ shortened by self.old count }
-    {
-        let connection = &mut self.connections[by as usize];
-        connection.take_back(count);
-    }
-
-    // Posts the packets of a connection's rest, and closes it where an error stands behind them. Where there is no room or
-    // no memory for all of this, nothing is done.
-    fn take(&mut self, by: u32) -> Result<(), WorldFault>
-        requires there { by < length self.old.connections }
-        requires connected { (connection_at self.old.connections by).connected ≡ true }
-        ensures takes { Takes self.old.basis.site by self.old result self.new }
-        ensures small { length (connection_at self.old.connections by).rest < 2 ^ 64 }
-    {
-        let connection = &self.connections[by as usize];
-        let cutting = cut_length(self.alloc, &connection.rest)?;
-        let count = cutting.frames.as_slice().len();
-        make_room(&mut self.hall, count as u64, cutting.rest as u64)?;
         let site = self.hall.site();
-        let entries = packets(self.alloc, site, by, self.time, &connection.rest, &cutting)?;
-        append_all(&mut self.hall, entries);
         let connection = &mut self.connections[by as usize];
-        connection.drop_front(cutting.rest);
-        self.settle(by, cutting.short);
+        connection.take(self.alloc, site, by, self.time, piece)
+    }
+
+    // Posts the packets of a connection, and closes it where a stage has failed. Where there is no room or no memory for all
+    // of this, nothing is done.
+    fn post(&mut self, by: u32, taken: Taken) -> Result<(), WorldFault>
+        requires { CanPost by self.old taken.entries.items taken.why }
+        ensures { Posts by self.old taken.entries.items taken.why result self.new }
+    {
+        let count = taken.entries.len();
+        make_room(&mut self.hall, count as u64, weight(&taken.entries))?;
+        append_all(&mut self.hall, taken.entries);
+        self.settle(by, taken.why);
         Ok(())
     }
 
-    // Closes a connection where an error stands at its rest.
-    fn settle(&mut self, by: u32, short: Option<i128>)
+    // Closes a connection whose chain has failed.
+    fn settle(&mut self, by: u32, why: Option<Why>)
         requires there { by < length self.old.connections }
         requires connected { (connection_at self.old.connections by).connected ≡ true }
-        ensures { self.new ≡ settled by self.old short }
+        requires blamed { (fault : Option Fault) × (why ≡ blamed fault) }
+        ensures { Settles by self.old why self.new }
     {
-        match short {
+        match why {
             None => {}
-            Some(stated) => self.close(
-                by,
-                Why::BadFrame {
-                    stage: 1,
-                    cause: BadCause::Short(stated),
-                },
-            ),
+            Some(why) => self.close(by, why),
         }
     }
 
-    // Appends the Closed of a connection, whose rest is lost.
+    // Appends the Closed of a connection, and gives up what its chain holds.
     fn close(&mut self, by: u32, why: Why)
         requires there { by < length self.old.connections }
         requires connected { (connection_at self.old.connections by).connected ≡ true }
         requires stops { StopsAfter self.old.history why }
-        ensures held { self.new ≡ closed by self.old why }
-        ensures small { length (connection_at self.old.connections by).rest < 2 ^ 64 }
+        ensures { IsClosed by self.old why self.new }
     {
         let connection = &mut self.connections[by as usize];
-        let loss = Loss {
-            held: [connection.rest.len() as u64, 0, 0, 0],
-            skipped: 0,
-            empty: 0,
-        };
-        connection.close();
+        let loss = connection.close();
         self.hall.close(by, self.time, why, loss, 0, 0);
     }
 
@@ -236,7 +212,7 @@ impl Running {
         ensures { result ≡ (connection_at self.now.connections by).connected }
     {
         match self.connections.get(by as usize) {
-            Some(connection) => connection.connected,
+            Some(connection) => connection.is_connected(),
             None => false,
         }
     }

@@ -4,6 +4,7 @@ ghost use Rattle.cts_core.specs.Trials.{message, value_kind, value_text};
 ghost use Rattle.cts_table.specs.Lookups.{looked_up};
 
 use crate::fault::WorldFault;
+use crate::framer::Framer;
 use crate::running::Running;
 use cts_base::{Bytes, Memory, Name, NameFault};
 use cts_conv::{ValueKind, plain};
@@ -13,7 +14,7 @@ use cts_scriptread::{Trial, TrialKind, trial_of};
 use cts_table::{Hall, HallFault, Lookup};
 use std::alloc::Global;
 
-impl Running {
+impl<C: Framer> Running<C> {
     ghost use Rattle.std.specs.Prelude.{◌≡◌, true, IfOk, OnErr, length};
     ghost use Rattle.cts_core.specs.States.{State};
     ghost use Rattle.cts_core.specs.Trials.{Chosen, is_built_trial};

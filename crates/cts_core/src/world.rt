@@ -18,9 +18,7 @@ use std::sync::Arc;
 #[derive(Drop)]
 pub struct World<C: Framer> {
     /// What it holds.
-    running: Running,
-    /// The chains of its interfaces.
-    chains: Vec<C>,
+    running: Running<C>,
     /// What it answers for good, once its history was full or memory ran out.
     ended: Option<WorldFault>,
 }
@@ -34,8 +32,9 @@ impl<C: Framer> Model for World<C> {
 }
 
 impl<C: Framer> World<C> {
-    ghost use Rattle.std.specs.Prelude.{◌≡◌, ◌≤◌, true, None, Some, Err, IfErr, IfOk, OnOk};
-    ghost use Rattle.cts_chain.specs.Builds.{FaultIs, use_specs, uses_in};
+    ghost use Rattle.std.specs.Prelude.{◌≡◌, ◌≤◌, length, true, None, Some, Err, IfErr, IfOk, List, OnOk};
+    ghost use Rattle.cts_chain.specs.Builds.{AreFresh, FaultIs, chains_in, use_specs, uses_in};
+    ghost use Rattle.cts_chain.specs.Shapes.{ChainData};
     ghost use Rattle.cts_chain.specs.Stocking.{first_short};
     ghost use Rattle.cts_core.specs.Built.{is_built_event, is_built_site};
     ghost use Rattle.cts_core.specs.States.{State, opening};
@@ -76,16 +75,17 @@ impl<C: Framer> World<C> {
         requires built { is_built_site (arc_value site) ≡ true }
         requires entries { entries ≤ entries_limit }
         requires bytes { bytes ≤ bytes_limit }
-        ensures held { IfOk result (λ world. held_in world ≡ first_held (arc_value site) entries bytes) }
+        ensures held { IfOk result (λ world. (chains : List ChainData) × AreFresh (chains_in (arc_value site).interfaces) chains × (held_in world ≡ first_held (arc_value site) entries bytes chains)) }
+        ensures few { length (arc_value site).interfaces ≤ 16 }
         ensures going { IfOk result (λ world. GoesOn world) }
         ensures enough { OnOk result (first_short (B.stock shelf.old) (use_specs (uses_in (arc_value site).interfaces)) ≡ None) }
         ensures fault { IfErr result (λ e. FaultIs (B.stock shelf.old) (uses_in (arc_value site).interfaces) e) }
     {
-        let chains = shelf.build_all(alloc, site.interfaces.as_slice())?;
-        match Running::new(alloc, site, entries, bytes) {
+        let interfaces = site.interfaces.as_slice();
+        let chains = shelf.build_all(alloc, interfaces)?;
+        match Running::new(alloc, site, chains, entries, bytes) {
             Ok(running) => Ok(World {
                 running,
-                chains,
                 ended: None,
             }),
             Err(_) => Err(ChainFault::Memory),
@@ -100,8 +100,9 @@ impl<C: Framer> World<C> {
         self.running.hall()
     }
 
-    /// Does one event, which has to be built. Its entries then stand at the end of the history. Where it is not done,
-    /// nothing is changed; and once the history was full or memory ran out, the world answers that to every event.
+    /// Does one event, which has to be built. Its entries then stand at the end of the history. Where it is not enabled,
+    /// nothing is changed. Where the history is full or memory runs out nothing is appended, and the world answers that to
+    /// every further event.
     pub fn step(&mut self, event: &Event) -> Result<Effect, WorldFault>
         requires { is_built_event event.now ≡ true }
         ensures step { (site : SiteData) (s : State) → GoesOn self.old → Represents site (held_in self.old) s → Steps site s event.now (held_in self.old) result (held_in self.new) }

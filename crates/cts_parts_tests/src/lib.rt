@@ -17,4 +17,6 @@ mod outside;
 #[cfg(test)]
 mod read;
 #[cfg(test)]
+mod shelves;
+#[cfg(test)]
 mod world;

@@ -1,4 +1,4 @@
-use Rattle.std.proofs.Common.{◌≡◌, ◌≤◌, ℕ, List, ◌++◌, Some, sym, ap, ◌∙◌, subst}
+use Rattle.std.proofs.Common.{◌≡◌, ◌≤◌, List, Some, sym, ap, ◌∙◌, subst}
 use Rattle.std.specs.Prelude.{◌&&◌, None, false, option_map, length}
 use Rattle.cts_entry.specs.Histories.{latest, connects_maker, has_command}
 use Rattle.cts_core.specs.Trials.{value_kind, value_text}
@@ -10,14 +10,14 @@ use Rattle.cts_core.specs.Kept.{is_within}
 use Rattle.cts_base.specs.Names.{in_upper_case, is_name}
 use Rattle.cts_watch.specs.Sets.{is_set_known}
 use Rattle.cts_core.specs.States.{Answer}
-use Rattle.cts_core.specs.Trials.{chooses, found_for, tells}
+use Rattle.cts_core.specs.Trials.{found_for, tells}
 use Rattle.cts_core.specs.Worlds.{Held}
 use Rattle.cts_core.proofs.Holding.{chosen_quiet, chosen_free}
 use Rattle.cts_core.proofs.WorldSteps.{trial_done, trial_told}
 use Rattle.cts_core.proofs.running.Running.attempt.Goals as goal
 
 pub returns-in_ok-text-in-Some-Value : goal.returns-in_ok-text-in-Some-Value
-returns-in_ok-text-in-Some-Value c =
+returns-in_ok-text-in-Some-Value g c =
     let w = c.args.self.now in
     let desks : 1 ≤ w.basis.site.desks = subst (λ (x : Held). 1 ≤ x.basis.site.desks) c.self.view_is c.is_kept.ensures.site.some_desks in
     let front = c.count-front.ensures ∙ ap (λ (x : Held). length x.history) c.self.view_is in
@@ -26,7 +26,7 @@ returns-in_ok-text-in-Some-Value c =
     λ site s h. trial_told site w s c.args.words.now c.count-front.result c.in_ok-text-in-Some-Value.text desks front (ap (found_for w.basis w.history w.time) asks ∙ says) h
 
 pub returns-in_ok-text-in-Some-Set : goal.returns-in_ok-text-in-Some-Set
-returns-in_ok-text-in-Some-Set c =
+returns-in_ok-text-in-Some-Set g c =
     let w = c.args.self.now in
     let desks : 1 ≤ w.basis.site.desks = subst (λ (x : Held). 1 ≤ x.basis.site.desks) c.self.view_is c.is_kept.ensures.site.some_desks in
     let front = c.count-front.ensures ∙ ap (λ (x : Held). length x.history) c.self.view_is in

@@ -1,32 +1,32 @@
-use Rattle.std.proofs.Common.{rules, ◌≡◌, true, false, refl, sym, ap, ◌∙◌}
+use Rattle.std.proofs.Common.{rules, ◌≡◌, true, false, refl, sym, ◌∙◌}
 use Rattle.cts_entry.specs.declared.event.Event.TheVariants.{Finish}
 use Rattle.cts_core.specs.States.{may_close}
-use Rattle.cts_core.proofs.Holding.{IsOpen, is_open}
+use Rattle.cts_core.proofs.Holding.{is_open}
 use Rattle.cts_core.proofs.Legality.{stops_after}
-use Rattle.cts_core.proofs.WorldSteps.{built_of, few_of, may_finish_is, not_enabled, finished}
+use Rattle.cts_core.proofs.WorldSteps.{built_of, may_finish_is, not_enabled, finished}
 use Rattle.cts_core.proofs.running.Running.finish.Goals as goal
 
 pub returns-then-not-may_finish : goal.returns-then-not-may_finish
-returns-then-not-may_finish c =
+returns-then-not-may_finish g c =
     let off : c.may_finish.result ≡ false = search rules in
     let w = c.args.self.now in
     λ site s h. not_enabled site w w s (Finish c.args.by c.args.why) c.may_finish.result (c.may_finish.ensures.test ∙ may_finish_is site w s c.args.by c.args.why (built_of site w s c.may_finish.ensures.sound h) h) off refl h
 
 pub close-requires-clause-there : goal.close-requires-clause-there
-close-requires-clause-there c = (is_open c.args.self.now c.args.by (may_close c.args.self.now.history c.args.why) c.may_finish.ensures.sound (sym c.may_finish.ensures.test ∙ (search rules))).there
+close-requires-clause-there g c = (is_open c.args.self.now c.args.by (may_close c.args.self.now.history c.args.why) c.may_finish.ensures.sound (sym c.may_finish.ensures.test ∙ (search rules))).there
 
 pub close-requires-clause-connected : goal.close-requires-clause-connected
-close-requires-clause-connected c = (is_open c.args.self.now c.args.by (may_close c.args.self.now.history c.args.why) c.may_finish.ensures.sound (sym c.may_finish.ensures.test ∙ (search rules))).flag
+close-requires-clause-connected g c = (is_open c.args.self.now c.args.by (may_close c.args.self.now.history c.args.why) c.may_finish.ensures.sound (sym c.may_finish.ensures.test ∙ (search rules))).flag
 
 pub close-requires-clause-stops : goal.close-requires-clause-stops
-close-requires-clause-stops c =
+close-requires-clause-stops g c =
     stops_after c.args.self.now.history c.args.why (is_open c.args.self.now c.args.by (may_close c.args.self.now.history c.args.why) c.may_finish.ensures.sound (sym c.may_finish.ensures.test ∙ (search rules))).passes
 
 pub returns : goal.returns
-returns c =
+returns g c =
     let on : c.may_finish.result ≡ true = search rules in
     let w = c.args.self.now in
     λ site s h.
     let built = built_of site w s c.may_finish.ensures.sound h in
-    finished site w _ s c.args.by c.args.why built (few_of site w s c.may_finish.ensures.few h) c.close.ensures.held
-    (sym (may_finish_is site w s c.args.by c.args.why built h) ∙ (sym c.may_finish.ensures.test ∙ on)) c.close.ensures.small h
+    finished site w _ s c.args.by c.args.why built c.close.ensures
+    (sym (may_finish_is site w s c.args.by c.args.why built h) ∙ (sym c.may_finish.ensures.test ∙ on)) h

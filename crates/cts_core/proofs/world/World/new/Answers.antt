@@ -1,5 +1,7 @@
 use Rattle.std.specs.Arc.{arc_value}
-use Rattle.std.proofs.Common.{◌≡◌, Result, Ok, Err, IfOk}
+use Rattle.std.proofs.Common.{◌≡◌, List, Result, Ok, Err, IfOk}
+use Rattle.cts_chain.specs.Builds.{AreFresh, chains_in}
+use Rattle.cts_chain.specs.Shapes.{ChainData}
 use Rattle.cts_entry.specs.Legal.{most_entries as entries_limit, most_bytes as bytes_limit}
 use Rattle.cts_core.specs.States.{opening}
 use Rattle.cts_core.specs.Endings.{WorldData, held_in}
@@ -14,4 +16,5 @@ each (Err e) P Q f h = tt
 pub returns-clause-stands : goal.returns-clause-stands
 returns-clause-stands g c =
     let site = arc_value c.args.site in
-    each c.with_limits.result (λ w. held_in w ≡ first_held site entries_limit bytes_limit) (λ w. Represents site (held_in w) opening) (λ w h. stands_first site (held_in w) h) c.with_limits.ensures.held
+    each c.with_limits.result (λ (w : WorldData). (chains : List ChainData) × AreFresh (chains_in site.interfaces) chains × (held_in w ≡ first_held site entries_limit bytes_limit chains)) (λ (w : WorldData). Represents site (held_in w) opening)
+    (λ (w : WorldData) h. stands_first site (held_in w) h.0 c.with_limits.ensures.few h.1 h.2) c.with_limits.ensures.held
