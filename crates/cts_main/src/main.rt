@@ -1,10 +1,12 @@
-//! The program: it takes the words of the command line, the files of the system and standard output, and ends with the
-//! status of the command that the words ask for. All else stands in the crates below.
+//! The program: it takes the words of the command line, a shelf of blank protocols, the files of the system and standard output,
+//! and ends with the status of the command that the words ask for. All else stands in the crates below.
 #![tactic(auto)]
 
+mod boxes;
 mod console;
 mod disk;
 
+use crate::boxes::full_shelf;
 use crate::console::Console;
 use crate::disk::DiskFiles;
 use cts_base::Memory;
@@ -27,9 +29,16 @@ fn perform<R: Env + Print + AllocGlobal + Files<File = File>>(rt: &R) -> Result<
         .iter()
         .map(|word| word.as_str())
         .collect::<Vec<&str>>(rt.alloc())?;
+    let mut shelf = full_shelf(rt.alloc())?;
     let mut files = DiskFiles::new(rt);
     let mut out = Console::new(io::writer(rt));
-    Ok(run(rt.alloc(), words.as_slice(), &mut files, &mut out))
+    Ok(run(
+        rt.alloc(),
+        words.as_slice(),
+        &mut shelf,
+        &mut files,
+        &mut out,
+    ))
 }
 
 // The words behind the program's name. Where one of them is not UTF-8 there are none, which no command takes.

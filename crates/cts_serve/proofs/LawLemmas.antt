@@ -1,19 +1,31 @@
 -- A command has exactly one outcome.
-use Rattle.std.proofs.Common.{◌≡◌, ℕ, List, Option, Some, None, MatchOption, refl, sym, ◌∙◌, ap}
+use Rattle.std.proofs.Common.{◌≡◌, ◌≢◌, ℕ, List, Option, Some, None, option_and_then, IfSome, MatchOption, Result, Ok, Err, refl, sym, ◌∙◌, ap, subst, ◌⊎◌, inl, inr}
+use Rattle.cts_def.specs.declared.proto_spec.Kind.{Kind}
+use Rattle.cts_outside.specs.Seen.{SinkSeen}
+use Rattle.cts_proto.specs.Meaning.{Meaning}
 use Rattle.cts_entry.specs.declared.event.Event.{Event}
 use Rattle.cts_core.specs.States.{opening}
 use Rattle.cts_core.specs.Runs.{Did, Ending}
 use Rattle.cts_core.proofs.OneRun.{has_one_run}
 use Rattle.cts_def.specs.Sites.{SiteData}
 use Rattle.cts_core.specs.Environments.{site_environment}
-use Rattle.cts_serve.specs.Command.{Outcome, refusal, first_refusal, replay_outcome, IsReplay, IsDone}
-use Rattle.cts_serve.specs.Ending.{usage_ending}
-use Rattle.cts_serve.specs.Load.{site_asked, events_asked}
-use Rattle.cts_serve.specs.Replay.Transcript.{events_of}
+use Rattle.cts_serve.specs.Command.{Outcome, refusal, first_refusal, script_refusal, HasBoxes, replayed, replay_outcome, check_outcome, IsReplay, IsDone, IsOutcome, Answers, Completes}
+use Rattle.cts_serve.specs.Ending.{usage_ending, refused_as, unloaded_status, unloaded_ending, unmade_ending}
+use Rattle.cts_serve.specs.Load.{IsNext, site_asked, events_asked, unloaded}
+use Rattle.cts_serve.specs.Replay.Transcript.{events_of, replay_body, replay_answer}
+use Rattle.cts_serve.specs.Start.{short_kind, short_fault}
+use Rattle.cts_serve.specs.declared.ending.status.Status.{Status}
+use Rattle.cts_serve.specs.declared.ending.status.Status.TheVariants as is
+use Rattle.cts_serve.specs.declared.load.file_kind.FileKind.{FileKind}
+use Rattle.cts_serve.specs.declared.load.file_kind.FileKind.TheVariants.{Definitions, Site, Script}
+use Rattle.cts_serve.specs.declared.load.unloaded.Unloaded.{Unloaded}
+use Rattle.cts_serve.specs.declared.load.unloaded.Unloaded.TheVariants.{Absent, ReadFault, TooLarge, Refused, NotBuilt, Memory}
+use Rattle.cts_serve.specs.declared.replay.halt.Halt.{Halt}
+use Rattle.cts_serve.specs.declared.replay.halt.Halt.TheVariants as halt
 use Rattle.cts_serve.specs.Request.{RequestData}
-use Rattle.cts_serve.specs.Laws.{HasOutcome, HasOneOutcome}
+use Rattle.cts_serve.specs.Laws.{HasOutcome, HasOneOutcome, IsShort, ShortExactly}
 use Rattle.cts_serve.proofs.ReplayLemmas.{site_sound}
-use Rattle.cts_serve.proofs.CommandLemmas.{some_outcome}
+use Rattle.cts_serve.proofs.CommandLemmas.{some_outcome, third_is, refusal_is, next_refuses, has_boxes, shelf_short}
 
 -- a script's events have one run, and so one outcome
 one_replay : (site : SiteData) (script : List ℕ) (events : List (ℕ × Event)) (o p : Outcome) → IsReplay site script events o → IsReplay site script events p → o ≡ p
@@ -31,9 +43,119 @@ one_by (Some x) files r o p h k = h ∙ sym k
 one_by None files r o p h k = one_done files r r.script o p h k
 
 pub has_one_outcome : HasOneOutcome
-has_one_outcome files None o p h k = h ∙ sym k
-has_one_outcome files (Some r) o p h k = one_by (first_refusal files r) files r o p h k
+has_one_outcome stock files None o p h k = h ∙ sym k
+has_one_outcome stock files (Some r) o p h k = one_by (first_refusal stock files r) files r o p h k
 
 pub has_outcome : HasOutcome
-has_outcome files None = (refusal usage_ending, refl)
-has_outcome files (Some r) = some_outcome files r
+has_outcome stock files None = (refusal usage_ending, refl)
+has_outcome stock files (Some r) = some_outcome stock files r
+
+-- ---- the status of a shelf that is short
+
+-- the outcome where something is refused, and where nothing is
+refused_is : (refused : Option Outcome) (files : List ℕ → Option (List ℕ)) (r : RequestData) (o x : Outcome) → refused ≡ Some x → MatchOption refused (IsDone files r r.script o) (λ y. o ≡ y) → o ≡ x
+refused_is refused files r o x e h = subst (λ (t : Option Outcome). MatchOption t (IsDone files r r.script o) (λ y. o ≡ y)) e h
+
+done_is : (refused : Option Outcome) (files : List ℕ → Option (List ℕ)) (r : RequestData) (o : Outcome) → refused ≡ None → MatchOption refused (IsDone files r r.script o) (λ y. o ≡ y) → IsDone files r r.script o
+done_is refused files r o e h = subst (λ (t : Option Outcome). MatchOption t (IsDone files r r.script o) (λ y. o ≡ y)) e h
+
+-- the statuses of all else
+refused_other : (kind : FileKind) → refused_as kind ≢ is.ShelfEmpty
+refused_other Definitions = λ e. absurd (cc)
+refused_other Site = λ e. absurd (cc)
+refused_other Script = λ e. absurd (cc)
+
+unloaded_other : (kind : FileKind) (why : Unloaded) → unloaded_status kind why ≢ is.ShelfEmpty
+unloaded_other kind Absent = λ e. absurd (cc)
+unloaded_other kind ReadFault = λ e. absurd (cc)
+unloaded_other kind TooLarge = refused_other kind
+unloaded_other kind (Refused line cause) = refused_other kind
+unloaded_other kind NotBuilt = λ e. absurd (cc)
+unloaded_other kind Memory = λ e. absurd (cc)
+
+replayed_other : (script body : List ℕ) (answer : Result (Unit {0}) Halt) → (replayed script body answer).status ≢ is.ShelfEmpty
+replayed_other script body (Ok done) = λ e. absurd (cc)
+replayed_other script body (Err (halt.NotEnabled line)) = λ e. absurd (cc)
+replayed_other script body (Err (halt.HistoryFull entries bytes)) = λ e. absurd (cc)
+replayed_other script body (Err halt.WriteFault) = λ e. absurd (cc)
+replayed_other script body (Err halt.Memory) = λ e. absurd (cc)
+
+status_in : (o x : Outcome) → o ≡ x → o.status ≡ is.ShelfEmpty → x.status ≡ is.ShelfEmpty
+status_in o x e h = sym (ap (λ (t : Outcome). t.status) e) ∙ h
+
+module _ (stock : List Meaning) (files : List ℕ → Option (List ℕ)) (r : RequestData) (o : Outcome) (is_so : IsOutcome stock files (Some r) o) (told : o.status ≡ is.ShelfEmpty) where
+  -- a file that gives nothing has another status
+  not_refused : (kind : FileKind) (name : List ℕ) (why : Unloaded) → IsNext files r kind name → HasBoxes stock files r kind → unloaded files r kind name ≡ Some why → ⊥
+  not_refused kind name why next boxes e =
+      let so = refused_is (first_refusal stock files r) files r o (refusal (unloaded_ending name kind why)) (next_refuses stock files r kind name why next boxes e) is_so in
+      unloaded_other kind why (status_in o (refusal (unloaded_ending name kind why)) so told)
+
+  not_replayed : (script : List ℕ) → IsReplay (site_asked files r) script (events_asked files r script) o → ⊥
+  not_replayed script h =
+      replayed_other script (replay_body (site_asked files r) h.dids h.ending) (replay_answer (events_asked files r script) h.dids h.ending)
+      (status_in o (replay_outcome (site_asked files r) script (events_asked files r script) h.dids h.ending) h.outcome told)
+
+  not_checked : o ≡ check_outcome (site_asked files r) → ⊥
+  not_checked h = absurd (cc (status_in o (check_outcome (site_asked files r)) h told))
+
+  by_text : (script : List ℕ) (u : Option Unloaded) → unloaded files r Script script ≡ u → unloaded files r Definitions r.definitions ≡ None → unloaded files r Site r.site ≡ None → r.script ≡ Some script → short_kind stock (site_asked files r) ≡ None → ⊥
+  by_text script (Some why) u d s q k = not_refused Script script why (d, s, q) k u
+  by_text script None u d s q k =
+      let none = third_is stock _ _ _ None (refusal_is stock files r Definitions r.definitions None d) (refusal_is stock files r Site r.site None s) (ap (option_and_then (script_refusal stock files r)) q ∙ (has_boxes stock files r script k ∙ refusal_is stock files r Script script None u)) in
+      not_replayed script (subst (λ (t : Option (List ℕ)). IsDone files r t o) q (done_is (first_refusal stock files r) files r o none is_so))
+
+  by_kind : (script : List ℕ) (k : Option Kind) → short_kind stock (site_asked files r) ≡ k → unloaded files r Definitions r.definitions ≡ None → unloaded files r Site r.site ≡ None → r.script ≡ Some script → IsShort stock files (Some r)
+  by_kind script (Some kind) k d s q = record { request = r; asked_is = refl; script = script; script_is = q; definitions = d; site = s; kind = kind; short = k }
+  by_kind script None k d s q = absurd (by_text script (unloaded files r Script script) refl d s q k)
+
+  by_script : (script : Option (List ℕ)) → r.script ≡ script → unloaded files r Definitions r.definitions ≡ None → unloaded files r Site r.site ≡ None → IsShort stock files (Some r)
+  by_script (Some script) q d s = by_kind script (short_kind stock (site_asked files r)) refl d s q
+  by_script None q d s =
+      let none = third_is stock _ _ _ None (refusal_is stock files r Definitions r.definitions None d) (refusal_is stock files r Site r.site None s) (ap (option_and_then (script_refusal stock files r)) q) in
+      absurd (not_checked (subst (λ (t : Option (List ℕ)). IsDone files r t o) q (done_is (first_refusal stock files r) files r o none is_so)))
+
+  by_site : (u : Option Unloaded) → unloaded files r Site r.site ≡ u → unloaded files r Definitions r.definitions ≡ None → IsShort stock files (Some r)
+  by_site (Some why) s d = absurd (not_refused Site r.site why (d, refl) tt s)
+  by_site None s d = by_script r.script refl d s
+
+  by_definitions : (u : Option Unloaded) → unloaded files r Definitions r.definitions ≡ u → IsShort stock files (Some r)
+  by_definitions (Some why) d = absurd (not_refused Definitions r.definitions why refl tt d)
+  by_definitions None d = by_site (unloaded files r Site r.site) refl d
+
+is_there : (r q : RequestData) → Some r ≡ Some q → r ≡ q
+is_there r q e = cc
+
+-- where the shelf is short that is told
+short_told : (stock : List Meaning) (files : List ℕ → Option (List ℕ)) (r : RequestData) (o : Outcome) → IsOutcome stock files (Some r) o → (s : IsShort stock files (Some r)) → o.status ≡ is.ShelfEmpty
+short_told stock files r o h s =
+    let same = is_there r s.request s.asked_is in
+    let first = shelf_short stock files s.request (site_asked files s.request) s.script s.kind s.script_is (s.definitions, s.site, refl) s.short in
+    let x = refusal (unmade_ending (short_fault stock (site_asked files s.request) s.kind)) in
+    let here = subst (λ (q : RequestData). first_refusal stock files q ≡ Some x) (sym same) first in
+    ap (λ (t : Outcome). t.status) (refused_is (first_refusal stock files r) files r o x here h)
+
+pub short_exactly : ShortExactly
+short_exactly stock files None o h = (λ e. absurd (cc), λ s. absurd (cc (s.asked_is)))
+short_exactly stock files (Some r) o h =
+    (λ told. by_definitions stock files r o h told (unloaded files r Definitions r.definitions) refl, λ s. short_told stock files r o h s)
+
+-- ---- the same of an answer
+
+short_in : (stock : List Meaning) (all : List ℕ → Option (List ℕ)) (asked : Option RequestData) (old new : SinkSeen) → Answers stock all asked is.ShelfEmpty old new → IsShort stock all asked
+short_in stock all asked old new a = (short_exactly stock all asked a.outcome a.is).0 a.puts.0
+
+pub short_where : (stock : List Meaning) (told : Option (List ℕ → Option (List ℕ))) (r asked : Option RequestData) (status : Status) (old new : SinkSeen) → r ≡ asked → IfSome told (λ all. Answers stock all r status old new)
+    → status ≡ is.ShelfEmpty → IfSome told (λ all. IsShort stock all asked)
+short_where stock None r asked status old new same a e = tt
+short_where stock (Some all) r asked status old new same a e =
+    short_in stock all asked old new (subst (λ (q : Option RequestData). Answers stock all q is.ShelfEmpty old new) same (subst (λ (st : Status). Answers stock all r st old new) e a))
+
+short_then : (stock : List Meaning) (all : List ℕ → Option (List ℕ)) (asked : Option RequestData) (status : Status) (o : Outcome) → IsOutcome stock all asked o → IsShort stock all asked → (status ≡ o.status) ⊎ (status ≡ is.Memory)
+    → (status ≡ is.ShelfEmpty) ⊎ (status ≡ is.Memory)
+short_then stock all asked status o h s (inl e) = inl (e ∙ (short_exactly stock all asked o h).1 s)
+short_then stock all asked status o h s (inr e) = inr e
+
+pub short_answered : (stock : List Meaning) (told : Option (List ℕ → Option (List ℕ))) (asked : Option RequestData) (status : Status) → IfSome told (λ all. Completes stock all asked status)
+    → IfSome told (λ all. IsShort stock all asked → (status ≡ is.ShelfEmpty) ⊎ (status ≡ is.Memory))
+short_answered stock None asked status c = tt
+short_answered stock (Some all) asked status c = λ s. short_then stock all asked status c.outcome c.is s c.status_is

@@ -102,14 +102,14 @@ TakesSite all r d answer = Takes (judge_site (is_taken r is_built_site) d) (site
 pub definitions_fail : (told : Option (List ℕ → Option (List ℕ))) (r : RequestData) (why : Unloaded)
     → IfSome told (λ all. TakesDefinitions all r (Err why)) → IfSome told (λ all. LoadsSite all r (Err (Definitions, why)))
 definitions_fail None r why h = tt
-definitions_fail (Some all) r why h = (refl, h)
+definitions_fail (Some all) r why h = (λ e. absurd (cc), (refl, h))
 
 pub site_fails : (told second : Option (List ℕ → Option (List ℕ))) (r : RequestData) (d : DefinitionsData) (why : Unloaded) → second ≡ told
     → IfSome told (λ all. TakesDefinitions all r (Ok d)) → IfSome second (λ all. TakesSite all r d (Err why)) → IfSome told (λ all. LoadsSite all r (Err (Site, why)))
 site_fails None second r d why same ds h = tt
 site_fails (Some all) second r d why same ds h =
     let h' = subst (λ (t : Option (List ℕ → Option (List ℕ))). IfSome t (λ all. TakesSite all r d (Err why))) same h in
-    ((ds.0, refl), subst (λ (x : DefinitionsData). TakesSite all r x (Err why)) ds.1 h')
+    (λ e. absurd (cc), ((ds.0, refl), subst (λ (x : DefinitionsData). TakesSite all r x (Err why)) ds.1 h'))
 
 pub site_loads : (told second : Option (List ℕ → Option (List ℕ))) (r : RequestData) (d : DefinitionsData) (site : SiteData) → second ≡ told
     → IfSome told (λ all. TakesDefinitions all r (Ok d)) → IfSome second (λ all. TakesSite all r d (Ok site)) → IfSome told (λ all. LoadsSite all r (Ok site))

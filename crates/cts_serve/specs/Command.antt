@@ -1,4 +1,4 @@
--- What a command answers and prints, from the content of the files alone.
+-- What a command answers and prints, from the boxes on the shelf and the content of the files alone.
 use Rattle.std.specs.Prelude.{◌≡◌, ℕ, ◌≤◌, List, [], take, Option, Some, None, option_map, option_and_then, MatchOption, Result, Ok, Err, ◌⊎◌}
 use Rattle.std.specs.Option.{option_or}
 use Rattle.cts_core.specs.Runs.{Did, Ending, Runs}
@@ -8,13 +8,15 @@ use Rattle.cts_entry.specs.declared.event.Event.{Event}
 use Rattle.cts_outside.specs.Causes.{Rose}
 use Rattle.cts_outside.specs.Contents.{appended}
 use Rattle.cts_outside.specs.Seen.{FilesSeen, SinkSeen}
-use Rattle.cts_serve.specs.Ending.{EndingData, usage_ending, unloaded_ending, halt_ending}
+use Rattle.cts_proto.specs.Meaning.{Meaning}
+use Rattle.cts_serve.specs.Ending.{EndingData, usage_ending, unloaded_ending, unmade_ending, halt_ending}
 use Rattle.cts_serve.specs.Ending.Lines.{memory_line, read_fault_line, counts_line}
 use Rattle.cts_core.specs.Environments.{site_environment}
 use Rattle.cts_serve.specs.Load.{IsNext, unloaded, site_asked, events_asked}
 use Rattle.cts_serve.specs.Putting.{Printed, FailsWithin}
 use Rattle.cts_serve.specs.Replay.Transcript.{events_of, replay_body, replay_answer}
 use Rattle.cts_serve.specs.Request.{RequestData}
+use Rattle.cts_serve.specs.Start.{short_kind, short_fault}
 use Rattle.cts_serve.specs.declared.ending.status.Status.{Status}
 use Rattle.cts_serve.specs.declared.ending.status.Status.TheVariants.{Ok as Fine, Memory, ReadFault, Absent, WriteFault}
 use Rattle.cts_serve.specs.declared.load.file_kind.FileKind.{FileKind}
@@ -38,11 +40,19 @@ refusal ending = behind [] ending
 abbrev pub refusal_of : (List ℕ → Option (List ℕ)) → RequestData → FileKind → List ℕ → Option Outcome
 refusal_of files r kind name = option_map (λ why. refusal (unloaded_ending name kind why)) (unloaded files r kind name)
 
--- the outcome of the first of the files that gives nothing
-abbrev pub first_refusal : (List ℕ → Option (List ℕ)) → RequestData → Option Outcome
-first_refusal files r =
+-- the outcome where the chains of a site need more boxes of a kind than there are
+abbrev pub shelf_refusal : List Meaning → SiteData → Option Outcome
+shelf_refusal stock site = option_map (λ kind. refusal (unmade_ending (short_fault stock site kind))) (short_kind stock site)
+
+-- a replay's outcome behind its site: where the shelf is short, and then where the script gives nothing
+abbrev pub script_refusal : List Meaning → (List ℕ → Option (List ℕ)) → RequestData → List ℕ → Option Outcome
+script_refusal stock files r script = option_or (shelf_refusal stock (site_asked files r)) (refusal_of files r Script script)
+
+-- the outcome of what is first refused: definitions, site, and for a replay the shelf and then the script
+abbrev pub first_refusal : List Meaning → (List ℕ → Option (List ℕ)) → RequestData → Option Outcome
+first_refusal stock files r =
     option_or (refusal_of files r Definitions r.definitions)
-    (option_or (refusal_of files r Site r.site) (option_and_then (refusal_of files r Script) r.script))
+    (option_or (refusal_of files r Site r.site) (option_and_then (script_refusal stock files r) r.script))
 
 -- all was done
 abbrev pub fine : List ℕ → Outcome
@@ -72,36 +82,42 @@ abbrev pub IsDone : (List ℕ → Option (List ℕ)) → RequestData → Option 
 IsDone files r None o = o ≡ check_outcome (site_asked files r)
 IsDone files r (Some script) o = IsReplay (site_asked files r) script (events_asked files r script) o
 
--- The outcome of a command, for files with this content.
-abbrev pub IsOutcome : (List ℕ → Option (List ℕ)) → Option RequestData → Outcome → Type 0
-IsOutcome files None o = o ≡ refusal usage_ending
-IsOutcome files (Some r) o = MatchOption (first_refusal files r) (IsDone files r r.script o) (λ refused. o ≡ refused)
+-- The outcome of a command, for a shelf with these boxes and files with this content.
+abbrev pub IsOutcome : List Meaning → (List ℕ → Option (List ℕ)) → Option RequestData → Outcome → Type 0
+IsOutcome stock files None o = o ≡ refusal usage_ending
+IsOutcome stock files (Some r) o = MatchOption (first_refusal stock files r) (IsDone files r r.script o) (λ refused. o ≡ refused)
+
+-- before a script is read the shelf is looked at, which has to have all boxes
+abbrev pub HasBoxes : List Meaning → (List ℕ → Option (List ℕ)) → RequestData → FileKind → Type 0
+HasBoxes stock files r Definitions = Unit {0}
+HasBoxes stock files r Site = Unit {0}
+HasBoxes stock files r Script = short_kind stock (site_asked files r) ≡ None
 
 -- the file of this name is the next one to be read
-abbrev pub IsRead : (List ℕ → Option (List ℕ)) → Option RequestData → List ℕ → Type 0
-IsRead files None name = ⊥
-IsRead files (Some r) name = (kind : FileKind) × IsNext files r kind name
+abbrev pub IsRead : List Meaning → (List ℕ → Option (List ℕ)) → Option RequestData → List ℕ → Type 0
+IsRead stock files None name = ⊥
+IsRead stock files (Some r) name = (kind : FileKind) × IsNext files r kind name × HasBoxes stock files r kind
 
 -- What was put where the outcome is this and the status that. Want of memory and faults may come in place of the
 -- outcome's own status: then what was put is a prefix of its body. A fault of the sink comes only where there is a body to
 -- be put: where a last line can't be put, the outcome's status stays.
-abbrev pub PutsFor : (List ℕ → Option (List ℕ)) → Option RequestData → Outcome → Status → SinkSeen → SinkSeen → Type 0
-PutsFor files r o Fine old new = (o.status ≡ Fine) × (new.told ≡ appended old.told o.body)
-PutsFor files r o Memory old new = (n : ℕ) × Printed old new (take n o.body) memory_line
-PutsFor files r o ReadFault old new = (name : List ℕ) × IsRead files r name × Printed old new [] (read_fault_line name)
-PutsFor files r o WriteFault old new = FailsWithin o.body old new
-PutsFor files r o status old new = (o.status ≡ status) × Printed old new o.body o.last
+abbrev pub PutsFor : List Meaning → (List ℕ → Option (List ℕ)) → Option RequestData → Outcome → Status → SinkSeen → SinkSeen → Type 0
+PutsFor stock files r o Fine old new = (o.status ≡ Fine) × (new.told ≡ appended old.told o.body)
+PutsFor stock files r o Memory old new = (n : ℕ) × Printed old new (take n o.body) memory_line
+PutsFor stock files r o ReadFault old new = (name : List ℕ) × IsRead stock files r name × Printed old new [] (read_fault_line name)
+PutsFor stock files r o WriteFault old new = FailsWithin o.body old new
+PutsFor stock files r o status old new = (o.status ≡ status) × Printed old new o.body o.last
 
 -- The command's outcome, and what was put for it.
-pub record Answers (files : List ℕ → Option (List ℕ)) (r : Option RequestData) (status : Status) (old new : SinkSeen) : Type 0 where
+pub record Answers (stock : List Meaning) (files : List ℕ → Option (List ℕ)) (r : Option RequestData) (status : Status) (old new : SinkSeen) : Type 0 where
   pub outcome : Outcome
-  pub is : IsOutcome files r outcome
-  pub puts : PutsFor files r outcome status old new
+  pub is : IsOutcome stock files r outcome
+  pub puts : PutsFor stock files r outcome status old new
 
 -- The outcome's status was answered, or want of memory.
-pub record Completes (files : List ℕ → Option (List ℕ)) (r : Option RequestData) (status : Status) : Type 0 where
+pub record Completes (stock : List Meaning) (files : List ℕ → Option (List ℕ)) (r : Option RequestData) (status : Status) : Type 0 where
   pub outcome : Outcome
-  pub is : IsOutcome files r outcome
+  pub is : IsOutcome stock files r outcome
   pub status_is : (status ≡ outcome.status) ⊎ (status ≡ Memory)
 
 -- No count falls.

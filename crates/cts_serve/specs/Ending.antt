@@ -1,7 +1,9 @@
 -- How a command ends: its status and its last line, from what its phases answer.
 use Rattle.std.specs.Prelude.{◌≡◌, ℕ, List, [], codes, ◌⊎◌, Result, Ok, Err}
+use Rattle.cts_chain.specs.declared.build.ChainFault.{ChainFault}
+use Rattle.cts_chain.specs.declared.build.ChainFault.TheVariants as chain
 use Rattle.cts_outside.specs.Seen.{SinkSeen}
-use Rattle.cts_serve.specs.Ending.Lines.{usage_line, memory_line, read_fault_line, absent_line, not_built_line, refused_line, full_line}
+use Rattle.cts_serve.specs.Ending.Lines.{usage_line, memory_line, read_fault_line, absent_line, not_built_line, refused_line, shelf_line, full_line}
 use Rattle.cts_serve.specs.Load.Causes.{cause_text}
 use Rattle.cts_serve.specs.Putting.{Printed}
 use Rattle.cts_serve.specs.declared.ending.status.Status.{Status}
@@ -57,6 +59,11 @@ unloaded_line name Memory = memory_line
 
 abbrev pub unloaded_ending : List ℕ → FileKind → Unloaded → EndingData
 unloaded_ending name kind why = ends (unloaded_status kind why) (unloaded_line name why)
+
+-- where no world is made: a kind is short on the shelf, or memory ran out
+abbrev pub unmade_ending : ChainFault → EndingData
+unmade_ending (chain.ShelfEmpty kind needed stocked) = ends is.ShelfEmpty (shelf_line kind needed stocked)
+unmade_ending chain.Memory = memory_ending
 
 -- where a replay of the script of this name halts; after a put that failed there is no last line
 abbrev pub halt_ending : List ℕ → Halt → EndingData

@@ -1,5 +1,5 @@
 -- Laws of outcomes, and of the runs on which they stand.
-use Rattle.std.specs.Prelude.{◌≡◌, ℕ, true, List, Option}
+use Rattle.std.specs.Prelude.{◌≡◌, ◌↔◌, ℕ, true, List, Option, Some, None}
 use Rattle.std.specs.List.{list_all}
 use Rattle.cts_core.specs.Runs.{Did, Ending, Runs}
 use Rattle.cts_core.specs.States.{opening}
@@ -7,16 +7,37 @@ use Rattle.cts_def.specs.Sites.{SiteData}
 use Rattle.cts_entry.specs.declared.event.Event.{Event}
 use Rattle.cts_core.specs.Environments.{Undefined, environment_with}
 use Rattle.cts_core.specs.Built.{is_built_event, is_built_site}
+use Rattle.cts_def.specs.declared.proto_spec.Kind.{Kind}
+use Rattle.cts_proto.specs.Meaning.{Meaning}
 use Rattle.cts_serve.specs.Command.{Outcome, IsOutcome}
+use Rattle.cts_serve.specs.Load.{site_asked, unloaded}
 use Rattle.cts_serve.specs.Request.{RequestData}
+use Rattle.cts_serve.specs.Start.{short_kind}
+use Rattle.cts_serve.specs.declared.ending.status.Status.TheVariants.{ShelfEmpty}
+use Rattle.cts_serve.specs.declared.load.file_kind.FileKind.TheVariants.{Definitions, Site}
 
--- a command has one outcome, for files with this content
+-- a command has one outcome, for a shelf with these boxes and files with this content
 abbrev pub HasOneOutcome : Type 0
-HasOneOutcome = (files : List ℕ → Option (List ℕ)) (r : Option RequestData) (o p : Outcome) → IsOutcome files r o → IsOutcome files r p → o ≡ p
+HasOneOutcome = (stock : List Meaning) (files : List ℕ → Option (List ℕ)) (r : Option RequestData) (o p : Outcome) → IsOutcome stock files r o → IsOutcome stock files r p → o ≡ p
 
 -- and there is one, whatever is asked for
 abbrev pub HasOutcome : Type 0
-HasOutcome = (files : List ℕ → Option (List ℕ)) (r : Option RequestData) → (o : Outcome) × IsOutcome files r o
+HasOutcome = (stock : List Meaning) (files : List ℕ → Option (List ℕ)) (r : Option RequestData) → (o : Outcome) × IsOutcome stock files r o
+
+-- A replay is asked for whose definitions and site are taken, and the chains of this site need more boxes of a kind than there are.
+pub record IsShort (stock : List Meaning) (files : List ℕ → Option (List ℕ)) (asked : Option RequestData) : Type 0 where
+  pub request : RequestData
+  pub asked_is : asked ≡ Some request
+  pub script : List ℕ
+  pub script_is : request.script ≡ Some script
+  pub definitions : unloaded files request Definitions request.definitions ≡ None
+  pub site : unloaded files request Site request.site ≡ None
+  pub kind : Kind
+  pub short : short_kind stock (site_asked files request) ≡ Some kind
+
+-- the outcome has the status of a shelf that is short exactly there
+abbrev pub ShortExactly : Type 0
+ShortExactly = (stock : List Meaning) (files : List ℕ → Option (List ℕ)) (r : Option RequestData) (o : Outcome) → IsOutcome stock files r o → (o.status ≡ ShelfEmpty) ↔ IsShort stock files r
 
 -- A run of built events on a built site is the same whatever stands for what is not defined yet.
 abbrev pub RestsOnNoStandIn : Type 0

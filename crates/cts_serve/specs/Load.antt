@@ -1,5 +1,5 @@
 -- The files of a command: which of them gives nothing, if one does, and what is loaded from them.
-use Rattle.std.specs.Prelude.{◌≡◌, ℕ, List, [], Bool, ◌||◌, Option, Some, None, is_none, unwrap_or, Result, Ok, Err}
+use Rattle.std.specs.Prelude.{◌≡◌, ◌≢◌, ℕ, List, [], Bool, ◌||◌, Option, Some, None, is_none, unwrap_or, Result, Ok, Err}
 use Rattle.cts_def.specs.Packets.{DefinitionsData}
 use Rattle.cts_def.specs.Sites.{SiteData}
 use Rattle.cts_entry.specs.declared.event.Event.{Event}
@@ -56,11 +56,11 @@ name_of r Definitions = r.definitions
 name_of r Site = r.site
 name_of r Script = unwrap_or r.script []
 
--- the site that is loaded from files with this content, or which of them gives nothing and why
+-- the site that is loaded from files with this content, or which of the two gives nothing and why
 abbrev pub LoadsSite : (List ℕ → Option (List ℕ)) → RequestData → Result SiteData (FileKind × Unloaded) → Type 0
 LoadsSite files r (Ok site) =
     (unloaded files r Definitions r.definitions ≡ None) × (unloaded files r Site r.site ≡ None) × (site ≡ site_asked files r)
-LoadsSite files r (Err e) = FailsToLoad files r e.0 (name_of r e.0) e.1
+LoadsSite files r (Err e) = (e.0 ≢ Script) × FailsToLoad files r e.0 (name_of r e.0) e.1
 
 -- the counts of files after a site was loaded
 abbrev pub SiteCounts : {T : Type 0} → Result T (FileKind × Unloaded) → FilesSeen → FilesSeen → Type 0

@@ -1,23 +1,33 @@
 // The top call.
-ghost use Rattle.std.specs.Prelude.{◌≡◌, ◌≢◌, ◌≤◌, ◌↔◌, [], true, map, IfSome, None, Some, Ok};
+ghost use Rattle.std.specs.Prelude.{◌≡◌, ◌≢◌, ◌≤◌, ◌↔◌, ◌⊎◌, List, [], true, map, IfSome, None, Some, Ok};
+ghost use Rattle.cts_core.specs.Built.{is_built_site};
+ghost use Rattle.cts_core.specs.Endings.{GoesOn, held_in};
+ghost use Rattle.cts_core.specs.States.{opening};
+ghost use Rattle.cts_core.specs.Worlds.{Represents};
 ghost use Rattle.cts_outside.specs.Causes.{Rose, Steady};
+ghost use Rattle.cts_proto.specs.Meaning.{Meaning};
 ghost use Rattle.cts_serve.specs.Command.{Answers, Completes, IsCaused};
 ghost use Rattle.cts_serve.specs.Ending.Lines.{usage_line};
-ghost use Rattle.cts_core.specs.Built.{is_built_site};
+ghost use Rattle.cts_serve.specs.Laws.{IsShort};
 ghost use Rattle.cts_serve.specs.Load.{LoadsSite};
 ghost use Rattle.cts_serve.specs.Putting.{Printed};
 ghost use Rattle.cts_serve.specs.Request.{asked};
+ghost use Rattle.cts_serve.specs.Start.{short_kind};
 
 use crate::check::put_counts;
 use crate::ending::status::Status;
-use crate::ending::{end_check, end_replay, end_unloaded, end_usage};
+use crate::ending::{end_check, end_replay, end_unloaded, end_unmade, end_usage};
 use crate::load::file_kind::FileKind;
 use crate::load::load_site;
 use crate::load::script::load_script;
 use crate::replay::replay;
 use crate::request::{Request, read_words};
+use crate::start::start;
+use cts_chain::Chain;
+use cts_core::{Framer, Supplier, World};
 use cts_def::Site;
 use cts_outside::{Files, Sink};
+use cts_proto::{Shelf, Stocked};
 use std::alloc::Global;
 
 /// Runs one command: reads the files that its words name, does what it asks, puts what it prints,
@@ -25,8 +35,15 @@ use std::alloc::Global;
 ///
 /// The words are those after the program's name: `check DEFS SITE` reads definitions and a site, and
 /// puts how much they have; `replay DEFS SITE SCRIPT` does the events of a script. Other words are
-/// `Usage`.
-pub fn run<F: Files, O: Sink>(alloc: Global, words: &[&str], files: &mut F, out: &mut O) -> Status
+/// `Usage`. The boxes of the protocols of all chains of a replayed site are taken from the shelf,
+/// before its script is read.
+pub fn run<F: Files, O: Sink>(
+    alloc: Global,
+    words: &[&str],
+    shelf: &mut Shelf,
+    files: &mut F,
+    out: &mut O,
+) -> Status
     // Exactly where the words fit no command.
     ensures usage { result ≡ Status.Usage ↔ (asked (map (λ w. w.now) words.now) ≡ None) }
     // Only where a read failed in this call.
@@ -43,29 +60,35 @@ pub fn run<F: Files, O: Sink>(alloc: Global, words: &[&str], files: &mut F, out:
     ensures stays { (F.seen files.new).told ≡ (F.seen files.old).told }
     // Where the words fit no command, the line that says which ones do, whatever the files are.
     ensures misused { asked (map (λ w. w.now) words.now) ≡ None → Printed (O.seen out.old) (O.seen out.new) [] usage_line }
-    // The outcome that the content of the files has, and what was put for it.
-    ensures transcript { IfSome (F.seen files.old).told (λ all. Answers all (asked (map (λ w. w.now) words.now)) result (O.seen out.old) (O.seen out.new)) }
+    // Only where all chains of the site need more boxes of a kind than the shelf holds.
+    ensures short { result ≡ Status.ShelfEmpty → IfSome (F.seen files.old).told (λ all. IsShort (⟦<Shelf as Stocked>⟧.stock shelf.old) all (asked (map (λ w. w.now) words.now))) }
+    // And there no other status comes, where no count rose, but want of memory.
+    ensures shelf { Steady (F.seen files.old).faults (F.seen files.new).faults → Steady (O.seen out.old).faults (O.seen out.new).faults
+        → IfSome (F.seen files.old).told (λ all. IsShort (⟦<Shelf as Stocked>⟧.stock shelf.old) all (asked (map (λ w. w.now) words.now)) → (result ≡ Status.ShelfEmpty) ⊎ (result ≡ Status.Memory)) }
+    // The outcome that the boxes on the shelf and the content of the files have, and what was put for it.
+    ensures transcript { IfSome (F.seen files.old).told (λ all. Answers (⟦<Shelf as Stocked>⟧.stock shelf.old) all (asked (map (λ w. w.now) words.now)) result (O.seen out.old) (O.seen out.new)) }
     // Where no count rose, the outcome's status comes, or want of memory.
     ensures complete { Steady (F.seen files.old).faults (F.seen files.new).faults → Steady (O.seen out.old).faults (O.seen out.new).faults
-        → IfSome (F.seen files.old).told (λ all. Completes all (asked (map (λ w. w.now) words.now)) result) }
+        → IfSome (F.seen files.old).told (λ all. Completes (⟦<Shelf as Stocked>⟧.stock shelf.old) all (asked (map (λ w. w.now) words.now)) result) }
 {
     match read_words(words) {
         None => end_usage(out),
-        Some(request) => do_request(alloc, &request, files, out),
+        Some(request) => do_request::<Chain, Shelf, F, O>(alloc, &request, shelf, files, out),
     }
 }
 
 // Reads the files and does what is asked of them.
-fn do_request<F: Files, O: Sink>(
+fn do_request<C: Framer, B: Supplier<C>, F: Files, O: Sink>(
     alloc: Global,
     request: &Request<'_>,
+    shelf: &mut B,
     files: &mut F,
     out: &mut O,
 ) -> Status
     ensures usage { result ≢ Status.Usage }
     ensures stays { (F.seen files.new).told ≡ (F.seen files.old).told }
     ensures caused { IsCaused result (F.seen files.old) (F.seen files.new) (O.seen out.old) (O.seen out.new) }
-    ensures transcript { IfSome (F.seen files.old).told (λ all. Answers all (Some request.now) result (O.seen out.old) (O.seen out.new)) }
+    ensures transcript { IfSome (F.seen files.old).told (λ all. Answers (B.stock shelf.old) all (Some request.now) result (O.seen out.old) (O.seen out.new)) }
 {
     match load_site(alloc, files, request) {
         Ok(site) => match request.script {
@@ -73,18 +96,21 @@ fn do_request<F: Files, O: Sink>(
                 let checked = put_counts(alloc, &site, out);
                 end_check(checked, out)
             }
-            Some(script) => replay_script(alloc, request, script, site, files, out),
+            Some(script) => replay_site::<C, B, F, O>(
+                alloc, request, script, site, shelf, files, out,
+            ),
         },
         Err((kind, why)) => end_unloaded(alloc, request.name_of(kind), kind, why, out),
     }
 }
 
-// Reads the script and replays it over the site.
-fn replay_script<F: Files, O: Sink>(
+// Makes the world of the site, and replays the script in it.
+fn replay_site<C: Framer, B: Supplier<C>, F: Files, O: Sink>(
     alloc: Global,
     request: &Request<'_>,
     script: &str,
     site: Site,
+    shelf: &mut B,
     files: &mut F,
     out: &mut O,
 ) -> Status
@@ -94,11 +120,36 @@ fn replay_script<F: Files, O: Sink>(
     ensures usage { result ≢ Status.Usage }
     ensures stays { (F.seen files.new).told ≡ (F.seen files.old).told }
     ensures caused { IsCaused result (F.seen files.old) (F.seen files.new) (O.seen out.old) (O.seen out.new) }
-    ensures transcript { IfSome (F.seen files.old).told (λ all. Answers all (Some request.now) result (O.seen out.old) (O.seen out.new)) }
+    ensures transcript { IfSome (F.seen files.old).told (λ all. Answers (B.stock shelf.old) all (Some request.now) result (O.seen out.old) (O.seen out.new)) }
 {
-    match load_script(alloc, files, script, &site) {
+    match start::<C, B>(alloc, site, shelf) {
+        Ok(world) => replay_script(alloc, request, script, world, files, out),
+        Err(why) => end_unmade(alloc, why, out),
+    }
+}
+
+// Reads the script and replays it in a world in which nothing has happened, for which the shelf had all boxes.
+fn replay_script<C: Framer, F: Files, O: Sink>(
+    alloc: Global,
+    request: &Request<'_>,
+    script: &str,
+    world: World<C>,
+    files: &mut F,
+    out: &mut O,
+) -> Status
+    requires asked { request.now.script ≡ Some script.now }
+    requires taken { IfSome (F.seen files.old).told (λ all. LoadsSite all request.now (Ok (held_in world).basis.site)) }
+    requires world { Represents (held_in world).basis.site (held_in world) opening }
+    requires going { GoesOn world }
+    ensures usage { result ≢ Status.Usage }
+    ensures stays { (F.seen files.new).told ≡ (F.seen files.old).told }
+    ensures caused { IsCaused result (F.seen files.old) (F.seen files.new) (O.seen out.old) (O.seen out.new) }
+    ensures transcript { (stock : List Meaning) → short_kind stock (held_in world).basis.site ≡ None
+        → IfSome (F.seen files.old).told (λ all. Answers stock all (Some request.now) result (O.seen out.old) (O.seen out.new)) }
+{
+    match load_script(alloc, files, script, world.hall().site()) {
         Ok(events) => {
-            let replayed = replay(alloc, site, events.as_slice(), out);
+            let replayed = replay(alloc, events.as_slice(), world, out);
             end_replay(alloc, script, replayed, out)
         }
         Err(why) => end_unloaded(alloc, script, FileKind::Script, why, out),

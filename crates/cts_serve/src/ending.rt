@@ -1,6 +1,6 @@
 // How a command ends: the one place that makes a status and a last line of what the phases answer, and puts them.
 ghost use Rattle.std.specs.Prelude.{◌≡◌, [], IfOk};
-ghost use Rattle.cts_serve.specs.Ending.{Ends, EndsCheck, EndsReplay, refused_as, unloaded_ending, unloaded_status, unloaded_line};
+ghost use Rattle.cts_serve.specs.Ending.{Ends, EndsCheck, EndsReplay, refused_as, unloaded_ending, unloaded_status, unloaded_line, unmade_ending};
 ghost use Rattle.cts_serve.specs.Ending.Lines.{memory_line, usage_line};
 ghost use Rattle.cts_serve.specs.Putting.{Printed};
 
@@ -12,6 +12,7 @@ use crate::load::unloaded::Unloaded;
 use crate::putting::Unput;
 use crate::replay::halt::Halt;
 use cts_base::Memory;
+use cts_chain::ChainFault;
 use cts_outside::Sink;
 use status::Status;
 use std::alloc::Global;
@@ -75,6 +76,23 @@ fn unloaded_line(alloc: Global, name: &str, why: Unloaded) -> Result<Vec<u8>, Me
         Unloaded::Refused { line, cause } => lines::refused(alloc, name, line, cause.text()),
         Unloaded::NotBuilt => lines::not_built(alloc, name),
         Unloaded::Memory => Err(Memory),
+    }
+}
+
+/// Ends a replay for which no world is made.
+pub fn end_unmade<O: Sink>(alloc: Global, why: ChainFault, out: &mut O) -> Status
+    ensures { Ends (unmade_ending why) result (O.seen out.old) (O.seen out.new) }
+{
+    match why {
+        ChainFault::Memory => put_memory(out),
+        ChainFault::ShelfEmpty {
+            kind,
+            needed,
+            stocked,
+        } => match lines::shelf_empty(alloc, kind, needed, stocked) {
+            Ok(line) => put_last(out, &line, Status::ShelfEmpty),
+            Err(Memory) => put_memory(out),
+        },
     }
 }
 

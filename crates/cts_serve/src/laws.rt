@@ -1,11 +1,13 @@
 // Laws of the definitions. The function does nothing: its contract is the law.
-ghost use Rattle.cts_serve.specs.Laws.{HasOutcome, HasOneOutcome, RestsOnNoStandIn};
+ghost use Rattle.cts_serve.specs.Laws.{HasOutcome, HasOneOutcome, RestsOnNoStandIn, ShortExactly};
 
-/// The words of a command and the content of the files decide one outcome: its status, and all that
-/// is printed.
+/// The words of a command, the boxes on the shelf and the content of the files decide one outcome: its status, and all that is
+/// printed. Its status is that of a shelf that is short exactly where all chains of the site need more boxes of a kind than the
+/// shelf holds, and nothing is refused before.
 pub fn outcomes()
     ensures some { HasOutcome }
     ensures one { HasOneOutcome }
+    ensures short { ShortExactly }
 {}
 
 /// What write chains spell, how logs are laid out and what desks answer is not defined yet. No run of

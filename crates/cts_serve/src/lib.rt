@@ -9,6 +9,7 @@ mod load;
 mod putting;
 mod replay;
 mod request;
+mod start;
 
 pub use command::run;
 pub use ending::status::Status;

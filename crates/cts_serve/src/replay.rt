@@ -1,7 +1,6 @@
 // The events of a script, one after another.
 ghost use Rattle.std.specs.Prelude.{◌≡◌, true};
 ghost use Rattle.cts_core.specs.States.{opening};
-ghost use Rattle.cts_core.specs.Built.{is_built_site};
 ghost use Rattle.cts_serve.specs.Load.Scripts.{are_built_events};
 ghost use Rattle.cts_serve.specs.Replay.Steps.{Replays};
 ghost use Rattle.cts_core.specs.Endings.{GoesOn, held_in};
@@ -12,43 +11,21 @@ pub mod printing;
 pub mod steps;
 
 use crate::putting::Unput;
-use cts_core::World;
-use cts_def::Site;
+use cts_core::{Framer, World};
 use cts_entry::Event;
 use cts_outside::Sink;
 use cts_watch::Follower;
 use halt::Halt;
 use printing::put_end;
 use std::alloc::Global;
-use std::sync::Arc;
 use steps::do_event;
 
-/// Does the events of a script on a site, both of which have to be built, in order, each with its line, and puts the lines
-/// of each when it is done; then `END n`, or why the replay halts before it.
-pub fn replay<O: Sink>(
-    alloc: Global,
-    site: Site,
-    events: &[(u32, Event)],
-    out: &mut O,
-) -> Result<(), Halt>
-    requires site { is_built_site site ≡ true }
-    requires events { are_built_events events.now ≡ true }
-    ensures { Replays site events.now result (O.seen out.old) (O.seen out.new) }
-{
-    let Ok(site) = Arc::new(alloc, site) else {
-        return Err(Halt::Memory);
-    };
-    match World::new(alloc, site) {
-        Ok(world) => replay_from(alloc, events, world, out),
-        Err(_) => Err(Halt::Memory),
-    }
-}
-
-// Does the events in a world in which nothing has happened.
-fn replay_from<O: Sink>(
+/// Does the events of a script, all of which have to be built, in a world in which nothing has happened, in order, each with its
+/// line, and puts the lines of each when it is done; then `END n`, or why the replay halts before it.
+pub fn replay<C: Framer, O: Sink>(
     alloc: Global,
     events: &[(u32, Event)],
-    mut world: World,
+    mut world: World<C>,
     out: &mut O,
 ) -> Result<(), Halt>
     requires events { are_built_events events.now ≡ true }

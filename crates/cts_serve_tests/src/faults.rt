@@ -82,6 +82,7 @@ fn exit_statuses(rt: HostRuntime) -> Result<(), Fail> {
     assert!(rt; Status::Ok.code() == 0 && Status::Memory.code() == 1 && Status::Usage.code() == 2);
     assert!(rt; Status::ReadFault.code() == 3 && Status::Absent.code() == 3);
     assert!(rt; Status::WriteFault.code() == 4 && Status::ConfigRefused.code() == 5);
+    assert!(rt; Status::ShelfEmpty.code() == 6);
     assert!(rt; Status::ScriptRefused.code() == 7 && Status::HistoryFull.code() == 8);
     assert!(rt; Status::NotBuilt.code() == 13);
     Ok(())

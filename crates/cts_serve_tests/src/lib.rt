@@ -2,6 +2,8 @@
 #![tactic(auto)]
 
 #[cfg(test)]
+mod counting;
+#[cfg(test)]
 mod faults;
 #[cfg(test)]
 mod limits;
@@ -9,6 +11,8 @@ mod limits;
 mod refusals;
 #[cfg(test)]
 mod scripts;
+#[cfg(test)]
+mod shelves;
 #[cfg(test)]
 mod site;
 #[cfg(test)]

@@ -1,9 +1,11 @@
 // Commands over files and a sink in memory, from rows of text.
+use crate::shelves::stocked;
 use cts_base::Bytes;
 use cts_def::Site;
 use cts_defread::read_definitions;
 use cts_outside::{MemFiles, MemSink};
 use cts_plan::read_site;
+use cts_proto::Shelf;
 use cts_serve::run;
 use cts_words::{Statement, statements};
 use std::alloc::{AllocError, Global};
@@ -42,15 +44,27 @@ pub fn files(
     Ok(MemFiles::new(files, failing))
 }
 
-/// How a command ends: its status, and behind a blank all that it prints.
+/// How a command ends over a shelf with boxes of each kind: its status, and behind a blank all that it prints.
 pub fn ended(
     alloc: Global,
     words: &str,
     files: &mut MemFiles,
     sink: &mut MemSink,
 ) -> Result<Vec<u8>, Fail> {
+    let mut shelf = stocked(alloc)?;
+    ended_over(alloc, words, &mut shelf, files, sink)
+}
+
+/// The same over this shelf.
+pub fn ended_over(
+    alloc: Global,
+    words: &str,
+    shelf: &mut Shelf,
+    files: &mut MemFiles,
+    sink: &mut MemSink,
+) -> Result<Vec<u8>, Fail> {
     let words = words.split_whitespace().collect::<Vec<&str>>(alloc)?;
-    let status = run(alloc, &words, files, sink);
+    let status = run(alloc, &words, shelf, files, sink);
     let mut text = format!(in alloc; "{status:?} ")?.as_bytes().to_vec(alloc)?;
     text.extend_from_slice(sink.bytes())?;
     Ok(text)

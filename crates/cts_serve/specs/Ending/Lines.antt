@@ -1,6 +1,8 @@
 -- The lines that a command prints for itself. Each ends with byte 0A.
 use Rattle.std.specs.Prelude.{ℕ, ◌+◌, List, [], ◌∷◌, ◌++◌, length, codes}
 use Rattle.std.specs.Fmt.{decimal}
+use Rattle.cts_def.specs.declared.proto_spec.Kind.{Kind}
+use Rattle.cts_def.specs.declared.proto_spec.Kind.TheVariants as kind
 use Rattle.cts_def.specs.Packets.{items_in}
 use Rattle.cts_def.specs.Sites.{SiteData}
 
@@ -22,6 +24,18 @@ not_built_line name = codes "not built: " ++ name ++ 10 ∷ []
 -- a file, a line of it and a cause
 abbrev pub refused_line : List ℕ → ℕ → List ℕ → List ℕ
 refused_line name line cause = codes "refused: " ++ name ++ codes " line " ++ decimal line ++ codes ": " ++ cause ++ 10 ∷ []
+
+-- a kind of protocols as it is printed
+abbrev pub kind_name : Kind → List ℕ
+kind_name kind.Burst = codes "BURST"
+kind_name kind.Fixed = codes "FIXED"
+kind_name kind.Length = codes "LENGTH"
+kind_name kind.Terminated = codes "TERMINATED"
+kind_name kind.Preidentified = codes "PREIDENTIFIED"
+
+-- how many boxes of a kind are needed, and how many there are
+abbrev pub shelf_line : Kind → ℕ → ℕ → List ℕ
+shelf_line k needed stocked = codes "shelf empty: " ++ kind_name k ++ codes " needed " ++ decimal needed ++ codes " stocked " ++ decimal stocked ++ 10 ∷ []
 
 abbrev pub full_line : ℕ → ℕ → List ℕ
 full_line entries bytes = codes "history full: " ++ decimal entries ++ codes " entries, " ++ decimal bytes ++ codes " bytes\n"

@@ -1,10 +1,10 @@
 // The lines that a command prints for itself.
 ghost use Rattle.std.specs.Prelude.{◌≡◌, ◌≤◌, ◌++◌, ◌∷◌, [], IfOk};
-ghost use Rattle.cts_serve.specs.Ending.Lines.{usage_line, memory_line, read_fault_line, absent_line, not_built_line, refused_line, full_line, end_line, numbers_line, counts_line};
+ghost use Rattle.cts_serve.specs.Ending.Lines.{usage_line, memory_line, read_fault_line, absent_line, not_built_line, refused_line, kind_name, shelf_line, full_line, end_line, numbers_line, counts_line};
 ghost use Rattle.cts_def.specs.Packets.{items_in};
 
 use cts_base::Memory;
-use cts_def::{Packet, Site};
+use cts_def::{Kind, Packet, Site};
 use std::alloc::Global;
 
 /// The line for words that fit no command.
@@ -53,6 +53,28 @@ pub fn refused(alloc: Global, name: &str, line: u32, cause: &[u8]) -> Result<Vec
     text.extend_from_slice(cause)?;
     text.extend_from_slice(b"\n")?;
     Ok(text)
+}
+
+/// A kind of protocols as it is printed.
+fn kind_name(kind: Kind) -> &'static str
+    ensures { result.now ≡ kind_name kind }
+{
+    match kind {
+        Kind::Burst => "BURST",
+        Kind::Fixed => "FIXED",
+        Kind::Length => "LENGTH",
+        Kind::Terminated => "TERMINATED",
+        Kind::Preidentified => "PREIDENTIFIED",
+    }
+}
+
+/// The line for a shelf that holds so many boxes of a kind, of which more are needed.
+pub fn shelf_empty(alloc: Global, kind: Kind, needed: u32, stocked: u32) -> Result<Vec<u8>, Memory>
+    ensures { IfOk result (λ line. line.items ≡ shelf_line kind needed stocked) }
+{
+    let name = kind_name(kind);
+    let line = format!(in alloc; "shelf empty: {name} needed {needed} stocked {stocked}\n")?;
+    Ok(Vec::from_slice(alloc, line.as_bytes())?)
 }
 
 /// The line for a history that would pass one of its limits.

@@ -18,6 +18,8 @@ pub enum Status {
     WriteFault,
     /// A line of the definitions or the site is refused, or such a file is too large.
     ConfigRefused,
+    /// The shelf holds too few boxes of a kind for the chains of the site.
+    ShelfEmpty,
     /// A line of the script is refused, or the script is too large.
     ScriptRefused,
     /// An event's entries would pass a limit of the history.
@@ -41,6 +43,7 @@ impl Status {
             Status::Absent => 3,
             Status::WriteFault => 4,
             Status::ConfigRefused => 5,
+            Status::ShelfEmpty => 6,
             Status::ScriptRefused => 7,
             Status::HistoryFull => 8,
             Status::NotBuilt => 13,

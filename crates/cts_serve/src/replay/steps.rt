@@ -11,7 +11,7 @@ ghost use Rattle.cts_watch.specs.Following.{Follows};
 use crate::putting::Unput;
 use crate::replay::halt::Halt;
 use crate::replay::printing::put_event;
-use cts_core::{World, WorldFault};
+use cts_core::{Framer, World, WorldFault};
 use cts_entry::Event;
 use cts_outside::Sink;
 use cts_watch::Follower;
@@ -19,9 +19,9 @@ use std::alloc::Global;
 
 /// Does the event of this line, and puts the lines of its entries and of what it gives besides in one piece, if it has any. The
 /// follower stands for the history before the event, and then for that behind it.
-pub fn do_event<O: Sink>(
+pub fn do_event<C: Framer, O: Sink>(
     alloc: Global,
-    world: &mut World,
+    world: &mut World<C>,
     follower: &mut Follower,
     line: u32,
     event: &Event,

@@ -6,7 +6,7 @@ use Rattle.cts_serve.proofs.command.do_request.Goals as goal
 pub returns-in-None-clause-transcript : goal.returns-in-None-clause-transcript
 returns-in-None-clause-transcript g c =
     let asked = sym (ap (λ (r : RequestData). r.script) c.request.view_is) ∙ ap (λ (s : Option (Bor (List ℕ))). option_map (λ t. t.now) s) c.in-None.is in
-    check_answers _ c.args.request.now c.in-Ok.site _ _ _ _ _ asked c.in-Ok.ensures.content c.put_counts-checked.ensures c.end_check.ensures
+    check_answers _ _ c.args.request.now c.in-Ok.site _ _ _ _ _ asked c.in-Ok.ensures.content c.put_counts-checked.ensures c.end_check.ensures
 
 pub returns-in-Err-clause-transcript : goal.returns-in-Err-clause-transcript
-returns-in-Err-clause-transcript g c = site_refuses _ c.args.request.now c.in-Err.kind c.in-Err.why _ _ _ _ c.name_of.ensures c.in-Err.ensures.content c.end_unloaded.ensures
+returns-in-Err-clause-transcript g c = site_refuses _ _ c.args.request.now c.in-Err.kind c.in-Err.why _ _ _ _ c.name_of.ensures c.in-Err.ensures.content c.end_unloaded.ensures

@@ -4,7 +4,7 @@ use Rattle.cts_serve.specs.Putting.{IsPut}
 use Rattle.cts_core.specs.Endings.{GoesOn, held_in}
 use Rattle.cts_watch.specs.Following.{Follows}
 use Rattle.cts_serve.proofs.ReplayLemmas.{IsProgress}
-use Rattle.cts_serve.proofs.replay.replay_from.Given as goal
+use Rattle.cts_serve.proofs.replay.replay.Given as goal
 
 abbrev pub invariant-events : goal.invariant-events
 invariant-events g l = record {
