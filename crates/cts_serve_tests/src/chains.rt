@@ -14,7 +14,9 @@ fn chains_end_so<R: Abort + AllocGlobal>(
     for row in rows.lines() {
         let (chain, rest) = cut(row)?;
         let (script, want) = cut(rest)?;
-        let site = format!(in alloc; "INTERFACE I tcpip_client_interface.rb h 1 1 10.0 nil {chain}{target}")?;
+        let site = format!(in alloc;
+            "INTERFACE I tcpip_client_interface.rb h 1 1 10.0 nil {chain}{target}"
+        )?;
         let found = said(alloc, "replay d s c", definitions, site.as_str(), script)?;
         assert_eq!(rt; found, lines(alloc, want)?, "at {row}");
     }
