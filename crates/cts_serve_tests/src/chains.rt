@@ -1,0 +1,72 @@
+// Replays over chains of all protocols.
+use crate::table::{cut, lines, said};
+use std::process::Abort;
+use std::test::Fail;
+
+// Each row has the protocols of the interface, a script and how its replay ends, with bars between.
+fn chains_end_so<R: Abort + AllocGlobal>(
+    rt: &R,
+    definitions: &str,
+    target: &str,
+    rows: &str,
+) -> Result<(), Fail> {
+    let alloc = rt.alloc();
+    for row in rows.lines() {
+        let (chain, rest) = cut(row)?;
+        let (script, want) = cut(rest)?;
+        let site = format!(in alloc;
+            "INTERFACE I tcpip_client_interface.rb h 1 1 10.0 nil {chain}{target}"
+        )?;
+        let found = said(alloc, "replay d s c", definitions, site.as_str(), script)?;
+        assert_eq!(rt; found, lines(alloc, want)?, "at {row}");
+    }
+    Ok(())
+}
+
+// A sync pattern that is cut, and bytes before it; a termination that is cut, and a line without bytes; two stages; what came at
+// once, and in two pieces; a length at the limit, and one past it; an error of the second stage; what two stages still hold, skipped and
+// found without bytes; a chain that only writes reads pieces as they come.
+const CHAINS: &str = "\
+LENGTH 16 16 0 1 BIG_ENDIAN 0 0x1ACF|OPEN I;BYTES I 001A1A;BYTES I CF0006AABB;CLOSE I PEER|Ok 0 0.000000 I OPENED;1 0.000000 I PACKET UNKNOWN UNKNOWN 1acf0006aabb;2 0.000000 I CLOSED PEER held 0 0 0 0 skipped 2 empty 0 unposted 0 unsent 0;END 3;
+TERMINATED 0x0D0A 0x0D0A|OPEN I;BYTES I 41420D;BYTES I 0A;BYTES I 0D0A;CLOSE I PEER|Ok 0 0.000000 I OPENED;1 0.000000 I PACKET UNKNOWN UNKNOWN 4142;2 0.000000 I CLOSED PEER held 0 0 0 0 skipped 0 empty 1 unposted 0 unsent 0;END 3;
+;PROTOCOL READ TerminatedProtocol 0x0A 0x0A;PROTOCOL READ LengthProtocol 0 8 0 1|OPEN I;BYTES I 03110A220A|Ok 0 0.000000 I OPENED;1 0.000000 I PACKET UNKNOWN UNKNOWN 031122;END 2;
+LENGTH 0 16 0 1|OPEN I;BYTES I 0005AA;CLOSE I PEER;OPEN I;BYTES I 0003BB|Ok 0 0.000000 I OPENED;1 0.000000 I CLOSED PEER held 3 0 0 0 skipped 0 empty 0 unposted 0 unsent 0;2 0.000000 I OPENED;3 0.000000 I PACKET UNKNOWN UNKNOWN 0003bb;END 4;
+BURST|OPEN I;BYTES I 0102|Ok 0 0.000000 I OPENED;1 0.000000 I PACKET UNKNOWN UNKNOWN 0102;END 2;
+BURST|OPEN I;BYTES I 01;BYTES I 02|Ok 0 0.000000 I OPENED;1 0.000000 I PACKET UNKNOWN UNKNOWN 01;2 0.000000 I PACKET UNKNOWN UNKNOWN 02;END 3;
+LENGTH 0 32 0 1|OPEN I;BYTES I 00100000|Ok 0 0.000000 I OPENED;END 1;
+LENGTH 0 32 0 1|OPEN I;BYTES I 00100001|Ok 0 0.000000 I OPENED;1 0.000000 I CLOSED BAD 1 TOOLONG held 4 0 0 0 skipped 0 empty 0 unposted 0 unsent 0;END 2;
+;PROTOCOL READ TERMINATED 0x0A 0x0A;PROTOCOL READ LENGTH 0 8 0 1|OPEN I;BYTES I 02AA0A000A33|Ok 0 0.000000 I OPENED;1 0.000000 I PACKET UNKNOWN UNKNOWN 02aa;2 0.000000 I CLOSED BAD 2 SHORT 0 held 1 1 0 0 skipped 0 empty 0 unposted 0 unsent 0;END 3;
+;PROTOCOL READ TERMINATED 0x0A 0x0A true 0 0x24;PROTOCOL READ LENGTH 8 8 0 1 BIG_ENDIAN 0 0x24|OPEN I;BYTES I 0024040A;BYTES I 240A24;CLOSE I READ|Ok 0 0.000000 I OPENED;1 0.000000 I CLOSED READ held 1 3 0 0 skipped 1 empty 0 unposted 0 unsent 0;END 2;
+;PROTOCOL WRITE LENGTH 0 16 0 1|OPEN I;BYTES I 0102;BYTES I 03|Ok 0 0.000000 I OPENED;1 0.000000 I PACKET UNKNOWN UNKNOWN 0102;2 0.000000 I PACKET UNKNOWN UNKNOWN 03;END 3;";
+
+#[test]
+fn each_protocol_cuts_what_comes(rt: HostRuntime) -> Result<(), Fail> {
+    chains_end_so(&rt, "", "", CHAINS)
+}
+
+// Two packets of five bytes, in pieces; an unknown start, which is one byte; and as an error.
+const KNOWN: &str = "\
+FIXED 1|OPEN I;BYTES I 010506;BYTES I 010708|Ok 0 0.000000 I OPENED;1 0.000000 I PACKET T A 010506;2 0.000000 I PACKET T A 010708;END 3;
+FIXED 1|OPEN I;BYTES I 020105;CLOSE I PEER|Ok 0 0.000000 I OPENED;1 0.000000 I PACKET UNKNOWN UNKNOWN 02;2 0.000000 I CLOSED PEER held 2 0 0 0 skipped 0 empty 0 unposted 0 unsent 0;END 3;
+FIXED 1 0 nil true false true|OPEN I;BYTES I 0105060205|Ok 0 0.000000 I OPENED;1 0.000000 I PACKET T A 010506;2 0.000000 I CLOSED BAD 1 UNKNOWN held 2 0 0 0 skipped 0 empty 0 unposted 0 unsent 0;END 3;";
+
+#[test]
+fn packets_of_known_length(rt: HostRuntime) -> Result<(), Fail> {
+    let definitions = "TELEMETRY T A BIG_ENDIAN;APPEND_ID_ITEM K 8 UINT 1;APPEND_ITEM V 16 UINT";
+    chains_end_so(&rt, definitions, ";TARGET T", KNOWN)
+}
+
+// Frames bring their own time and names, whatever the bytes are and the clock shows; a name that no packet has; a head that is cut; a
+// count above the greatest.
+const NAMED: &str = "\
+PREIDENTIFIED|TIME 7 0;OPEN I;BYTES I 000000640003D0900154014200000002;BYTES I 0105;TRY TLM RAW T B W|Ok 0 7.000000 I OPENED;1 100.250000 I PACKET T B 0105;TRIED 2 261;END 2;
+PREIDENTIFIED|OPEN I;BYTES I 000000640003D09001740158000000010700000064;CLOSE I PEER|Ok 0 0.000000 I OPENED;1 100.250000 I PACKET UNKNOWN UNKNOWN 07;2 0.000000 I CLOSED PEER held 4 0 0 0 skipped 0 empty 0 unposted 0 unsent 0;END 3;
+PREIDENTIFIED 0xAAAA 1|OPEN I;BYTES I 11AA;BYTES I AA00000064000000000154014100000001;BYTES I 09|Ok 0 0.000000 I OPENED;1 100.000000 I PACKET T A 09;END 2;
+PREIDENTIFIED 0xAAAA 1|OPEN I;BYTES I AAAA00000064000000000154014100000002|Ok 0 0.000000 I OPENED;1 0.000000 I CLOSED BAD 1 OVERMAX 2 held 18 0 0 0 skipped 0 empty 0 unposted 0 unsent 0;END 2;";
+
+#[test]
+fn packets_bring_their_time_and_names(rt: HostRuntime) -> Result<(), Fail> {
+    let definitions =
+        "TELEMETRY T A BIG_ENDIAN;APPEND_ITEM V 16 UINT;TELEMETRY T B BIG_ENDIAN;APPEND_ITEM W 16 UINT";
+    chains_end_so(&rt, definitions, ";TARGET T", NAMED)
+}
