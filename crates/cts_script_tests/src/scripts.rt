@@ -221,6 +221,7 @@ fn a_piece_has_at_most_65536_bytes(rt: HostRuntime) -> Result<(), Fail> {
         (131_072, "read"),
         (131_073, "line 1: BadHex"),
         (131_074, "line 1: PieceSize"),
+        (131_075, "line 1: BadHex"),
     ] {
         let found = is_read(rt.alloc(), digits)?;
         assert_eq!(rt; found.as_str(), want, "of {digits}");
