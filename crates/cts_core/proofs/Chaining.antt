@@ -19,7 +19,8 @@ use Rattle.cts_chain.proofs.Planning.{framings_are}
 use Rattle.cts_chain.proofs.Settled.{renewed_stands}
 use Rattle.cts_core.specs.States.{State}
 use Rattle.cts_core.specs.Takings.{IsRenewed}
-use Rattle.cts_core.specs.Worlds.{HeldConnection, IsConnection, writers_at}
+use Rattle.cts_core.specs.Environments.{writers_at}
+use Rattle.cts_core.specs.Worlds.{HeldConnection, IsConnection}
 
 -- ---- no piece came
 

@@ -33,14 +33,14 @@ use Rattle.cts_core.proofs.Keeping.{pieces_turned, pieces_grow, pieces_stay}
 use Rattle.cts_core.proofs.Passing.{nothing_unsent}
 use Rattle.cts_told.specs.Routing.{packet_entries}
 use Rattle.cts_told.proofs.Walks.{posted_packets}
-use Rattle.cts_core.specs.Environments.{basis_of, site_environment}
+use Rattle.cts_core.specs.Environments.{basis_of, site_environment, writers_at}
 use Rattle.cts_core.specs.Trials.{tells, tried}
 use Rattle.cts_entry.specs.Legal.{most_bytes as bytes_limit, most_entries as entries_limit}
 use Rattle.cts_core.specs.Kept.{GivesRoom, is_within}
 use Rattle.cts_table.specs.States.{Shown}
 use Rattle.cts_table.specs.declared.basis.Basis.{Basis}
 use Rattle.cts_core.specs.Takings.{IsClosed, IsOpened, IsRenewed, Posts, Settles, Takes, TakesPiece, blamed, entries_of, lost}
-use Rattle.cts_core.specs.Worlds.{Held, HeldConnection, IsSoundHeld, IsUnmoved, Represents, Steps, IsConnection, changed, connection_at, first_held, held_with, no_chain, shut, writers_at}
+use Rattle.cts_core.specs.Worlds.{Held, HeldConnection, IsSoundHeld, IsUnmoved, Represents, Steps, IsConnection, changed, connection_at, first_held, held_with, no_chain, shut}
 use Rattle.cts_core.specs.declared.fault.WorldFault.{WorldFault}
 use Rattle.cts_core.specs.declared.fault.WorldFault.TheVariants.{NotEnabled as RefusedEvent, Full, Memory}
 use Rattle.cts_core.specs.Built.{is_built_site}

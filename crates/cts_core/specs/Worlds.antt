@@ -1,19 +1,17 @@
 -- What the running core holds, and the states of the defined core that it represents.
-use Rattle.std.specs.Prelude.{◌≡◌, ℕ, ◌<◌, ◌≤◌, Bool, true, false, List, [], ◌++◌, filter, map, length, slice_index_or, slice_set, None, Result, Ok, Err}
+use Rattle.std.specs.Prelude.{◌≡◌, ℕ, ◌<◌, ◌≤◌, Bool, true, false, List, [], ◌++◌, map, length, slice_index_or, slice_set, None, Result, Ok, Err}
 use Rattle.std.specs.List.{list_any}
-use Rattle.cts_chain.specs.Builds.{use_specs, writes}
 use Rattle.cts_chain.specs.Chains.{StagesStand, AllSettled, framings_of, last_fault}
 use Rattle.cts_chain.specs.Shapes.{ChainData, writers}
-use Rattle.cts_def.specs.Protocols.{SpecData}
 use Rattle.cts_def.specs.Sites.{SiteData}
 use Rattle.cts_def.specs.declared.time.Time.{Time}
 use Rattle.cts_entry.specs.declared.entry.Entry.{Entry}
 use Rattle.cts_entry.specs.declared.event.Event.{Event}
 use Rattle.cts_entry.specs.declared.event.Effect.{Effect}
 use Rattle.cts_entry.specs.Histories.{is_connected, has_command, entries_in, bytes_in}
-use Rattle.cts_frame.specs.Chains.{framings_at, uses_at}
+use Rattle.cts_frame.specs.Chains.{framings_at}
 use Rattle.cts_frame.specs.Framing.{Output, plain}
-use Rattle.cts_core.specs.Environments.{site_environment}
+use Rattle.cts_core.specs.Environments.{site_environment, writers_at}
 use Rattle.cts_entry.specs.Legal.{is_ended, most_entries as entries_limit, most_bytes as bytes_limit}
 use Rattle.cts_core.specs.Built.{is_built_site}
 use Rattle.cts_core.specs.Runs.{Did, Does, after, Refuses, NotEnabled, HistoryFull}
@@ -65,10 +63,6 @@ pub record IsSoundHeld (w : Held) : Type 0 where
 abbrev pub first_held : SiteData → ℕ → ℕ → List ChainData → Held
 first_held site entries bytes chains =
     record { basis = record { site = site; entries = entries; bytes = bytes }; time = record { seconds = 0; micros = 0 }; history = []; connections = map shut chains }
-
--- the specs of the protocols of this interface that write, in order
-abbrev pub writers_at : SiteData → ℕ → List SpecData
-writers_at site by = use_specs (filter writes (uses_at site by))
 
 -- A connection stands where the history says so. Its chain has the interface's protocols, was fed the pieces that came since the
 -- connection was opened, has given all their packets, and has not failed.
