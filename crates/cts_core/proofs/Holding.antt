@@ -6,7 +6,7 @@ use Rattle.std.proofs.lemmas.Bool.Decides.{nat_tests}
 use Rattle.std.proofs.lemmas.List.{length-set, get_or-set_same, get_or-set_other, length-map}
 use Rattle.std.proofs.lemmas.Option.{slice_get_within}
 use Rattle.cts_def.specs.Makers.{first_desk, server}
-use Rattle.cts_def.specs.Packets.{PacketData}
+use Rattle.cts_def.specs.Packets.{PacketData, is_named}
 use Rattle.cts_def.specs.Sites.{SiteData}
 use Rattle.cts_def.specs.declared.ident.Ident.{Ident}
 use Rattle.cts_def.specs.declared.ident.Ident.TheVariants.{Known, Unknown}
@@ -20,7 +20,7 @@ use Rattle.cts_entry.specs.Legal.{StopsAfter, AllAllowed, most_bytes as bytes_li
 use Rattle.cts_entry.specs.Workers.{is_desk, is_interface, is_slot, is_worker, is_maker}
 use Rattle.cts_chain.specs.Shapes.{ChainData}
 use Rattle.cts_frame.specs.Framing.{Heading, Output}
-use Rattle.cts_ident.specs.Identification.{first_of, fits, is_named, named}
+use Rattle.cts_ident.specs.Identification.{first_of, fits, named}
 use Rattle.cts_ident.proofs.FirstMatches.{known_is_first}
 use Rattle.cts_def.specs.Sites.{targets_at}
 use Rattle.cts_told.specs.Routing.{packet_entries, posted_entries}
