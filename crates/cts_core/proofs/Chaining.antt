@@ -19,7 +19,9 @@ use Rattle.cts_chain.proofs.Planning.{framings_are}
 use Rattle.cts_chain.proofs.Settled.{renewed_stands}
 use Rattle.cts_core.specs.States.{State}
 use Rattle.cts_core.specs.Takings.{IsRenewed}
-use Rattle.cts_core.specs.Worlds.{HeldConnection, IsConnection, writers_at}
+use Rattle.cts_core.specs.Cursors.{IsPassed}
+use Rattle.cts_core.specs.Environments.{site_environment, writers_at}
+use Rattle.cts_core.specs.Worlds.{HeldConnection, IsConnection}
 
 -- ---- no piece came
 
@@ -63,8 +65,8 @@ same_framings old new same = framings_are new.stages ∙ (ap (map framing_of) sa
 
 -- a chain that was fed nothing stands for no pieces
 pub begins : (site : SiteData) (t : State) (by : ℕ) (c : HeldConnection) → c.connected ≡ is_connected by t.history → framings_of c.chain.stages ≡ framings_at site by → writers c.chain ≡ writers_at site by
-    → t.pieces by ≡ [] → AllDrained c.chain.stages → StagesStand c.chain.stages [] [] → IsConnection site t by c
-begins site t by c on framings writing none drained stands =
+    → t.pieces by ≡ [] → AllDrained c.chain.stages → StagesStand c.chain.stages [] [] → (is_connected by t.history ≡ true → IsPassed (site_environment site) t by c.cursor.place c.cursor.refused) → IsConnection site t by c
+begins site t by c on framings writing none drained stands passed =
     let settled = settled_all c.chain.stages [] [] drained stands in
     record {
       connected = on;
@@ -74,12 +76,14 @@ begins site t by c on framings writing none drained stands =
       stands = subst (λ (pieces : List (List ℕ)). StagesStand c.chain.stages (map plain pieces) []) (sym none) stands;
       settled = settled;
       unfailed = none_failed 1 c.chain.stages [] settled stands;
+      passed = passed;
     }
 
 -- a chain that begins anew
-pub begins_anew : (site : SiteData) (s t : State) (by : ℕ) (on : Bool) (old new : HeldConnection) → IsRenewed on old new → IsConnection site s by old → on ≡ is_connected by t.history → t.pieces by ≡ [] → IsConnection site t by new
-begins_anew site s t by on old new r h told none =
-    begins site t by new (r.connected_is ∙ told) (same_framings old.chain new.chain r.same ∙ h.framings) (r.same.writers ∙ h.writing) none (all_renewed old.chain.stages new.chain.stages r.renewed) (renewed_stands old.chain.stages new.chain.stages r.renewed)
+pub begins_anew : (site : SiteData) (s t : State) (by : ℕ) (on : Bool) (old new : HeldConnection) → IsRenewed on old new → IsConnection site s by old → on ≡ is_connected by t.history → t.pieces by ≡ []
+    → (is_connected by t.history ≡ true → IsPassed (site_environment site) t by new.cursor.place new.cursor.refused) → IsConnection site t by new
+begins_anew site s t by on old new r h told none passed =
+    begins site t by new (r.connected_is ∙ told) (same_framings old.chain new.chain r.same ∙ h.framings) (r.same.writers ∙ h.writing) none (all_renewed old.chain.stages new.chain.stages r.renewed) (renewed_stands old.chain.stages new.chain.stages r.renewed) passed
 
 -- one more piece
 pub plain_more : (pieces : List (List ℕ)) (piece : List ℕ) → map plain pieces ++ plain piece ∷ [] ≡ map plain (pieces ++ piece ∷ [])

@@ -6,7 +6,7 @@ use Rattle.std.proofs.lemmas.Bool.Decides.{nat_tests}
 use Rattle.std.proofs.lemmas.List.{length-set, get_or-set_same, get_or-set_other, length-map}
 use Rattle.std.proofs.lemmas.Option.{slice_get_within}
 use Rattle.cts_def.specs.Makers.{first_desk, server}
-use Rattle.cts_def.specs.Packets.{PacketData}
+use Rattle.cts_def.specs.Packets.{PacketData, is_named}
 use Rattle.cts_def.specs.Sites.{SiteData}
 use Rattle.cts_def.specs.declared.ident.Ident.{Ident}
 use Rattle.cts_def.specs.declared.ident.Ident.TheVariants.{Known, Unknown}
@@ -20,7 +20,7 @@ use Rattle.cts_entry.specs.Legal.{StopsAfter, AllAllowed, most_bytes as bytes_li
 use Rattle.cts_entry.specs.Workers.{is_desk, is_interface, is_slot, is_worker, is_maker}
 use Rattle.cts_chain.specs.Shapes.{ChainData}
 use Rattle.cts_frame.specs.Framing.{Heading, Output}
-use Rattle.cts_ident.specs.Identification.{first_of, fits, is_named, named}
+use Rattle.cts_ident.specs.Identification.{first_of, fits, named}
 use Rattle.cts_ident.proofs.FirstMatches.{known_is_first}
 use Rattle.cts_def.specs.Sites.{targets_at}
 use Rattle.cts_told.specs.Routing.{packet_entries, posted_entries}
@@ -173,9 +173,9 @@ sound_opened w by c h m on =
     let e : Entry = record { by = by; time = w.time; what = Opened } in
     sound_changed w by c (e ∷ []) h m (on ∙ own_told by w.history e true refl refl) (other_kept by w.history e refl) refl
 
-pub sound_closed : (w : Held) (by : ℕ) (old c : HeldConnection) (why : Why) → IsSoundHeld w → by < length w.connections → c.connected ≡ false → IsSoundHeld (changed by w (lost by w.time old why ∷ []) c)
+pub sound_closed : (w : Held) (by : ℕ) (old c : HeldConnection) (why : Why) → IsSoundHeld w → by < length w.connections → c.connected ≡ false → IsSoundHeld (changed by w (lost by w.time w.history old why ∷ []) c)
 sound_closed w by old c why h m off =
-    let e = lost by w.time old why in
+    let e = lost by w.time w.history old why in
     sound_changed w by c (e ∷ []) h m (off ∙ own_told by w.history e false refl refl) (other_kept by w.history e refl) refl
 
 stop_tells_none : (k : ℕ) (b : Bool) → (if b then connects Stop else None) ≡ None
@@ -307,14 +307,14 @@ not_posted time k new connections by entries why n m Memory same g = ap (λ (x :
 
 -- a connection that was fed a piece may post what was taken
 pub can_post : (w mid : Held) (by : ℕ) (piece : List ℕ) (entries : List Entry) (why : Option Why) (test : Bool) → length w.basis.site.interfaces ≤ 16 → IsOpen w by test → Takes by w piece entries why mid → CanPost by mid entries why
-can_post w mid by piece entries why test few is k = subst (λ (x : Held). CanPost by x entries why) (sym k.3) (record {
+can_post w mid by piece entries why test few is k = subst (λ (x : Held). CanPost by x entries why) (sym k.4) (record {
   there = omega (arith, is.there, length-set w.connections by k.0);
   narrow = omega (arith, is.interface, few);
   connected = ap (λ (x : HeldConnection). x.connected) (get_or-set_same w.connections by k.0 (shut no_chain) is.there) ∙ (k.1 ∙ is.flag);
-  packets = k.2.packets;
-  entries_are = k.2.entries_are;
+  packets = k.3.packets;
+  entries_are = k.3.entries_are;
   fault = last_fault 1 k.0.chain.stages;
-  why_is = k.2.why_is;
+  why_is = k.3.why_is;
 })
 
 -- ---- a limits set is chosen by desk 0
@@ -335,19 +335,8 @@ can_choose s now set desks last spare =
 pub sound_chosen : (w : Held) (now : Time) (set : List ℕ) → IsSoundHeld w → IsSoundHeld (record w { history = w.history ++ record { by = first_desk + trial_desk; time = now; what = LimitsSetIs set } ∷ [] })
 sound_chosen w now set h = sound_more w (record { by = first_desk + trial_desk; time = now; what = LimitsSetIs set } ∷ []) h (λ k. either_way (first_desk + trial_desk == k) None) refl
 
--- what is appended opens and closes nothing, and is no command
+-- what is appended opens and closes nothing
 pub chosen_quiet : (known fits : Bool) (now : Time) (name : List ℕ) (k : ℕ) → latest (connects_maker k) (chooses known fits now name).entries ≡ None
 chosen_quiet true true now name k = either_way (first_desk + trial_desk == k) None
 chosen_quiet true false now name k = refl
 chosen_quiet false fits now name k = refl
-
-pub chosen_free : (known fits : Bool) (now : Time) (name : List ℕ) → has_command (chooses known fits now name).entries ≡ false
-chosen_free true true now name = refl
-chosen_free true false now name = refl
-chosen_free false fits now name = refl
-
-pub tried_free : (b : Basis) (history : List Entry) (now : Time) (o : Option Asked) → has_command (found_for b history now o).entries ≡ false
-tried_free b history now (Some (Value kind target packet item)) = refl
-tried_free b history now (Some (Set name)) = chosen_free (is_name name && is_set_known b.site history (in_upper_case name)) (is_within b history 1 0) now (in_upper_case name)
-tried_free b history now (Some (Command text)) = refl
-tried_free b history now None = refl

@@ -4,15 +4,15 @@ use Rattle.std.specs.Prelude.{if◌then◌else◌}
 use Rattle.std.specs.List.{list_any}
 use Rattle.std.proofs.Math.Seq.{take-append_seam, drop-append_seam}
 use Rattle.cts_entry.specs.declared.entry.Entry.{Entry}
-use Rattle.cts_entry.specs.Histories.{after_last, opens as is_opening, since, commanded, has_command}
-use Rattle.cts_entry.specs.Queues.{refused, unsent_of}
-use Rattle.cts_entry.proofs.Queuing.{since-append, none_since, refused-append}
+use Rattle.cts_entry.specs.Histories.{after_last, opens as is_opening, since}
+use Rattle.cts_entry.specs.Queues.{refused}
+use Rattle.cts_entry.proofs.Queuing.{since-append, refused-append}
 use Rattle.cts_frame.specs.Packets.{capped}
 use Rattle.cts_core.specs.States.{Environment, State, passed, ahead, unsent}
 use Rattle.cts_core.specs.Cursors.{IsPassed}
 use Rattle.cts_core.specs.Laws.{CursorIsPlace}
 use Rattle.cts_told.specs.Routing.{spell, queue, walk}
-use Rattle.cts_told.proofs.Walks.{walk-append, queue-append, queue_walk, walk_none, no_walk}
+use Rattle.cts_told.proofs.Walks.{walk-append, queue-append, queue_walk, walk_none}
 
 -- what stands behind the last Opened is the end of the history
 
@@ -91,14 +91,3 @@ passed_none env t by none first = record {
 
 pub cursor_is_place : CursorIsPlace
 cursor_is_place env s by place count p = (ahead_is env s by place count p, unsent_is env s by place count p)
-
--- where no command stands nothing is unsent of an interface
-
-unsent_none : (env : Environment) (by cursor : ℕ) → capped (unsent_of (spell env.routing by) (queue env.routing by (take cursor [])) (queue env.routing by (drop cursor []))) ≡ 0
-unsent_none env by zero = refl
-unsent_none env by (suc cursor) = refl
-
-pub nothing_unsent : (env : Environment) (s : State) (by : ℕ) → env.routing.is_interface by ≡ true → has_command s.history ≡ false → unsent env s by ≡ 0
-nothing_unsent env s by on none =
-    let empty = no_walk env.routing by (since by s.history) on (none_since by (λ e. is_some (commanded e.what)) s.history none) in
-    ap (λ (l : List Entry). capped (unsent_of (spell env.routing by) (queue env.routing by (take (s.cursor by) l)) (queue env.routing by (drop (s.cursor by) l)))) empty ∙ unsent_none env by (s.cursor by)

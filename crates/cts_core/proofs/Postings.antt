@@ -18,10 +18,6 @@ use Rattle.cts_core.specs.Environments.{ident_of, site_environment}
 pub connected_kept : (by : ℕ) (history entries : List Entry) → latest (connects_maker by) entries ≡ None → is_connected by (history ++ entries) ≡ is_connected by history
 connected_kept by history entries h = connected-append by history entries ∙ ap (λ t. unwrap_or (or_earlier t (latest (connects_maker by) history)) false) h
 
--- entries that are no commands leave none
-pub uncommanded_kept : (history entries : List Entry) → has_command history ≡ false → has_command entries ≡ false → has_command (history ++ entries) ≡ false
-uncommanded_kept history entries h k = list_any-append (λ e. is_some (commanded e.what)) history entries ∙ (ap (λ b. b || has_command entries) h ∙ k)
-
 pub entries_grow : (history entries : List Entry) (n : ℕ) → entries_in entries ≡ n → entries_in (history ++ entries) ≡ entries_in history + n
 entries_grow history entries n h = entries-append history entries ∙ ap (λ t. entries_in history + t) h
 
@@ -48,10 +44,6 @@ either_way false o = refl
 pub packets_connect_none : (site : SiteData) (k by : ℕ) (now : Time) (outs : List Output) → latest (connects_maker k) (packet_entries (site_environment site).routing now by outs) ≡ None
 packets_connect_none site k by now [] = refl
 packets_connect_none site k by now (o ∷ outs) = ap (λ t. or_earlier t (connects_maker k (packet_entry site by now o))) (packets_connect_none site k by now outs) ∙ either_way (by == k) None
-
-pub packets_command_none : (site : SiteData) (by : ℕ) (now : Time) (outs : List Output) → has_command (packet_entries (site_environment site).routing now by outs) ≡ false
-packets_command_none site by now [] = refl
-packets_command_none site by now (o ∷ outs) = packets_command_none site by now outs
 
 pub packets_count : (site : SiteData) (by : ℕ) (now : Time) (outs : List Output) → entries_in (packet_entries (site_environment site).routing now by outs) ≡ length outs
 packets_count site by now [] = refl

@@ -19,7 +19,7 @@ use Rattle.cts_entry.specs.declared.why.Why.TheVariants.{BadFrame}
 use Rattle.cts_entry.specs.declared.event.Event.{Event}
 use Rattle.cts_entry.specs.declared.event.Event.TheVariants.{SetTime, Opens, Piece, Finish, Stop, Try}
 use Rattle.cts_entry.specs.declared.event.Effect.TheVariants.{Posted, Tried}
-use Rattle.cts_entry.specs.Histories.{or_earlier, latest, connects, connects_maker, is_connected, is_stopped, has_command, entries_in, bytes_in}
+use Rattle.cts_entry.specs.Histories.{or_earlier, latest, connects, connects_maker, is_connected, is_stopped, entries_in, bytes_in}
 use Rattle.cts_entry.proofs.Appending.{latest-append, connected-append}
 use Rattle.cts_frame.specs.Chains.{framings_at, interface_chains, uses_at}
 use Rattle.cts_frame.specs.Framing.{Framing, Output, plain}
@@ -29,23 +29,24 @@ use Rattle.cts_frame.proofs.Chainings.{interface_framings}
 use Rattle.cts_core.specs.States.{Answer, State, is_piece, is_enabled, is_line, has_room, takes_room, unsent, may_close, opening}
 use Rattle.cts_core.specs.Runs.{Did, Does, Appends, Receives, after, pieces_for, closed_entry, closing}
 use Rattle.cts_core.proofs.Chaining.{all_renewed, begins, begins_anew, plain_more, same_framings}
-use Rattle.cts_core.proofs.Keeping.{pieces_turned, pieces_grow, pieces_stay}
-use Rattle.cts_core.proofs.Passing.{nothing_unsent}
+use Rattle.cts_core.proofs.CursorSteps.{PassesOn, passes, passed_opened, waits, waiting_kept}
+use Rattle.cts_core.proofs.Keeping.{pieces_turned, pieces_grow, pieces_stay, cursor_turned}
 use Rattle.cts_told.specs.Routing.{packet_entries}
 use Rattle.cts_told.proofs.Walks.{posted_packets}
-use Rattle.cts_core.specs.Environments.{basis_of, site_environment}
+use Rattle.cts_core.specs.Environments.{basis_of, site_environment, writers_at}
 use Rattle.cts_core.specs.Trials.{tells, tried}
 use Rattle.cts_entry.specs.Legal.{most_bytes as bytes_limit, most_entries as entries_limit}
 use Rattle.cts_core.specs.Kept.{GivesRoom, is_within}
 use Rattle.cts_table.specs.States.{Shown}
 use Rattle.cts_table.specs.declared.basis.Basis.{Basis}
 use Rattle.cts_core.specs.Takings.{IsClosed, IsOpened, IsRenewed, Posts, Settles, Takes, TakesPiece, blamed, entries_of, lost}
-use Rattle.cts_core.specs.Worlds.{Held, HeldConnection, IsSoundHeld, IsUnmoved, Represents, Steps, IsConnection, changed, connection_at, first_held, held_with, no_chain, shut, writers_at}
+use Rattle.cts_core.specs.Worlds.{Held, HeldConnection, HeldCursor, waiting, IsSoundHeld, IsUnmoved, Represents, Steps, IsConnection, changed, connection_at, first_held, held_with, no_chain, shut}
 use Rattle.cts_core.specs.declared.fault.WorldFault.{WorldFault}
 use Rattle.cts_core.specs.declared.fault.WorldFault.TheVariants.{NotEnabled as RefusedEvent, Full, Memory}
 use Rattle.cts_core.specs.Built.{is_built_site}
-use Rattle.cts_core.proofs.Building.{below, line_is, enabled_line}
-use Rattle.cts_core.proofs.Postings.{connected_kept, tells_maker, tells_no_other, entries_grow, bytes_grow, uncommanded_kept, packets_connect_none, packets_command_none}
+use Rattle.cts_core.specs.Cursors.{IsPassed}
+use Rattle.cts_core.proofs.Building.{and_tells, below, line_is, enabled_line}
+use Rattle.cts_core.proofs.Postings.{connected_kept, tells_maker, tells_no_other, entries_grow, bytes_grow, packets_connect_none}
 
 and_same : (a b c : Bool) → (a ≡ true → b ≡ c) → (a && b) ≡ (a && c)
 and_same true b c h = h refl
@@ -109,8 +110,8 @@ may_receive_is site w s by piece built h =
 -- ---- the connections after an event
 
 -- a connection stands as before where neither the history nor the pieces say more of it
-connection_kept : (site : SiteData) (s t : State) (k : ℕ) (c : HeldConnection) → is_connected k t.history ≡ is_connected k s.history → t.pieces k ≡ s.pieces k → IsConnection site s k c → IsConnection site t k c
-connection_kept site s t k c e p h = record {
+connection_kept : (site : SiteData) (s t : State) (k : ℕ) (c : HeldConnection) → is_connected k t.history ≡ is_connected k s.history → t.pieces k ≡ s.pieces k → PassesOn site s t k → IsConnection site s k c → IsConnection site t k c
+connection_kept site s t k c e p on h = record {
   connected = h.connected ∙ sym e;
   framings = h.framings;
   writing = h.writing;
@@ -118,21 +119,22 @@ connection_kept site s t k c e p h = record {
   stands = subst (λ (pieces : List (List ℕ)). StagesStand c.chain.stages (map plain pieces) h.packets) (sym p) h.stands;
   settled = h.settled;
   unfailed = h.unfailed;
+  passed = λ stands. on c.cursor.place c.cursor.refused (h.passed (sym e ∙ stands));
 }
 
 connection_set : (site : SiteData) (s t : State) (connections : List HeldConnection) (by : ℕ) (connection : HeldConnection) (k : ℕ) → by < length connections → IsConnection site t by connection
-    → (k ≢ by → is_connected k t.history ≡ is_connected k s.history) → (k ≢ by → t.pieces k ≡ s.pieces k) → IsConnection site s k (connection_at connections k)
+    → (k ≢ by → is_connected k t.history ≡ is_connected k s.history) → (k ≢ by → t.pieces k ≡ s.pieces k) → (k ≢ by → PassesOn site s t k) → IsConnection site s k (connection_at connections k)
     → ((k ≡ by) ⊎ (k ≢ by)) → IsConnection site t k (connection_at (set connections by connection) k)
-connection_set site s t connections by connection k m mine c p before (inl same) =
+connection_set site s t connections by connection k m mine c p on before (inl same) =
     subst (λ (j : ℕ). IsConnection site t j (connection_at (set connections by connection) j)) (sym same) (subst (λ (x : HeldConnection). IsConnection site t by x) (sym (get_or-set_same connections by connection (shut no_chain) m)) mine)
-connection_set site s t connections by connection k m mine c p before (inr other) =
-    connection_kept site s t k (connection_at (set connections by connection) k) (c other) (p other) (subst (λ (x : HeldConnection). IsConnection site s k x) (sym (get_or-set_other connections by k connection (shut no_chain) other)) before)
+connection_set site s t connections by connection k m mine c p on before (inr other) =
+    connection_kept site s t k (connection_at (set connections by connection) k) (c other) (p other) (on other) (subst (λ (x : HeldConnection). IsConnection site s k x) (sym (get_or-set_other connections by k connection (shut no_chain) other)) before)
 
 -- one connection is changed to this one, and each other stands as before
 connections_set : (site : SiteData) (s t : State) (connections : List HeldConnection) (n by : ℕ) (connection : HeldConnection) → length connections ≡ n → by < n → ((k : ℕ) → k < n → IsConnection site s k (connection_at connections k)) → IsConnection site t by connection
-    → ((k : ℕ) → k ≢ by → is_connected k t.history ≡ is_connected k s.history) → ((k : ℕ) → k ≢ by → t.pieces k ≡ s.pieces k)
+    → ((k : ℕ) → k ≢ by → is_connected k t.history ≡ is_connected k s.history) → ((k : ℕ) → k ≢ by → t.pieces k ≡ s.pieces k) → ((k : ℕ) → k ≢ by → PassesOn site s t k)
     → (k : ℕ) → k < n → IsConnection site t k (connection_at (set connections by connection) k)
-connections_set site s t connections n by connection e m before mine c p k h = connection_set site s t connections by connection k (omega (arith, e, m)) mine (c k) (p k) (before k h) (cases_eq k by)
+connections_set site s t connections n by connection e m before mine c p on k h = connection_set site s t connections by connection k (omega (arith, e, m)) mine (c k) (p k) (on k) (before k h) (cases_eq k by)
 
 set_count : (connections : List HeldConnection) (n by : ℕ) (connection : HeldConnection) → length connections ≡ n → length (set connections by connection) ≡ n
 set_count connections n by connection e = length-set connections by connection ∙ e
@@ -162,7 +164,7 @@ first_connection : (site : SiteData) (cs : List ChainData) (by : ℕ) → length
 first_connection site cs by few f m =
     let at : by < length cs = omega (arith, m, fresh_count (interface_chains site) cs f, length-map site.interfaces (λ (i : InterfaceData). i.chain)) in
     let fresh = fresh_at site (interface_chains site) cs by f at in
-    begins site opening by (connection_at (map shut cs) by) (shut_at cs by) (fresh.framings ∙ sym (interface_framings site by (omega (arith, few, m)))) (fresh.writing ∙ ap (λ (uses : List UseData). use_specs (filter writes uses)) (sym (interface_uses site by (omega (arith, few, m))))) refl fresh.idle.drained fresh.stands
+    begins site opening by (connection_at (map shut cs) by) (shut_at cs by) (fresh.framings ∙ sym (interface_framings site by (omega (arith, few, m)))) (fresh.writing ∙ ap (λ (uses : List UseData). use_specs (filter writes uses)) (sym (interface_uses site by (omega (arith, few, m))))) refl fresh.idle.drained fresh.stands (λ stands. absurd (cc stands))
   where
     interface_uses : (site : SiteData) (by : ℕ) → by < first_slot → uses_at site by ≡ slice_index_or (interface_chains site) by []
     interface_uses site by h = rw (below by first_slot h) refl
@@ -172,7 +174,6 @@ stands_first site w cs few f e = subst (λ (x : Held). Represents site x opening
   history = refl;
   time = refl;
   basis = refl;
-  uncommanded = refl;
   count = length-map cs shut ∙ (fresh_count (interface_chains site) cs f ∙ length-map site.interfaces (λ (i : InterfaceData). i.chain));
   connections = λ by m. first_connection site cs by few f m;
 })
@@ -191,9 +192,8 @@ time_set site w s time m h =
         history = h.history ∙ all;
         time = refl;
         basis = h.basis;
-        uncommanded = ap has_command (sym all) ∙ h.uncommanded;
         count = h.count;
-        connections = λ k m. connection_kept site s (after s (SetTime time) did) k (connection_at w.connections k) (ap (is_connected k) (sym all)) (pieces_stay k (SetTime time) [] s.pieces refl refl) (h.connections k m);
+        connections = λ k m. connection_kept site s (after s (SetTime time) did) k (connection_at w.connections k) (ap (is_connected k) (sym all)) (pieces_stay k (SetTime time) [] s.pieces refl refl) (passes site s (SetTime time) did k refl refl) (h.connections k m);
       },
     )
 
@@ -210,9 +210,8 @@ stopped site w new s off n h =
       history = ap (λ (l : List Entry). l ++ record { by = server; time = w.time; what = StopEntry } ∷ []) h.history ∙ ap (λ (now : Time). s.history ++ record { by = server; time = now; what = StopEntry } ∷ []) h.time;
       time = h.time;
       basis = h.basis;
-      uncommanded = uncommanded_kept s.history (entry ∷ []) h.uncommanded refl;
       count = h.count;
-      connections = λ k m. connection_kept site s (after s Stop did) k (connection_at w.connections k) (connected_kept k s.history (entry ∷ []) (stop_tells_none k (31 == k))) (pieces_stay k Stop (entry ∷ []) s.pieces (stop_tells_none k (31 == k)) refl) (h.connections k m);
+      connections = λ k m. connection_kept site s (after s Stop did) k (connection_at w.connections k) (connected_kept k s.history (entry ∷ []) (stop_tells_none k (31 == k))) (pieces_stay k Stop (entry ∷ []) s.pieces (stop_tells_none k (31 == k)) refl) (passes site s Stop did k (stop_tells_none k (31 == k)) refl) (h.connections k m);
     } in (
       did,
       record {
@@ -242,15 +241,18 @@ opens site w new s by built n t fits h =
     let entry : Entry = record { by = by; time = s.time; what = Opened } in
     let did : Did = record { entries = entry ∷ []; effect = Posted } in
     let moved : State = after s (Opens by) did in
+    let same : w.history ++ record { by = by; time = w.time; what = Opened } ∷ [] ≡ moved.history =
+    ap (λ (l : List Entry). l ++ record { by = by; time = w.time; what = Opened } ∷ []) h.history ∙ ap (λ (now : Time). s.history ++ record { by = by; time = now; what = Opened } ∷ []) h.time in
     let mine : IsConnection site moved by n.0 =
-    begins_anew site s moved by true (connection_at w.connections by) n.0 n.1 (h.connections by m) (maker_told by s entry true refl refl) (pieces_turned by (Opens by) (entry ∷ []) s.pieces true (tells_maker by entry refl)) in
+    begins_anew site s moved by true (connection_at w.connections by) n.0 n.1 (h.connections by m) (maker_told by s entry true refl refl) (pieces_turned by (Opens by) (entry ∷ []) s.pieces true (tells_maker by entry refl))
+    (λ stands. passed_opened site moved by s.history entry n.0.cursor refl refl refl (cursor_turned by (Opens by) (entry ∷ []) s.cursor true (tells_maker by entry refl))
+    (n.2 ∙ ap (λ (l : List Entry). record { place = length l; refused = 0 }) (ap (λ (x : Held). x.history) n.3 ∙ same))) in
     let whole : Represents site (changed by w (record { by = by; time = w.time; what = Opened } ∷ []) n.0) moved = record {
-      history = ap (λ (l : List Entry). l ++ record { by = by; time = w.time; what = Opened } ∷ []) h.history ∙ ap (λ (now : Time). s.history ++ record { by = by; time = now; what = Opened } ∷ []) h.time;
+      history = same;
       time = h.time;
       basis = h.basis;
-      uncommanded = uncommanded_kept s.history (entry ∷ []) h.uncommanded refl;
       count = set_count w.connections (length site.interfaces) by n.0 h.count;
-      connections = connections_set site s moved w.connections (length site.interfaces) by n.0 h.count m h.connections mine (others_kept by s entry refl) (λ k other. pieces_stay k (Opens by) (entry ∷ []) s.pieces (tells_no_other k entry other) refl);
+      connections = connections_set site s moved w.connections (length site.interfaces) by n.0 h.count m h.connections mine (others_kept by s entry refl) (λ k other. pieces_stay k (Opens by) (entry ∷ []) s.pieces (tells_no_other k entry other) refl) (λ k other. passes site s (Opens by) did k (tells_no_other k entry other) refl);
     } in (
       did,
       record {
@@ -260,7 +262,7 @@ opens site w new s by built n t fits h =
         effect = refl;
       },
       refl,
-      subst (λ (x : Held). Represents site x moved) (sym n.2) whole,
+      subst (λ (x : Held). Represents site x moved) (sym n.3) whole,
     )
 
 -- there is no room for an Opened, or no memory for it
@@ -278,32 +280,37 @@ open_refused site time k new connections s by Memory t g h = unmoved (held_with 
 given_by : (site : SiteData) (s : State) (by : ℕ) (c : HeldConnection) → (h : IsConnection site s by c) → AreOf c.chain.stages (s.pieces by) h.packets
 given_by site s by c h = settled_gives_all c.chain.stages (s.pieces by) h.packets h.settled h.stands
 
-closed_entry_is : (by : ℕ) (before now : Time) (why : Why) (c : HeldConnection) (cuts : List Pieces) → before ≡ now → loss_in c.chain.stages ≡ loss_of cuts → lost by before c why ≡ closed_entry now by why 0 cuts
-closed_entry_is by before now why c cuts t l = λ i. record { by = by; time = t i; what = Closed why (l i) 0 0 }
+closed_entry_is : (by : ℕ) (before now : Time) (history : List Entry) (why : Why) (c : HeldConnection) (n : ℕ) (cuts : List Pieces) → before ≡ now → loss_in c.chain.stages ≡ loss_of cuts → waiting by history c.cursor ≡ n → lost by before history c why ≡ closed_entry now by why n cuts
+closed_entry_is by before now history why c n cuts t l u = λ i. record { by = by; time = t i; what = Closed why (l i) 0 (u i) }
 
--- nothing waits for an interface's device
-none_waits : (site : SiteData) (w : Held) (s : State) (by : ℕ) → by < length site.interfaces → Represents site w s → unsent (site_environment site) s by ≡ 0
-none_waits site w s by m h = nothing_unsent (site_environment site) s by (below by (length site.interfaces) m) h.uncommanded
+-- a connection that does not stand needs to have passed nothing
+none_passed : {P : Type 0} (off : Bool) → off ≡ false → off ≡ true → P
+none_passed true h k = absurd (cc h)
+none_passed false h k = absurd (cc k)
 
 pub finished : (site : SiteData) (w new : Held) (s : State) (by : ℕ) (why : Why) → is_built_site site ≡ true → IsClosed by w why new → is_enabled (site_environment site) s (Finish by why) ≡ true → Represents site w s
     → (did : Did) × Does (site_environment site) s (Finish by why) did × (Posted ≡ did.effect) × Represents site new (after s (Finish by why) did)
 finished site w new s by why built n t h =
-    let m : by < length site.interfaces = (enabled_line site by _ built t).0 in
+    let line = enabled_line site by _ built t in
+    let m : by < length site.interfaces = line.0 in
+    let on : is_connected by s.history ≡ true = (and_tells (is_connected by s.history) (may_close s.history why) line.1).0 in
     let old = connection_at w.connections by in
     let mine = h.connections by m in
     let all = given_by site s by old mine in
-    let entry = closed_entry s.time by why 0 all.cuts in
+    let left = unsent (site_environment site) s by in
+    let entry = closed_entry s.time by why left all.cuts in
     let did : Did = record { entries = entry ∷ []; effect = Posted } in
     let moved : State = after s (Finish by why) did in
-    let whole : Represents site (changed by w (lost by w.time old why ∷ []) n.0) moved = record {
-      history = ap (λ (l : List Entry). l ++ lost by w.time old why ∷ []) h.history ∙ ap (λ (x : Entry). s.history ++ x ∷ []) (closed_entry_is by w.time s.time why old all.cuts h.time all.loss_is);
+    let told : false ≡ is_connected by moved.history = maker_told by s entry false refl refl in
+    let waits_is : waiting by w.history old.cursor ≡ left = ap (λ (l : List Entry). waiting by l old.cursor) h.history ∙ sym (waits site s by old.cursor m (mine.passed on)) in
+    let whole : Represents site (changed by w (lost by w.time w.history old why ∷ []) n.0) moved = record {
+      history = ap (λ (l : List Entry). l ++ lost by w.time w.history old why ∷ []) h.history ∙ ap (λ (x : Entry). s.history ++ x ∷ []) (closed_entry_is by w.time s.time w.history why old left all.cuts h.time all.loss_is waits_is);
       time = h.time;
       basis = h.basis;
-      uncommanded = uncommanded_kept s.history (entry ∷ []) h.uncommanded refl;
       count = set_count w.connections (length site.interfaces) by n.0 h.count;
       connections = connections_set site s moved w.connections (length site.interfaces) by n.0 h.count m h.connections
-          (begins_anew site s moved by false old n.0 n.1 mine (maker_told by s entry false refl refl) (pieces_turned by (Finish by why) (entry ∷ []) s.pieces false (tells_maker by entry refl)))
-          (others_kept by s entry refl) (λ k other. pieces_stay k (Finish by why) (entry ∷ []) s.pieces (tells_no_other k entry other) refl);
+          (begins_anew site s moved by false old n.0 n.1 mine told (pieces_turned by (Finish by why) (entry ∷ []) s.pieces false (tells_maker by entry refl)) (λ stands. none_passed (is_connected by moved.history) (sym told) stands))
+          (others_kept by s entry refl) (λ k other. pieces_stay k (Finish by why) (entry ∷ []) s.pieces (tells_no_other k entry other) refl) (λ k other. passes site s (Finish by why) did k (tells_no_other k entry other) refl);
     } in (
       did,
       record {
@@ -312,7 +319,7 @@ finished site w new s by why built n t h =
           cuts = all.cuts;
           given = mine.packets;
           before = subst (λ (chain : List Framing). IsPackets chain (s.pieces by) all.cuts mine.packets) mine.framings all.packets_are;
-          entries_are = ap (λ (k : ℕ). closed_entry s.time by why k all.cuts ∷ []) (sym (none_waits site w s by m h));
+          entries_are = refl;
         };
         room = λ takes. absurd (cc takes);
         effect = refl;
@@ -327,7 +334,9 @@ finished site w new s by why built n t h =
 record IsFed (site : SiteData) (w : Held) (s : State) (by : ℕ) (piece : List ℕ) (entries : List Entry) (why : Option Why) (c : HeldConnection) : Type 0 where
   there : by < length site.interfaces
   before : IsConnection site s by (connection_at w.connections by)
+  on : is_connected by s.history ≡ true
   flag : c.connected ≡ (connection_at w.connections by).connected
+  cursor : c.cursor ≡ (connection_at w.connections by).cursor
   taken : TakesPiece site by w.time (connection_at w.connections by).chain piece entries why c.chain
   framings : framings_of c.chain.stages ≡ framings_at site by
   writing : writers c.chain ≡ writers_at site by
@@ -337,14 +346,17 @@ record IsFed (site : SiteData) (w : Held) (s : State) (by : ℕ) (piece : List �
 is_fed : (site : SiteData) (w mid : Held) (s : State) (by : ℕ) (piece : List ℕ) (entries : List Entry) (why : Option Why) → is_built_site site ≡ true → is_enabled (site_environment site) s (Piece by piece) ≡ true → Represents site w s
     → (k : Takes by w piece entries why mid) → IsFed site w s by piece entries why k.0
 is_fed site w mid s by piece entries why built t h k =
-    let m : by < length site.interfaces = (enabled_line site by _ built t).0 in
+    let line = enabled_line site by _ built t in
+    let m : by < length site.interfaces = line.0 in
     let before = h.connections by m in
-    let taken : TakesPiece site by w.time (connection_at w.connections by).chain piece entries why k.0.chain = subst (λ (b : Basis). TakesPiece b.site by w.time (connection_at w.connections by).chain piece entries why k.0.chain) h.basis k.2 in
+    let taken : TakesPiece site by w.time (connection_at w.connections by).chain piece entries why k.0.chain = subst (λ (b : Basis). TakesPiece b.site by w.time (connection_at w.connections by).chain piece entries why k.0.chain) h.basis k.3 in
     let stands = subst (λ (ins : List Output). StagesStand k.0.chain.stages ins (before.packets ++ taken.packets)) (plain_more (s.pieces by) piece) (taken.stands (map plain (s.pieces by)) before.packets before.stands) in
     record {
       there = m;
       before = before;
+      on = (and_tells (is_connected by s.history) (is_piece piece) line.1).0;
       flag = k.1;
+      cursor = k.2;
       taken = taken;
       framings = same_framings (connection_at w.connections by).chain k.0.chain taken.same ∙ before.framings;
       writing = taken.same.writers ∙ before.writing;
@@ -353,25 +365,25 @@ is_fed site w mid s by piece entries why built t h k =
     }
 
 -- what stands behind the packets of a piece
-tail_of : ℕ → Time → List Pieces → Option Fault → List Entry
-tail_of by now cuts fault = closing now by 0 cuts fault
+tail_of : ℕ → Time → ℕ → List Pieces → Option Fault → List Entry
+tail_of by now n cuts fault = closing now by n cuts fault
 
-tail_counts : (by : ℕ) (now : Time) (cuts : List Pieces) (fault : Option Fault) → entries_in (tail_of by now cuts fault) ≡ 0
+tail_counts : (by : ℕ) (now : Time) (n : ℕ) (cuts : List Pieces) (fault : Option Fault) → entries_in (tail_of by now n cuts fault) ≡ 0
 unfolding tail_of
-tail_counts by now cuts None = refl
-tail_counts by now cuts (Some f) = refl
+tail_counts by now n cuts None = refl
+tail_counts by now n cuts (Some f) = refl
 
-tail_weighs : (by : ℕ) (now : Time) (cuts : List Pieces) (fault : Option Fault) → bytes_in (tail_of by now cuts fault) ≡ 0
+tail_weighs : (by : ℕ) (now : Time) (n : ℕ) (cuts : List Pieces) (fault : Option Fault) → bytes_in (tail_of by now n cuts fault) ≡ 0
 unfolding tail_of
-tail_weighs by now cuts None = refl
-tail_weighs by now cuts (Some f) = refl
+tail_weighs by now n cuts None = refl
+tail_weighs by now n cuts (Some f) = refl
 
 -- the entries of a piece
-posts : SiteData → ℕ → Time → List Output → List Pieces → Option Fault → List Entry
-posts site by now packets cuts fault = entries_of site by now packets ++ tail_of by now cuts fault
+posts : SiteData → ℕ → Time → ℕ → List Output → List Pieces → Option Fault → List Entry
+posts site by now n packets cuts fault = entries_of site by now packets ++ tail_of by now n cuts fault
 
 posts_received : (site : SiteData) (w : Held) (s : State) (by : ℕ) (piece : List ℕ) (entries : List Entry) (why : Option Why) (c : HeldConnection) → Represents site w s → (k : IsFed site w s by piece entries why c)
-    → Receives (site_environment site) s by piece (posts site by s.time k.taken.packets k.all.cuts (fault_of k.all.cuts))
+    → Receives (site_environment site) s by piece (posts site by s.time (unsent (site_environment site) s by) k.taken.packets k.all.cuts (fault_of k.all.cuts))
 unfolding posts tail_of
 posts_received site w s by piece entries why c h k =
     let old = connection_at w.connections by in
@@ -384,21 +396,20 @@ posts_received site w s by piece entries why c h k =
       cuts = k.all.cuts;
       packets = packets;
       after = subst (λ (chain : List Framing). IsPackets chain (s.pieces by ++ piece ∷ []) k.all.cuts (k.before.packets ++ packets)) k.framings k.all.packets_are;
-      entries_are = ap (λ (n : ℕ). packet_entries (site_environment site).routing s.time by packets ++ closing s.time by n k.all.cuts (fault_of k.all.cuts)) (sym (none_waits site w s by k.there h))
-          ∙ ap (λ (l : List Entry). l ++ closing s.time by (unsent (site_environment site) s by) k.all.cuts (fault_of k.all.cuts)) (sym (posted_packets (site_environment site).routing s.history s.time by packets (below by (length site.interfaces) k.there)));
+      entries_are = ap (λ (l : List Entry). l ++ closing s.time by (unsent (site_environment site) s by) k.all.cuts (fault_of k.all.cuts)) (sym (posted_packets (site_environment site).routing s.history s.time by packets (below by (length site.interfaces) k.there)));
     }
 
 -- they are the entries that were taken, and what stands behind them counts nothing
 entries_at : (site : SiteData) (w : Held) (s : State) (by : ℕ) (packets : List Output) (entries : List Entry) → entries ≡ entries_of site by w.time packets → Represents site w s → entries ≡ entries_of site by s.time packets
 entries_at site w s by packets entries e h = e ∙ ap (λ (now : Time). entries_of site by now packets) h.time
 
-posts_count : (site : SiteData) (by : ℕ) (now : Time) (packets : List Output) (cuts : List Pieces) (fault : Option Fault) (entries : List Entry) → entries ≡ entries_of site by now packets → entries_in (posts site by now packets cuts fault) ≡ entries_in entries
+posts_count : (site : SiteData) (by : ℕ) (now : Time) (n : ℕ) (packets : List Output) (cuts : List Pieces) (fault : Option Fault) (entries : List Entry) → entries ≡ entries_of site by now packets → entries_in (posts site by now n packets cuts fault) ≡ entries_in entries
 unfolding posts
-posts_count site by now packets cuts fault entries e = omega (arith, entries_grow (entries_of site by now packets) (tail_of by now cuts fault) 0 (tail_counts by now cuts fault), ap entries_in e)
+posts_count site by now n packets cuts fault entries e = omega (arith, entries_grow (entries_of site by now packets) (tail_of by now n cuts fault) 0 (tail_counts by now n cuts fault), ap entries_in e)
 
-posts_size : (site : SiteData) (by : ℕ) (now : Time) (packets : List Output) (cuts : List Pieces) (fault : Option Fault) (entries : List Entry) → entries ≡ entries_of site by now packets → bytes_in (posts site by now packets cuts fault) ≡ bytes_in entries
+posts_size : (site : SiteData) (by : ℕ) (now : Time) (n : ℕ) (packets : List Output) (cuts : List Pieces) (fault : Option Fault) (entries : List Entry) → entries ≡ entries_of site by now packets → bytes_in (posts site by now n packets cuts fault) ≡ bytes_in entries
 unfolding posts
-posts_size site by now packets cuts fault entries e = omega (arith, bytes_grow (entries_of site by now packets) (tail_of by now cuts fault) 0 (tail_weighs by now cuts fault), ap bytes_in e)
+posts_size site by now n packets cuts fault entries e = omega (arith, bytes_grow (entries_of site by now packets) (tail_of by now n cuts fault) 0 (tail_weighs by now n cuts fault), ap bytes_in e)
 
 -- a piece is its own maker's
 
@@ -418,6 +429,10 @@ packets_then site k by now packets e =
     latest-append (connects_maker k) (entries_of site by now packets) (e ∷ [])
     ∙ (ap (λ (o : Option Bool). or_earlier (connects_maker k e) o) (packets_connect_none site k by now packets) ∙ or_none (connects_maker k e))
 
+-- the connection has passed what it had passed before the piece
+passed_same : (site : SiteData) (w : Held) (s : State) (by : ℕ) (piece : List ℕ) (entries : List Entry) (why : Option Why) (c : HeldConnection) → IsFed site w s by piece entries why c → IsPassed (site_environment site) s by c.cursor.place c.cursor.refused
+passed_same site w s by piece entries why c k = subst (λ (x : HeldCursor). IsPassed (site_environment site) s by x.place x.refused) (sym k.cursor) (k.before.passed k.on)
+
 -- the packets are in the history, and no stage has failed
 stands_whole : (site : SiteData) (w : Held) (s : State) (by : ℕ) (piece : List ℕ) (entries : List Entry) (why : Option Why) (c : HeldConnection) → Represents site w s → (k : IsFed site w s by piece entries why c)
     → (did : Did) → did.entries ≡ entries → fault_of k.all.cuts ≡ None → Represents site (changed by w entries c) (after s (Piece by piece) did)
@@ -435,59 +450,63 @@ stands_whole site w s by piece entries why c h k did d e =
       stands = subst (λ (pieces : List (List ℕ)). StagesStand c.chain.stages (map plain pieces) (k.before.packets ++ packets)) (sym (pieces_grow by (Piece by piece) did.entries s.pieces (none by) ∙ ap (λ (l : List (List ℕ)). s.pieces by ++ l) (piece_of_maker by piece))) k.stands;
       settled = k.taken.settled;
       unfailed = k.all.fault_is ∙ e;
+      passed = λ stands. passes site s (Piece by piece) did by (none by) refl c.cursor.place c.cursor.refused (passed_same site w s by piece entries why c k);
     } in
     record {
       history = ap (λ (l : List Entry). l ++ entries) h.history ∙ ap (λ (l : List Entry). s.history ++ l) (sym d);
       time = h.time;
       basis = h.basis;
-      uncommanded = uncommanded_kept s.history did.entries h.uncommanded (ap has_command (d ∙ mine_are) ∙ packets_command_none site by s.time packets);
       count = set_count w.connections (length site.interfaces) by c h.count;
-      connections = connections_set site s moved w.connections (length site.interfaces) by c h.count k.there h.connections mine (λ j other. kept j) (λ j other. pieces_stay j (Piece by piece) did.entries s.pieces (none j) (piece_of_other j by piece other));
+      connections = connections_set site s moved w.connections (length site.interfaces) by c h.count k.there h.connections mine (λ j other. kept j) (λ j other. pieces_stay j (Piece by piece) did.entries s.pieces (none j) (piece_of_other j by piece other)) (λ j other. passes site s (Piece by piece) did j (none j) refl);
     }
 
 -- a stage has failed, and the connection is closed
 stands_bad : (site : SiteData) (w : Held) (s : State) (by : ℕ) (piece : List ℕ) (entries : List Entry) (why : Option Why) (c : HeldConnection) → Represents site w s → (k : IsFed site w s by piece entries why c)
-    → (did : Did) (reason : Why) → did.entries ≡ entries ++ closed_entry s.time by reason 0 k.all.cuts ∷ [] → (shutting : HeldConnection) → IsRenewed false c shutting
-    → Represents site (record w { history = (w.history ++ entries) ++ lost by w.time c reason ∷ []; connections = set w.connections by shutting }) (after s (Piece by piece) did)
+    → (did : Did) (reason : Why) → did.entries ≡ entries ++ closed_entry s.time by reason (unsent (site_environment site) s by) k.all.cuts ∷ [] → (shutting : HeldConnection) → IsRenewed false c shutting
+    → Represents site (record w { history = (w.history ++ entries) ++ lost by w.time (w.history ++ entries) c reason ∷ []; connections = set w.connections by shutting }) (after s (Piece by piece) did)
 stands_bad site w s by piece entries why c h k did reason d shutting r =
     let moved : State = after s (Piece by piece) did in
     let packets = k.taken.packets in
     let mine_are = entries_at site w s by packets entries k.taken.entries_are h in
-    let tail = closed_entry s.time by reason 0 k.all.cuts in
+    let left = unsent (site_environment site) s by in
+    let tail = closed_entry s.time by reason left k.all.cuts in
     let bad : did.entries ≡ entries_of site by s.time packets ++ tail ∷ [] = d ∙ ap (λ (l : List Entry). l ++ tail ∷ []) mine_are in
-    let last : lost by w.time c reason ≡ tail = closed_entry_is by w.time s.time reason c k.all.cuts h.time k.all.loss_is in
+    let behind : w.history ++ entries ≡ s.history ++ entries_of site by s.time packets = ap (λ (l : List Entry). l ++ entries) h.history ∙ ap (λ (l : List Entry). s.history ++ l) mine_are in
+    let passed = passed_same site w s by piece entries why c k in
+    let waits_is : waiting by (w.history ++ entries) c.cursor ≡ left =
+    ap (λ (l : List Entry). waiting by l c.cursor) behind ∙ (waiting_kept site s by s.time packets c.cursor passed ∙ sym (waits site s by c.cursor k.there passed)) in
+    let last : lost by w.time (w.history ++ entries) c reason ≡ tail = closed_entry_is by w.time s.time (w.history ++ entries) reason c left k.all.cuts h.time k.all.loss_is waits_is in
     let tells : (j : ℕ) → latest (connects_maker j) did.entries ≡ connects_maker j tail = λ j. ap (latest (connects_maker j)) bad ∙ packets_then site j by s.time packets tail in
     let others : (j : ℕ) → j ≢ by → latest (connects_maker j) did.entries ≡ None = λ j other. tells j ∙ tells_no_other j tail other in
     let off : false ≡ is_connected by (s.history ++ did.entries) =
     sym (connected-append by s.history did.entries ∙ ap (λ (t : Option Bool). unwrap_or (or_earlier t (latest (connects_maker by) s.history)) false) (tells by ∙ tells_maker by tail refl)) in
     let mine : IsConnection site moved by shutting =
     begins site moved by shutting (r.connected_is ∙ off) (same_framings c.chain shutting.chain r.same ∙ k.framings) (r.same.writers ∙ k.writing) (pieces_turned by (Piece by piece) did.entries s.pieces false (tells by ∙ tells_maker by tail refl))
-    (all_renewed c.chain.stages shutting.chain.stages r.renewed) (renewed_stands c.chain.stages shutting.chain.stages r.renewed) in
+    (all_renewed c.chain.stages shutting.chain.stages r.renewed) (renewed_stands c.chain.stages shutting.chain.stages r.renewed) (λ stands. none_passed (is_connected by moved.history) (sym off) stands) in
     record {
-      history = ap (λ (l : List Entry). (l ++ entries) ++ lost by w.time c reason ∷ []) h.history
-          ∙ (append_assoc s.history entries (lost by w.time c reason ∷ []) ∙ (ap (λ (x : Entry). s.history ++ (entries ++ x ∷ [])) last ∙ ap (λ (l : List Entry). s.history ++ l) (sym d)));
+      history = ap (λ (l : List Entry). (l ++ entries) ++ lost by w.time (w.history ++ entries) c reason ∷ []) h.history
+          ∙ (append_assoc s.history entries (lost by w.time (w.history ++ entries) c reason ∷ []) ∙ (ap (λ (x : Entry). s.history ++ (entries ++ x ∷ [])) last ∙ ap (λ (l : List Entry). s.history ++ l) (sym d)));
       time = h.time;
       basis = h.basis;
-      uncommanded = uncommanded_kept s.history did.entries h.uncommanded (ap has_command bad ∙ uncommanded_kept (entries_of site by s.time packets) (tail ∷ []) (packets_command_none site by s.time packets) refl);
       count = set_count w.connections (length site.interfaces) by shutting h.count;
       connections = connections_set site s moved w.connections (length site.interfaces) by shutting h.count k.there h.connections mine
-          (λ j other. connected_kept j s.history did.entries (others j other)) (λ j other. pieces_stay j (Piece by piece) did.entries s.pieces (others j other) (piece_of_other j by piece other));
+          (λ j other. connected_kept j s.history did.entries (others j other)) (λ j other. pieces_stay j (Piece by piece) did.entries s.pieces (others j other) (piece_of_other j by piece other)) (λ j other. passes site s (Piece by piece) did j (others j other) refl);
     }
 
 -- what is held with a connection set twice
 set_twice : (w : Held) (by : ℕ) (entries : List Entry) (c shutting : HeldConnection) (reason : Why) (new : Held) → by < length w.connections
-    → IsRenewed false (connection_at (set w.connections by c) by) shutting → new ≡ changed by (changed by w entries c) (lost by w.time (connection_at (set w.connections by c) by) reason ∷ []) shutting
-    → IsRenewed false c shutting × (new ≡ record w { history = (w.history ++ entries) ++ lost by w.time c reason ∷ []; connections = set w.connections by shutting })
+    → IsRenewed false (connection_at (set w.connections by c) by) shutting → new ≡ changed by (changed by w entries c) (lost by w.time (w.history ++ entries) (connection_at (set w.connections by c) by) reason ∷ []) shutting
+    → IsRenewed false c shutting × (new ≡ record w { history = (w.history ++ entries) ++ lost by w.time (w.history ++ entries) c reason ∷ []; connections = set w.connections by shutting })
 set_twice w by entries c shutting reason new m r n =
     let same = get_or-set_same w.connections by c (shut no_chain) m in (
       subst (λ (x : HeldConnection). IsRenewed false x shutting) same r,
-      n ∙ (ap (λ (x : HeldConnection). record w { history = (w.history ++ entries) ++ lost by w.time x reason ∷ []; connections = set (set w.connections by c) by shutting }) same
-          ∙ ap (λ (cs : List HeldConnection). record w { history = (w.history ++ entries) ++ lost by w.time c reason ∷ []; connections = cs }) (set-set w.connections by c shutting)),
+      n ∙ (ap (λ (x : HeldConnection). record w { history = (w.history ++ entries) ++ lost by w.time (w.history ++ entries) x reason ∷ []; connections = set (set w.connections by c) by shutting }) same
+          ∙ ap (λ (cs : List HeldConnection). record w { history = (w.history ++ entries) ++ lost by w.time (w.history ++ entries) c reason ∷ []; connections = cs }) (set-set w.connections by c shutting)),
     )
 
 stands_settled : (site : SiteData) (w new : Held) (s : State) (by : ℕ) (piece : List ℕ) (entries : List Entry) (why : Option Why) (c : HeldConnection) → Represents site w s → (k : IsFed site w s by piece entries why c)
     → (fault : Option Fault) → fault_of k.all.cuts ≡ fault → Settles by (changed by w entries c) (blamed fault) new
-    → (did : Did) → did.entries ≡ entries ++ tail_of by s.time k.all.cuts fault → Represents site new (after s (Piece by piece) did)
+    → (did : Did) → did.entries ≡ entries ++ tail_of by s.time (unsent (site_environment site) s by) k.all.cuts fault → Represents site new (after s (Piece by piece) did)
 unfolding tail_of
 stands_settled site w new s by piece entries why c h k None e settles did d =
     subst (λ (x : Held). Represents site x (after s (Piece by piece) did)) (sym settles) (stands_whole site w s by piece entries why c h k did (d ∙ append-nil entries) e)
@@ -504,18 +523,19 @@ received site w new s by piece entries why c t h k room settles =
     let packets = k.taken.packets in
     let cuts = k.all.cuts in
     let fault = fault_of cuts in
+    let left = unsent (site_environment site) s by in
     let mine_are = entries_at site w s by packets entries k.taken.entries_are h in
-    let did : Did = record { entries = posts site by s.time packets cuts fault; effect = Posted } in
+    let did : Did = record { entries = posts site by s.time left packets cuts fault; effect = Posted } in
     let blame : why ≡ blamed fault = k.taken.why_is ∙ ap blamed k.all.fault_is in (
       did,
       record {
         enabled = t;
         appends = posts_received site w s by piece entries why c h k;
-        room = λ takes. sym (room_is site w s did.entries (entries_in entries) (bytes_in entries) (posts_count site by s.time packets cuts fault entries mine_are) (posts_size site by s.time packets cuts fault entries mine_are) h) ∙ room;
+        room = λ takes. sym (room_is site w s did.entries (entries_in entries) (bytes_in entries) (posts_count site by s.time left packets cuts fault entries mine_are) (posts_size site by s.time left packets cuts fault entries mine_are) h) ∙ room;
         effect = refl;
       },
       refl,
-      stands_settled site w new s by piece entries why c h k fault refl (subst (λ (o : Option Why). Settles by (changed by w entries c) o new) blame settles) did (ap (λ (l : List Entry). l ++ tail_of by s.time cuts fault) (sym mine_are)),
+      stands_settled site w new s by piece entries why c h k fault refl (subst (λ (o : Option Why). Settles by (changed by w entries c) o new) blame settles) did (ap (λ (l : List Entry). l ++ tail_of by s.time left cuts fault) (sym mine_are)),
     )
 
 -- ---- a piece as the world takes it: it goes through the chain, and its packets are posted
@@ -523,7 +543,7 @@ received site w new s by piece entries why c t h k room settles =
 pub piece_done : (site : SiteData) (w mid new : Held) (s : State) (by : ℕ) (piece : List ℕ) (entries : List Entry) (why : Option Why) → is_built_site site ≡ true → is_enabled (site_environment site) s (Piece by piece) ≡ true
     → Takes by w piece entries why mid → Posts by mid entries why (Ok tt) new → Represents site w s → Steps site s (Piece by piece) w (Ok Posted) new
 piece_done site w mid new s by piece entries why built t k q h =
-    let p = subst (λ (x : Held). Posts by x entries why (Ok tt) new) k.3 q in
+    let p = subst (λ (x : Held). Posts by x entries why (Ok tt) new) k.4 q in
     received site w new s by piece entries why k.0 t h (is_fed site w mid s by piece entries why built t h k) p.0 p.1
 
 refused : (site : SiteData) (w new : Held) (s : State) (by : ℕ) (piece : List ℕ) (entries : List Entry) (why : Option Why) (c : HeldConnection) (fault : WorldFault) → is_enabled (site_environment site) s (Piece by piece) ≡ true → Represents site w s
@@ -532,15 +552,16 @@ refused site w new s by piece entries why c RefusedEvent t h k p = absurd p
 refused site w new s by piece entries why c (Full counted size) t h k p =
     let mine_are = entries_at site w s by k.taken.packets entries k.taken.entries_are h in
     let fault = fault_of k.all.cuts in
-    finds_full site w new s (Piece by piece) (posts site by s.time k.taken.packets k.all.cuts fault) (entries_in entries) (bytes_in entries) counted size t refl (posts_received site w s by piece entries why c h k)
-    (posts_count site by s.time k.taken.packets k.all.cuts fault entries mine_are) (posts_size site by s.time k.taken.packets k.all.cuts fault entries mine_are) p.0 p.1 p.2
+    let left = unsent (site_environment site) s by in
+    finds_full site w new s (Piece by piece) (posts site by s.time left k.taken.packets k.all.cuts fault) (entries_in entries) (bytes_in entries) counted size t refl (posts_received site w s by piece entries why c h k)
+    (posts_count site by s.time left k.taken.packets k.all.cuts fault entries mine_are) (posts_size site by s.time left k.taken.packets k.all.cuts fault entries mine_are) p.0 p.1 p.2
     (record { history = ap (λ (x : Held). x.history) p.3; time = ap (λ (x : Held). x.time) p.3; basis = ap (λ (x : Held). x.basis) p.3 }) h
 refused site w new s by piece entries why c Memory t h k p = record { history = ap (λ (x : Held). x.history) p; time = ap (λ (x : Held). x.time) p; basis = ap (λ (x : Held). x.basis) p }
 
 pub piece_refused : (site : SiteData) (w mid new : Held) (s : State) (by : ℕ) (piece : List ℕ) (entries : List Entry) (why : Option Why) (fault : WorldFault) → is_built_site site ≡ true → is_enabled (site_environment site) s (Piece by piece) ≡ true
     → Takes by w piece entries why mid → Posts by mid entries why (Err fault) new → Represents site w s → Steps site s (Piece by piece) w (Err fault) new
 piece_refused site w mid new s by piece entries why fault built t k p h =
-    refused site w new s by piece entries why k.0 fault t h (is_fed site w mid s by piece entries why built t h k) (subst (λ (x : Held). Posts by x entries why (Err fault) new) k.3 p)
+    refused site w new s by piece entries why k.0 fault t h (is_fed site w mid s by piece entries why built t h k) (subst (λ (x : Held). Posts by x entries why (Err fault) new) k.4 p)
 
 -- ---- the site that is held
 
@@ -561,9 +582,9 @@ trial_here : (site : SiteData) (w : Held) (s : State) (words : List (List ℕ)) 
 trial_here site w s words h = λ i. tried (h.basis i) (h.history i) (h.time i) words
 
 pub trial_done : (site : SiteData) (w new : Held) (s : State) (words : List (List ℕ)) (front : ℕ) (text : List ℕ) (es : List Entry) → 1 ≤ w.basis.site.desks → front ≡ length w.history
-    → tried w.basis w.history w.time words ≡ record { text = Some text; entries = es } → ((k : ℕ) → latest (connects_maker k) es ≡ None) → has_command es ≡ false → new ≡ record w { history = w.history ++ es } → Represents site w s
+    → tried w.basis w.history w.time words ≡ record { text = Some text; entries = es } → ((k : ℕ) → latest (connects_maker k) es ≡ None) → new ≡ record w { history = w.history ++ es } → Represents site w s
     → Steps site s (Try words) w (Ok (Tried front text)) new
-trial_done site w new s words front text es desks at answers none free n h =
+trial_done site w new s words front text es desks at answers none n h =
     let did : Did = record { entries = es; effect = Tried (length s.history) text } in
     let moved : State = after s (Try words) did in
     let same = sym (trial_here site w s words h) ∙ answers in
@@ -572,9 +593,8 @@ trial_done site w new s words front text es desks at answers none free n h =
       history = ap (λ (l : List Entry). l ++ es) h.history;
       time = h.time;
       basis = h.basis;
-      uncommanded = uncommanded_kept s.history es h.uncommanded free;
       count = h.count;
-      connections = λ k m. connection_kept site s moved k (connection_at w.connections k) (connected_kept k s.history es (none k)) (pieces_stay k (Try words) es s.pieces (none k) refl) (h.connections k m);
+      connections = λ k m. connection_kept site s moved k (connection_at w.connections k) (connected_kept k s.history es (none k)) (pieces_stay k (Try words) es s.pieces (none k) refl) (passes site s (Try words) did k (none k) refl) (h.connections k m);
     } in (
       did,
       record {
@@ -590,4 +610,4 @@ trial_done site w new s words front text es desks at answers none free n h =
 -- a look-up appends nothing
 pub trial_told : (site : SiteData) (w : Held) (s : State) (words : List (List ℕ)) (front : ℕ) (text : List ℕ) → 1 ≤ w.basis.site.desks → front ≡ length w.history → tried w.basis w.history w.time words ≡ tells text → Represents site w s
     → Steps site s (Try words) w (Ok (Tried front text)) w
-trial_told site w s words front text desks at answers h = trial_done site w w s words front text [] desks at answers (λ k. refl) refl (ap (λ (l : List Entry). record w { history = l }) (sym (append-nil w.history))) h
+trial_told site w s words front text desks at answers h = trial_done site w w s words front text [] desks at answers (λ k. refl) (ap (λ (l : List Entry). record w { history = l }) (sym (append-nil w.history))) h

@@ -1,11 +1,14 @@
 -- What a site gives to events: the environment in which they are done.
-use Rattle.std.specs.Prelude.{ℕ, false, Bool, ◌==◌, ◌&&◌, nat_lt, List, [], map, slice_index_or, Option, Some, None, if◌then◌else◌}
+use Rattle.std.specs.Prelude.{ℕ, false, Bool, ◌==◌, ◌&&◌, nat_lt, List, [], filter, map, slice_index_or, Option, Some, None, if◌then◌else◌}
 use Rattle.std.specs.List.{list_any}
+use Rattle.cts_chain.specs.Builds.{use_specs, writes}
+use Rattle.cts_chain.specs.Writing.{chain_spelling}
 use Rattle.cts_core.specs.States.{Answer, Environment, Question, Request, Trial}
 use Rattle.cts_core.specs.Trials.{tried}
 use Rattle.cts_table.specs.declared.basis.Basis.{Basis}
 use Rattle.cts_def.specs.Makers.{router_of}
 use Rattle.cts_def.specs.Packets.{unknown}
+use Rattle.cts_def.specs.Protocols.{SpecData}
 use Rattle.cts_def.specs.Sites.{InterfaceData, SiteData}
 use Rattle.cts_def.specs.declared.ident.Ident.{Ident}
 use Rattle.cts_def.specs.declared.ident.Ident.TheVariants.{Known, Unknown}
@@ -14,7 +17,7 @@ use Rattle.cts_entry.specs.declared.entry.Entry.{Entry}
 use Rattle.cts_entry.specs.Legal.{most_entries as entries_limit, most_bytes as bytes_limit}
 use Rattle.cts_entry.specs.Workers.{is_interface, is_slot, interface_of}
 use Rattle.cts_ident.specs.Identification.{identified, identified_command, named, routes_at}
-use Rattle.cts_frame.specs.Chains.{framings_at}
+use Rattle.cts_frame.specs.Chains.{framings_at, uses_at}
 use Rattle.cts_frame.specs.Framing.{Heading, Output}
 use Rattle.cts_script.specs.Names.{packet_names as names_of_packet, command_names}
 
@@ -55,11 +58,20 @@ abbrev pub packet_names : SiteData → Ident → List ℕ × List ℕ
 packet_names site (Known number) = names_of_packet site number
 packet_names site Unknown = (unknown, unknown)
 
+-- ---- what is put
+
+-- the specs of the protocols of this maker that write, in order
+abbrev pub writers_at : SiteData → ℕ → List SpecData
+writers_at site by = use_specs (filter writes (uses_at site by))
+
+-- the spelling of some bytes by them, unless one of them refuses
+abbrev pub spelling_at : SiteData → ℕ → Heading → List ℕ → Option (List ℕ)
+spelling_at site by heading bytes = chain_spelling (writers_at site by) heading bytes
+
 -- ---- the environment
 
--- what is not defined yet: the spelling by write chains, the layout in logs, and what desks answer to requests
+-- what is not defined yet: the layout in logs, and what desks answer to requests
 pub record Undefined : Type 0 where
-  pub spelling : ℕ → Heading → List ℕ → Option (List ℕ)
   pub layout : Heading → List ℕ → List ℕ
   pub answer : List Entry → ℕ → Time → List ℕ → Answer
 
@@ -83,7 +95,7 @@ environment_with u site = record {
     routes = is_routed site;
     packet_names = packet_names site;
     command_names = command_names site;
-    spelling = u.spelling;
+    spelling = spelling_at site;
   };
   is_slot = is_slot site;
   is_desk = is_desk site;
@@ -94,9 +106,9 @@ environment_with u site = record {
   most_bytes = bytes_limit;
 }
 
--- Stand-ins: nothing is spelled, laid out or answered. No event that a script can state so far asks for one of these.
+-- Stand-ins: nothing is laid out or answered. No event that a script can state so far asks for one of these.
 abbrev pub stand_ins : Undefined
-stand_ins = record { spelling = λ by heading bytes. None; layout = λ heading bytes. []; answer = λ history desk time body. record { text = None; entries = [] } }
+stand_ins = record { layout = λ heading bytes. []; answer = λ history desk time body. record { text = None; entries = [] } }
 
 abbrev pub site_environment : SiteData → Environment
 site_environment site = environment_with stand_ins site

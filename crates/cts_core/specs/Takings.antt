@@ -15,7 +15,7 @@ use Rattle.cts_frame.specs.Packets.{Fault}
 use Rattle.cts_told.specs.Routing.{packet_entries}
 use Rattle.cts_core.specs.Environments.{site_environment}
 use Rattle.cts_core.specs.Kept.{is_within}
-use Rattle.cts_core.specs.Worlds.{Held, HeldConnection, changed, connection_at}
+use Rattle.cts_core.specs.Worlds.{Held, HeldConnection, changed, connection_at, waiting}
 use Rattle.cts_core.specs.declared.fault.WorldFault.{WorldFault}
 use Rattle.cts_core.specs.declared.fault.WorldFault.TheVariants.{NotEnabled, Full, Memory}
 
@@ -67,22 +67,23 @@ pub record IsRenewed (connected : Bool) (old new : HeldConnection) : Type 0 wher
 
 -- ---- what a running core makes of it
 
--- the Closed of a connection with what its stages lose
-abbrev pub lost : ℕ → Time → HeldConnection → Why → Entry
-lost by now c why = record { by = by; time = now; what = Closed why (loss_in c.chain.stages) 0 0 }
+-- the Closed of a connection behind a history, with what its stages lose and how many commands it has not put whole
+abbrev pub lost : ℕ → Time → List Entry → HeldConnection → Why → Entry
+lost by now history c why = record { by = by; time = now; what = Closed why (loss_in c.chain.stages) 0 (waiting by history c.cursor) }
 
--- a connection is opened, and its chain begins anew
+-- a connection is opened: its chain begins anew, and it has passed all that stands, of which nothing is for it
 abbrev pub IsOpened : ℕ → Held → Held → Type 0
-IsOpened by w new = (c : HeldConnection) × IsRenewed true (connection_at w.connections by) c × (new ≡ changed by w (record { by = by; time = w.time; what = Opened } ∷ []) c)
+IsOpened by w new =
+    (c : HeldConnection) × IsRenewed true (connection_at w.connections by) c × (c.cursor ≡ record { place = length new.history; refused = 0 }) × (new ≡ changed by w (record { by = by; time = w.time; what = Opened } ∷ []) c)
 
 -- a connection is closed, and what its chain holds is lost
 abbrev pub IsClosed : ℕ → Held → Why → Held → Type 0
-IsClosed by w why new = (c : HeldConnection) × IsRenewed false (connection_at w.connections by) c × (new ≡ changed by w (lost by w.time (connection_at w.connections by) why ∷ []) c)
+IsClosed by w why new = (c : HeldConnection) × IsRenewed false (connection_at w.connections by) c × (new ≡ changed by w (lost by w.time w.history (connection_at w.connections by) why ∷ []) c)
 
 -- A piece went through the chain of a connection. These are the entries of its packets, which are not posted yet.
 abbrev pub Takes : ℕ → Held → List ℕ → List Entry → Option Why → Held → Type 0
 Takes by w piece entries why new =
-    (c : HeldConnection) × (c.connected ≡ (connection_at w.connections by).connected) × TakesPiece w.basis.site by w.time (connection_at w.connections by).chain piece entries why c.chain × (new ≡ record w { connections = slice_set w.connections by c })
+    (c : HeldConnection) × (c.connected ≡ (connection_at w.connections by).connected) × (c.cursor ≡ (connection_at w.connections by).cursor) × TakesPiece w.basis.site by w.time (connection_at w.connections by).chain piece entries why c.chain × (new ≡ record w { connections = slice_set w.connections by c })
 
 -- these are entries of packets of an interface whose connection stands, and why it has to be closed
 pub record CanPost (by : ℕ) (w : Held) (entries : List Entry) (why : Option Why) : Type 0 where

@@ -1,21 +1,21 @@
 -- What the running core holds, and the states of the defined core that it represents.
-use Rattle.std.specs.Prelude.{◌≡◌, ℕ, ◌<◌, ◌≤◌, Bool, true, false, List, [], ◌++◌, filter, map, length, slice_index_or, slice_set, None, Result, Ok, Err}
+use Rattle.std.specs.Prelude.{◌≡◌, ℕ, ◌+◌, ◌==◌, ◌<◌, ◌≤◌, Bool, true, false, List, [], ◌++◌, drop, filter, map, length, slice_index_or, slice_set, None, Result, Ok, Err}
 use Rattle.std.specs.List.{list_any}
-use Rattle.cts_chain.specs.Builds.{use_specs, writes}
 use Rattle.cts_chain.specs.Chains.{StagesStand, AllSettled, framings_of, last_fault}
 use Rattle.cts_chain.specs.Shapes.{ChainData, writers}
-use Rattle.cts_def.specs.Protocols.{SpecData}
 use Rattle.cts_def.specs.Sites.{SiteData}
 use Rattle.cts_def.specs.declared.time.Time.{Time}
 use Rattle.cts_entry.specs.declared.entry.Entry.{Entry}
 use Rattle.cts_entry.specs.declared.event.Event.{Event}
 use Rattle.cts_entry.specs.declared.event.Effect.{Effect}
-use Rattle.cts_entry.specs.Histories.{is_connected, has_command, entries_in, bytes_in}
-use Rattle.cts_frame.specs.Chains.{framings_at, uses_at}
+use Rattle.cts_entry.specs.Histories.{is_connected, commands_to, entries_in, bytes_in}
+use Rattle.cts_frame.specs.Chains.{framings_at}
 use Rattle.cts_frame.specs.Framing.{Output, plain}
-use Rattle.cts_core.specs.Environments.{site_environment}
+use Rattle.cts_frame.specs.Packets.{capped}
+use Rattle.cts_core.specs.Environments.{site_environment, writers_at}
 use Rattle.cts_entry.specs.Legal.{is_ended, most_entries as entries_limit, most_bytes as bytes_limit}
 use Rattle.cts_core.specs.Built.{is_built_site}
+use Rattle.cts_core.specs.Cursors.{IsPassed}
 use Rattle.cts_core.specs.Runs.{Did, Does, after, Refuses, NotEnabled, HistoryFull}
 use Rattle.cts_core.specs.States.{State}
 use Rattle.cts_core.specs.declared.fault.WorldFault.{WorldFault}
@@ -23,14 +23,21 @@ use Rattle.cts_core.specs.declared.fault.WorldFault.TheVariants.{NotEnabled as R
 use Rattle.cts_table.specs.States.{Shown}
 use Rattle.cts_table.specs.declared.basis.Basis.{Basis}
 
--- whether the connection of an interface stands, and the chain of its protocols
+-- the place in the history up to which a connection has passed the commands for its interface, and how many of those that it
+-- passed were refused
+pub record HeldCursor : Type 0 where
+  pub place : ℕ
+  pub refused : ℕ
+
+-- whether the connection of an interface stands, the chain of its protocols, and what it has passed of the history
 pub record HeldConnection : Type 0 where
   pub connected : Bool
   pub chain : ChainData
+  pub cursor : HeldCursor
 
 -- a connection that does not stand
 abbrev pub shut : ChainData → HeldConnection
-shut chain = record { connected = false; chain = chain }
+shut chain = record { connected = false; chain = chain; cursor = record { place = 0; refused = 0 } }
 
 -- the chain of no interface
 abbrev pub no_chain : ChainData
@@ -39,6 +46,14 @@ no_chain = record { stages = []; beside = []; parts = []; lent = []; place = rec
 -- the connection of the interface of this number, and one that does not stand where there is no such interface
 abbrev pub connection_at : List HeldConnection → ℕ → HeldConnection
 connection_at connections by = slice_index_or connections by (shut no_chain)
+
+-- the commands for an interface among some entries
+abbrev pub commands_of : ℕ → List Entry → List Entry
+commands_of by entries = filter (commands_to (λ (interface : ℕ). interface == by)) entries
+
+-- how many commands for an interface its connection has not put whole: those that were refused, and those that it has not passed
+abbrev pub waiting : ℕ → List Entry → HeldCursor → ℕ
+waiting by history cursor = capped (cursor.refused + length (commands_of by (drop cursor.place history)))
 
 pub record Held : Type 0 where
   -- the site, and the limits of its history
@@ -66,12 +81,8 @@ abbrev pub first_held : SiteData → ℕ → ℕ → List ChainData → Held
 first_held site entries bytes chains =
     record { basis = record { site = site; entries = entries; bytes = bytes }; time = record { seconds = 0; micros = 0 }; history = []; connections = map shut chains }
 
--- the specs of the protocols of this interface that write, in order
-abbrev pub writers_at : SiteData → ℕ → List SpecData
-writers_at site by = use_specs (filter writes (uses_at site by))
-
 -- A connection stands where the history says so. Its chain has the interface's protocols, was fed the pieces that came since the
--- connection was opened, has given all their packets, and has not failed.
+-- connection was opened, has given all their packets, and has not failed. One that stands has passed what the state's has.
 pub record IsConnection (site : SiteData) (s : State) (by : ℕ) (c : HeldConnection) : Type 0 where
   pub connected : c.connected ≡ is_connected by s.history
   pub framings : framings_of c.chain.stages ≡ framings_at site by
@@ -80,14 +91,13 @@ pub record IsConnection (site : SiteData) (s : State) (by : ℕ) (c : HeldConnec
   pub stands : StagesStand c.chain.stages (map plain (s.pieces by)) packets
   pub settled : AllSettled c.chain.stages
   pub unfailed : last_fault 1 c.chain.stages ≡ None
+  pub passed : is_connected by s.history ≡ true → IsPassed (site_environment site) s by c.cursor.place c.cursor.refused
 
--- What is held represents a state: the history and the time are the state's, each interface has its connection, and no command
--- stands yet.
+-- What is held represents a state: the history and the time are the state's, and each interface has its connection.
 pub record Represents (site : SiteData) (w : Held) (s : State) : Type 0 where
   pub history : w.history ≡ s.history
   pub time : w.time ≡ s.time
   pub basis : w.basis ≡ record { site = site; entries = entries_limit; bytes = bytes_limit }
-  pub uncommanded : has_command s.history ≡ false
   pub count : length w.connections ≡ length site.interfaces
   pub connections : (by : ℕ) → by < length site.interfaces → IsConnection site s by (connection_at w.connections by)
 

@@ -1,33 +1,40 @@
 // The connection of one interface.
-ghost use Rattle.std.specs.Prelude.{◌≡◌, ◌<◌, true, false, length, map, IfOk};
+ghost use Rattle.std.specs.Prelude.{◌≡◌, ◌<◌, true, false, drop, length, map, IfOk};
 ghost use Rattle.cts_chain.specs.Chains.{loss_in};
 ghost use Rattle.cts_chain.specs.Shapes.{IsIdle};
 ghost use Rattle.cts_core.specs.Takings.{AllIdle, IsRenewed, TakesPiece};
-ghost use Rattle.cts_core.specs.Worlds.{shut};
+ghost use Rattle.cts_core.specs.Worlds.{shut, waiting};
 
 use crate::framer::Framer;
 use crate::posting::{Taken, take_packets};
 use cts_base::Memory;
 use cts_def::{Loss, Site, Time};
+use cts_entry::{Entry, commands_for};
 use std::alloc::Global;
 use std::marker::Model;
 
-/// Whether the connection of an interface stands, and the chain of its protocols, which has given all that it can.
+/// Whether the connection of an interface stands, the chain of its protocols, which has given all that it can, and which commands
+/// of the history it has passed.
 #[derive(Drop)]
 pub(crate) struct Connection<C: Framer> {
     connected: bool,
     chain: C,
+    /// The place in the history behind the last entry that it passed.
+    place: usize,
+    /// How many of the commands that it passed were refused.
+    refused: usize,
 }
 
 impl<C: Framer> Model for Connection<C> {
+    ghost use Rattle.std.specs.Prelude.{◌≤◌};
     ghost use Rattle.cts_chain.specs.Shapes.{IsIdle};
     ghost use Rattle.cts_core.specs.Worlds.{HeldConnection};
 
     ghost Value = { HeldConnection };
 
-    ghost view = { λ a. record { connected = a.connected; chain = C.shape a.chain } };
+    ghost view = { λ a. record { connected = a.connected; chain = C.shape a.chain; cursor = record { place = a.place; refused = a.refused } } };
 
-    ghost invariant = { λ a. IsIdle (C.shape a.chain) };
+    ghost invariant = { λ a. IsIdle (C.shape a.chain) × (a.refused ≤ a.place) };
 }
 
 impl<C: Framer> Connection<C> {
@@ -39,6 +46,8 @@ impl<C: Framer> Connection<C> {
         Connection {
             connected: false,
             chain,
+            place: 0,
+            refused: 0,
         }
     }
 
@@ -61,11 +70,14 @@ impl<C: Framer> Connection<C> {
         self.connected
     }
 
-    /// It stands from now on, and its chain begins anew.
-    pub fn open(&mut self)
-        ensures { IsRenewed true self.old self.new }
+    /// It stands from now on. Its chain begins anew, and it has passed the history up to this place.
+    pub fn open(&mut self, place: usize)
+        ensures renewed { IsRenewed true self.old self.new }
+        ensures cursor { self.new.cursor ≡ record { place = place; refused = 0 } }
     {
         self.connected = true;
+        self.place = place;
+        self.refused = 0;
         let _ = self.chain.reset();
     }
 
@@ -76,6 +88,15 @@ impl<C: Framer> Connection<C> {
     {
         self.connected = false;
         self.chain.reset()
+    }
+
+    /// How many of the commands for its interface are not put whole: those that it has not passed of this history, and those that
+    /// were refused.
+    pub fn waiting(&self, by: u32, history: &[Entry]) -> u64
+        ensures { result ≡ waiting by history.now self.now.cursor }
+    {
+        let left = commands_for(behind(history, self.place), by);
+        (self.refused as u64).saturating_add(left as u64)
     }
 
     /// Puts a piece through its chain, and takes the packets that the chain gives. Where no memory is found for all of this,
@@ -90,9 +111,17 @@ impl<C: Framer> Connection<C> {
     ) -> Result<Taken, Memory>
         requires { by < length site.now.interfaces }
         ensures connected { self.new.connected ≡ self.old.connected }
+        ensures cursor { self.new.cursor ≡ self.old.cursor }
         ensures ok { IfOk result (λ t. TakesPiece site.now by time self.old.chain piece.now t.entries.items t.why self.new.chain) }
     {
         self.chain.feed(piece)?;
         take_packets(alloc, site, by, time, &mut self.chain)
     }
+}
+
+// The entries from a place on.
+fn behind(history: &[Entry], place: usize) -> &[Entry]
+    ensures { result.now ≡ drop place history.now }
+{
+    &history[place.min(history.len())..]
 }

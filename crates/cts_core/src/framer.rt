@@ -5,8 +5,9 @@ ghost use Rattle.cts_chain.specs.Builds.{AreFresh, FaultIs, chains_in, use_specs
 ghost use Rattle.cts_chain.specs.Chains.{Answers, FedFirst, given_by, loss_in, packet_at, Renewed, Rises};
 ghost use Rattle.cts_chain.specs.Shapes.{ChainData, IsChain, IsGiving, IsIdle, IsSameChain, Leaves, writers};
 ghost use Rattle.cts_chain.specs.Stocking.{first_short};
-ghost use Rattle.cts_chain.specs.Writing.{Writes};
+ghost use Rattle.cts_chain.specs.Writing.{chain_spelling};
 ghost use Rattle.cts_proto.specs.Meaning.{Meaning};
+ghost use Rattle.cts_spell.specs.Spelled.{Spells};
 ghost use Rattle.cts_spell.specs.Spellings.{heading_of};
 
 use cts_base::Memory;
@@ -56,7 +57,7 @@ pub trait Framer: Chained + Drop {
     /// Appends a packet in the frames of the protocols that write. After a refusal nothing was appended.
     fn encode(&self, label: &Label, packet: &[u8], out: &mut Vec<u8>) -> Result<(), EncodeFault>
         requires { IsChain (Self.shape self.now) }
-        ensures { Writes (writers (Self.shape self.now)) (heading_of label.now) packet.now out.old.items out.new.items result };
+        ensures { Spells (chain_spelling (writers (Self.shape self.now)) (heading_of label.now) packet.now) out.old.items out.new.items result };
 }
 
 impl Framer for Chain {

@@ -42,7 +42,7 @@ impl<C: Framer> Running<C> {
     ghost use Rattle.cts_core.specs.Built.{is_built_event, is_built_site};
     ghost use Rattle.cts_core.specs.States.{State, is_piece, may_close};
     ghost use Rattle.cts_core.specs.Takings.{CanPost, IsClosed, Posts, Settles, Takes, blamed};
-    ghost use Rattle.cts_core.specs.Worlds.{IsSoundHeld, IsUnmoved, Represents, Steps, connection_at, first_held};
+    ghost use Rattle.cts_core.specs.Worlds.{IsSoundHeld, IsUnmoved, Represents, Steps, connection_at, first_held, waiting};
     ghost use Rattle.cts_chain.specs.Builds.{AreFresh, chains_in};
     ghost use Rattle.cts_frame.specs.Packets.{Fault};
     ghost use Rattle.cts_def.specs.Sites.{SiteData};
@@ -121,8 +121,9 @@ impl<C: Framer> Running<C> {
         }
         make_room(&mut self.hall, 1, 0)?;
         self.hall.opened(by, self.time);
+        let place = self.hall.entries().len();
         let connection = &mut self.connections[by as usize];
-        connection.open();
+        connection.open(place);
         Ok(Effect::Posted)
     }
 
@@ -191,9 +192,19 @@ impl<C: Framer> Running<C> {
         requires stops { StopsAfter self.old.history why }
         ensures { IsClosed by self.old why self.new }
     {
+        let unsent = self.unsent(by);
         let connection = &mut self.connections[by as usize];
         let loss = connection.close();
-        self.hall.close(by, self.time, why, loss, 0, 0);
+        self.hall.close(by, self.time, why, loss, 0, unsent);
+    }
+
+    // How many commands the connection of an interface has not put whole.
+    fn unsent(&self, by: u32) -> u64
+        requires there { by < length self.now.connections }
+        ensures { result ≡ waiting by self.now.history (connection_at self.now.connections by).cursor }
+    {
+        let connection = &self.connections[by as usize];
+        connection.waiting(by, self.hall.entries())
     }
 
     fn stop(&mut self) -> Result<Effect, WorldFault>

@@ -1,6 +1,6 @@
 use Rattle.std.proofs.Common.{◌≡◌, ◌≤◌, List, Some, sym, ap, ◌∙◌, subst}
-use Rattle.std.specs.Prelude.{◌&&◌, None, false, option_map, length}
-use Rattle.cts_entry.specs.Histories.{latest, connects_maker, has_command}
+use Rattle.std.specs.Prelude.{◌&&◌, None, option_map, length}
+use Rattle.cts_entry.specs.Histories.{latest, connects_maker}
 use Rattle.cts_core.specs.Trials.{value_kind, value_text}
 use Rattle.cts_table.specs.Lookups.{looked_up}
 use Rattle.cts_entry.specs.declared.entry.Entry.{Entry}
@@ -12,7 +12,7 @@ use Rattle.cts_watch.specs.Sets.{is_set_known}
 use Rattle.cts_core.specs.States.{Answer}
 use Rattle.cts_core.specs.Trials.{found_for, tells}
 use Rattle.cts_core.specs.Worlds.{Held}
-use Rattle.cts_core.proofs.Holding.{chosen_quiet, chosen_free}
+use Rattle.cts_core.proofs.Holding.{chosen_quiet}
 use Rattle.cts_core.proofs.WorldSteps.{trial_done, trial_told}
 use Rattle.cts_core.proofs.running.Running.attempt.Goals as goal
 
@@ -39,5 +39,4 @@ returns-in_ok-text-in-Some-Set g c =
     let fits = is_within w.basis w.history 1 0 in
     let new = c.in_ok-text-in-Some-Set.ensures.rest ∙ ap (λ (l : List Entry). record w { history = l }) chosen.2 in
     λ site s h. trial_done site w _ s c.args.words.now c.count-front.result c.in_ok-text-in-Some-Set.text es desks front (ap (found_for w.basis w.history w.time) asks ∙ chosen.1)
-    (λ k. subst (λ (l : List Entry). latest (connects_maker k) l ≡ None) same (chosen_quiet known fits w.time (in_upper_case name) k))
-    (subst (λ (l : List Entry). has_command l ≡ false) same (chosen_free known fits w.time (in_upper_case name))) new h
+    (λ k. subst (λ (l : List Entry). latest (connects_maker k) l ≡ None) same (chosen_quiet known fits w.time (in_upper_case name) k)) new h

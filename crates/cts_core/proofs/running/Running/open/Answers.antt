@@ -1,4 +1,4 @@
-use Rattle.std.proofs.Common.{rules, ◌≡◌, ◌&&◌, not, length, set, true, false, refl, sym, ap, ◌∙◌, subst, arith, Err}
+use Rattle.std.proofs.Common.{rules, ◌≡◌, ℕ, ◌&&◌, not, length, set, true, false, refl, sym, ap, ◌∙◌, subst, arith, Err}
 use Rattle.std.specs.Prelude.{nat_lt}
 use Rattle.std.proofs.lemmas.Result.{err_from_is_err_and}
 use Rattle.cts_entry.specs.declared.entry.Entry.{Entry}
@@ -49,7 +49,7 @@ invariant_of-self-2 g c =
     let is : IsShut w c.args.by = is_shut w c.args.by c.self.invariant test in
     let entry : Entry = record { by = c.args.by; time = w.time; what = Opened } in
     let hall : c.opened.new.self ≡ added _ entry = c.opened.ensures ∙ ap (λ (k : Shown). added k entry) c.in_ok-make_room.ensures.1 in
-    subst IsSoundHeld (λ i. held_with w.time (sym hall i) (set w.connections c.args.by c.open.new.self)) (sound_opened w c.args.by c.open.new.self c.self.invariant is.there c.open.ensures.connected_is)
+    subst IsSoundHeld (λ i. held_with w.time (sym hall i) (set w.connections c.args.by c.open.new.self)) (sound_opened w c.args.by c.open.new.self c.self.invariant is.there c.open.ensures.renewed.connected_is)
 
 pub returns : goal.returns
 returns g c =
@@ -60,8 +60,9 @@ returns g c =
     let entry : Entry = record { by = c.args.by; time = w.time; what = Opened } in
     let hall : c.opened.new.self ≡ added _ entry = c.opened.ensures ∙ ap (λ (k : Shown). added k entry) c.in_ok-make_room.ensures.1 in
     let held = held_at w.connections c.args.by c.index_mut-connection.result.now is.there c.index_mut-connection.ensures.value in
+    let place = ap length c.entries-place.ensures in
     let done : IsOpened c.args.by w (held_with w.time c.opened.new.self (set w.connections c.args.by c.open.new.self)) =
-    (c.open.new.self, subst (λ (x : HeldConnection). IsRenewed true x c.open.new.self) (sym held) c.open.ensures, λ i. held_with w.time (hall i) (set w.connections c.args.by c.open.new.self)) in
+    (c.open.new.self, subst (λ (x : HeldConnection). IsRenewed true x c.open.new.self) (sym held) c.open.ensures.renewed, c.open.ensures.cursor ∙ ap (λ (n : ℕ). record { place = n; refused = 0 }) place, λ i. held_with w.time (hall i) (set w.connections c.args.by c.open.new.self)) in
     λ site s h0.
     let h = subst (λ (x : Held). Represents site x s) (sym c.self.view_is) h0 in
     let built = built_of site w s c.self.invariant h in
