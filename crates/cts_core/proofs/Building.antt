@@ -16,7 +16,7 @@ pub and_tells : (a b : Bool) → (a && b) ≡ true → (a ≡ true) × (b ≡ tr
 and_tells true b h = (refl, h)
 and_tells false b h = cc
 
-and_false : (a b : Bool) → b ≡ false → (a && b) ≡ false
+pub and_false : (a b : Bool) → b ≡ false → (a && b) ≡ false
 and_false true b h = h
 and_false false b h = refl
 

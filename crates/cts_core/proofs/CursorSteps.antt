@@ -1,5 +1,5 @@
 -- What a connection has passed of the history, when entries are appended.
-use Rattle.std.proofs.Common.{◌≡◌, ℕ, ◌+◌, ◌<◌, Bool, true, false, ◌&&◌, ◌||◌, List, [], ◌∷◌, ◌++◌, length, drop, filter, Option, Some, None, refl, sym, ◌∙◌, ap, subst, arith, append-nil, eq-eqb, length-append}
+use Rattle.std.proofs.Common.{◌≡◌, ℕ, ◌+◌, ◌<◌, Bool, true, false, ◌&&◌, ◌||◌, List, [], ◌∷◌, ◌++◌, length, drop, filter, Option, Some, None, refl, sym, ◌∙◌, ap, subst, arith, append-nil, eq-eqb}
 use Rattle.std.specs.Prelude.{◌==◌, if◌then◌else◌}
 use Rattle.std.specs.List.{list_any}
 use Rattle.std.proofs.lemmas.List.{drop-append-le}
@@ -14,7 +14,7 @@ use Rattle.cts_entry.specs.Histories.{latest, or_earlier, connects, connects_mak
 use Rattle.cts_entry.proofs.Queuing.{since_opened}
 use Rattle.cts_frame.specs.Framing.{Output}
 use Rattle.cts_frame.specs.Packets.{capped}
-use Rattle.cts_told.specs.Routing.{queue}
+use Rattle.cts_told.specs.Routing.{queue, walk}
 use Rattle.cts_core.specs.Cursors.{IsPassed}
 use Rattle.cts_core.specs.Environments.{site_environment}
 use Rattle.cts_core.specs.Runs.{Did, after, passed_for}
@@ -74,6 +74,10 @@ passed_opened site t by history opened k mine says grown first is =
 pub queue_is : (site : SiteData) (by : ℕ) (entries : List Entry) → by < length site.interfaces → queue (site_environment site).routing by entries ≡ commands_of by entries
 queue_is site by entries m =
     ap (λ (b : Bool). filter (λ (e : Entry). if b then commands_to (λ (interface : ℕ). interface == by) e else packets_from ((site_environment site).routing.routes by) e) entries) (below by (length site.interfaces) m)
+
+-- and what it goes through
+pub walk_is : (site : SiteData) (by : ℕ) (entries : List Entry) → by < length site.interfaces → walk (site_environment site).routing by entries ≡ commands_of by entries
+walk_is site by entries m = ap (λ (b : Bool). if b then queue (site_environment site).routing by entries else entries) (below by (length site.interfaces) m) ∙ queue_is site by entries m
 
 -- what a Closed says is unsent
 pub waits : (site : SiteData) (s : State) (by : ℕ) (k : HeldCursor) → by < length site.interfaces → IsPassed (site_environment site) s by k.place k.refused → unsent (site_environment site) s by ≡ waiting by s.history k

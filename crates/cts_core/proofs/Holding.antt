@@ -15,7 +15,7 @@ use Rattle.cts_def.specs.declared.time.Time.{Time}
 use Rattle.cts_entry.specs.declared.entry.Entry.{Entry}
 use Rattle.cts_entry.specs.declared.what.What.TheVariants.{Opened, Closed, LimitsSetIs, Stop}
 use Rattle.cts_entry.specs.declared.why.Why.{Why}
-use Rattle.cts_entry.specs.Histories.{or_earlier, latest, connects, connects_maker, is_connected, is_stopped, has_command, entries_in, bytes_in}
+use Rattle.cts_entry.specs.Histories.{or_earlier, latest, connects, connects_maker, is_connected, is_stopped, entries_in, bytes_in}
 use Rattle.cts_entry.specs.Legal.{StopsAfter, AllAllowed, most_bytes as bytes_limit}
 use Rattle.cts_entry.specs.Workers.{is_desk, is_interface, is_slot, is_worker, is_maker}
 use Rattle.cts_chain.specs.Shapes.{ChainData}
@@ -32,10 +32,7 @@ use Rattle.cts_core.specs.Built.{is_built_site}
 use Rattle.cts_core.specs.Environments.{site_environment, ident_by, ident_of}
 use Rattle.cts_core.specs.Kept.{CanAddAll, GivesRoom, is_within}
 use Rattle.cts_core.specs.States.{Environment, trial_desk}
-use Rattle.cts_core.specs.Trials.{chooses, found_for}
-use Rattle.cts_base.specs.Names.{in_upper_case, is_name}
-use Rattle.cts_scriptread.specs.Trials.{Asked, Value, Set, Command}
-use Rattle.cts_watch.specs.Sets.{is_set_known}
+use Rattle.cts_core.specs.Trials.{chooses}
 use Rattle.cts_chain.specs.Chains.{last_fault}
 use Rattle.cts_frame.specs.Packets.{capped}
 use Rattle.cts_core.specs.Takings.{AllIdle, CanPost, Posts, Takes, entries_of, lost}

@@ -1,12 +1,11 @@
 -- What the history says when the entries of an event are appended.
-use Rattle.std.proofs.Common.{◌≡◌, ℕ, suc, ◌+◌, Bool, true, false, ◌||◌, List, [], ◌∷◌, ◌++◌, length, None, refl, sym, ◌∙◌, ap, arith, unwrap_or}
-use Rattle.std.specs.Prelude.{◌==◌, ◌≢◌, Option, is_some, if◌then◌else◌}
-use Rattle.std.proofs.lemmas.List.Folds.{list_any-append}
+use Rattle.std.proofs.Common.{◌≡◌, ℕ, suc, ◌+◌, Bool, true, false, List, [], ◌∷◌, ◌++◌, length, None, refl, sym, ◌∙◌, ap, arith, unwrap_or}
+use Rattle.std.specs.Prelude.{◌==◌, ◌≢◌, Option, if◌then◌else◌}
 use Rattle.std.proofs.lemmas.List.Sums.{sum_by-cons}
 use Rattle.std.proofs.lemmas.Bool.{eq-eqb, ne_eqb}
 use Rattle.cts_def.specs.declared.time.Time.{Time}
 use Rattle.cts_entry.specs.declared.entry.Entry.{Entry}
-use Rattle.cts_entry.specs.Histories.{or_earlier, latest, connects, connects_maker, is_connected, commanded, has_command, entries_for, entries_in, bytes_in}
+use Rattle.cts_entry.specs.Histories.{or_earlier, latest, connects, connects_maker, is_connected, entries_for, entries_in, bytes_in}
 use Rattle.cts_entry.proofs.Appending.{connected-append, entries-append, bytes-append}
 use Rattle.cts_frame.specs.Framing.{Output}
 use Rattle.cts_told.specs.Routing.{packet_entries, time_in}

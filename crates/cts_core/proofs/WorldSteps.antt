@@ -1,5 +1,5 @@
 -- What the world stands for after each event.
-use Rattle.std.proofs.Common.{◌≡◌, ℕ, zero, suc, ◌+◌, ◌≤◌, ◌<◌, Bool, true, false, ◌&&◌, not, List, [], ◌∷◌, ◌++◌, length, map, filter, Option, Some, None, Ok, Err, refl, sym, ◌∙◌, ap, subst, arith, unwrap_or, append_assoc, ◌⊎◌, inl, inr}
+use Rattle.std.proofs.Common.{◌≡◌, ℕ, zero, suc, ◌+◌, ◌≤◌, ◌<◌, Bool, true, false, ◌&&◌, not, List, [], ◌∷◌, ◌++◌, length, map, filter, take, Option, Some, None, Ok, Err, refl, sym, ◌∙◌, ap, subst, arith, unwrap_or, append_assoc, ◌⊎◌, inl, inr}
 use Rattle.std.specs.Prelude.{◌==◌, ◌≢◌, nat_le, nat_lt, set, slice_index_or, if◌then◌else◌}
 use Rattle.std.proofs.lemmas.List.{append-nil, length-set, get_or-set_same, get_or-set_other, set-set, length-map}
 use Rattle.std.proofs.lemmas.Bool.{cases_eq, eq-eqb, ne_eqb, ltb-true}
@@ -9,7 +9,7 @@ use Rattle.cts_chain.specs.Laws.{AreOf}
 use Rattle.cts_chain.specs.Shapes.{ChainData, writers}
 use Rattle.cts_chain.proofs.Settled.{settled_gives_all, renewed_stands}
 use Rattle.cts_def.specs.Makers.{first_slot, server}
-use Rattle.cts_def.specs.Protocols.{UseData}
+use Rattle.cts_def.specs.Protocols.{SpecData, UseData}
 use Rattle.cts_def.specs.Sites.{InterfaceData, SiteData}
 use Rattle.cts_def.specs.declared.time.Time.{Time}
 use Rattle.cts_entry.specs.declared.entry.Entry.{Entry}
@@ -17,21 +17,21 @@ use Rattle.cts_entry.specs.declared.what.What.TheVariants.{Opened, Closed, Stop 
 use Rattle.cts_entry.specs.declared.why.Why.{Why}
 use Rattle.cts_entry.specs.declared.why.Why.TheVariants.{BadFrame}
 use Rattle.cts_entry.specs.declared.event.Event.{Event}
-use Rattle.cts_entry.specs.declared.event.Event.TheVariants.{SetTime, Opens, Piece, Finish, Stop, Try}
-use Rattle.cts_entry.specs.declared.event.Effect.TheVariants.{Posted, Tried}
+use Rattle.cts_entry.specs.declared.event.Event.TheVariants.{SetTime, Opens, Piece, Finish, Write, Stop, Try}
+use Rattle.cts_entry.specs.declared.event.Effect.TheVariants.{Posted, Tried, Written}
 use Rattle.cts_entry.specs.Histories.{or_earlier, latest, connects, connects_maker, is_connected, is_stopped, entries_in, bytes_in}
+use Rattle.cts_entry.specs.Queues.{refused as refusals, spelled}
 use Rattle.cts_entry.proofs.Appending.{latest-append, connected-append}
 use Rattle.cts_frame.specs.Chains.{framings_at, interface_chains, uses_at}
 use Rattle.cts_frame.specs.Framing.{Framing, Output, plain}
 use Rattle.cts_frame.specs.Cuts.{Pieces}
 use Rattle.cts_frame.specs.Packets.{IsPackets, loss_of, Fault, fault_of}
 use Rattle.cts_frame.proofs.Chainings.{interface_framings}
-use Rattle.cts_core.specs.States.{Answer, State, is_piece, is_enabled, is_line, has_room, takes_room, unsent, may_close, opening}
-use Rattle.cts_core.specs.Runs.{Did, Does, Appends, Receives, after, pieces_for, closed_entry, closing}
+use Rattle.cts_core.specs.States.{Answer, State, is_piece, is_enabled, is_line, has_room, takes_room, unsent, may_close, opening, put_next}
+use Rattle.cts_core.specs.Runs.{Did, Does, Appends, Receives, after, pieces_for, passed_for, closed_entry, closing}
 use Rattle.cts_core.proofs.Chaining.{all_renewed, begins, begins_anew, plain_more, same_framings}
 use Rattle.cts_core.proofs.CursorSteps.{PassesOn, passes, passed_opened, waits, waiting_kept}
-use Rattle.cts_core.proofs.Keeping.{pieces_turned, pieces_grow, pieces_stay, cursor_turned}
-use Rattle.cts_told.specs.Routing.{packet_entries}
+use Rattle.cts_core.proofs.Keeping.{pieces_turned, pieces_grow, pieces_stay, cursor_grows, cursor_turned}
 use Rattle.cts_told.proofs.Walks.{posted_packets}
 use Rattle.cts_core.specs.Environments.{basis_of, site_environment, writers_at}
 use Rattle.cts_core.specs.Trials.{tells, tried}
@@ -40,12 +40,14 @@ use Rattle.cts_core.specs.Kept.{GivesRoom, is_within}
 use Rattle.cts_table.specs.States.{Shown}
 use Rattle.cts_table.specs.declared.basis.Basis.{Basis}
 use Rattle.cts_core.specs.Takings.{IsClosed, IsOpened, IsRenewed, Posts, Settles, Takes, TakesPiece, blamed, entries_of, lost}
-use Rattle.cts_core.specs.Worlds.{Held, HeldConnection, HeldCursor, waiting, IsSoundHeld, IsUnmoved, Represents, Steps, IsConnection, changed, connection_at, first_held, held_with, no_chain, shut}
+use Rattle.cts_core.specs.Worlds.{Held, HeldConnection, HeldCursor, commands_of, waiting, IsSoundHeld, IsUnmoved, Represents, Steps, IsConnection, changed, connection_at, first_held, held_with, no_chain, shut}
 use Rattle.cts_core.specs.declared.fault.WorldFault.{WorldFault}
 use Rattle.cts_core.specs.declared.fault.WorldFault.TheVariants.{NotEnabled as RefusedEvent, Full, Memory}
 use Rattle.cts_core.specs.Built.{is_built_site}
 use Rattle.cts_core.specs.Cursors.{IsPassed}
 use Rattle.cts_core.proofs.Building.{and_tells, below, line_is, enabled_line}
+use Rattle.cts_core.specs.Writings.{IsNext, PutsNext, Wrote, entries_ahead, spell_by}
+use Rattle.cts_core.proofs.Puttings.{can_write_is, passed_next, put_is}
 use Rattle.cts_core.proofs.Postings.{connected_kept, tells_maker, tells_no_other, entries_grow, bytes_grow, packets_connect_none}
 
 and_same : (a b c : Bool) → (a ≡ true → b ≡ c) → (a && b) ≡ (a && c)
@@ -562,6 +564,69 @@ pub piece_refused : (site : SiteData) (w mid new : Held) (s : State) (by : ℕ) 
     → Takes by w piece entries why mid → Posts by mid entries why (Err fault) new → Represents site w s → Steps site s (Piece by piece) w (Err fault) new
 piece_refused site w mid new s by piece entries why fault built t k p h =
     refused site w new s by piece entries why k.0 fault t h (is_fed site w mid s by piece entries why built t h k) (subst (λ (x : Held). Posts by x entries why (Err fault) new) k.4 p)
+
+-- ---- what is written to a device
+
+written_of : (by count : ℕ) → passed_for by (Write by count) ≡ count
+written_of by count = ap (λ (b : Bool). if b then count else 0) (eq-eqb by by refl)
+
+written_of_other : (k by count : ℕ) → k ≢ by → passed_for k (Write by count) ≡ 0
+written_of_other k by count other = ap (λ (b : Bool). if b then count else 0) (ne_eqb by k (λ same. other (sym same)))
+
+-- the connection has put the next commands
+connection_wrote : (site : SiteData) (w : Held) (s : State) (by count next : ℕ) (bytes : List ℕ) (c : HeldConnection) (did : Did) → by < length site.interfaces → is_connected by s.history ≡ true → IsConnection site s by (connection_at w.connections by)
+    → next ≤ length (entries_ahead (connection_at w.connections by) s.history) → length (commands_of by (take next (entries_ahead (connection_at w.connections by) s.history))) ≡ count → Wrote site by (connection_at w.connections by) s.history next bytes c
+    → did.entries ≡ [] → IsConnection site (after s (Write by count) did) by c
+connection_wrote site w s by count next bytes c did m on mine within many wrote none =
+    let moved : State = after s (Write by count) did in
+    let old = connection_at w.connections by in
+    let same : moved.history ≡ s.history = ap (λ (l : List Entry). s.history ++ l) none ∙ append-nil s.history in
+    let quiet : latest (connects_maker by) did.entries ≡ None = ap (latest (connects_maker by)) none in
+    let pieces : moved.pieces by ≡ s.pieces by = pieces_stay by (Write by count) did.entries s.pieces quiet refl in
+    let cursor : moved.cursor by ≡ s.cursor by + count = cursor_grows by (Write by count) did.entries s.cursor quiet ∙ ap (λ (n : ℕ). s.cursor by + n) (written_of by count) in
+    let some = commands_of by (take next (entries_ahead old s.history)) in
+    let further = passed_next site s moved by count next old.cursor m (mine.passed on) within many same cursor in
+    let now : HeldConnection = record old { cursor = record { place = old.cursor.place + next; refused = old.cursor.refused + refusals (spell_by site (writers old.chain)) some } } in
+    subst (λ (x : HeldConnection). IsConnection site moved by x) (sym wrote.new_is) (record {
+      connected = mine.connected ∙ ap (is_connected by) (sym same);
+      framings = mine.framings;
+      writing = mine.writing;
+      packets = mine.packets;
+      stands = subst (λ (l : List (List ℕ)). StagesStand old.chain.stages (map plain l) mine.packets) (sym pieces) mine.stands;
+      settled = mine.settled;
+      unfailed = mine.unfailed;
+      passed = λ stands. subst (λ (specs : List SpecData). IsPassed (site_environment site) moved by (old.cursor.place + next) (old.cursor.refused + refusals (spell_by site specs) some)) (sym mine.writing) further;
+    })
+
+pub wrote : (site : SiteData) (w new : Held) (s : State) (by count next : ℕ) (bytes : List ℕ) → IsNext w by count next → PutsNext by w next bytes new → Represents site w s → Steps site s (Write by count) w (Ok (Written by bytes)) new
+wrote site w new s by count next bytes n k h =
+    let t : is_enabled (site_environment site) s (Write by count) ≡ true = sym (can_write_is site w s by count h) ∙ n.enabled in
+    let line = and_tells (nat_lt by (length site.interfaces)) _ t in
+    let m : by < length site.interfaces = ltb-true by (length site.interfaces) line.0 in
+    let on : is_connected by s.history ≡ true = (and_tells (is_connected by s.history) _ line.1).0 in
+    let old = connection_at w.connections by in
+    let mine = h.connections by m in
+    let within = subst (λ (l : List Entry). next ≤ length (entries_ahead old l)) h.history n.within in
+    let many = subst (λ (l : List Entry). length (commands_of by (take next (entries_ahead old l))) ≡ count) h.history n.count_is in
+    let put : Wrote site by old s.history next bytes k.0 = subst (λ (l : List Entry). Wrote site by old l next bytes k.0) h.history (subst (λ (b : Basis). Wrote b.site by old w.history next bytes k.0) h.basis k.1) in
+    let did : Did = record { entries = []; effect = Written by (put_next (site_environment site) s by count) } in
+    let moved : State = after s (Write by count) did in
+    let all : s.history ≡ s.history ++ [] = sym (append-nil s.history) in
+    let gives : bytes ≡ put_next (site_environment site) s by count =
+    put.bytes_are ∙ (ap (λ (specs : List SpecData). spelled (spell_by site specs) (commands_of by (take next (entries_ahead old s.history)))) mine.writing ∙ sym (put_is site s by count next old.cursor m (mine.passed on) many)) in
+    let whole : Represents site (record w { connections = set w.connections by k.0 }) moved = record {
+      history = h.history ∙ all;
+      time = h.time;
+      basis = h.basis;
+      count = set_count w.connections (length site.interfaces) by k.0 h.count;
+      connections = connections_set site s moved w.connections (length site.interfaces) by k.0 h.count m h.connections (connection_wrote site w s by count next bytes k.0 did m on mine within many put refl) (λ j other. ap (is_connected j) (sym all))
+          (λ j other. pieces_stay j (Write by count) [] s.pieces refl refl) (λ j other. passes site s (Write by count) did j refl (written_of_other j by count other));
+    } in (
+      did,
+      record { enabled = t; appends = refl; room = λ takes. absurd (cc takes); effect = refl },
+      ap (Written by) gives,
+      subst (λ (x : Held). Represents site x moved) (sym k.2) whole,
+    )
 
 -- ---- the site that is held
 

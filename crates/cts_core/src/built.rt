@@ -9,8 +9,8 @@ use cts_def::Site;
 use cts_entry::Event;
 use cts_scriptread::{Trial, trial_of};
 
-/// Whether the core does such events so far: those of connections and the clock, a Stop, and trial lines that look a value up or
-/// choose a limits set.
+/// Whether the core does such events so far: those of connections and the clock, what is written to devices, a Stop, and trial
+/// lines that look a value up or choose a limits set.
 pub fn is_built_event(event: &Event) -> bool
     ensures { result ≡ is_built_event event.now }
 {
@@ -21,7 +21,7 @@ pub fn is_built_event(event: &Event) -> bool
         Event::Finish(_, _) => true,
         Event::Stop => true,
         Event::Try(words) => is_built_trial(words.as_slice()),
-        Event::Write(_, _) => false,
+        Event::Write(_, _) => true,
         Event::Call(_, _) => false,
         Event::DrainLog(_) => false,
         Event::DrainSlot(_, _) => false,

@@ -1,15 +1,18 @@
 // The connection of one interface.
-ghost use Rattle.std.specs.Prelude.{◌≡◌, ◌<◌, true, false, drop, length, map, IfOk};
+ghost use Rattle.std.specs.Prelude.{◌≡◌, ◌<◌, ◌≤◌, true, false, [], drop, length, map, take, IfOk, MatchOption, OnErr};
 ghost use Rattle.cts_chain.specs.Chains.{loss_in};
 ghost use Rattle.cts_chain.specs.Shapes.{IsIdle};
 ghost use Rattle.cts_core.specs.Takings.{AllIdle, IsRenewed, TakesPiece};
-ghost use Rattle.cts_core.specs.Worlds.{shut, waiting};
+ghost use Rattle.cts_core.specs.Worlds.{commands_of, shut, waiting};
+ghost use Rattle.cts_core.specs.Writings.{Wrote, entries_ahead};
+ghost use Rattle.cts_table.specs.Keeping.{AllOfSite};
 
 use crate::framer::Framer;
 use crate::posting::{Taken, take_packets};
+use crate::writing::put_commands;
 use cts_base::Memory;
 use cts_def::{Loss, Site, Time};
-use cts_entry::{Entry, commands_for};
+use cts_entry::{Entry, commands_for, place_behind};
 use std::alloc::Global;
 use std::marker::Model;
 
@@ -97,6 +100,39 @@ impl<C: Framer> Connection<C> {
     {
         let left = commands_for(behind(history, self.place), by);
         (self.refused as u64).saturating_add(left as u64)
+    }
+
+    /// How many of the next entries of this history hold the next so many commands for its interface; none where fewer stand ahead.
+    pub fn next(&self, by: u32, history: &[Entry], count: u64) -> Option<usize>
+        ensures { MatchOption result
+            (length (commands_of by (entries_ahead self.now history.now)) < count)
+            (λ next. (next ≤ length (entries_ahead self.now history.now)) × (length (commands_of by (take next (entries_ahead self.now history.now))) ≡ count)) }
+    {
+        place_behind(behind(history, self.place), by, count)
+    }
+
+    /// Puts the commands for its interface among the next so many entries of this history into the frames of its chain, one behind
+    /// the other, and passes these entries. Those that its chain refuses are passed over and counted. Where no memory is found,
+    /// nothing is changed.
+    pub fn write(
+        &mut self,
+        alloc: Global,
+        site: &Site,
+        by: u32,
+        history: &[Entry],
+        next: usize,
+    ) -> Result<Vec<u8>, Memory>
+        requires within { next ≤ length (entries_ahead self.old history.now) }
+        requires of_site { AllOfSite site.now [] history.now }
+        ensures ok { IfOk result (λ bytes. Wrote site.now by self.old history.now next bytes.items self.new) }
+        ensures err { OnErr result (self.new ≡ self.old) }
+    {
+        let mut bytes = Vec::new(alloc);
+        let entries = &behind(history, self.place)[..next];
+        let refused = put_commands(alloc, site, by, &self.chain, entries, &mut bytes)?;
+        self.place += next;
+        self.refused += refused;
+        Ok(bytes)
     }
 
     /// Puts a piece through its chain, and takes the packets that the chain gives. Where no memory is found for all of this,

@@ -12,6 +12,7 @@ mod posting;
 mod running;
 mod trying;
 mod world;
+mod writing;
 
 pub use built::{is_built_event, is_built_site};
 pub use enabling::{is_piece, may_close, takes_room};

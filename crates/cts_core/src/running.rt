@@ -7,7 +7,7 @@ use crate::enabling::{is_piece, may_close};
 use crate::fault::WorldFault;
 use crate::framer::Framer;
 use crate::posting::{Taken, append_all, make_room, weight};
-use cts_base::Memory;
+use cts_base::{Bytes, Memory};
 use cts_def::{SERVER, Site, Time};
 use cts_entry::{Effect, Event, Why};
 use cts_table::Hall;
@@ -38,11 +38,12 @@ impl<C: Framer> Model for Running<C> {
 }
 
 impl<C: Framer> Running<C> {
-    ghost use Rattle.std.specs.Prelude.{◌≡◌, ◌&&◌, ◌<◌, ◌≤◌, nat_lt, not, length, map, true, IfOk, OnErr, Option};
+    ghost use Rattle.std.specs.Prelude.{◌≡◌, ◌&&◌, ◌<◌, ◌≤◌, nat_lt, not, length, map, true, false, IfOk, MatchOption, OnErr, Option};
     ghost use Rattle.cts_core.specs.Built.{is_built_event, is_built_site};
     ghost use Rattle.cts_core.specs.States.{State, is_piece, may_close};
     ghost use Rattle.cts_core.specs.Takings.{CanPost, IsClosed, Posts, Settles, Takes, blamed};
     ghost use Rattle.cts_core.specs.Worlds.{IsSoundHeld, IsUnmoved, Represents, Steps, connection_at, first_held, waiting};
+    ghost use Rattle.cts_core.specs.Writings.{IsNext, PutsNext, can_write, entries_ahead};
     ghost use Rattle.cts_chain.specs.Builds.{AreFresh, chains_in};
     ghost use Rattle.cts_frame.specs.Packets.{Fault};
     ghost use Rattle.cts_def.specs.Sites.{SiteData};
@@ -95,7 +96,7 @@ impl<C: Framer> Running<C> {
             Event::Piece(by, piece) => self.receive(*by, piece.as_slice()),
             Event::Finish(by, why) => self.finish(*by, *why),
             Event::Stop => self.stop(),
-            Event::Write(_, _) => Err(WorldFault::NotEnabled),
+            Event::Write(by, count) => self.write(*by, *count),
             Event::Call(_, _) => Err(WorldFault::NotEnabled),
             Event::DrainLog(_) => Err(WorldFault::NotEnabled),
             Event::DrainSlot(_, _) => Err(WorldFault::NotEnabled),
@@ -207,6 +208,45 @@ impl<C: Framer> Running<C> {
         connection.waiting(by, self.hall.entries())
     }
 
+    fn write(&mut self, by: u32, count: u64) -> Result<Effect, WorldFault>
+        ensures { (site : SiteData) (s : State) → Represents site self.old s → Steps site s (event.Write by count) self.old result self.new }
+    {
+        let Some(next) = self.next(by, count) else {
+            return Err(WorldFault::NotEnabled);
+        };
+        let bytes = self.put(by, next)?;
+        Ok(Effect::Written {
+            interface: by,
+            bytes: Bytes::of(bytes),
+        })
+    }
+
+    // How many of the next entries hold the next so many commands for an interface; none where it is not connected, or fewer
+    // stand ahead of it.
+    fn next(&self, by: u32, count: u64) -> Option<usize>
+        ensures next { MatchOption result (can_write self.now by count ≡ false) (λ next. IsNext self.now by count next) }
+        ensures sound { IsSoundHeld self.now }
+    {
+        if !self.is_open(by) {
+            return None;
+        }
+        let connection = &self.connections[by as usize];
+        connection.next(by, self.hall.entries(), count)
+    }
+
+    // Puts the commands for an interface among the next so many entries. Where no memory is found for them, nothing is changed.
+    fn put(&mut self, by: u32, next: usize) -> Result<Vec<u8>, Memory>
+        requires there { by < length self.old.connections }
+        requires within { next ≤ length (entries_ahead (connection_at self.old.connections by) self.old.history) }
+        ensures ok { IfOk result (λ bytes. PutsNext by self.old next bytes.items self.new) }
+        ensures err { OnErr result (IsUnmoved self.old self.new) }
+    {
+        self.hall.is_kept();
+        let site = self.hall.site();
+        let connection = &mut self.connections[by as usize];
+        connection.write(self.alloc, site, by, self.hall.entries(), next)
+    }
+
     fn stop(&mut self) -> Result<Effect, WorldFault>
         ensures { (site : SiteData) (s : State) → Represents site self.old s → Steps site s event.Stop self.old result self.new }
     {
@@ -250,6 +290,14 @@ impl<C: Framer> Running<C> {
         ensures few { length self.now.basis.site.interfaces ≤ 16 }
     {
         self.is_interface(by) && (self.is_connected(by) && is_piece(piece))
+    }
+
+    // Whether it is an interface whose connection stands.
+    fn is_open(&self, by: u32) -> bool
+        ensures test { result ≡ (nat_lt by (length self.now.basis.site.interfaces) && (connection_at self.now.connections by).connected) }
+        ensures sound { IsSoundHeld self.now }
+    {
+        self.is_interface(by) && self.is_connected(by)
     }
 
     fn is_interface(&self, by: u32) -> bool

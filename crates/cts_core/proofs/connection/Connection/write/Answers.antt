@@ -1,0 +1,11 @@
+use Rattle.std.proofs.Common.{List, [], drop, take, sym, subst}
+use Rattle.cts_entry.specs.declared.entry.Entry.{Entry}
+use Rattle.cts_table.specs.Keeping.{AllOfSite}
+use Rattle.cts_core.proofs.Puttings.{of_site_drop, of_site_take}
+use Rattle.cts_core.proofs.connection.Connection.write.Goals as goal
+
+pub put_commands-requires-clause-of_site : goal.put_commands-requires-clause-of_site
+put_commands-requires-clause-of_site g c =
+    let site = c.args.site.now in
+    let rest = of_site_drop site c.self.inside.place [] c.args.history.now c.requires.of_site in
+    (rest.0, subst (λ (l : List Entry). AllOfSite site rest.0 (take c.args.next l)) (sym c.behind.ensures) (of_site_take site c.args.next rest.0 (drop c.self.inside.place c.args.history.now) rest.1))
