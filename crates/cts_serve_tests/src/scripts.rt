@@ -80,8 +80,6 @@ fn each_cause_of_a_line_refuses_the_script(rt: HostRuntime) -> Result<(), Fail> 
 // Lines of which nothing is done yet. A script is refused for its grammar before that is looked at, and where a line is not
 // done yet, none is.
 const UNDONE: &str = "\
-WRITE I 0|NotBuilt not built: c;
-OPEN I;write j 3|NotBuilt not built: c;
 CALL 0 '{}'|NotBuilt not built: c;
 DRAIN LOG 0|NotBuilt not built: c;
 STOP|NotBuilt not built: c;
@@ -92,8 +90,22 @@ STOP;OPEN K|ScriptRefused refused: c line 2: UnknownMaker;
 DRAIN LOG 0;WRITE I x;TRY CMD|ScriptRefused refused: c line 2: NotNumber;";
 
 #[test]
-fn lines_of_commands_clients_logs_and_the_end_are_not_built(rt: HostRuntime) -> Result<(), Fail> {
+fn lines_of_trial_commands_clients_logs_and_the_end_are_not_built(
+    rt: HostRuntime,
+) -> Result<(), Fail> {
     replays_end_so(&rt, TWO, UNDONE)
+}
+
+// An interface writes as many commands as wait for it, while it is connected.
+const WRITES: &str = "\
+OPEN I;WRITE I 0;write i 0|Ok 0 0.000000 I OPENED;WRITTEN I -;WRITTEN I -;END 1;
+WRITE I 0|ScriptRefused refused: c line 1: NotEnabled;
+OPEN I;write j 0|ScriptRefused 0 0.000000 I OPENED;refused: c line 2: NotEnabled;
+OPEN I;WRITE I 1|ScriptRefused 0 0.000000 I OPENED;refused: c line 2: NotEnabled;";
+
+#[test]
+fn interfaces_write_what_waits_for_them(rt: HostRuntime) -> Result<(), Fail> {
+    replays_end_so(&rt, TWO, WRITES)
 }
 
 // Why a connection ends. It ends by a Stop only behind one.
