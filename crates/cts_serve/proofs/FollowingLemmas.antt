@@ -1,5 +1,5 @@
 -- What an event's entries put, and what a replay's follower stands for.
-use Rattle.std.proofs.Common.{◌≡◌, ℕ, ◌++◌, List, length, take, drop, ◌∙◌, ap}
+use Rattle.std.proofs.Common.{◌≡◌, ℕ, ◌≤◌, ◌++◌, List, length, take, drop, sym, ◌∙◌, ap, subst, arith, length-append}
 use Rattle.std.proofs.Math.Seq.{drop-append_seam, take-append_seam}
 use Rattle.cts_core.specs.Runs.{Did, after}
 use Rattle.cts_core.specs.States.{State}
@@ -11,6 +11,7 @@ use Rattle.cts_entry.specs.declared.event.Event.{Event}
 use Rattle.cts_script.specs.Effects.{effect_line}
 use Rattle.cts_serve.specs.Replay.Transcript.{event_text, lines_of}
 use Rattle.cts_table.specs.declared.basis.Basis.{Basis}
+use Rattle.cts_watch.specs.Following.{FollowerData, Follows}
 
 -- the lines of the entries behind the history before an event, and of its effect, are the event's
 pub text_is : (site : SiteData) (s : State) (event : Event) (did : Did) (old new : Held) → Represents site old s → Represents site new (after s event did)
@@ -25,3 +26,19 @@ text_is site s event did old new h k n entries basis effect number there of_site
     ∙ ap (λ (t : List Entry). lines_of basis.site s.history t ++ effect_line basis.site effect) back
     ∙ ap (λ (b : Basis). lines_of b.site s.history did.entries ++ effect_line b.site effect) (of_site ∙ k.basis)
     ∙ ap (λ (f : Effect). lines_of site s.history did.entries ++ effect_line site f) gives
+
+module _ (site : SiteData) (s : State) (event : Event) (did : Did) (old new : Held) (h : Represents site old s) (k : Represents site new (after s event did)) (n : ℕ) (entries : List Entry) (number : n ≡ length old.history) (there : entries ≡ new.history) where
+  -- the history before an event is the front of that behind it
+  front_is : take n entries ≡ old.history
+  front_is =
+      let all : entries ≡ s.history ++ did.entries = there ∙ k.history in
+      let count : n ≡ length s.history = number ∙ ap (λ (t : List Entry). length t) h.history in
+      ap (λ (m : ℕ). take m entries) count ∙ ap (λ (t : List Entry). take (length s.history) t) all ∙ take-append_seam s.history did.entries ∙ sym h.history
+
+  pub within_new : n ≤ length entries
+  within_new = omega (arith, number, ap length h.history, ap length (there ∙ k.history), length-append s.history did.entries)
+
+  -- what followed the history before follows the front
+  pub follows_front : (basis : Basis) (follower : FollowerData) → basis ≡ new.basis → Follows old.basis.site old.history follower → Follows basis.site (take n entries) follower
+  follows_front basis follower of_site f =
+      subst (λ (l : List Entry). Follows basis.site l follower) (sym front_is) (subst (λ (b : Basis). Follows b.site old.history follower) (h.basis ∙ sym (of_site ∙ k.basis)) f)

@@ -1,11 +1,25 @@
 use Rattle.std.proofs.Common.{ℕ, List, length, ap, refl, subst, ◌∙◌, Err}
 use Rattle.cts_entry.specs.declared.entry.Entry.{Entry}
 use Rattle.cts_serve.specs.Putting.{FailsWithin, IsPut}
-use Rattle.cts_serve.proofs.FollowingLemmas.{text_is}
+use Rattle.cts_serve.proofs.FollowingLemmas.{follows_front, text_is, within_new}
 use Rattle.cts_core.specs.Endings.{held_in}
 use Rattle.cts_core.specs.Worlds.{Steps}
 use Rattle.cts_core.specs.declared.fault.WorldFault.{WorldFault}
 use Rattle.cts_serve.proofs.replay.steps.do_event.Goals as goal
+
+pub put_event-requires-clause-within : goal.put_event-requires-clause-within
+put_event-requires-clause-within g c =
+    let k = c.requires.stands in
+    let r = c.in-Ok.ensures.step k.0 k.1 c.requires.going k.2 in
+    within_new k.0 k.1 c.args.event.now r.0 (held_in c.args.world.now) (held_in c.step.new.self) k.2 r.3 (length c.entries-before.result.now) c.hall-in-Ok.result.now.entries
+    (ap (λ (t : List Entry). length t) (c.entries-before.ensures ∙ c.hall.ensures.entries)) c.hall-in-Ok.ensures.entries
+
+pub put_event-requires-clause-follows : goal.put_event-requires-clause-follows
+put_event-requires-clause-follows g c =
+    let k = c.requires.stands in
+    let r = c.in-Ok.ensures.step k.0 k.1 c.requires.going k.2 in
+    follows_front k.0 k.1 c.args.event.now r.0 (held_in c.args.world.now) (held_in c.step.new.self) k.2 r.3 (length c.entries-before.result.now) c.hall-in-Ok.result.now.entries
+    (ap (λ (t : List Entry). length t) (c.entries-before.ensures ∙ c.hall.ensures.entries)) c.hall-in-Ok.ensures.entries c.hall-in-Ok.result.now.basis c.args.follower.now c.hall-in-Ok.ensures.basis c.requires.follows
 
 pub returns-in-Err-NotEnabled-clause-does : goal.returns-in-Err-NotEnabled-clause-does
 returns-in-Err-NotEnabled-clause-does g c = λ site s h.
