@@ -6,11 +6,16 @@ mod boxes;
 mod console;
 mod disk;
 
-use crate::boxes::full_shelf;
+use crate::boxes::{BOXES, put};
 use crate::console::Console;
 use crate::disk::DiskFiles;
 use cts_base::Memory;
+use cts_chain::Chain;
+use cts_fixed::Fixed;
+use cts_preid::Preidentified;
+use cts_proto::Shelf;
 use cts_serve::{Status, run};
+use cts_stream::{Burst, Length, Terminated};
 use std::fs::File;
 use std::io::ErrorKind;
 use std::process::ExitCode;
@@ -22,23 +27,27 @@ fn main(rt: HostRuntime) -> ExitCode {
     ExitCode::from(status.code())
 }
 
-// Runs the command that the words ask for. Where no memory is found for its own objects nothing is printed.
+// Runs the command that the words ask for, over a shelf with so many blank boxes of each kind. Where no memory is found for
+// its own objects nothing is printed.
 fn perform<R: Env + Print + AllocGlobal + Files<File = File>>(rt: &R) -> Result<Status, Memory> {
     let owned = words_of(rt)?;
     let words = owned
         .iter()
         .map(|word| word.as_str())
         .collect::<Vec<&str>>(rt.alloc())?;
-    let mut shelf = full_shelf(rt.alloc())?;
+    let alloc = rt.alloc();
+    let mut shelf = Shelf::new(alloc);
+    for _ in 0..BOXES {
+        put(&mut shelf, Box::new(alloc, Burst::blank(alloc))?)?;
+        put(&mut shelf, Box::new(alloc, Fixed::blank(alloc))?)?;
+        put(&mut shelf, Box::new(alloc, Length::blank(alloc))?)?;
+        put(&mut shelf, Box::new(alloc, Terminated::blank(alloc))?)?;
+        put(&mut shelf, Box::new(alloc, Preidentified::blank(alloc))?)?;
+    }
     let mut files = DiskFiles::new(rt);
     let mut out = Console::new(io::writer(rt));
-    Ok(run(
-        rt.alloc(),
-        words.as_slice(),
-        &mut shelf,
-        &mut files,
-        &mut out,
-    ))
+    let words = words.as_slice();
+    Ok(run::<Chain, Shelf, _, _>(alloc, words, &mut shelf, &mut files, &mut out))
 }
 
 // The words behind the program's name. Where one of them is not UTF-8 there are none, which no command takes.

@@ -23,11 +23,9 @@ use crate::load::script::load_script;
 use crate::replay::replay;
 use crate::request::{Request, read_words};
 use crate::start::start;
-use cts_chain::Chain;
 use cts_core::{Framer, Supplier, World};
 use cts_def::Site;
 use cts_outside::{Files, Sink};
-use cts_proto::{Shelf, Stocked};
 use std::alloc::Global;
 
 /// Runs one command: reads the files that its words name, does what it asks, puts what it prints,
@@ -36,11 +34,12 @@ use std::alloc::Global;
 /// The words are those after the program's name: `check DEFS SITE` reads definitions and a site, and
 /// puts how much they have; `replay DEFS SITE SCRIPT` does the events of a script. Other words are
 /// `Usage`. The boxes of the protocols of all chains of a replayed site are taken from the shelf,
-/// before its script is read.
-pub fn run<F: Files, O: Sink>(
+/// before its script is read. The program's chains and shelf are `Chain` of `cts_chain` and `Shelf` of
+/// `cts_proto`; it is written over any, since a function that is lent boxes may not make a world of them.
+pub fn run<C: Framer, B: Supplier<C>, F: Files, O: Sink>(
     alloc: Global,
     words: &[&str],
-    shelf: &mut Shelf,
+    shelf: &mut B,
     files: &mut F,
     out: &mut O,
 ) -> Status
@@ -61,19 +60,19 @@ pub fn run<F: Files, O: Sink>(
     // Where the words fit no command, the line that says which ones do, whatever the files are.
     ensures misused { asked (map (λ w. w.now) words.now) ≡ None → Printed (O.seen out.old) (O.seen out.new) [] usage_line }
     // Only where all chains of the site need more boxes of a kind than the shelf holds.
-    ensures short { result ≡ Status.ShelfEmpty → IfSome (F.seen files.old).told (λ all. IsShort (⟦<Shelf as Stocked>⟧.stock shelf.old) all (asked (map (λ w. w.now) words.now))) }
+    ensures short { result ≡ Status.ShelfEmpty → IfSome (F.seen files.old).told (λ all. IsShort (B.stock shelf.old) all (asked (map (λ w. w.now) words.now))) }
     // And there no other status comes, where no count rose, but want of memory.
     ensures shelf { Steady (F.seen files.old).faults (F.seen files.new).faults → Steady (O.seen out.old).faults (O.seen out.new).faults
-        → IfSome (F.seen files.old).told (λ all. IsShort (⟦<Shelf as Stocked>⟧.stock shelf.old) all (asked (map (λ w. w.now) words.now)) → (result ≡ Status.ShelfEmpty) ⊎ (result ≡ Status.Memory)) }
+        → IfSome (F.seen files.old).told (λ all. IsShort (B.stock shelf.old) all (asked (map (λ w. w.now) words.now)) → (result ≡ Status.ShelfEmpty) ⊎ (result ≡ Status.Memory)) }
     // The outcome that the boxes on the shelf and the content of the files have, and what was put for it.
-    ensures transcript { IfSome (F.seen files.old).told (λ all. Answers (⟦<Shelf as Stocked>⟧.stock shelf.old) all (asked (map (λ w. w.now) words.now)) result (O.seen out.old) (O.seen out.new)) }
+    ensures transcript { IfSome (F.seen files.old).told (λ all. Answers (B.stock shelf.old) all (asked (map (λ w. w.now) words.now)) result (O.seen out.old) (O.seen out.new)) }
     // Where no count rose, the outcome's status comes, or want of memory.
     ensures complete { Steady (F.seen files.old).faults (F.seen files.new).faults → Steady (O.seen out.old).faults (O.seen out.new).faults
-        → IfSome (F.seen files.old).told (λ all. Completes (⟦<Shelf as Stocked>⟧.stock shelf.old) all (asked (map (λ w. w.now) words.now)) result) }
+        → IfSome (F.seen files.old).told (λ all. Completes (B.stock shelf.old) all (asked (map (λ w. w.now) words.now)) result) }
 {
     match read_words(words) {
         None => end_usage(out),
-        Some(request) => do_request::<Chain, Shelf, F, O>(alloc, &request, shelf, files, out),
+        Some(request) => do_request::<C, B, F, O>(alloc, &request, shelf, files, out),
     }
 }
 

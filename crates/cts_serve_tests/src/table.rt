@@ -1,6 +1,7 @@
 // Commands over files and a sink in memory, from rows of text.
 use crate::shelves::stocked;
 use cts_base::Bytes;
+use cts_chain::Chain;
 use cts_def::Site;
 use cts_defread::read_definitions;
 use cts_outside::{MemFiles, MemSink};
@@ -64,7 +65,7 @@ pub fn ended_over(
     sink: &mut MemSink,
 ) -> Result<Vec<u8>, Fail> {
     let words = words.split_whitespace().collect::<Vec<&str>>(alloc)?;
-    let status = run(alloc, &words, shelf, files, sink);
+    let status = run::<Chain, Shelf, MemFiles, MemSink>(alloc, &words, shelf, files, sink);
     let mut text = format!(in alloc; "{status:?} ")?.as_bytes().to_vec(alloc)?;
     text.extend_from_slice(sink.bytes())?;
     Ok(text)
