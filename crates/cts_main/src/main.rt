@@ -2,11 +2,9 @@
 //! and ends with the status of the command that the words ask for. All else stands in the crates below.
 #![tactic(auto)]
 
-mod boxes;
 mod console;
 mod disk;
 
-use crate::boxes::{BOXES, put};
 use crate::console::Console;
 use crate::disk::DiskFiles;
 use cts_base::Memory;
@@ -22,13 +20,16 @@ use std::process::ExitCode;
 use std::rt::{Env, Files};
 use std::{env, io};
 
+/// How many boxes of each kind of protocol there are.
+const BOXES: u32 = 32;
+
 fn main(rt: HostRuntime) -> ExitCode {
     let status = perform(&rt).unwrap_or(Status::Memory);
     ExitCode::from(status.code())
 }
 
-// Runs the command that the words ask for, over a shelf with so many blank boxes of each kind. Where no memory is found for
-// its own objects nothing is printed.
+// Runs the command that the words ask for, over a shelf with so many blank boxes of each kind, which are made here, since a
+// function that makes boxes may not hand them out. Where no memory is found for its own objects nothing is printed.
 fn perform<R: Env + Print + AllocGlobal + Files<File = File>>(rt: &R) -> Result<Status, Memory> {
     let owned = words_of(rt)?;
     let words = owned
@@ -38,11 +39,18 @@ fn perform<R: Env + Print + AllocGlobal + Files<File = File>>(rt: &R) -> Result<
     let alloc = rt.alloc();
     let mut shelf = Shelf::new(alloc);
     for _ in 0..BOXES {
-        put(&mut shelf, Box::new(alloc, Burst::blank(alloc))?)?;
-        put(&mut shelf, Box::new(alloc, Fixed::blank(alloc))?)?;
-        put(&mut shelf, Box::new(alloc, Length::blank(alloc))?)?;
-        put(&mut shelf, Box::new(alloc, Terminated::blank(alloc))?)?;
-        put(&mut shelf, Box::new(alloc, Preidentified::blank(alloc))?)?;
+        if shelf.put(Box::new(alloc, Burst::blank(alloc))?).is_err()
+            || shelf.put(Box::new(alloc, Fixed::blank(alloc))?).is_err()
+            || shelf.put(Box::new(alloc, Length::blank(alloc))?).is_err()
+            || shelf
+                .put(Box::new(alloc, Terminated::blank(alloc))?)
+                .is_err()
+            || shelf
+                .put(Box::new(alloc, Preidentified::blank(alloc))?)
+                .is_err()
+        {
+            return Err(Memory);
+        }
     }
     let mut files = DiskFiles::new(rt);
     let mut out = Console::new(io::writer(rt));
