@@ -128,7 +128,7 @@ what_text site Opened = codes "OPENED"
 what_text site (Packet ident bytes) = bytes_text (codes "PACKET") (ident_names site ident) bytes
 what_text site (Closed why loss unposted unsent) = closed_text why loss unposted unsent
 what_text site (Command interface command bytes) = bytes_text (codes "COMMAND") (command_names site command) bytes
-what_text site (SetLimits packet item set limits persistence enabled) =
+what_text site (SetLimits enabled packet item persistence set limits) =
     spaced (item_text (codes "LIMITS") site packet item ∷ set ∷ decimal persistence ∷ state_text enabled ∷ limits_text limits ∷ [])
 what_text site (Enable packet item enabled) = item_text (switch_text enabled) site packet item
 what_text site (LimitsSetIs set) = spaced (codes "LIMITSSET" ∷ set ∷ [])
