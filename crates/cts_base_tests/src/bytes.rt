@@ -1,17 +1,22 @@
+use crate::rows::{as_text, same};
 use cts_base::Bytes;
+use std::alloc::Global;
 use std::collections::BTreeSet;
 use std::test::Fail;
 
+fn bytes(alloc: Global, text: &str) -> Result<Bytes, Fail> {
+    Ok(Bytes::copy(alloc, text.as_bytes())?)
+}
+
 #[test]
 fn bytes_are_copied_and_compared(rt: HostRuntime) -> Result<(), Fail> {
-    let bytes = Bytes::copy(rt.alloc(), b"beam")?;
-    assert_eq!(rt; bytes.as_slice(), b"beam".as_slice());
-    let again = bytes.clone()?;
-    assert!(rt; again == bytes);
+    let beam = bytes(rt.alloc(), "beam")?;
+    assert!(rt; beam.clone()? == beam);
     let other = Bytes::of(b"beat".to_vec(rt.alloc())?);
-    assert!(rt; other != bytes);
-    let held = bytes.into_vec();
-    assert_eq!(rt; held.as_slice(), b"beam".as_slice());
+    assert!(rt; other != beam);
+    same(&rt, as_text(beam.as_slice())?, "beam", "bytes");
+    let held = beam.into_vec();
+    same(&rt, as_text(&held)?, "beam", "what they held");
     Ok(())
 }
 

@@ -17,6 +17,8 @@ mod print;
 #[cfg(test)]
 mod reader;
 #[cfg(test)]
+mod rows;
+#[cfg(test)]
 mod whole;
 #[cfg(test)]
 mod words;

@@ -1,68 +1,116 @@
-use cts_base::{Name, NameFault};
+use crate::rows::{Answers, as_text, rows_hold, same};
+use cts_base::Name;
 use std::alloc::Global;
 use std::collections::BTreeSet;
 use std::test::Fail;
 
+/// The name of a text, or why it is none.
+fn told(alloc: Global, text: &str) -> Result<String, Fail> {
+    match Name::read(alloc, text.as_bytes()) {
+        Ok(name) => Ok(as_text(name.as_slice())?.to_string(alloc)?),
+        Err(fault) => Ok(format!(in alloc; "{fault:?}")?),
+    }
+}
+
+struct Names;
+
+impl Answers for Names {
+    fn answer(alloc: Global, asked: &str) -> Result<String, Fail> {
+        told(alloc, asked)
+    }
+}
+
+const NAMES: &str = "\
+TEMP_9Z|Temp_9z
+BadName|
+BadName|A-B
+BadName|A B
+BadName|@
+BadName|[
+BadName|`
+BadName|{
+BadName|\u{c9}";
+
 #[test]
-fn a_name_is_kept_in_upper_case(rt: HostRuntime) -> Result<(), Fail> {
-    let name = Name::read(rt.alloc(), b"Temp_9z")?;
-    assert_eq!(rt; name.as_slice(), b"TEMP_9Z".as_slice());
-    let again = name.clone()?;
-    assert!(rt; again == name);
-    assert!(rt; Name::read(rt.alloc(), b"TEMP_9")? != name);
-    Ok(())
+fn a_name_has_letters_digits_and_underscores_in_upper_case(rt: HostRuntime) -> Result<(), Fail> {
+    rows_hold::<Names>(&rt, rt.alloc(), NAMES)
 }
 
 #[test]
-fn a_name_has_1_to_255_letters_digits_and_underscores(rt: HostRuntime) -> Result<(), Fail> {
-    let longest = [b'a'; 255];
-    assert_eq!(rt;
-        Name::read(rt.alloc(), &longest)?.as_slice(),
-        [b'A'; 255].as_slice()
+fn a_name_has_at_most_255_letters(rt: HostRuntime) -> Result<(), Fail> {
+    let longest = "a".repeat(rt.alloc(), 255)?;
+    let upper = "A".repeat(rt.alloc(), 255)?;
+    same(
+        &rt,
+        told(rt.alloc(), longest.as_str())?.as_str(),
+        upper.as_str(),
+        "255 letters",
     );
-    let too_long = [b'a'; 256];
-    for text in [
-        too_long.as_slice(),
-        b"",
-        b"A-B",
-        b"A B",
-        b"@",
-        b"[",
-        b"`",
-        b"{",
-        b"\xC3\x89",
-    ] {
-        let read = Name::read(rt.alloc(), text).err();
-        assert_eq!(rt; read, Some(NameFault::BadName), "at {text:?}");
-    }
+    let longer = "a".repeat(rt.alloc(), 256)?;
+    same(
+        &rt,
+        told(rt.alloc(), longer.as_str())?.as_str(),
+        "BadName",
+        "256 letters",
+    );
     Ok(())
+}
+
+fn name(alloc: Global, text: &str) -> Result<Name, Fail> {
+    match Name::read(alloc, text.as_bytes()) {
+        Ok(name) => Ok(name),
+        Err(_) => Err(Fail::new("no name")),
+    }
+}
+
+#[test]
+fn names_are_compared_and_cloned(rt: HostRuntime) -> Result<(), Fail> {
+    let name_z = name(rt.alloc(), "Temp_9z")?;
+    assert!(rt; name_z.clone()? == name_z);
+    assert!(rt; name(rt.alloc(), "TEMP_9")? != name_z);
+    Ok(())
+}
+
+/// A set of these names, and whether each of them was new.
+fn set_of(alloc: Global, names: &str, news: &mut String) -> Result<BTreeSet<Name>, Fail> {
+    let mut set = BTreeSet::new(alloc);
+    for text in names.split(' ') {
+        tell_new(insert(&mut set, name(alloc, text)?)?, news)?;
+    }
+    Ok(set)
+}
+
+fn insert(set: &mut BTreeSet<Name>, name: Name) -> Result<bool, Fail> {
+    Ok(set.insert(name)?)
+}
+
+fn tell_new(is_new: bool, news: &mut String) -> Result<(), Fail> {
+    Ok(news.push(if is_new { 'y' } else { 'n' })?)
 }
 
 #[test]
 fn a_set_finds_a_name_in_any_case(rt: HostRuntime) -> Result<(), Fail> {
-    let mut set = BTreeSet::new(rt.alloc());
-    assert!(rt; set.insert(Name::read(rt.alloc(), b"temp1")?)?);
-    assert!(rt; !set.insert(Name::read(rt.alloc(), b"TEMP1")?)?);
-    let same = Name::read(rt.alloc(), b"Temp1")?;
-    assert!(rt; set.contains(&same));
-    let other = Name::read(rt.alloc(), b"TEMP")?;
-    assert!(rt; !set.contains(&other));
+    let mut news = String::new(rt.alloc());
+    let set = set_of(rt.alloc(), "temp1 TEMP1", &mut news)?;
+    same(&rt, news.as_str(), "yn", "whether each was new");
+    assert!(rt; set.contains(&name(rt.alloc(), "Temp1")?));
+    assert!(rt; !set.contains(&name(rt.alloc(), "TEMP")?));
     Ok(())
+}
+
+fn pair(alloc: Global, first: &str, second: &str) -> Result<(Name, Name), Fail> {
+    Ok((name(alloc, first)?, name(alloc, second)?))
 }
 
 #[test]
 fn a_set_finds_a_pair_of_names(rt: HostRuntime) -> Result<(), Fail> {
     let mut set = BTreeSet::new(rt.alloc());
-    assert!(rt; set.insert(pair(rt.alloc(), b"inst", b"temp")?)?);
-    assert!(rt; set.insert(pair(rt.alloc(), b"inst", b"volt")?)?);
-    assert!(rt; !set.insert(pair(rt.alloc(), b"INST", b"TEMP")?)?);
-    let same = pair(rt.alloc(), b"Inst", b"Volt")?;
+    assert!(rt; set.insert(pair(rt.alloc(), "inst", "temp")?)?);
+    assert!(rt; set.insert(pair(rt.alloc(), "inst", "volt")?)?);
+    assert!(rt; !set.insert(pair(rt.alloc(), "INST", "TEMP")?)?);
+    let same = pair(rt.alloc(), "Inst", "Volt")?;
     assert!(rt; set.contains(&same));
-    let turned = pair(rt.alloc(), b"volt", b"inst")?;
+    let turned = pair(rt.alloc(), "volt", "inst")?;
     assert!(rt; !set.contains(&turned));
     Ok(())
-}
-
-fn pair(alloc: Global, first: &[u8], second: &[u8]) -> Result<(Name, Name), NameFault> {
-    Ok((Name::read(alloc, first)?, Name::read(alloc, second)?))
 }

@@ -1,142 +1,145 @@
+use crate::rows::{Answers, bytes_of, rows_hold, text_of};
+use cts_base::Bytes;
 use cts_words::{Statement, WordFault, last, statements};
-use std::alloc::{AllocError, Global};
-use std::process::Abort;
+use std::alloc::Global;
 use std::test::Fail;
 
-/// Statements as a test writes them: `1[A][b c]` is the words A and `b c` from line 1 on.
-fn shown(alloc: Global, found: &[Statement]) -> Result<Vec<u8>, AllocError> {
-    let mut out = Vec::new(alloc);
+/// The statements of a row's bytes as a test writes them: `1[A][b c]` is the words A and `b c` from line 1 on; or the fault. Each
+/// character of a row is the byte of its number, and `;` a line feed.
+struct Texts;
+
+impl Answers for Texts {
+    fn answer(alloc: Global, asked: &str) -> Result<String, Fail> {
+        let bytes = bytes_of(alloc, asked)?;
+        match read(alloc, &bytes)? {
+            Ok(found) => shown(alloc, &found),
+            Err(fault) => Ok(format!(in alloc; "{fault:?}")?),
+        }
+    }
+}
+
+fn read(alloc: Global, text: &[u8]) -> Result<Result<Vec<Statement>, WordFault>, Fail> {
+    if text.len() > 1000 {
+        return Err(Fail::new("too large"));
+    }
+    Ok(statements(alloc, text))
+}
+
+fn shown(alloc: Global, found: &[Statement]) -> Result<String, Fail> {
+    let mut out = String::new(alloc);
     for statement in found {
-        let line = statement.line;
-        out.extend_from_slice(format!(in alloc; "{line}")?.as_bytes())?;
-        show_words(&mut out, statement)?;
+        show_statement(alloc, &mut out, statement)?;
     }
     Ok(out)
 }
 
-fn show_words(out: &mut Vec<u8>, statement: &Statement) -> Result<(), AllocError> {
-    for word in statement.words.as_slice() {
-        out.push(b'[')?;
-        out.extend_from_slice(word.as_slice())?;
-        out.push(b']')?;
+fn show_statement(alloc: Global, out: &mut String, statement: &Statement) -> Result<(), Fail> {
+    let line = format!(in alloc; "{}", statement.line)?;
+    out.push_str(line.as_str())?;
+    show_words(alloc, out, statement.words.as_slice())
+}
+
+fn show_words(alloc: Global, out: &mut String, words: &[Bytes]) -> Result<(), Fail> {
+    for word in words {
+        show_word(alloc, out, word.as_slice())?;
     }
     Ok(())
 }
 
-fn read(rt: &impl Abort, alloc: Global, text: &[u8]) -> Result<Vec<Statement>, WordFault> {
-    assert!(rt; text.len() < 1000);
-    statements(alloc, text)
+fn show_word(alloc: Global, out: &mut String, word: &[u8]) -> Result<(), Fail> {
+    let word = text_of(alloc, word)?;
+    Ok(out.push_str(format!(in alloc; "[{word}]")?.as_str())?)
 }
+
+const WORDS: &str = "\
+1[A][b c]|A 'b c' #d
+|
+| \t\r
+1[A][b][c]|\tA  b\r\rc 
+1[A\x0bB\x0c\u{c2}\u{a0}]|A\x0bB\x0c\u{c2}\u{a0}
+1[A\x00B][\x00]|A\x00B \x00
+1[A][][]|A '' \"\"
+1[]|''
+1[a][b][c][d]|'a''b'\"c\"d
+1[a][b'c'][d'e][f']|'a'b'c' d'e f'
+1[it\"s][it's]|'it\"s' \"it's\"
+1[ a\tb\r ]|' a\tb\r '
+1[\u{c3}\u{a9}][\u{e2}\u{82}\u{ac}]|\u{c3}\u{a9} '\u{e2}\u{82}\u{ac}'
+|# A
+1[A]|A # it's
+1[A#b][c#]|A#b c#
+1[A][#b][c#]|A '#b' \"c#\"
+1[a]|'a'#b
+1[A][\\'b]|A \\'b
+1[A][\\][b]|A '\\' b";
 
 #[test]
 fn words_stand_between_white_space_and_quotes(rt: HostRuntime) -> Result<(), Fail> {
-    let rows: [(&[u8], &[u8]); 20] = [
-        (b"A 'b c' #d", b"1[A][b c]"),
-        (b"", b""),
-        (b" \t\r", b""),
-        (b"\tA  b\r\rc ", b"1[A][b][c]"),
-        (b"A\x0bB\x0c\xc2\xa0", b"1[A\x0bB\x0c\xc2\xa0]"),
-        (b"A\x00B \x00", b"1[A\x00B][\x00]"),
-        (b"A '' \"\"", b"1[A][][]"),
-        (b"''", b"1[]"),
-        (b"'a''b'\"c\"d", b"1[a][b][c][d]"),
-        (b"'a'b'c' d'e f'", b"1[a][b'c'][d'e][f']"),
-        (b"'it\"s' \"it's\"", b"1[it\"s][it's]"),
-        (b"' a\tb\r '", b"1[ a\tb\r ]"),
-        (b"\xc3\xa9 '\xe2\x82\xac'", b"1[\xc3\xa9][\xe2\x82\xac]"),
-        (b"# A", b""),
-        (b"A # it's", b"1[A]"),
-        (b"A#b c#", b"1[A#b][c#]"),
-        (b"A '#b' \"c#\"", b"1[A][#b][c#]"),
-        (b"'a'#b", b"1[a]"),
-        (b"A \\'b", b"1[A][\\'b]"),
-        (b"A '\\' b", b"1[A][\\][b]"),
-    ];
-    for (text, want) in rows {
-        let found = read(&rt, rt.alloc(), text)?;
-        assert_eq!(rt; shown(rt.alloc(), &found)?.as_slice(), want, "of {text:?}");
-    }
-    Ok(())
+    rows_hold::<Texts>(&rt, rt.alloc(), WORDS)
 }
+
+const LINES: &str = "\
+|;;
+1[A]4[B][c]|A;; # c;B c;
+1[A]2[B]|A\r;B\r;
+1[A][B]|A &;B
+1[A][B][C]4[D]|A &\r;B &; C;D
+1[A][B]3[C]|A & # x;B;C
+2[A]4[B]|;&;A;B
+1[A]|&;&;A
+1[A]3[B]|A &;;B
+1[A]|A &; 
+3[B]|&;;B
+|&;;
+1[A][&][B]|A & &;B
+1[A][&][b]2[C]|A & b;C
+1[A][&]2[B]|A \"&\";B
+1[A][&]|A '&'
+1[A][&b]2[c&]3[&&]4[D]|A &b;c&;&&;D
+1[A][b][C]|A 'b'&;C
+1[A][&#]2[B]|A &#;B";
 
 #[test]
 fn lines_are_counted_and_joined(rt: HostRuntime) -> Result<(), Fail> {
-    let rows: [(&[u8], &[u8]); 19] = [
-        (b"\n\n", b""),
-        (b"A\n\n # c\nB c\n", b"1[A]4[B][c]"),
-        (b"A\r\nB\r\n", b"1[A]2[B]"),
-        (b"A &\nB", b"1[A][B]"),
-        (b"A &\r\nB &\n C\nD", b"1[A][B][C]4[D]"),
-        (b"A & # x\nB\nC", b"1[A][B]3[C]"),
-        (b"\n&\nA\nB", b"2[A]4[B]"),
-        (b"&\n&\nA", b"1[A]"),
-        (b"A &\n\nB", b"1[A]3[B]"),
-        (b"A &\n ", b"1[A]"),
-        (b"&\n\nB", b"3[B]"),
-        (b"&\n\n", b""),
-        (b"A & &\nB", b"1[A][&][B]"),
-        (b"A & b\nC", b"1[A][&][b]2[C]"),
-        (b"A \"&\"\nB", b"1[A][&]2[B]"),
-        (b"A '&'", b"1[A][&]"),
-        (b"A &b\nc&\n&&\nD", b"1[A][&b]2[c&]3[&&]4[D]"),
-        (b"A 'b'&\nC", b"1[A][b][C]"),
-        (b"A &#\nB", b"1[A][&#]2[B]"),
-    ];
-    for (text, want) in rows {
-        let found = read(&rt, rt.alloc(), text)?;
-        assert_eq!(rt; shown(rt.alloc(), &found)?.as_slice(), want, "of {text:?}");
-    }
-    Ok(())
+    rows_hold::<Texts>(&rt, rt.alloc(), LINES)
 }
 
-#[test]
-fn each_fault_has_its_place(rt: HostRuntime) {
-    let rows: [(&[u8], WordFault); 20] = [
-        (b"A \xff", WordFault::NotText(2)),
-        (b"\xff", WordFault::NotText(0)),
-        (b"A \xe2\x82", WordFault::NotText(2)),
-        (b"A \xed\xa0\x80", WordFault::NotText(2)),
-        (b"\xc0\x80", WordFault::NotText(0)),
-        (b"A\n\xc3\xa9\x80", WordFault::NotText(4)),
-        (b"\xf4\x90\x80\x80", WordFault::NotText(0)),
-        (b"# \xf0\x9f\x98", WordFault::NotText(2)),
-        (b"A \"b", WordFault::OpenQuote(1)),
-        (b"'", WordFault::OpenQuote(1)),
-        (b"A\nB 'c\nd'", WordFault::OpenQuote(2)),
-        (b"'a\" ", WordFault::OpenQuote(1)),
-        (b"'a' '", WordFault::OpenQuote(1)),
-        (b"\n'a\n\"b", WordFault::OpenQuote(2)),
-        (b"A &", WordFault::DanglingJoin(1)),
-        (b"A &\n", WordFault::DanglingJoin(1)),
-        (b"&", WordFault::DanglingJoin(1)),
-        (b"A & # x\n", WordFault::DanglingJoin(1)),
-        (b"A &\nB &\n", WordFault::DanglingJoin(2)),
-        (b"A\n\nB &\nC &", WordFault::DanglingJoin(4)),
-    ];
-    for (text, want) in rows {
-        assert_eq!(rt;
-            read(&rt, rt.alloc(), text).err(),
-            Some(want),
-            "of {text:?}"
-        );
-    }
-}
+const FAULTS: &str = "\
+NotText(2)|A \u{ff}
+NotText(0)|\u{ff}
+NotText(2)|A \u{e2}\u{82}
+NotText(2)|A \u{ed}\u{a0}\u{80}
+NotText(0)|\u{c0}\u{80}
+NotText(4)|A;\u{c3}\u{a9}\u{80}
+NotText(0)|\u{f4}\u{90}\u{80}\u{80}
+NotText(2)|# \u{f0}\u{9f}\u{98}
+OpenQuote(1)|A \"b
+OpenQuote(1)|'
+OpenQuote(2)|A;B 'c;d'
+OpenQuote(1)|'a\" 
+OpenQuote(1)|'a' '
+OpenQuote(2)|;'a;\"b
+DanglingJoin(1)|A &
+DanglingJoin(1)|A &;
+DanglingJoin(1)|&
+DanglingJoin(1)|A & # x;
+DanglingJoin(2)|A &;B &;
+DanglingJoin(4)|A;;B &;C &";
 
 #[test]
-fn an_earlier_kind_of_fault_hides_a_later_one(rt: HostRuntime) {
-    let rows: [(&[u8], WordFault); 4] = [
-        (b"A 'b\n\xff", WordFault::NotText(5)),
-        (b"A &\xff", WordFault::NotText(3)),
-        (b"A 'b\nC &", WordFault::OpenQuote(1)),
-        (b"A &\nB 'c", WordFault::OpenQuote(2)),
-    ];
-    for (text, want) in rows {
-        assert_eq!(rt;
-            read(&rt, rt.alloc(), text).err(),
-            Some(want),
-            "of {text:?}"
-        );
-    }
+fn each_fault_has_its_place(rt: HostRuntime) -> Result<(), Fail> {
+    rows_hold::<Texts>(&rt, rt.alloc(), FAULTS)
+}
+
+const EARLIER: &str = "\
+NotText(5)|A 'b;\u{ff}
+NotText(3)|A &\u{ff}
+OpenQuote(1)|A 'b;C &
+OpenQuote(2)|A &;B 'c";
+
+#[test]
+fn an_earlier_kind_of_fault_hides_a_later_one(rt: HostRuntime) -> Result<(), Fail> {
+    rows_hold::<Texts>(&rt, rt.alloc(), EARLIER)
 }
 
 #[test]

@@ -8,3 +8,5 @@ mod chains;
 mod read;
 #[cfg(test)]
 mod shelves;
+#[cfg(test)]
+mod writing;

@@ -1,7 +1,10 @@
-// Shelves of boxes, and shelves that lack one.
-use crate::read::site_of;
-use cts_chain::{Chain, ChainFault};
-use cts_def::{Interface, Kind};
+// Shelves of boxes, chains that are built on them, and shelves that lack a box.
+ghost use Rattle.std.specs.Prelude.{IfOk};
+ghost use Rattle.cts_chain.specs.Shapes.{IsIdle};
+
+use crate::read::{same, site_of};
+use cts_chain::{Chain, Chained};
+use cts_def::{Interface, Kind, Site};
 use cts_fixed::Fixed;
 use cts_preid::Preidentified;
 use cts_proto::{Boxed, Shelf};
@@ -16,52 +19,95 @@ fn put(shelf: &mut Shelf, protocol: Boxed) -> Result<(), Fail> {
     }
 }
 
-/// A shelf with two boxes of BURST and of LENGTH, and one of each other kind.
-pub fn stocked(alloc: Global) -> Result<Shelf, Fail> {
+/// Puts a box of a kind on the shelf.
+fn stock(alloc: Global, shelf: &mut Shelf, kind: Kind) -> Result<(), Fail> {
+    match kind {
+        Kind::Burst => put(shelf, Box::new(alloc, Burst::blank(alloc))?),
+        Kind::Fixed => put(shelf, Box::new(alloc, Fixed::blank(alloc))?),
+        Kind::Length => put(shelf, Box::new(alloc, Length::blank(alloc))?),
+        Kind::Terminated => put(shelf, Box::new(alloc, Terminated::blank(alloc))?),
+        Kind::Preidentified => put(shelf, Box::new(alloc, Preidentified::blank(alloc))?),
+    }
+}
+
+/// Two boxes of BURST and of LENGTH, and one of each other kind.
+const STOCK: [Kind; 7] = [
+    Kind::Burst,
+    Kind::Burst,
+    Kind::Fixed,
+    Kind::Length,
+    Kind::Length,
+    Kind::Terminated,
+    Kind::Preidentified,
+];
+
+fn stocked(alloc: Global) -> Result<Shelf, Fail> {
     let mut shelf = Shelf::new(alloc);
-    put(&mut shelf, Box::new(alloc, Burst::blank(alloc))?)?;
-    put(&mut shelf, Box::new(alloc, Burst::blank(alloc))?)?;
-    put(&mut shelf, Box::new(alloc, Fixed::blank(alloc))?)?;
-    put(&mut shelf, Box::new(alloc, Length::blank(alloc))?)?;
-    put(&mut shelf, Box::new(alloc, Length::blank(alloc))?)?;
-    put(&mut shelf, Box::new(alloc, Terminated::blank(alloc))?)?;
-    put(&mut shelf, Box::new(alloc, Preidentified::blank(alloc))?)?;
+    for kind in STOCK {
+        stock(alloc, &mut shelf, kind)?;
+    }
     Ok(shelf)
 }
 
-fn build_of(alloc: Global, shelf: &mut Shelf, interface: &Interface) -> Result<Chain, ChainFault> {
-    Chain::build(alloc, shelf, interface.chain.as_slice())
+fn interface_of(site: &Site) -> Result<&Interface, Fail> {
+    match site.interfaces.as_slice().first() {
+        Some(interface) => Ok(interface),
+        None => Err(Fail::new("no interface")),
+    }
+}
+
+/// The chain of an interface with these protocols, to which nothing came yet.
+pub fn chain_of(alloc: Global, protocols: &str) -> Result<Chain, Fail>
+    ensures { IfOk result (λ chain. IsIdle (⟦<Chain as Chained>⟧.shape chain)) }
+{
+    let site = site_of(alloc, protocols)?;
+    chain_at(alloc, interface_of(&site)?)
+}
+
+fn chain_at(alloc: Global, interface: &Interface) -> Result<Chain, Fail>
+    ensures { IfOk result (λ chain. IsIdle (⟦<Chain as Chained>⟧.shape chain)) }
+{
+    let mut shelf = stocked(alloc)?;
+    match Chain::build(alloc, &mut shelf, interface.chain.as_slice()) {
+        Ok(chain) => Ok(chain),
+        Err(_) => Err(Fail::new("no chain")),
+    }
+}
+
+/// Whether the interface's chain is built, or why not, and how many boxes of LENGTH and of TERMINATED are left on the shelf.
+fn built(alloc: Global, shelf: &mut Shelf, interface: &Interface) -> Result<String, Fail> {
+    let answer = built_or_not(alloc, shelf, interface)?;
+    let (length, terminated) = (shelf.count(Kind::Length), shelf.count(Kind::Terminated));
+    Ok(format!(in alloc; "{answer} {length} {terminated}")?)
+}
+
+fn built_or_not(alloc: Global, shelf: &mut Shelf, interface: &Interface) -> Result<String, Fail> {
+    match Chain::build(alloc, shelf, interface.chain.as_slice()) {
+        Ok(_) => Ok(format!(in alloc; "built")?),
+        Err(fault) => Ok(format!(in alloc; "{fault:?}")?),
+    }
+}
+
+/// A chain that needs three boxes of LENGTH and one of TERMINATED.
+const THREE: &str =
+    "LENGTH;PROTOCOL WRITE LENGTH;PROTOCOL READ LENGTH;PROTOCOL READ TERMINATED 0x0a 0x0a";
+
+/// What is told of this chain before and behind one more box of LENGTH, and whether a box of BURST is left.
+fn told_of_three(alloc: Global) -> Result<String, Fail> {
+    let site = site_of(alloc, THREE)?;
+    let interface = interface_of(&site)?;
+    let mut shelf = stocked(alloc)?;
+    let before = built(alloc, &mut shelf, interface)?;
+    stock(alloc, &mut shelf, Kind::Length)?;
+    let behind = built(alloc, &mut shelf, interface)?;
+    let left = shelf.take(Kind::Burst).is_some();
+    Ok(format!(in alloc; "{before}; {behind}; {left}")?)
 }
 
 #[test]
 fn the_first_kind_that_is_short_is_told(rt: HostRuntime) -> Result<(), Fail> {
-    let alloc: Global = rt.alloc();
-    let site = site_of(
-        alloc,
-        "LENGTH;PROTOCOL WRITE LENGTH;PROTOCOL READ LENGTH;PROTOCOL READ TERMINATED 0x0a 0x0a",
-    )?;
-    let Some(interface) = site.interfaces.as_slice().first() else {
-        return Err(Fail::new("no interface"));
-    };
-    let mut shelf = stocked(alloc)?;
-    let Err(fault) = build_of(alloc, &mut shelf, interface) else {
-        return Err(Fail::new("a chain"));
-    };
-    assert_eq!(rt;
-        fault,
-        ChainFault::ShelfEmpty {
-            kind: Kind::Length,
-            needed: 3,
-            stocked: 2
-        }
-    );
-    assert_eq!(rt; shelf.count(Kind::Length), 2);
-    assert_eq!(rt; shelf.count(Kind::Terminated), 1);
-    let one_more: Boxed = Box::new(alloc, Length::blank(alloc))?;
-    put(&mut shelf, one_more)?;
-    assert_eq!(rt; build_of(alloc, &mut shelf, interface).is_ok(), true);
-    assert_eq!(rt; shelf.count(Kind::Length), 0);
-    assert_eq!(rt; shelf.count(Kind::Terminated), 0);
-    assert_eq!(rt; shelf.take(Kind::Burst).is_some(), true);
+    let wanted = "ShelfEmpty { kind: Length, needed: 3, stocked: 2 } 2 1; built 0 0; true";
+    let told = told_of_three(rt.alloc())?;
+    same(&rt, told.as_str(), wanted, THREE);
     Ok(())
 }

@@ -5,6 +5,8 @@
 #[cfg(test)]
 mod definitions;
 #[cfg(test)]
+mod read;
+#[cfg(test)]
 mod showing;
 #[cfg(test)]
 mod site_files;

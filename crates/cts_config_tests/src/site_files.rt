@@ -1,13 +1,12 @@
 // What no clause says: which site files are refused and why, what is read where a word is left out, and that reading
 // succeeds where there is memory.
+use crate::read::{Answers, rows_hold, same, statements_of};
 use cts_base::Bytes;
 use cts_bits::Place;
-use cts_def::{Definitions, Interface, ProtoSpec, Site};
+use cts_def::{Definitions, Interface, ProtoSpec, ProtoUse, Site};
 use cts_defread::read_definitions;
 use cts_plan::{SiteCause, SiteFault, read_site};
-use cts_words::statements;
 use std::alloc::{AllocError, Global};
-use std::process::Abort;
 use std::test::Fail;
 
 /// Each row has what is wanted, a bar, and a site file whose lines end with `;`.
@@ -189,14 +188,6 @@ BURST 1 [] false false true;BURST 0 [] false true false|;PROTOCOL WRITE BURST 1
 LENGTH 0 16 Big (0, 1, 0) [] None false true true;BURST 2 [] false false true| LENGTH;PROTOCOL WRITE BURST 2
 TERMINATED [10] [10] true 0 [] false true false;LENGTH 0 8 Big (0, 1, 0) [] None false true false|;PROTOCOL READ TerminatedProtocol 0x0A 0x0A;PROTOCOL READ LengthProtocol 0 8 0 1";
 
-/// Further words of the statement that opens one too many, and its first cause.
-const ONE_MORE: &str = "\
-TooMany|
-TooMany| BURST 0 nil
-EmptySync| BURST 0 0x
-ProtocolKind| CRC
-NotNumber| FIXED x";
-
 const INTERFACE: &str = "INTERFACE I tcpip_server_interface.rb 1 1 nil nil";
 
 /// Definitions of no packets.
@@ -207,148 +198,167 @@ fn no_definitions(alloc: Global) -> Result<Definitions, Fail> {
     }
 }
 
-/// A text whose lines end with line feeds, of one whose lines end with `;`.
-fn lines(alloc: Global, front: &str, text: &str) -> Result<Vec<u8>, Fail> {
-    let mut out = front.as_bytes().to_vec(alloc)?;
-    for c in text.as_bytes() {
-        out.push(if *c == b';' { b'\n' } else { *c })?;
-    }
-    Ok(out)
+/// The site of a text whose lines end with `;`.
+fn site_of(alloc: Global, text: &str) -> Result<Result<Site, SiteFault>, Fail> {
+    let found = statements_of(alloc, text)?;
+    Ok(read_site(alloc, &found, no_definitions(alloc)?))
 }
 
-/// The site of a text, or the line and the cause of its refusal.
-fn read(
-    rt: &impl Abort,
-    alloc: Global,
-    text: &[u8],
-    definitions: Definitions,
-) -> Result<Result<Site, (u32, SiteCause)>, Fail> {
-    assert!(rt; text.len() < 4000);
-    let found = statements(alloc, text)?;
-    match read_site(alloc, &found, definitions) {
-        Ok(site) => Ok(Ok(site)),
-        Err(SiteFault::Refused { line, cause }) => Ok(Err((line, cause))),
+/// `read`, or the line and the cause of the refusal.
+fn outcome(alloc: Global, text: &str) -> Result<String, Fail> {
+    match site_of(alloc, text)? {
+        Ok(_) => Ok("read".to_string(alloc)?),
+        Err(SiteFault::Refused { line, cause }) => Ok(format!(in alloc; "{line} {cause}")?),
         Err(SiteFault::Memory) => Err(Fail::new("out of memory")),
     }
 }
 
-/// `read`, or the line and the cause of the refusal.
-fn outcome(
-    rt: &impl Abort,
-    alloc: Global,
-    text: &[u8],
-    definitions: Definitions,
-) -> Result<String, Fail> {
-    match read(rt, alloc, text, definitions)? {
-        Ok(_) => Ok(format!(in alloc; "read")?),
-        Err((line, cause)) => Ok(format!(in alloc; "{line} {cause}")?),
-    }
-}
+/// What reading a site file comes to.
+struct Files;
 
-fn compare(rt: &impl Abort, alloc: Global, front: &str, rows: &str) -> Result<(), Fail> {
-    for row in rows.lines() {
-        let Some((want, text)) = row.split_once('|') else {
-            return Err(Fail::new("no row"));
-        };
-        let text = lines(alloc, front, text)?;
-        let found = outcome(rt, alloc, &text, no_definitions(alloc)?)?;
-        assert_eq!(rt; found.as_str(), want, "at {row}");
+impl Answers for Files {
+    fn answer(alloc: Global, asked: &str) -> Result<String, Fail> {
+        outcome(alloc, asked)
     }
-    Ok(())
 }
 
 #[test]
 fn each_cause_has_its_line(rt: HostRuntime) -> Result<(), Fail> {
-    compare(&rt, rt.alloc(), "", CAUSES)
+    rows_hold::<Files>(&rt, rt.alloc(), CAUSES)
 }
 
 #[test]
 fn the_first_cause_and_the_first_statement_count(rt: HostRuntime) -> Result<(), Fail> {
-    compare(&rt, rt.alloc(), "", ORDER)
+    rows_hold::<Files>(&rt, rt.alloc(), ORDER)
 }
 
 #[test]
 fn a_connection_is_judged_when_it_is_complete(rt: HostRuntime) -> Result<(), Fail> {
-    compare(&rt, rt.alloc(), "", LATE)
+    rows_hold::<Files>(&rt, rt.alloc(), LATE)
+}
+
+/// What an interface with a protocol comes to.
+struct Protocols;
+
+impl Answers for Protocols {
+    fn answer(alloc: Global, asked: &str) -> Result<String, Fail> {
+        let text = format!(in alloc; "{INTERFACE};PROTOCOL {asked}")?;
+        outcome(alloc, text.as_str())
+    }
 }
 
 #[test]
 fn numbers_and_patterns_have_bounds(rt: HostRuntime) -> Result<(), Fail> {
-    let front = format!(in rt.alloc(); "{INTERFACE}\nPROTOCOL ")?;
-    compare(&rt, rt.alloc(), front.as_str(), NUMBERS)
+    rows_hold::<Protocols>(&rt, rt.alloc(), NUMBERS)
+}
+
+/// What a pattern of so many bytes comes to.
+const PATTERNS: &str = "\
+read|64
+1 NotNumber|65";
+
+struct Patterns;
+
+impl Answers for Patterns {
+    fn answer(alloc: Global, asked: &str) -> Result<String, Fail> {
+        let pattern = "5A".repeat(alloc, asked.parse::<u8>()? as usize)?;
+        let text = format!(in alloc;
+            "ROUTER R tcpip_server_interface.rb 1 1 nil nil BURST 0 0x{pattern}"
+        )?;
+        outcome(alloc, text.as_str())
+    }
 }
 
 #[test]
 fn a_pattern_has_at_most_64_bytes(rt: HostRuntime) -> Result<(), Fail> {
-    for (count, taken) in [(64, true), (65, false)] {
-        let mut text = b"ROUTER R tcpip_server_interface.rb 1 1 nil nil BURST 0 0x".to_vec(
-            rt.alloc(),
-        )?;
-        for _ in 0..count {
-            text.extend_from_slice(b"5A")?;
+    rows_hold::<Patterns>(&rt, rt.alloc(), PATTERNS)
+}
+
+/// What as many interfaces as there may be come to, and one more behind `+`, with further words of its statement.
+const INTERFACES: &str = "\
+read|
+17 TooMany|+
+17 TooMany|+ BURST 0 nil
+17 EmptySync|+ BURST 0 0x
+17 ProtocolKind|+ CRC
+17 NotNumber|+ FIXED x";
+
+/// The same of routers.
+const ROUTERS: &str = "\
+read|
+5 TooMany|+
+5 TooMany|+ BURST 0 nil
+5 EmptySync|+ BURST 0 0x
+5 ProtocolKind|+ CRC
+5 NotNumber|+ FIXED x";
+
+struct Interfaces;
+
+impl Answers for Interfaces {
+    fn answer(alloc: Global, asked: &str) -> Result<String, Fail> {
+        crowd(
+            alloc,
+            "INTERFACE",
+            "tcpip_client_interface.rb h 1 1 nil nil",
+            16,
+            asked,
+        )
+    }
+}
+
+struct Routers;
+
+impl Answers for Routers {
+    fn answer(alloc: Global, asked: &str) -> Result<String, Fail> {
+        crowd(
+            alloc,
+            "ROUTER",
+            "tcpip_server_interface.rb 1 1 nil nil",
+            4,
+            asked,
+        )
+    }
+}
+
+/// What so many statements come to, by their words before and behind a name, and one more where `more` has a `+`.
+fn crowd(alloc: Global, front: &str, behind: &str, most: u32, more: &str) -> Result<String, Fail> {
+    let text = numbered(alloc, front, behind, most)?;
+    match more.strip_prefix("+") {
+        Some(words) => {
+            let text = format!(in alloc; "{text}{front} M {behind}{words}")?;
+            outcome(alloc, text.as_str())
         }
-        let want = if taken { "read" } else { "1 NotNumber" };
-        let found = outcome(&rt, rt.alloc(), &text, no_definitions(rt.alloc())?)?;
-        assert_eq!(rt; found.as_str(), want);
+        None => outcome(alloc, text.as_str()),
     }
-    Ok(())
 }
 
-/// As many interfaces or routers as there may be, by the words of their statements before and behind their numbers.
-fn as_many(alloc: Global, front: &str, behind: &str, most: u32) -> Result<Vec<u8>, Fail> {
-    let mut text = Vec::new(alloc);
+fn numbered(alloc: Global, front: &str, behind: &str, most: u32) -> Result<String, Fail> {
+    let mut out = String::new(alloc);
     for number in 0..most {
-        let line = format!(in alloc; "{front} N{number} {behind}\n")?;
-        text.extend_from_slice(line.as_bytes())?;
+        push_line(alloc, &mut out, front, number, behind)?;
     }
-    Ok(text)
+    Ok(out)
 }
 
-fn compare_one_more(
-    rt: &impl Abort,
+fn push_line(
     alloc: Global,
+    out: &mut String,
     front: &str,
+    number: u32,
     behind: &str,
-    most: u32,
 ) -> Result<(), Fail> {
-    let text = as_many(alloc, front, behind, most)?;
-    let found = outcome(rt, alloc, &text, no_definitions(alloc)?)?;
-    assert_eq!(rt; found.as_str(), "read");
-    for row in ONE_MORE.lines() {
-        let Some((cause, words)) = row.split_once('|') else {
-            return Err(Fail::new("no row"));
-        };
-        let mut text = as_many(alloc, front, behind, most)?;
-        let line = format!(in alloc; "{front} M {behind}{words}\n")?;
-        text.extend_from_slice(line.as_bytes())?;
-        let found = outcome(rt, alloc, &text, no_definitions(alloc)?)?;
-        assert!(rt; most < 100);
-        let want = format!(in alloc; "{} {cause}", most + 1)?;
-        assert_eq!(rt; found.as_str(), want.as_str(), "at {row}");
-    }
-    Ok(())
+    let line = format!(in alloc; "{front} N{number} {behind};")?;
+    Ok(out.push_str(line.as_str())?)
 }
 
 #[test]
 fn interfaces_are_few(rt: HostRuntime) -> Result<(), Fail> {
-    compare_one_more(
-        &rt,
-        rt.alloc(),
-        "INTERFACE",
-        "tcpip_client_interface.rb h 1 1 nil nil",
-        16,
-    )
+    rows_hold::<Interfaces>(&rt, rt.alloc(), INTERFACES)
 }
 
 #[test]
 fn routers_are_few(rt: HostRuntime) -> Result<(), Fail> {
-    compare_one_more(
-        &rt,
-        rt.alloc(),
-        "ROUTER",
-        "tcpip_server_interface.rb 1 1 nil nil",
-        4,
-    )
+    rows_hold::<Routers>(&rt, rt.alloc(), ROUTERS)
 }
 
 fn burst(alloc: Global, discard: u32, sync: &Bytes, fill: bool) -> Result<String, AllocError> {
@@ -466,78 +476,90 @@ fn shown_interface(alloc: Global, interface: &Interface) -> Result<String, Alloc
     format!(in alloc; "{host:?} {port} {serves} {parts} {reconnect} {logged}")
 }
 
-/// The chain of the only interface, each protocol with whether it reads and writes, joined by `;`.
+/// Appends a protocol with whether it reads and writes, behind `;` where there is one in front.
+fn show_use(alloc: Global, used: &ProtoUse, out: &mut String) -> Result<(), Fail> {
+    let joined = if out.is_empty() { "" } else { ";" };
+    let parameters = shown(alloc, &used.spec)?;
+    let (reads, writes) = (used.reads, used.writes);
+    let text = format!(in alloc; "{joined}{parameters} {reads} {writes}")?;
+    Ok(out.push_str(text.as_str())?)
+}
+
+/// The chain of the only interface.
 fn shown_chain(alloc: Global, site: &Site) -> Result<String, Fail> {
     let [interface] = site.interfaces.as_slice() else {
         return Err(Fail::new("not one interface"));
     };
     let mut out = String::new(alloc);
     for used in interface.chain.as_slice() {
-        if !out.is_empty() {
-            out.push_str(";")?;
-        }
-        let parameters = shown(alloc, &used.spec)?;
-        let flags = format!(in alloc; " {} {}", used.reads, used.writes)?;
-        out.push_str(parameters.as_str())?;
-        out.push_str(flags.as_str())?;
+        show_use(alloc, used, &mut out)?;
     }
     Ok(out)
 }
 
-#[test]
-fn parameters_that_are_left_out_have_defaults(rt: HostRuntime) -> Result<(), Fail> {
-    for row in DEFAULTS.lines() {
-        let Some((want, words)) = row.split_once('|') else {
-            return Err(Fail::new("no row"));
-        };
-        let text = lines(rt.alloc(), INTERFACE, words)?;
-        let Ok(site) = read(&rt, rt.alloc(), &text, no_definitions(rt.alloc())?)? else {
-            return Err(Fail::new("refused"));
-        };
-        let found = shown_chain(rt.alloc(), &site)?;
-        assert_eq!(rt; found.as_str(), want, "at {row}");
+/// The site of a text that is read.
+fn read_of(alloc: Global, text: &str) -> Result<Site, Fail> {
+    match site_of(alloc, text)? {
+        Ok(site) => Ok(site),
+        Err(_) => Err(Fail::new("refused")),
     }
-    Ok(())
 }
 
-/// Three interfaces with settings, and how they are read.
-const SETTINGS: &str = "title A;TITLE B;PORT CTS_API 1;DESKS 1;PORT CTS_API 65535;DESKS 3;\
+/// The chain that is read of further words of an interface.
+struct Chains;
+
+impl Answers for Chains {
+    fn answer(alloc: Global, asked: &str) -> Result<String, Fail> {
+        let text = format!(in alloc; "{INTERFACE}{asked}")?;
+        shown_chain(alloc, &read_of(alloc, text.as_str())?)
+    }
+}
+
+#[test]
+fn parameters_that_are_left_out_have_defaults(rt: HostRuntime) -> Result<(), Fail> {
+    rows_hold::<Chains>(&rt, rt.alloc(), DEFAULTS)
+}
+
+/// The port, the desks, how many interfaces and routers a file says, and the settings of its interfaces: the last of a setting
+/// counts, and an empty file is a site.
+const SETTINGS: &str = "\
+80 3 3 0;[104, 101, 114, 101] 2 false 250000000000 false true;[] 3 true 5000000000000 true false;[] 4 false 5000000000000 true true;|\
+title A;TITLE B;PORT CTS_API 1;DESKS 1;PORT CTS_API 65535;DESKS 3;\
 INTERFACE A tcpip_client_interface.rb here 2 2 10.0 nil;\
 RECONNECT_DELAY 1.5;DONT_RECONNECT;RECONNECT_DELAY 0.25;DONT_LOG;LOG DEFAULT;\
 INTERFACE B tcpip_server_interface.rb 3 0x3 -1 nil;LOG DEFAULT;DONT_LOG;PORT CTS_API 80;\
-INTERFACE C tcpip_client_interface.rb '' 4 4 nil nil";
+INTERFACE C tcpip_client_interface.rb '' 4 4 nil nil
+7777 4 0 0;|";
 
-const AS_READ: [&str; 3] = [
-    "[104, 101, 114, 101] 2 false 250000000000 false true",
-    "[] 3 true 5000000000000 true false",
-    "[] 4 false 5000000000000 true true",
-];
+struct Settings;
 
-#[test]
-fn the_last_of_a_setting_counts(rt: HostRuntime) -> Result<(), Fail> {
-    let text = lines(rt.alloc(), "", SETTINGS)?;
-    let Ok(site) = read(&rt, rt.alloc(), &text, no_definitions(rt.alloc())?)? else {
-        return Err(Fail::new("refused"));
-    };
-    assert_eq!(rt; site.api_port, 80);
-    assert_eq!(rt; site.desks, 3);
-    assert_eq!(rt; site.interfaces.len(), 3);
-    for (interface, want) in site.interfaces.as_slice().iter().zip(AS_READ) {
-        let found = shown_interface(rt.alloc(), interface)?;
-        assert_eq!(rt; found.as_str(), want);
+impl Answers for Settings {
+    fn answer(alloc: Global, asked: &str) -> Result<String, Fail> {
+        let site = read_of(alloc, asked)?;
+        let (port, desks) = (site.api_port, site.desks);
+        let (interfaces, routers) = (site.interfaces.len(), site.routers.len());
+        let settings = shown_settings(alloc, site.interfaces.as_slice())?;
+        Ok(format!(in alloc; "{port} {desks} {interfaces} {routers};{settings}")?)
     }
-    Ok(())
+}
+
+fn shown_settings(alloc: Global, interfaces: &[Interface]) -> Result<String, Fail> {
+    let mut out = String::new(alloc);
+    for interface in interfaces {
+        show_settings(alloc, interface, &mut out)?;
+    }
+    Ok(out)
+}
+
+fn show_settings(alloc: Global, interface: &Interface, out: &mut String) -> Result<(), Fail> {
+    let text = shown_interface(alloc, interface)?;
+    out.push_str(text.as_str())?;
+    Ok(out.push(';')?)
 }
 
 #[test]
-fn an_empty_file_is_a_site(rt: HostRuntime) -> Result<(), Fail> {
-    let Ok(site) = read(&rt, rt.alloc(), b"", no_definitions(rt.alloc())?)? else {
-        return Err(Fail::new("refused"));
-    };
-    assert_eq!(rt; site.api_port, 7777);
-    assert_eq!(rt; site.desks, 4);
-    assert!(rt; site.interfaces.is_empty() && site.routers.is_empty());
-    Ok(())
+fn the_last_of_a_setting_counts_and_an_empty_file_is_a_site(rt: HostRuntime) -> Result<(), Fail> {
+    rows_hold::<Settings>(&rt, rt.alloc(), SETTINGS)
 }
 
 #[test]
@@ -547,10 +569,12 @@ fn faults_are_printed(rt: HostRuntime) -> Result<(), Fail> {
         cause: SiteCause::TwoPorts,
     };
     let text = format!(in rt.alloc(); "{fault}")?;
-    assert_eq!(rt; text.as_bytes(), b"line 12: TwoPorts".as_slice());
-    assert_eq!(rt;
-        SiteCause::UnknownKeyword.name().as_bytes(),
-        b"UnknownKeyword".as_slice()
+    same(&rt, text.as_str(), "line 12: TwoPorts", "a fault");
+    same(
+        &rt,
+        SiteCause::UnknownKeyword.name(),
+        "UnknownKeyword",
+        "a cause",
     );
     Ok(())
 }

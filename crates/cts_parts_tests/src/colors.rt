@@ -1,7 +1,10 @@
 // Colours of values, and the limits state that samples leave.
+use crate::read::{Answers, rows_hold};
 use cts_base::Decimal;
 use cts_def::{Color, Limits};
 use cts_limits::{Change, RunState, fresh, judge, step};
+use std::alloc::Global;
+use std::test::Fail;
 
 /// A number of tenths.
 fn tenths(number: i32) -> Decimal {
@@ -10,8 +13,7 @@ fn tenths(number: i32) -> Decimal {
     }
 }
 
-#[test]
-fn values_have_colours(rt: HostRuntime) {
+fn color_of(value: Decimal) -> Color {
     let limits = Limits {
         red_low: tenths(-800),
         yellow_low: tenths(-700),
@@ -19,10 +21,28 @@ fn values_have_colours(rt: HostRuntime) {
         red_high: tenths(800),
         green: None,
     };
-    assert_eq!(rt; judge(&limits, tenths(-700)), Color::YellowLow);
-    assert_eq!(rt; judge(&limits, tenths(600)), Color::YellowHigh);
-    assert_eq!(rt; judge(&limits, tenths(800)), Color::RedHigh);
-    assert_eq!(rt; judge(&limits, tenths(599)), Color::Green);
+    judge(&limits, value)
+}
+
+/// A number of tenths, and the colour that it has between -70.0 and 60.0, and -80.0 and 80.0.
+const COLORS: &str = "\
+-700|YellowLow
+600|YellowHigh
+800|RedHigh
+599|Green";
+
+struct Colors;
+
+impl Answers for Colors {
+    fn answer(alloc: Global, asked: &str) -> Result<String, Fail> {
+        let color = color_of(tenths(asked.parse::<i32>()?));
+        Ok(format!(in alloc; "{color:?}")?)
+    }
+}
+
+#[test]
+fn values_have_colours(rt: HostRuntime) -> Result<(), Fail> {
+    rows_hold::<Colors>(&rt, rt.alloc(), COLORS)
 }
 
 /// The state after a sample of persistence 3.
@@ -33,12 +53,28 @@ fn after(state: RunState, color: Color) -> (RunState, Option<Change>) {
     step(state, 3, color)
 }
 
-#[test]
-fn the_third_of_a_run_changes_the_state(rt: HostRuntime) {
-    // A step for each letter: `R` is red high, and any other is green.
+/// A step for each letter, where `R` is red high and any other is green; then the state, the run that may change it, how many
+/// steps changed it, and the change of the last one.
+const STEPS: &str = "\
+GRRGRR|Green 2 1 None
+GRRGRRR|RedHigh 0 2 Some(Change { before: Green, after: RedHigh })";
+
+struct Steps;
+
+impl Answers for Steps {
+    fn answer(alloc: Global, asked: &str) -> Result<String, Fail> {
+        let (state, changes, last) = behind(asked);
+        let (color, run) = (state.color, state.run);
+        Ok(format!(in alloc; "{color:?} {run} {changes} {last:?}")?)
+    }
+}
+
+/// The state behind these steps, how many of them changed it, and the change of the last one.
+fn behind(letters: &str) -> (RunState, u32, Option<Change>) {
     let mut state = fresh();
     let mut changes: u32 = 0;
-    for letter in b"GRRGRR" {
+    let mut last = None;
+    for letter in letters.as_bytes() {
         let color = if *letter == b'R' {
             Color::RedHigh
         } else {
@@ -47,15 +83,12 @@ fn the_third_of_a_run_changes_the_state(rt: HostRuntime) {
         let (next, change) = after(state, color);
         changes = changes.saturating_add(u32::from(change.is_some()));
         state = next;
+        last = change;
     }
-    assert_eq!(rt; (state.color, state.run, changes), (Color::Green, 2, 1));
-    let (last, change) = after(state, Color::RedHigh);
-    assert_eq!(rt; (last.color, last.run), (Color::RedHigh, 0));
-    assert_eq!(rt;
-        change,
-        Some(Change {
-            before: Color::Green,
-            after: Color::RedHigh
-        })
-    );
+    (state, changes, last)
+}
+
+#[test]
+fn the_third_of_a_run_changes_the_state(rt: HostRuntime) -> Result<(), Fail> {
+    rows_hold::<Steps>(&rt, rt.alloc(), STEPS)
 }

@@ -2,7 +2,7 @@
 ghost use Rattle.std.specs.Prelude.{◌≡◌};
 ghost use Rattle.cts_ident.specs.Identification.{is_worker};
 
-use crate::read::{bytes_of, site_of};
+use crate::read::{Answers, bytes_of, cut, rows_hold, site_of};
 use cts_def::{FIRST_SLOT, Ident, Site};
 use cts_ident::{identify, identify_command, named};
 use std::alloc::{AllocError, Global};
@@ -28,50 +28,50 @@ ROUTER Q tcpip_server_interface.rb 5 5 nil nil;ROUTE J;ROUTE I";
 
 /// An interface, the bytes of a packet, and which it is.
 const PACKETS: &str = "\
-0 0105 Known(0)
-0 01050607 Known(0)
-0 01 Known(0)
-0 02 Unknown
-0 0201 Unknown
-0  Unknown
-1 00ff Known(2)
-1 ffff00 Known(2)
-1 0102 Known(3)
-1 01ff Known(2)
-1 0105 Unknown
-1 01 Unknown
-1 00 Unknown
-1  Unknown
-2  Known(4)
-2 0105 Known(4)";
+0 0105|Known(0)
+0 01050607|Known(0)
+0 01|Known(0)
+0 02|Unknown
+0 0201|Unknown
+0 |Unknown
+1 00ff|Known(2)
+1 ffff00|Known(2)
+1 0102|Known(3)
+1 01ff|Known(2)
+1 0105|Unknown
+1 01|Unknown
+1 00|Unknown
+1 |Unknown
+2 |Known(4)
+2 0105|Known(4)";
 
 /// A router, the bytes of a command, and which it is.
 const COMMANDS: &str = "\
-0 07 Known(1)
-0 09 Known(2)
-0 0900 Known(2)
-1 07 Known(0)
-1 09 Known(2)
-1 08 Unknown
-1  Unknown";
+0 07|Known(1)
+0 09|Known(2)
+0 0900|Known(2)
+1 07|Known(0)
+1 09|Known(2)
+1 08|Unknown
+1 |Unknown";
 
 /// A worker, a target and a name, and which packet or command it is.
 const NAMES: &str = "\
-0 t b Known(1)
-0 T A Known(0)
-0 T AA Unknown
-0 T  Unknown
-0 U C Unknown
-1 U c Known(2)
-1 u D Known(3)
-2 V E Known(4)
-0 T X Unknown
-16 u Y Known(1)
-17 U z Known(2)
-16 T X Unknown
-18 t x Known(0)
-19 T X Known(0)
-19 T A Unknown";
+0 t b|Known(1)
+0 T A|Known(0)
+0 T AA|Unknown
+0 T |Unknown
+0 U C|Unknown
+1 U c|Known(2)
+1 u D|Known(3)
+2 V E|Known(4)
+0 T X|Unknown
+16 u Y|Known(1)
+17 U z|Known(2)
+16 T X|Unknown
+18 t x|Known(0)
+19 T X|Known(0)
+19 T A|Unknown";
 
 fn identified(site: &Site, interface: u32, bytes: &[u8]) -> Option<Ident> {
     if (interface as usize) < site.interfaces.as_slice().len() {
@@ -114,54 +114,56 @@ fn shown(alloc: Global, ident: Option<Ident>) -> Result<String, AllocError> {
     }
 }
 
-/// The number and the two texts behind it of a row.
-fn parts(row: &str) -> Result<(u32, &str, &str), Fail> {
-    let Some((number, rest)) = row.split_once(' ') else {
-        return Err(Fail::new("no row"));
-    };
-    let Some((front, last)) = rest.rsplit_once(' ') else {
-        return Err(Fail::new("no row"));
-    };
-    match number.parse::<u32>() {
-        Ok(number) => Ok((number, front, last)),
-        Err(_) => Err(Fail::new("no number")),
+/// The number and the text behind it of a row.
+fn parts(row: &str) -> Result<(u32, &str), Fail> {
+    let (number, rest) = cut(row, ' ')?;
+    Ok((number.parse::<u32>()?, rest))
+}
+
+struct Packets;
+
+impl Answers for Packets {
+    fn answer(alloc: Global, asked: &str) -> Result<String, Fail> {
+        let (interface, digits) = parts(asked)?;
+        let bytes = bytes_of(alloc, digits)?;
+        let site = site_of(alloc, DEFINITIONS, SITE)?;
+        Ok(shown(alloc, identified(&site, interface, &bytes))?)
     }
 }
 
 #[test]
 fn a_packet_is_the_first_whose_ids_it_has(rt: HostRuntime) -> Result<(), Fail> {
-    let site = site_of(rt.alloc(), DEFINITIONS, SITE)?;
-    for row in PACKETS.lines() {
-        let (interface, digits, want) = parts(row)?;
-        let bytes = bytes_of(rt.alloc(), digits)?;
-        let found = shown(rt.alloc(), identified(&site, interface, &bytes))?;
-        assert_eq!(rt; found.as_str(), want, "at {row}");
+    rows_hold::<Packets>(&rt, rt.alloc(), PACKETS)
+}
+
+struct Commands;
+
+impl Answers for Commands {
+    fn answer(alloc: Global, asked: &str) -> Result<String, Fail> {
+        let (router, digits) = parts(asked)?;
+        let bytes = bytes_of(alloc, digits)?;
+        let site = site_of(alloc, DEFINITIONS, SITE)?;
+        Ok(shown(alloc, identified_command(&site, router, &bytes))?)
     }
-    Ok(())
 }
 
 #[test]
 fn a_command_is_of_the_targets_that_a_router_reaches(rt: HostRuntime) -> Result<(), Fail> {
-    let site = site_of(rt.alloc(), DEFINITIONS, SITE)?;
-    for row in COMMANDS.lines() {
-        let (router, digits, want) = parts(row)?;
-        let bytes = bytes_of(rt.alloc(), digits)?;
-        let found = shown(rt.alloc(), identified_command(&site, router, &bytes))?;
-        assert_eq!(rt; found.as_str(), want, "at {row}");
+    rows_hold::<Commands>(&rt, rt.alloc(), COMMANDS)
+}
+
+struct Names;
+
+impl Answers for Names {
+    fn answer(alloc: Global, asked: &str) -> Result<String, Fail> {
+        let (by, names) = parts(asked)?;
+        let (target, packet) = cut(names, ' ')?;
+        let site = site_of(alloc, DEFINITIONS, SITE)?;
+        Ok(shown(alloc, named_of(&site, by, target, packet))?)
     }
-    Ok(())
 }
 
 #[test]
 fn names_are_those_of_a_worker_in_any_case(rt: HostRuntime) -> Result<(), Fail> {
-    let site = site_of(rt.alloc(), DEFINITIONS, SITE)?;
-    for row in NAMES.lines() {
-        let (by, names, want) = parts(row)?;
-        let Some((target, packet)) = names.split_once(' ') else {
-            return Err(Fail::new("no names"));
-        };
-        let found = shown(rt.alloc(), named_of(&site, by, target, packet))?;
-        assert_eq!(rt; found.as_str(), want, "at {row}");
-    }
-    Ok(())
+    rows_hold::<Names>(&rt, rt.alloc(), NAMES)
 }

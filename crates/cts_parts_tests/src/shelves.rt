@@ -1,4 +1,5 @@
 // Shelves of boxes.
+use cts_def::Kind;
 use cts_fixed::Fixed;
 use cts_preid::Preidentified;
 use cts_proto::{Boxed, Shelf};
@@ -13,13 +14,30 @@ fn put(shelf: &mut Shelf, protocol: Boxed) -> Result<(), Fail> {
     }
 }
 
+/// Puts a box of a kind on the shelf.
+fn stock(alloc: Global, shelf: &mut Shelf, kind: Kind) -> Result<(), Fail> {
+    match kind {
+        Kind::Burst => put(shelf, Box::new(alloc, Burst::blank(alloc))?),
+        Kind::Fixed => put(shelf, Box::new(alloc, Fixed::blank(alloc))?),
+        Kind::Length => put(shelf, Box::new(alloc, Length::blank(alloc))?),
+        Kind::Terminated => put(shelf, Box::new(alloc, Terminated::blank(alloc))?),
+        Kind::Preidentified => put(shelf, Box::new(alloc, Preidentified::blank(alloc))?),
+    }
+}
+
+const KINDS: [Kind; 5] = [
+    Kind::Burst,
+    Kind::Fixed,
+    Kind::Length,
+    Kind::Terminated,
+    Kind::Preidentified,
+];
+
 /// A shelf with one box of each kind.
 pub fn stocked(alloc: Global) -> Result<Shelf, Fail> {
     let mut shelf = Shelf::new(alloc);
-    put(&mut shelf, Box::new(alloc, Burst::blank(alloc))?)?;
-    put(&mut shelf, Box::new(alloc, Fixed::blank(alloc))?)?;
-    put(&mut shelf, Box::new(alloc, Length::blank(alloc))?)?;
-    put(&mut shelf, Box::new(alloc, Terminated::blank(alloc))?)?;
-    put(&mut shelf, Box::new(alloc, Preidentified::blank(alloc))?)?;
+    for kind in KINDS {
+        stock(alloc, &mut shelf, kind)?;
+    }
     Ok(shelf)
 }

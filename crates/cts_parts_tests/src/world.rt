@@ -3,17 +3,16 @@ ghost use Rattle.std.specs.Prelude.{◌≡◌, true, IfOk};
 ghost use Rattle.std.specs.Arc.{arc_value};
 ghost use Rattle.cts_core.specs.Built.{is_built_site};
 
-use crate::read::{SITE, bytes_of, site_of};
+use crate::read::{Answers, SITE, as_text, bytes_of, cut, rows_hold, same, site_of};
 use crate::shelves::stocked;
 use cts_base::{Bytes, List};
 use cts_chain::{Chain, ChainFault};
 use cts_core::{Framer, Supplier, World, WorldFault, is_built_event, is_built_site};
-use cts_def::{Kind, Site, Time};
-use cts_entry::{Effect, Event, Why};
+use cts_def::{Site, Time};
+use cts_entry::{Effect, Entry, Event, Why};
 use cts_proto::Shelf;
 use cts_script::entry_lines;
 use std::alloc::Global;
-use std::process::Abort;
 use std::sync::Arc;
 use std::test::Fail;
 
@@ -27,10 +26,10 @@ const NO_TIME: Time = Time {
     micros: 1_000_000,
 };
 
-fn built_site(alloc: Global) -> Result<Arc<Site>, Fail>
+fn built_site(alloc: Global, definitions: &str, site: &str) -> Result<Arc<Site>, Fail>
     ensures { IfOk result (λ site. is_built_site (arc_value site) ≡ true) }
 {
-    let site = site_of(alloc, "", SITE)?;
+    let site = site_of(alloc, definitions, site)?;
     if is_built_site(&site) {
         Ok(Arc::new(alloc, site)?)
     } else {
@@ -38,114 +37,27 @@ fn built_site(alloc: Global) -> Result<Arc<Site>, Fail>
     }
 }
 
-/// What the world answers to an event, in words.
-fn answer<C: Framer>(alloc: Global, world: &mut World<C>, event: &Event) -> Result<String, Fail> {
-    if !is_built_event(event) {
-        return Err(Fail::new("not built"));
-    }
-    match world.step(event) {
-        Ok(Effect::Posted) => Ok(format!(in alloc; "posted")?),
-        Ok(Effect::Tried { front, text }) => {
-            let text = str::from_utf8(text.as_slice())?;
-            Ok(format!(in alloc; "tried {front} {text}")?)
-        }
-        Ok(_) => Err(Fail::new("another effect")),
-        Err(fault) => Ok(format!(in alloc; "{fault:?}")?),
+/// The event of a row: the clock is set to second 5 or to no time of a clock, the interface opens, a piece comes, the interface
+/// ends by a stop, one that there is not by its peer, the server is stopped, or a trial.
+fn event_of(alloc: Global, text: &str) -> Result<Event, Fail> {
+    match text {
+        "time" => Ok(Event::SetTime(TIME)),
+        "no time" => Ok(Event::SetTime(NO_TIME)),
+        "opens" => Ok(Event::Opens(0)),
+        "ends" => Ok(Event::Finish(0, Why::Stopped)),
+        "other ends" => Ok(Event::Finish(5, Why::PeerEnded)),
+        "stop" => Ok(Event::Stop),
+        _ => long_event_of(alloc, text),
     }
 }
 
-fn does<C: Framer, R: Abort + AllocGlobal>(
-    rt: &R,
-    world: &mut World<C>,
-    event: &Event,
-    want: &str,
-) -> Result<(), Fail> {
-    let found = answer(rt.alloc(), world, event)?;
-    assert_eq!(rt; found.as_str(), want);
-    Ok(())
-}
-
-/// A world of the one interface, with boxes from a shelf.
-fn world_of<C: Framer, B: Supplier<C>>(alloc: Global, shelf: &mut B) -> Result<World<C>, Fail> {
-    match World::new(alloc, built_site(alloc)?, shelf) {
-        Ok(world) => Ok(world),
-        Err(_) => Err(Fail::new("no world")),
+fn long_event_of(alloc: Global, text: &str) -> Result<Event, Fail> {
+    let (word, rest) = cut(text, ' ')?;
+    match word {
+        "piece" => Ok(Event::Piece(0, Bytes::of(bytes_of(alloc, rest)?))),
+        "try" => trial(alloc, rest),
+        _ => Err(Fail::new("no event")),
     }
-}
-
-fn clock_and_stop<C: Framer, B: Supplier<C>, R: Abort + AllocGlobal>(
-    rt: &R,
-    shelf: &mut B,
-) -> Result<(), Fail> {
-    let mut world: World<C> = world_of(rt.alloc(), shelf)?;
-    does(rt, &mut world, &Event::SetTime(TIME), "posted")?;
-    does(rt, &mut world, &Event::SetTime(NO_TIME), "NotEnabled")?;
-    does(rt, &mut world, &Event::Stop, "posted")?;
-    does(rt, &mut world, &Event::Stop, "NotEnabled")?;
-    does(rt, &mut world, &Event::Opens(0), "NotEnabled")?;
-    let entries = world.hall().entries();
-    assert!(rt; entries.len() == 1 && entries[0].time == TIME);
-    Ok(())
-}
-
-#[test]
-fn the_clock_is_set_and_nothing_opens_after_a_stop(rt: HostRuntime) -> Result<(), Fail> {
-    clock_and_stop::<Chain, Shelf, HostRuntime>(&rt, &mut stocked(rt.alloc())?)
-}
-
-fn end_by_stop<C: Framer, B: Supplier<C>, R: Abort + AllocGlobal>(
-    rt: &R,
-    shelf: &mut B,
-) -> Result<(), Fail> {
-    let mut world: World<C> = world_of(rt.alloc(), shelf)?;
-    does(rt, &mut world, &Event::Opens(0), "posted")?;
-    let end = Event::Finish(0, Why::Stopped);
-    does(rt, &mut world, &end, "NotEnabled")?;
-    does(rt, &mut world, &Event::Stop, "posted")?;
-    does(rt, &mut world, &end, "posted")?;
-    does(rt, &mut world, &end, "NotEnabled")?;
-    assert_eq!(rt; world.hall().count(), 3);
-    Ok(())
-}
-
-#[test]
-fn a_connection_ends_by_a_stop_only_behind_one(rt: HostRuntime) -> Result<(), Fail> {
-    end_by_stop::<Chain, Shelf, HostRuntime>(&rt, &mut stocked(rt.alloc())?)
-}
-
-/// A world whose history takes one entry and ten bytes, in which the one interface is connected.
-fn full_world<C: Framer, B: Supplier<C>, R: Abort + AllocGlobal>(
-    rt: &R,
-    shelf: &mut B,
-) -> Result<World<C>, Fail> {
-    let alloc = rt.alloc();
-    let Ok(mut world) = World::with_limits(alloc, built_site(alloc)?, shelf, 1, 10) else {
-        return Err(Fail::new("no world"));
-    };
-    does(rt, &mut world, &Event::Opens(0), "posted")?;
-    Ok(world)
-}
-
-fn full_for_good<C: Framer, B: Supplier<C>, R: Abort + AllocGlobal>(
-    rt: &R,
-    shelf: &mut B,
-) -> Result<(), Fail> {
-    let alloc = rt.alloc();
-    let mut world: World<C> = full_world(rt, shelf)?;
-    let part = Event::Piece(0, Bytes::copy(alloc, b"\x00")?);
-    does(rt, &mut world, &part, "posted")?;
-    let frame = Event::Piece(0, Bytes::copy(alloc, b"\x03\x07")?);
-    let full = "Full { entries: 1, bytes: 0 }";
-    does(rt, &mut world, &frame, full)?;
-    does(rt, &mut world, &Event::Stop, full)?;
-    does(rt, &mut world, &Event::Finish(5, Why::PeerEnded), full)?;
-    assert_eq!(rt; world.hall().count(), 1);
-    Ok(())
-}
-
-#[test]
-fn a_world_whose_history_was_full_says_so_for_good(rt: HostRuntime) -> Result<(), Fail> {
-    full_for_good::<Chain, Shelf, HostRuntime>(&rt, &mut stocked(rt.alloc())?)
 }
 
 fn trial(alloc: Global, words: &str) -> Result<Event, Fail> {
@@ -156,62 +68,47 @@ fn trial(alloc: Global, words: &str) -> Result<Event, Fail> {
     Ok(Event::Try(List::of(held)))
 }
 
-fn trials_when_full<C: Framer, B: Supplier<C>, R: Abort + AllocGlobal>(
-    rt: &R,
-    shelf: &mut B,
-) -> Result<(), Fail> {
-    let alloc = rt.alloc();
-    let mut world: World<C> = full_world(rt, shelf)?;
-    let set = trial(alloc, "SET DEFAULT")?;
-    does(rt, &mut world, &set, "tried 1 History full")?;
-    let set = trial(alloc, "SET NIGHT")?;
-    does(rt, &mut world, &set, "tried 1 Unknown limits set")?;
-    let value = trial(alloc, "TLM RAW T A V")?;
-    does(rt, &mut world, &value, "tried 1 Unknown target")?;
-    does(rt, &mut world, &Event::Stop, "posted")?;
-    assert_eq!(rt; world.hall().count(), 2);
-    Ok(())
-}
-
-#[test]
-fn a_trial_of_a_full_history_says_so_and_the_world_goes_on(rt: HostRuntime) -> Result<(), Fail> {
-    trials_when_full::<Chain, Shelf, HostRuntime>(&rt, &mut stocked(rt.alloc())?)
-}
-
-/// Protocols, the pieces of one connection, and the lines of the history.
-const CHAINS: &str = "\
-BURST|0105060708|0 0.000000 I OPENED;1 0.000000 I PACKET T A 0105060708;
-PREIDENTIFIED 0xab|ab000000050000000601540141000000030205 06|0 0.000000 I OPENED;1 5.000006 I PACKET T A 020506;
-TERMINATED 0x0a 0x0a;PROTOCOL READ LENGTH 0 8 0 1|03110a00 0a01|0 0.000000 I OPENED;1 0.000000 I PACKET UNKNOWN UNKNOWN 031100;
-TERMINATED 0x0a 0x0a;PROTOCOL READ LENGTH 0 8 0 1|000a020a01|0 0.000000 I OPENED;1 0.000000 I CLOSED BAD 2 SHORT 0 held 1 2 0 0 skipped 0 empty 0 unposted 0 unsent 0;";
-
-/// What the history says after the pieces came by the one interface.
-fn told_by<C: Framer, B: Supplier<C>>(
-    alloc: Global,
-    protocols: &str,
-    pieces: &str,
-    shelf: &mut B,
-) -> Result<String, Fail> {
-    let text = format!(in alloc;
-        "INTERFACE I tcpip_client_interface.rb h 1 1 10.0 nil {protocols};TARGET T"
-    )?;
-    let site = site_of(
-        alloc,
-        "TELEMETRY T A BIG_ENDIAN;APPEND_ID_ITEM K 8 UINT 1",
-        text.as_str(),
-    )?;
-    if !is_built_site(&site) {
+/// What the world answers to an event, in words.
+fn answer<C: Framer>(alloc: Global, world: &mut World<C>, event: &Event) -> Result<String, Fail> {
+    if !is_built_event(event) {
         return Err(Fail::new("not built"));
     }
-    let Ok(mut world) = World::new(alloc, Arc::new(alloc, site)?, shelf) else {
-        return Err(Fail::new("no world"));
-    };
-    let _ = answer(alloc, &mut world, &Event::Opens(0))?;
-    for piece in pieces.split(' ') {
-        let piece = Event::Piece(0, Bytes::of(bytes_of(alloc, piece)?));
-        let _ = answer(alloc, &mut world, &piece)?;
+    answer_text(alloc, world.step(event))
+}
+
+fn answer_text(alloc: Global, answer: Result<Effect, WorldFault>) -> Result<String, Fail> {
+    match answer {
+        Ok(Effect::Posted) => Ok(format!(in alloc; "posted")?),
+        Ok(Effect::Tried { front, text }) => {
+            let text = as_text(text.as_slice())?;
+            Ok(format!(in alloc; "tried {front} {text}")?)
+        }
+        Ok(_) => Err(Fail::new("another effect")),
+        Err(fault) => Ok(format!(in alloc; "{fault:?}")?),
     }
-    lines_of(alloc, &world)
+}
+
+/// Appends the answer to an event, with `;` behind it.
+fn tell<C: Framer>(
+    alloc: Global,
+    world: &mut World<C>,
+    text: &str,
+    out: &mut String,
+) -> Result<(), Fail> {
+    let event = event_of(alloc, text)?;
+    let answer = answer(alloc, world, &event)?;
+    out.push_str(answer.as_str())?;
+    Ok(out.push(';')?)
+}
+
+/// The answers to these events, and the lines of the history behind them.
+fn told<C: Framer>(alloc: Global, mut world: World<C>, events: &str) -> Result<String, Fail> {
+    let mut out = String::new(alloc);
+    for text in events.split(';') {
+        tell(alloc, &mut world, text, &mut out)?;
+    }
+    let lines = lines_of(alloc, &world)?;
+    Ok(format!(in alloc; "{out} {lines}")?)
 }
 
 /// The lines of a world's history, each with `;` in the place of its line end.
@@ -219,40 +116,133 @@ fn lines_of<C: Framer>(alloc: Global, world: &World<C>) -> Result<String, Fail> 
     let hall = world.hall();
     let mut out = String::new(alloc);
     for (n, entry) in hall.entries().iter().enumerate() {
-        let line = entry_lines(alloc, hall.site(), n as u64, entry, &[])?;
-        out.push_str(str::from_utf8(line.as_slice())?.trim_end())?;
-        out.push(';')?;
+        tell_line(alloc, hall.site(), n as u64, entry, &mut out)?;
     }
     Ok(out)
+}
+
+fn tell_line(
+    alloc: Global,
+    site: &Site,
+    n: u64,
+    entry: &Entry,
+    out: &mut String,
+) -> Result<(), Fail> {
+    let line = entry_lines(alloc, site, n, entry, &[])?;
+    out.push_str(as_text(line.as_slice())?.trim_end())?;
+    Ok(out.push(';')?)
+}
+
+/// The events of a world of the one interface, the answers to them, and the lines of its history: the clock is set, and nothing
+/// opens after a stop; a connection ends by a stop only behind one.
+const EVENTS: &str = "\
+time;no time;stop;stop;opens|posted;NotEnabled;posted;NotEnabled;NotEnabled; 0 5.000007 SERVER STOP;
+opens;ends;stop;ends;ends|posted;NotEnabled;posted;posted;NotEnabled; 0 0.000000 I OPENED;1 0.000000 SERVER STOP;2 0.000000 I CLOSED STOP held 0 0 0 0 skipped 0 empty 0 unposted 0 unsent 0;";
+
+struct Events;
+
+impl Answers for Events {
+    fn answer(alloc: Global, asked: &str) -> Result<String, Fail> {
+        told_of::<Chain, Shelf>(
+            alloc,
+            built_site(alloc, "", SITE)?,
+            asked,
+            &mut stocked(alloc)?,
+        )
+    }
+}
+
+fn told_of<C: Framer, B: Supplier<C>>(
+    alloc: Global,
+    site: Arc<Site>,
+    events: &str,
+    shelf: &mut B,
+) -> Result<String, Fail>
+    requires { is_built_site (arc_value site) ≡ true }
+{
+    match World::new(alloc, site, shelf) {
+        Ok(world) => told::<C>(alloc, world, events),
+        Err(_) => Err(Fail::new("no world")),
+    }
+}
+
+#[test]
+fn events_are_answered_where_they_may_come(rt: HostRuntime) -> Result<(), Fail> {
+    rows_hold::<Events>(&rt, rt.alloc(), EVENTS)
+}
+
+/// The same of a world whose history takes one entry and ten bytes: where it was full it says so for good, but a trial of a full
+/// history only says so.
+const FULL: &str = "\
+opens;piece 00;piece 0307;stop;other ends|posted;posted;Full { entries: 1, bytes: 0 };Full { entries: 1, bytes: 0 };Full { entries: 1, bytes: 0 }; 0 0.000000 I OPENED;
+opens;try SET DEFAULT;try SET NIGHT;try TLM RAW T A V;stop|posted;tried 1 History full;tried 1 Unknown limits set;tried 1 Unknown target;posted; 0 0.000000 I OPENED;1 0.000000 SERVER STOP;";
+
+struct Full;
+
+impl Answers for Full {
+    fn answer(alloc: Global, asked: &str) -> Result<String, Fail> {
+        told_of_full::<Chain, Shelf>(alloc, asked, &mut stocked(alloc)?)
+    }
+}
+
+fn told_of_full<C: Framer, B: Supplier<C>>(
+    alloc: Global,
+    events: &str,
+    shelf: &mut B,
+) -> Result<String, Fail> {
+    match World::with_limits(alloc, built_site(alloc, "", SITE)?, shelf, 1, 10) {
+        Ok(world) => told::<C>(alloc, world, events),
+        Err(_) => Err(Fail::new("no world")),
+    }
+}
+
+#[test]
+fn a_world_with_a_full_history_says_so(rt: HostRuntime) -> Result<(), Fail> {
+    rows_hold::<Full>(&rt, rt.alloc(), FULL)
+}
+
+/// The same of a world whose interface has a target, behind protocols: packets bring their own time and names, and chains end with
+/// all losses.
+const CHAINS: &str = "\
+BURST|opens;piece 0105060708|posted;posted; 0 0.000000 I OPENED;1 0.000000 I PACKET T A 0105060708;
+PREIDENTIFIED 0xab|opens;piece ab000000050000000601540141000000030205;piece 06|posted;posted;posted; 0 0.000000 I OPENED;1 5.000006 I PACKET T A 020506;
+TERMINATED 0x0a 0x0a;PROTOCOL READ LENGTH 0 8 0 1|opens;piece 03110a00;piece 0a01|posted;posted;posted; 0 0.000000 I OPENED;1 0.000000 I PACKET UNKNOWN UNKNOWN 031100;
+TERMINATED 0x0a 0x0a;PROTOCOL READ LENGTH 0 8 0 1|opens;piece 000a020a01|posted;posted; 0 0.000000 I OPENED;1 0.000000 I CLOSED BAD 2 SHORT 0 held 1 2 0 0 skipped 0 empty 0 unposted 0 unsent 0;";
+
+struct Chains;
+
+impl Answers for Chains {
+    fn answer(alloc: Global, asked: &str) -> Result<String, Fail> {
+        let (protocols, events) = cut(asked, '|')?;
+        let site = site_with(alloc, protocols)?;
+        told_of::<Chain, Shelf>(alloc, site, events, &mut stocked(alloc)?)
+    }
+}
+
+fn site_with(alloc: Global, protocols: &str) -> Result<Arc<Site>, Fail>
+    ensures { IfOk result (λ site. is_built_site (arc_value site) ≡ true) }
+{
+    let definitions = "TELEMETRY T A BIG_ENDIAN;APPEND_ID_ITEM K 8 UINT 1";
+    let site = format!(in alloc;
+        "INTERFACE I tcpip_client_interface.rb h 1 1 10.0 nil {protocols};TARGET T"
+    )?;
+    built_site(alloc, definitions, site.as_str())
 }
 
 #[test]
 fn packets_bring_their_own_time_and_names_and_chains_end_with_all_losses(
     rt: HostRuntime,
 ) -> Result<(), Fail> {
-    let alloc = rt.alloc();
-    for row in CHAINS.lines() {
-        let Some((protocols, rest)) = row.split_once('|') else {
-            return Err(Fail::new("no bar"));
-        };
-        let Some((pieces, wanted)) = rest.split_once('|') else {
-            return Err(Fail::new("no bar"));
-        };
-        let told = told_by::<Chain, Shelf>(alloc, protocols, pieces, &mut stocked(alloc)?)?;
-        assert_eq!(rt; told.as_str(), wanted, "{row}");
-    }
-    Ok(())
+    rows_hold::<Chains>(&rt, rt.alloc(), CHAINS)
 }
 
-/// Whether the first kind that is short over all interfaces is told.
+/// Two interfaces whose chains need a box of TERMINATED each.
+const TWO: &str =
+    "INTERFACE I tcpip_client_interface.rb h 1 1 10.0 nil TERMINATED 0x0a 0x0a;INTERFACE J tcpip_client_interface.rb h 2 2 10.0 nil TERMINATED 0x0a 0x0a";
+
+/// The first kind that is short over all interfaces.
 fn short_of<C: Framer, B: Supplier<C>>(alloc: Global, shelf: &mut B) -> Result<ChainFault, Fail> {
-    let text =
-        "INTERFACE I tcpip_client_interface.rb h 1 1 10.0 nil TERMINATED 0x0a 0x0a;INTERFACE J tcpip_client_interface.rb h 2 2 10.0 nil TERMINATED 0x0a 0x0a";
-    let site = site_of(alloc, "", text)?;
-    if !is_built_site(&site) {
-        return Err(Fail::new("not built"));
-    }
-    match World::new(alloc, Arc::new(alloc, site)?, shelf) {
+    match World::new(alloc, built_site(alloc, "", TWO)?, shelf) {
         Ok(_) => Err(Fail::new("a world")),
         Err(fault) => Ok(fault),
     }
@@ -260,14 +250,9 @@ fn short_of<C: Framer, B: Supplier<C>>(alloc: Global, shelf: &mut B) -> Result<C
 
 #[test]
 fn a_kind_of_which_all_interfaces_need_more_boxes_is_told(rt: HostRuntime) -> Result<(), Fail> {
-    let alloc = rt.alloc();
-    assert_eq!(rt;
-        short_of::<Chain, Shelf>(alloc, &mut stocked(alloc)?)?,
-        ChainFault::ShelfEmpty {
-            kind: Kind::Terminated,
-            needed: 2,
-            stocked: 1
-        }
-    );
+    let fault = short_of::<Chain, Shelf>(rt.alloc(), &mut stocked(rt.alloc())?)?;
+    let found = format!(in rt.alloc(); "{fault:?}")?;
+    let wanted = "ShelfEmpty { kind: Terminated, needed: 2, stocked: 1 }";
+    same(&rt, found.as_str(), wanted, TWO);
     Ok(())
 }

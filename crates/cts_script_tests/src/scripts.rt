@@ -1,12 +1,10 @@
 // What no clause says: worked scripts with their events, which lines are refused and why, and that reading succeeds where
 // there is memory.
-use crate::read::{lines, site};
-use cts_def::Site;
+use crate::read::{Answers, lines, rows_hold, same, site};
 use cts_entry::Event;
 use cts_scriptread::{ScriptFault, read_events, read_script};
 use cts_words::statements;
 use std::alloc::{AllocError, Global};
-use std::process::Abort;
 use std::test::Fail;
 
 /// Each row has the events with their lines, a bar, and a script whose lines end with `;`.
@@ -123,11 +121,16 @@ fn shown(alloc: Global, event: &Event) -> Result<String, AllocError> {
     }
 }
 
+/// Appends an event with its line.
+fn tell(alloc: Global, line: u32, event: &Event, out: &mut String) -> Result<(), AllocError> {
+    let event = shown(alloc, event)?;
+    out.push_str(format!(in alloc; "{line} {event},")?.as_str())
+}
+
 fn all_shown(alloc: Global, events: &[(u32, Event)]) -> Result<String, AllocError> {
     let mut out = String::new(alloc);
     for (line, event) in events {
-        let event = shown(alloc, event)?;
-        out.push_str(format!(in alloc; "{line} {event},")?.as_str())?;
+        tell(alloc, *line, event, &mut out)?;
     }
     Ok(out)
 }
@@ -140,61 +143,85 @@ fn answer(alloc: Global, found: Result<Vec<(u32, Event)>, ScriptFault>) -> Resul
     }
 }
 
-/// The events of a text, or the line and the cause of its refusal.
-fn outcome(alloc: Global, text: &[u8], site: &Site) -> Result<String, Fail> {
+/// The events of a text over the site.
+fn events_of(alloc: Global, text: &[u8]) -> Result<Result<Vec<(u32, Event)>, ScriptFault>, Fail> {
     if text.len() > 1_000_000 {
         return Err(Fail::new("too large"));
     }
-    answer(alloc, read_script(alloc, text, site))
+    Ok(read_script(alloc, text, &site(alloc)?))
 }
 
-fn compare(rt: &impl Abort, alloc: Global, rows: &str) -> Result<(), Fail> {
-    let site = site(alloc)?;
-    for row in rows.lines() {
-        let Some((want, text)) = row.split_once('|') else {
-            return Err(Fail::new("no row"));
-        };
-        let text = lines(alloc, text)?;
-        let found = outcome(alloc, &text, &site)?;
-        assert_eq!(rt; found.as_str(), want, "at {row}");
+/// The events of a text, or the line and the cause of its refusal.
+fn outcome(alloc: Global, text: &[u8]) -> Result<String, Fail> {
+    answer(alloc, events_of(alloc, text)?)
+}
+
+/// What a script comes to.
+struct Scripts;
+
+impl Answers for Scripts {
+    fn answer(alloc: Global, asked: &str) -> Result<String, Fail> {
+        outcome(alloc, &lines(alloc, asked)?)
     }
-    Ok(())
 }
 
 #[test]
 fn each_line_says_its_event(rt: HostRuntime) -> Result<(), Fail> {
-    compare(&rt, rt.alloc(), EVENTS)
+    rows_hold::<Scripts>(&rt, rt.alloc(), EVENTS)
 }
 
 #[test]
 fn each_cause_has_its_line(rt: HostRuntime) -> Result<(), Fail> {
-    compare(&rt, rt.alloc(), CAUSES)
+    rows_hold::<Scripts>(&rt, rt.alloc(), CAUSES)
 }
 
 #[test]
 fn the_first_cause_and_the_first_line_count(rt: HostRuntime) -> Result<(), Fail> {
-    compare(&rt, rt.alloc(), ORDER)
+    rows_hold::<Scripts>(&rt, rt.alloc(), ORDER)
 }
 
 #[test]
 fn what_is_no_text_is_refused_at_line_0(rt: HostRuntime) -> Result<(), Fail> {
-    let site = site(rt.alloc())?;
-    let found = outcome(rt.alloc(), b"CONNECT\n\xff", &site)?;
-    assert_eq!(rt; found.as_str(), "0 WrongCount");
+    let found = outcome(rt.alloc(), b"CONNECT\n\xff")?;
+    same(&rt, found.as_str(), "0 WrongCount", "no text");
     Ok(())
+}
+
+/// What statements come to.
+fn told_of_statements(alloc: Global, text: &[u8]) -> Result<String, Fail> {
+    if text.len() > 1_000_000 {
+        return Err(Fail::new("too large"));
+    }
+    let found = statements(alloc, text)?;
+    answer(alloc, read_events(alloc, &found, &site(alloc)?))
 }
 
 #[test]
 fn statements_are_read_as_their_text(rt: HostRuntime) -> Result<(), Fail> {
-    let alloc = rt.alloc();
-    let site = site(alloc)?;
-    let found = statements(alloc, b"OPEN I\nSTOP\n")?;
-    let found = answer(alloc, read_events(alloc, &found, &site))?;
-    assert_eq!(rt; found.as_str(), "1 opens 0,2 stop,");
+    let found = told_of_statements(rt.alloc(), b"OPEN I\nSTOP\n")?;
+    same(&rt, found.as_str(), "1 opens 0,2 stop,", "two statements");
     Ok(())
 }
 
-/// A piece of so many digits for the first interface.
+/// What a piece of so many digits for the first interface comes to.
+const PIECES: &str = "\
+read|131072
+line 1: BadHex|131073
+line 1: PieceSize|131074
+line 1: BadHex|131075";
+
+struct Pieces;
+
+impl Answers for Pieces {
+    fn answer(alloc: Global, asked: &str) -> Result<String, Fail> {
+        let text = piece(alloc, asked.parse::<u32>()?)?;
+        match events_of(alloc, &text)? {
+            Ok(_) => Ok("read".to_string(alloc)?),
+            Err(fault) => Ok(format!(in alloc; "{fault}")?),
+        }
+    }
+}
+
 fn piece(alloc: Global, digits: u32) -> Result<Vec<u8>, AllocError> {
     let mut text = b"BYTES I ".to_vec(alloc)?;
     for _ in 0..digits {
@@ -203,28 +230,7 @@ fn piece(alloc: Global, digits: u32) -> Result<Vec<u8>, AllocError> {
     Ok(text)
 }
 
-fn is_read(alloc: Global, digits: u32) -> Result<String, Fail> {
-    let site = site(alloc)?;
-    let text = piece(alloc, digits)?;
-    if text.len() > 1_000_000 {
-        return Err(Fail::new("too large"));
-    }
-    match read_script(alloc, &text, &site) {
-        Ok(_) => Ok(format!(in alloc; "read")?),
-        Err(fault) => Ok(format!(in alloc; "{fault}")?),
-    }
-}
-
 #[test]
 fn a_piece_has_at_most_65536_bytes(rt: HostRuntime) -> Result<(), Fail> {
-    for (digits, want) in [
-        (131_072, "read"),
-        (131_073, "line 1: BadHex"),
-        (131_074, "line 1: PieceSize"),
-        (131_075, "line 1: BadHex"),
-    ] {
-        let found = is_read(rt.alloc(), digits)?;
-        assert_eq!(rt; found.as_str(), want, "of {digits}");
-    }
-    Ok(())
+    rows_hold::<Pieces>(&rt, rt.alloc(), PIECES)
 }

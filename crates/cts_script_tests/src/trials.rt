@@ -1,4 +1,5 @@
 // What trials ask, by the words behind their keyword.
+use crate::read::{Answers, rows_hold};
 use cts_base::{Bytes, Memory};
 use cts_scriptread::{Trial, trial_of};
 use std::alloc::{AllocError, Global};
@@ -49,16 +50,16 @@ fn shown(alloc: Global, trial: Option<Trial>) -> Result<String, AllocError> {
     }
 }
 
+struct Trials;
+
+impl Answers for Trials {
+    fn answer(alloc: Global, asked: &str) -> Result<String, Fail> {
+        let words = words_of(alloc, asked)?;
+        Ok(shown(alloc, trial_of(&words))?)
+    }
+}
+
 #[test]
 fn trials_ask_what_their_words_say(rt: HostRuntime) -> Result<(), Fail> {
-    let alloc = rt.alloc();
-    for row in ROWS.lines() {
-        let Some((want, words)) = row.split_once('|') else {
-            return Err(Fail::new("no row"));
-        };
-        let words = words_of(alloc, words)?;
-        let found = shown(alloc, trial_of(&words))?;
-        assert_eq!(rt; found.as_str(), want, "at {row}");
-    }
-    Ok(())
+    rows_hold::<Trials>(&rt, rt.alloc(), ROWS)
 }

@@ -1,4 +1,5 @@
 // Texts of commands: where they are refused, and which values are numbers.
+use crate::read::{Answers, as_text, rows_hold, same};
 use cts_cmd::{Given, Request, TextFault, parse};
 use std::alloc::Global;
 use std::test::Fail;
@@ -31,40 +32,57 @@ fn fault(alloc: Global, text: &str) -> Result<String, Fail> {
     }
 }
 
-#[test]
-fn texts_are_refused_at_the_first_place(rt: HostRuntime) -> Result<(), Fail> {
-    for row in FAULTS.split('\n') {
-        let (want, text) = row.split_once("|").ok_or("a row")?;
-        assert_eq!(rt; fault(rt.alloc(), text)?.as_str(), want, "of {text}");
+struct Faults;
+
+impl Answers for Faults {
+    fn answer(alloc: Global, asked: &str) -> Result<String, Fail> {
+        fault(alloc, asked)
     }
-    Ok(())
 }
 
-/// The parameters as they are given: a number behind `=`, a text behind `:`.
+#[test]
+fn texts_are_refused_at_the_first_place(rt: HostRuntime) -> Result<(), Fail> {
+    rows_hold::<Faults>(&rt, rt.alloc(), FAULTS)
+}
+
+/// Appends a parameter as it is given: a number behind `=`, a text behind `:`.
+fn tell_given(alloc: Global, name: &[u8], value: &Given, out: &mut String) -> Result<(), Fail> {
+    out.push_str(as_text(name)?)?;
+    let value = match value {
+        Given::Whole(number) => format!(in alloc; "={number};")?,
+        Given::Text(text) => format!(in alloc; ":{};", as_text(text.as_slice())?)?,
+    };
+    Ok(out.push_str(value.as_str())?)
+}
+
 fn given(alloc: Global, request: &Request) -> Result<String, Fail> {
     let mut said = String::new(alloc);
     for (name, value) in request.params.as_slice() {
-        said.push_str(str::from_utf8(name.as_slice())?)?;
-        let value = match value {
-            Given::Whole(number) => format!(in alloc; "={number};")?,
-            Given::Text(text) => format!(in alloc; ":{};", str::from_utf8(text.as_slice())?)?,
-        };
-        said.push_str(value.as_str())?;
+        tell_given(alloc, name.as_slice(), value, &mut said)?;
     }
     Ok(said)
+}
+
+/// The target, the command and the parameters of a text.
+fn request_text(alloc: Global, text: &str) -> Result<String, Fail> {
+    let Ok(request) = parse(alloc, text.as_bytes()) else {
+        return Err("no request".into());
+    };
+    let target = as_text(request.target.as_slice())?;
+    let command = as_text(request.command.as_slice())?;
+    let given = given(alloc, &request)?;
+    Ok(format!(in alloc; "{target} {command} {given}")?)
 }
 
 #[test]
 fn words_are_numbers_and_quotes_are_texts(rt: HostRuntime) -> Result<(), Fail> {
     let text = " T\ta-b WiTh B 0x10 ,'C' \"a, b\",D it's , E '' , F '5'\r";
-    let Ok(request) = parse(rt.alloc(), text.as_bytes()) else {
-        return Err("no request".into());
-    };
-    assert_eq!(rt; request.target.as_slice(), b"T".as_slice());
-    assert_eq!(rt; request.command.as_slice(), b"a-b".as_slice());
-    assert_eq!(rt;
-        given(rt.alloc(), &request)?.as_str(),
-        "B=16;'C':a, b;D:it's;E:;F:5;"
+    let found = request_text(rt.alloc(), text)?;
+    same(
+        &rt,
+        found.as_str(),
+        "T a-b B=16;'C':a, b;D:it's;E:;F:5;",
+        text,
     );
     Ok(())
 }

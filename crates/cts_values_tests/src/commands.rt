@@ -1,9 +1,8 @@
 // Commands built from texts, over definitions that were read.
-use crate::read::{cut, site_of};
-use cts_cmd::{Checks, Refused, TextFault, build, parse};
+use crate::read::{Answers, as_text, cut, rows_hold, site_of};
+use cts_cmd::{Checks, Refused, Request, TextFault, build, parse};
 use cts_def::Definitions;
 use std::alloc::Global;
-use std::process::Abort;
 use std::test::Fail;
 
 /// The command of the demo.
@@ -67,7 +66,7 @@ Hazardous|all|T B
 1 0100|none|T B with W 1";
 
 fn with_name(alloc: Global, what: &str, name: &[u8]) -> Result<String, Fail> {
-    Ok(format!(in alloc; "{what} {}", str::from_utf8(name)?)?)
+    Ok(format!(in alloc; "{what} {}", as_text(name)?)?)
 }
 
 fn refusal_text(alloc: Global, refused: &Refused) -> Result<String, Fail> {
@@ -93,18 +92,24 @@ fn refusal_text(alloc: Global, refused: &Refused) -> Result<String, Fail> {
 
 /// The number and the bytes of the command that a text builds, or why it does not.
 fn answer(alloc: Global, definitions: &Definitions, text: &str, all: bool) -> Result<String, Fail> {
-    let request = match parse(alloc, text.as_bytes()) {
-        Ok(request) => request,
-        Err(TextFault::Refused { place, cause }) => {
-            return Ok(format!(in alloc; "{place} {cause:?}")?);
-        }
-        Err(TextFault::Memory) => return Err(Fail::new("no memory")),
-    };
+    match parse(alloc, text.as_bytes()) {
+        Ok(request) => built(alloc, definitions, &request, all),
+        Err(TextFault::Refused { place, cause }) => Ok(format!(in alloc; "{place} {cause:?}")?),
+        Err(TextFault::Memory) => Err(Fail::new("no memory")),
+    }
+}
+
+fn built(
+    alloc: Global,
+    definitions: &Definitions,
+    request: &Request,
+    all: bool,
+) -> Result<String, Fail> {
     let checks = Checks {
         range: all,
         hazardous: all,
     };
-    match build(alloc, definitions, &request, checks) {
+    match build(alloc, definitions, request, checks) {
         Ok(built) => {
             let digits = hex::encode(alloc, built.bytes.as_slice())?;
             Ok(format!(in alloc; "{} {digits}", built.command)?)
@@ -113,27 +118,35 @@ fn answer(alloc: Global, definitions: &Definitions, text: &str, all: bool) -> Re
     }
 }
 
-fn texts_are_answered_so<R: Abort + AllocGlobal>(
-    rt: &R,
-    definitions: &str,
-    rows: &str,
-) -> Result<(), Fail> {
-    let site = site_of(rt.alloc(), definitions, "")?;
-    for row in rows.lines() {
-        let (want, rest) = cut(row)?;
-        let (checks, text) = cut(rest)?;
-        let answer = answer(rt.alloc(), &site.definitions, text, checks == "all")?;
-        assert_eq!(rt; answer.as_str(), want, "of {text}");
+/// What is answered to a text over these definitions, behind `all` or `none` of the checks.
+fn answer_of(alloc: Global, definitions: &str, asked: &str) -> Result<String, Fail> {
+    let (checks, text) = cut(asked)?;
+    let site = site_of(alloc, definitions, "")?;
+    answer(alloc, &site.definitions, text, checks == "all")
+}
+
+struct Collects;
+
+impl Answers for Collects {
+    fn answer(alloc: Global, asked: &str) -> Result<String, Fail> {
+        answer_of(alloc, COLLECT, asked)
     }
-    Ok(())
 }
 
 #[test]
 fn commands_of_the_demo_are_built(rt: HostRuntime) -> Result<(), Fail> {
-    texts_are_answered_so(&rt, COLLECT, COLLECTS)
+    rows_hold::<Collects>(&rt, rt.alloc(), COLLECTS)
+}
+
+struct Fields;
+
+impl Answers for Fields {
+    fn answer(alloc: Global, asked: &str) -> Result<String, Fail> {
+        answer_of(alloc, FIELDS, asked)
+    }
 }
 
 #[test]
 fn fields_hold_what_is_given_for_them(rt: HostRuntime) -> Result<(), Fail> {
-    texts_are_answered_so(&rt, FIELDS, FIELD_ROWS)
+    rows_hold::<Fields>(&rt, rt.alloc(), FIELD_ROWS)
 }

@@ -1,12 +1,12 @@
 // A hall over a site that was read: what is appended to it, looked up in it, and when it is full.
 ghost use Rattle.std.specs.Prelude.{◌≡◌, false, true};
 
-use crate::read::{bytes_of, cut, site_of};
+use crate::read::{Answers, as_text, bytes_of, cut, rows_hold, same, site_of};
 use cts_base::Bytes;
 use cts_conv::{Value, ValueKind, plain};
 use cts_def::{Ident, Loss, SERVER, Site, Time};
 use cts_entry::Why;
-use cts_table::{Counts, Hall, HallFault, Lookup};
+use cts_table::{Hall, HallFault, Lookup};
 use std::alloc::Global;
 use std::sync::Arc;
 use std::test::Fail;
@@ -103,53 +103,92 @@ fn looked_up(
     match found {
         Ok(value) => {
             let text = plain(alloc, &value)?;
-            Ok(str::from_utf8(text.as_slice())?.to_string(alloc)?)
+            Ok(as_text(text.as_slice())?.to_string(alloc)?)
         }
         Err(refusal) => Ok(format!(in alloc; "{refusal:?}")?),
     }
 }
 
+/// A hall of these limits, in which the one interface received the packets between blanks: each is the number of its definition,
+/// or `?`, in front of `:`, and digits behind it.
+fn hall_behind(alloc: Global, entries: u64, bytes: u64, packets: &str) -> Result<Hall, Fail> {
+    let mut hall = connected(alloc, entries, bytes)?;
+    for packet in packets.split(' ') {
+        receives_text(alloc, &mut hall, packet)?;
+    }
+    Ok(hall)
+}
+
+fn receives_text(alloc: Global, hall: &mut Hall, packet: &str) -> Result<(), Fail> {
+    let Some((ident, digits)) = packet.split_once(':') else {
+        return Err(Fail::new("no packet"));
+    };
+    receives(alloc, hall, ident_of(ident)?, digits)
+}
+
+fn ident_of(text: &str) -> Result<Ident, Fail> {
+    match text {
+        "?" => Ok(Ident::Unknown),
+        _ => Ok(Ident::Known(text.parse::<u32>()?)),
+    }
+}
+
+/// Packets A of two and of four bytes, and two that nothing defines.
+const RECEIVED: &str = "0:0105 0:01050607 ?:02 ?:";
+
+struct Lookups;
+
+impl Answers for Lookups {
+    fn answer(alloc: Global, asked: &str) -> Result<String, Fail> {
+        let (target, rest) = cut(asked)?;
+        let (packet, item) = cut(rest)?;
+        let hall = hall_behind(alloc, 100, 100, RECEIVED)?;
+        looked_up(alloc, &hall, target, packet, item)
+    }
+}
+
 #[test]
 fn values_are_looked_up(rt: HostRuntime) -> Result<(), Fail> {
-    let alloc = rt.alloc();
-    let mut hall = connected(alloc, 100, 100)?;
-    receives(alloc, &mut hall, Ident::Known(0), "0105")?;
-    receives(alloc, &mut hall, Ident::Known(0), "01050607")?;
-    receives(alloc, &mut hall, Ident::Unknown, "02")?;
-    receives(alloc, &mut hall, Ident::Unknown, "")?;
-    for row in LOOKUPS.lines() {
-        let (want, rest) = cut(row)?;
-        let (target, rest) = cut(rest)?;
-        let (packet, item) = cut(rest)?;
-        let found = looked_up(alloc, &hall, target, packet, item)?;
-        assert_eq!(rt; found.as_str(), want, "at {row}");
+    rows_hold::<Lookups>(&rt, rt.alloc(), LOOKUPS)
+}
+
+/// How many bytes the last packet of each definition has that was received.
+const CURRENT: &str = "\
+4|0
+none|1";
+
+struct Current;
+
+impl Answers for Current {
+    fn answer(alloc: Global, asked: &str) -> Result<String, Fail> {
+        let hall = hall_behind(alloc, 100, 100, RECEIVED)?;
+        match hall.current(asked.parse::<u32>()?) {
+            Some(bytes) => Ok(format!(in alloc; "{}", bytes.len())?),
+            None => Ok("none".to_string(alloc)?),
+        }
     }
-    assert_eq!(rt; hall.current(0).map(|b| b.len()), Some(4));
-    assert!(rt; hall.current(1).is_none());
-    Ok(())
+}
+
+#[test]
+fn the_last_packet_is_the_current_one(rt: HostRuntime) -> Result<(), Fail> {
+    rows_hold::<Current>(&rt, rt.alloc(), CURRENT)
+}
+
+/// How many packets A and how many that nothing defines came, were short and were long, and how many commands.
+fn counts_of(alloc: Global, hall: &Hall) -> Result<String, Fail> {
+    let a = hall.counts(Ident::Known(0));
+    let unknown = hall.counts(Ident::Unknown);
+    let commands = hall.command_count(0);
+    Ok(format!(in alloc; "{a:?} {unknown:?} {commands}")?)
 }
 
 #[test]
 fn short_and_long_packets_are_counted(rt: HostRuntime) -> Result<(), Fail> {
-    let alloc = rt.alloc();
-    let mut hall = connected(alloc, 100, 100)?;
-    for digits in ["0105", "01050607", "010506"] {
-        receives(alloc, &mut hall, Ident::Known(0), digits)?;
-    }
-    receives(alloc, &mut hall, Ident::Unknown, "")?;
-    let of_a = Counts {
-        received: 3,
-        short: 1,
-        long: 1,
-    };
-    assert_eq!(rt; hall.counts(Ident::Known(0)), of_a);
-    let unknown = Counts {
-        received: 1,
-        short: 0,
-        long: 0,
-    };
-    assert_eq!(rt; hall.counts(Ident::Unknown), unknown);
-    assert_eq!(rt; hall.command_count(0), 0);
+    let hall = hall_behind(rt.alloc(), 100, 100, "0:0105 0:01050607 0:010506 ?:")?;
+    let found = counts_of(rt.alloc(), &hall)?;
+    let wanted =
+        "Counts { received: 3, short: 1, long: 1 } Counts { received: 1, short: 0, long: 0 } 0";
+    same(&rt, found.as_str(), wanted, "the counts");
     Ok(())
 }
 
@@ -164,36 +203,31 @@ pub fn ends(hall: &mut Hall) {
     }
 }
 
+/// Whether there is room for an entry of no bytes, and what a stop and the end of the connection then leave: how many entries,
+/// whether all is stopped and the interface connected, and how many entries its history has.
+fn told_of_end(alloc: Global, mut hall: Hall) -> Result<String, Fail> {
+    let room = hall.room(1, 0);
+    ends(&mut hall);
+    let (count, stopped, connected) = (hall.count(), hall.stopped(), hall.connected(0));
+    let kept = hall.into_history().count();
+    Ok(format!(in alloc; "{room:?} {count} {stopped} {connected} {kept}")?)
+}
+
 #[test]
 fn a_full_hall_takes_what_is_owed(rt: HostRuntime) -> Result<(), Fail> {
-    let alloc = rt.alloc();
-    let mut hall = connected(alloc, 8, 100)?;
-    for _ in 0..7 {
-        receives(alloc, &mut hall, Ident::Unknown, "")?;
-    }
-    let full = HallFault::Full {
-        entries: 8,
-        bytes: 0,
-    };
-    assert_eq!(rt; hall.room(1, 0), Err(full));
-    ends(&mut hall);
-    assert_eq!(rt; hall.count(), 10);
-    assert!(rt; hall.stopped());
-    assert!(rt; !hall.connected(0));
-    assert_eq!(rt; hall.into_history().count(), 10);
+    let hall = hall_behind(rt.alloc(), 8, 100, "?: ?: ?: ?: ?: ?: ?:")?;
+    let found = told_of_end(rt.alloc(), hall)?;
+    let wanted = "Err(Full { entries: 8, bytes: 0 }) 10 true false 10";
+    same(&rt, found.as_str(), wanted, "a full hall");
     Ok(())
 }
 
 #[test]
 fn bytes_are_counted_against_their_limit(rt: HostRuntime) -> Result<(), Fail> {
-    let alloc = rt.alloc();
-    let mut hall = connected(alloc, 8, 3)?;
-    receives(alloc, &mut hall, Ident::Known(0), "0105")?;
-    assert_eq!(rt; hall.room(1, 1), Ok(()));
-    let full = HallFault::Full {
-        entries: 2,
-        bytes: 2,
-    };
-    assert_eq!(rt; hall.room(1, 2), Err(full));
+    let mut hall = hall_behind(rt.alloc(), 8, 3, "0:0105")?;
+    let (one, two) = (hall.room(1, 1), hall.room(1, 2));
+    let found = format!(in rt.alloc(); "{one:?} {two:?}")?;
+    let wanted = "Ok(()) Err(Full { entries: 2, bytes: 2 })";
+    same(&rt, found.as_str(), wanted, "room for a byte, and for two");
     Ok(())
 }

@@ -3,11 +3,11 @@ ghost use Rattle.std.specs.Prelude.{◌≡◌, ◌==◌, ◌&&◌};
 ghost use Rattle.cts_entry.specs.Legal.{has_ended, is_ended};
 
 use crate::halls::{NOW, ends, hall_of, receives};
-use crate::read::{bytes_of, cut};
-use cts_base::{Bytes, Decimal, Name};
-use cts_def::{Color, FIRST_DESK, Ident, Limits};
+use crate::read::{Answers, as_text, bytes_of, cut, rows_hold, same};
+use cts_base::{Bytes, Decimal, Name, print_decimal};
+use cts_def::{FIRST_DESK, Ident, Limits};
 use cts_entry::{Entry, What};
-use cts_table::{Hall, LimitsEvent, LimitsUsed, NoRoute};
+use cts_table::{Hall, LimitsEvent, LimitsUsed};
 use std::alloc::Global;
 use std::test::Fail;
 
@@ -171,73 +171,124 @@ fn hall_behind(alloc: Global, steps: &str) -> Result<Hall, Fail> {
     Ok(hall)
 }
 
+/// Appends an event.
+fn tell(alloc: Global, e: &LimitsEvent, out: &mut String) -> Result<(), Fail> {
+    let (at, packet, item) = (e.at, e.packet, e.item);
+    let text = format!(in alloc; "{at}:{packet}.{item} {:?} {:?};", e.before, e.after)?;
+    Ok(out.push_str(&text)?)
+}
+
 fn texts_of(alloc: Global, events: &[LimitsEvent]) -> Result<String, Fail> {
     let mut out = String::new(alloc);
-    for e in events {
-        let text = format!(in alloc;
-            "{}:{}.{} {:?} {:?};",
-            e.at, e.packet, e.item, e.before, e.after
-        )?;
-        out.push_str(&text)?;
+    for event in events {
+        tell(alloc, event, &mut out)?;
     }
     Ok(out)
 }
 
+struct Events;
+
+impl Answers for Events {
+    fn answer(alloc: Global, asked: &str) -> Result<String, Fail> {
+        let (from, steps) = cut(asked)?;
+        let from = if from == "2" { 2 } else { 0 };
+        let hall = hall_behind(alloc, steps)?;
+        texts_of(alloc, &hall.events(alloc, from)?)
+    }
+}
+
 #[test]
 fn states_change_at_their_entries(rt: HostRuntime) -> Result<(), Fail> {
-    let alloc = rt.alloc();
-    for row in EVENTS.lines() {
-        let (want, rest) = cut(row)?;
-        let (from, steps) = cut(rest)?;
-        let hall = hall_behind(alloc, steps)?;
-        let from = if from == "2" { 2 } else { 0 };
-        let events = hall.events(alloc, from)?;
-        assert_eq!(rt; texts_of(alloc, &events)?.as_str(), want, "behind {steps}");
-    }
-    Ok(())
+    rows_hold::<Events>(&rt, rt.alloc(), EVENTS)
+}
+
+/// How many sets are known, which of three are, which one is chosen, and the states of two items.
+fn told_of_sets(alloc: Global, hall: &Hall) -> Result<String, Fail> {
+    let known = hall.sets_known();
+    let (default, dawn, dusk) = (
+        hall.set_known(b"default"),
+        hall.set_known(b"Dawn"),
+        hall.set_known(b"DUSK"),
+    );
+    let chosen = as_text(hall.limits_set().as_slice())?;
+    let (first, other) = (hall.state_of(0, 1), hall.state_of(7, 0));
+    Ok(format!(in alloc; "{known} {default} {dawn} {dusk} {chosen} {first:?} {other:?}")?)
 }
 
 #[test]
 fn sets_are_known_by_the_site_and_by_entries(rt: HostRuntime) -> Result<(), Fail> {
-    let alloc = rt.alloc();
-    let hall = hall_behind(alloc, "P 0 010500;L 0 DAWN;S NIGHT;P 0 010500")?;
-    assert_eq!(rt; hall.sets_known(), 3);
-    assert!(rt; hall.set_known(b"default"));
-    assert!(rt; hall.set_known(b"Dawn"));
-    assert!(rt; !hall.set_known(b"DUSK"));
-    assert_eq!(rt; hall.limits_set().as_slice(), b"NIGHT".as_slice());
-    assert_eq!(rt; hall.state_of(0, 1), Color::RedHigh);
-    assert_eq!(rt; hall.state_of(7, 0), Color::Stale);
+    let steps = "P 0 010500;L 0 DAWN;S NIGHT;P 0 010500";
+    let hall = hall_behind(rt.alloc(), steps)?;
+    let found = told_of_sets(rt.alloc(), &hall)?;
+    same(
+        &rt,
+        found.as_str(),
+        "3 true true false NIGHT RedHigh Stale",
+        steps,
+    );
     Ok(())
+}
+
+/// Limits of an item of a packet in a set: whether they are its own, red and yellow below, yellow and red above, green, the
+/// persistence, and whether it is sampled.
+const USED: &str = "\
+true 0.0 10.0 2000.0 3000.0 None 2 false|1.1 dawn
+false -80.0 -70.0 60.0 80.0 None 2 false|1.1 NIGHT
+none|1.0 DAWN
+none|2.1 DEFAULT";
+
+struct Used;
+
+impl Answers for Used {
+    fn answer(alloc: Global, asked: &str) -> Result<String, Fail> {
+        let (item, set) = word(asked)?;
+        let Some((packet, item)) = item.split_once('.') else {
+            return Err(Fail::new("no item"));
+        };
+        let hall = hall_behind(alloc, "L 1 DAWN;E 1 off")?;
+        match hall.limits_of(packet.parse::<u32>()?, item.parse::<u32>()?, set.as_bytes()) {
+            Some(used) => used_text(alloc, &used),
+            None => Ok("none".to_string(alloc)?),
+        }
+    }
+}
+
+fn used_text(alloc: Global, used: &LimitsUsed) -> Result<String, Fail> {
+    let limits = limits_text(alloc, &used.limits)?;
+    let (own, persistence, enabled) = (used.own, used.persistence, used.enabled);
+    Ok(format!(in alloc; "{own} {limits} {persistence} {enabled}")?)
+}
+
+fn limits_text(alloc: Global, limits: &Limits) -> Result<String, Fail> {
+    let low = red_and_yellow(alloc, limits.red_low, limits.yellow_low)?;
+    let high = red_and_yellow(alloc, limits.yellow_high, limits.red_high)?;
+    Ok(format!(in alloc; "{low} {high} {:?}", limits.green)?)
+}
+
+fn red_and_yellow(alloc: Global, first: Decimal, second: Decimal) -> Result<String, Fail> {
+    let first = print_decimal(alloc, first)?;
+    let second = print_decimal(alloc, second)?;
+    let (first, second) = (as_text(first.as_slice())?, as_text(second.as_slice())?);
+    Ok(format!(in alloc; "{first} {second}")?)
 }
 
 #[test]
 fn the_limits_of_a_set_or_of_default_are_used(rt: HostRuntime) -> Result<(), Fail> {
-    let alloc = rt.alloc();
-    let hall = hall_behind(alloc, "L 1 DAWN;E 1 off")?;
-    let own = LimitsUsed {
-        own: true,
-        limits: night(),
-        persistence: 2,
-        enabled: false,
-    };
-    assert_eq!(rt; hall.limits_of(1, 1, b"dawn"), Some(own));
-    let other = hall
-        .limits_of(1, 1, b"NIGHT")
-        .map(|used| (used.own, used.limits.red_high));
-    assert_eq!(rt; other, Some((false, ones(80))));
-    assert!(rt; hall.limits_of(1, 0, b"DAWN").is_none());
-    assert!(rt; hall.limits_of(2, 1, b"DEFAULT").is_none());
-    Ok(())
+    rows_hold::<Used>(&rt, rt.alloc(), USED)
+}
+
+/// Where each command goes, and where the first one goes behind the end of the connection.
+fn told_of_routes(alloc: Global, mut hall: Hall) -> Result<String, Fail> {
+    let (first, second, third) = (hall.route(0), hall.route(1), hall.route(2));
+    ends(&mut hall);
+    Ok(format!(in alloc; "{first:?} {second:?} {third:?} {:?}", hall.route(0))?)
 }
 
 #[test]
 fn commands_go_to_connected_interfaces(rt: HostRuntime) -> Result<(), Fail> {
-    let mut hall = hall_of(rt.alloc(), COMMANDS, 100, 100)?;
-    assert_eq!(rt; hall.route(0), Ok(0));
-    assert_eq!(rt; hall.route(1), Err(NoRoute::NoInterface));
-    assert_eq!(rt; hall.route(2), Err(NoRoute::NoInterface));
-    ends(&mut hall);
-    assert_eq!(rt; hall.route(0), Err(NoRoute::NotConnected(0)));
+    let hall = hall_of(rt.alloc(), COMMANDS, 100, 100)?;
+    let found = told_of_routes(rt.alloc(), hall)?;
+    let wanted = "Ok(0) Err(NoInterface) Err(NoInterface) Err(NotConnected(0))";
+    same(&rt, found.as_str(), wanted, "the commands");
     Ok(())
 }
