@@ -7,5 +7,6 @@ pub mod Unique
 pub mod Exact
 pub mod Total
 pub mod OneCommand
+pub mod Injecting
 pub mod Stays
 pub mod Examples

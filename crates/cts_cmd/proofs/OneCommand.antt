@@ -46,9 +46,9 @@ number_one i z old one other a b =
     let there : (bytes : List ℕ) → field a.place bytes ≡ field_at (place_of i).order (place_of i).offset (place_of i).bits bytes = λ bytes. ap (λ (d : PlaceData). field_at d.order d.offset d.bits bytes) a.there in
     one_outcome a.place old one other a.within a.others (keeps_so a.place b.place old other places b.others) (there one ∙ fields ∙ sym (there other)) a.bytes b.bytes
 
-written_one : (i : ItemData) (held : Preset) (old one other : List ℕ) → Writes i held old one → Writes i held old other → one ≡ other
+pub written_one : (i : ItemData) (held : Preset) (old one other : List ℕ) → Writes i held old one → Writes i held old other → one ≡ other
 written_one i (Whole z) old one other a b = number_one i z old one other a b
-written_one i (Raw bytes) old one other a b = a ∙ sym b
+written_one i (Raw bytes) old one other a b = a.0 ∙ sym b.0
 
 all_one : (holds : ItemData → Preset) (items : List ItemData) (old one other : List ℕ) → WritesAll holds items old one → WritesAll holds items old other → one ≡ other
 all_one holds [] old one other a b = a ∙ sym b

@@ -82,7 +82,7 @@ raw_long false i bytes old new end w =
 
 item_long : (i : ItemData) (held : Preset) (old new : List ℕ) → Writes i held old new → length old ≤ length new
 item_long i (Whole z) old new w = let len = w.others.len in omega (arith, len)
-item_long i (Raw bytes) old new w = raw_long (is_to_the_end i) i bytes old new refl w
+item_long i (Raw bytes) old new w = raw_long (is_to_the_end i) i bytes old new refl w.0
 
 raw_stays : (end : Bool) (i : ItemData) (bytes old new : List ℕ) → is_to_the_end i ≡ end → WritesBytes i bytes old new → (k : ℕ) → k < 8 * length old → (IsWrittenBit i (Raw bytes) k → ⊥)
     → get_or (bits_of new) k 0 ≡ get_or (bits_of old) k 0
@@ -97,7 +97,7 @@ raw_stays false i bytes old new end w k lt none =
 item_stays : (i : ItemData) (held : Preset) (old new : List ℕ) → Writes i held old new → (k : ℕ) → k < 8 * length old → (IsWrittenBit i held k → ⊥)
     → get_or (bits_of new) k 0 ≡ get_or (bits_of old) k 0
 item_stays i (Whole z) old new w k lt none = w.others.others k (λ b. none (field_bit i z old new w k b))
-item_stays i (Raw bytes) old new w k lt none = raw_stays (is_to_the_end i) i bytes old new refl w k lt none
+item_stays i (Raw bytes) old new w k lt none = raw_stays (is_to_the_end i) i bytes old new refl w.0 k lt none
 
 -- ---- all items
 

@@ -1,17 +1,20 @@
 -- What holds of all texts and of all requests, beyond what a call says of its answer.
-use Rattle.std.specs.Prelude.{ℕ, ℤ, ◌≡◌, ◌⊎◌, ◌<◌, ◌≤◌, ◌+◌, ◌*◌, ◌/◌, false, unsigned_abs, slice_index, List, [], ◌∷◌, ◌++◌, length}
+use Rattle.std.specs.Prelude.{ℕ, ℤ, pos, ◌≡◌, ◌⊎◌, ◌<◌, ◌≤◌, ◌+◌, ◌*◌, ◌/◌, true, false, int_le, unsigned_abs, slice_index, List, [], ◌∷◌, ◌++◌, length, replicate, Some, None}
 use Rattle.cts_bits.specs.Bits.{bits_of}
 use Rattle.cts_bits.specs.Fields.{bit_place_at}
 use Rattle.cts_def.specs.declared.item_kind.Preset.{Preset}
 use Rattle.cts_def.specs.declared.item_kind.Preset.TheVariants.{Whole, Raw}
 use Rattle.cts_def.specs.Beginnings.{number_at}
 use Rattle.cts_def.specs.Items.{ItemData, is_to_the_end}
-use Rattle.cts_def.specs.Spans.{is_signed}
+use Rattle.cts_def.specs.Spans.{is_number, is_signed}
 use Rattle.cts_def.specs.Packets.{DefinitionsData}
 use Rattle.cts_cmd.specs.declared.built.Built.{Built}
+use Rattle.cts_cmd.specs.declared.request.Given.{Given}
+use Rattle.cts_cmd.specs.declared.request.Given.TheVariants as given
 use Rattle.cts_cmd.specs.declared.request.Request.{Request}
 use Rattle.cts_cmd.specs.declared.text_fault.TextCause.{TextCause}
 use Rattle.cts_cmd.specs.Builds.{IsBuilt, WritesAll, place_of}
+use Rattle.cts_cmd.specs.Injects.{Injects, is_wrong_raw, stood}
 use Rattle.cts_cmd.specs.Texts.{FailsAt, IsCommandText}
 
 -- ---- texts
@@ -64,3 +67,21 @@ NumbersStand =
     (holds : ItemData → Preset) (before : List ItemData) (i : ItemData) (later : List ItemData) (z : ℤ) (old new : List ℕ) → holds i ≡ Whole z
     → WritesAll holds (before ++ i ∷ later) old new → ((k : ℕ) → IsWrittenBit i (Whole z) k → IsLeftBy holds later k)
     → number_at (place_of i) (is_signed i.kind) new ≡ z
+
+-- ---- injected values
+
+-- a raw value is no text for a number, with states or without, no number for a text or block, and none of an item without a length of its own
+pub record RawValuesAreOfTheirKind : Type 0 where
+  pub number : (i : ItemData) (t : List ℕ) → is_number i.kind ≡ true → is_wrong_raw i (given.Text t) ≡ true
+  pub text : (i : ItemData) (z : ℤ) → is_number i.kind ≡ false → is_wrong_raw i (given.Whole z) ≡ true
+  pub length : (i : ItemData) (g : Given) → int_le i.size (pos 0) ≡ true → is_wrong_raw i g ≡ true
+
+-- what an injection is written over: zeros, or the bytes that stand, filled up with zeros and never cut
+pub record InjectionsStandOnBytes : Type 0 where
+  pub zeros : (count : ℕ) → stood None count ≡ replicate count 0
+  pub filled : (bytes : List ℕ) (count : ℕ) → length bytes ≤ count → length (stood (Some bytes) count) ≡ count
+  pub whole : (bytes : List ℕ) (count : ℕ) → count ≤ length bytes → stood (Some bytes) count ≡ bytes
+
+-- An injection leaves no choice for the bytes.
+abbrev pub InjectionsHaveOneOutcome : Type 0
+InjectionsHaveOneOutcome = (members : List (ItemData × Given)) (old one other : List ℕ) → Injects members old one → Injects members old other → one ≡ other

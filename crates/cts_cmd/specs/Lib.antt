@@ -3,5 +3,7 @@ pub mod Texts
 pub mod Seen
 pub mod Contents
 pub mod Checks
+pub mod Refusals
 pub mod Builds
+pub mod Injects
 pub mod Laws

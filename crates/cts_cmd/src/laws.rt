@@ -1,5 +1,5 @@
 // What holds of the definitions that the contracts cite. Each is the contract of a function that does nothing.
-ghost use Rattle.cts_cmd.specs.Laws.{NumbersStand, OtherBitsStay, RequestsHaveOneCommand, TextsAreReadInOneWay, TextsAreReadOrFail};
+ghost use Rattle.cts_cmd.specs.Laws.{InjectionsHaveOneOutcome, InjectionsStandOnBytes, NumbersStand, OtherBitsStay, RawValuesAreOfTheirKind, RequestsHaveOneCommand, TextsAreReadInOneWay, TextsAreReadOrFail};
 
 /// A text asks for one request alone, or fails at one place alone for one cause, and never both.
 pub fn a_text_asks_for_one_request_or_fails_once()
@@ -21,4 +21,17 @@ pub fn request_has_one_command()
 pub fn fields_stand_unless_written_over()
     ensures bits { OtherBitsStay }
     ensures numbers { NumbersStand }
+{}
+
+/// A raw value that is injected for an item is no text for a number, with states or without, no number for a text or block, and none of an
+/// item without a length of its own.
+pub fn raw_values_are_of_their_kind()
+    ensures { RawValuesAreOfTheirKind }
+{}
+
+/// An injection is written over zeros, or over the bytes that stand, filled up with zeros and never cut, and leaves no choice for the
+/// bytes.
+pub fn injections_have_one_outcome()
+    ensures under { InjectionsStandOnBytes }
+    ensures one { InjectionsHaveOneOutcome }
 {}

@@ -15,6 +15,7 @@ mod param;
 mod reading;
 mod refused;
 mod request;
+mod telling;
 mod text_fault;
 mod values;
 mod words;
@@ -24,9 +25,11 @@ pub use build_command::build;
 pub use built::Built;
 pub use laws::{
     a_text_asks_for_one_request_or_fails_once, a_text_is_a_request_or_fails,
-    fields_stand_unless_written_over, request_has_one_command,
+    fields_stand_unless_written_over, injections_have_one_outcome, raw_values_are_of_their_kind,
+    request_has_one_command,
 };
 pub use reading::parse;
 pub use refused::Refused;
 pub use request::{Checks, Given, Request};
+pub use telling::refusal_text;
 pub use text_fault::{TextCause, TextFault};

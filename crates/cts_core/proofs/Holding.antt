@@ -316,7 +316,7 @@ can_post w mid by piece entries why test few is k = subst (λ (x : Held). CanPos
 
 -- ---- a limits set is chosen by desk 0
 
-desk_makes : (a b c d e : Bool) → c ≡ true → ((((a || b) || c) || d) || e) ≡ true
+pub desk_makes : (a b c d e : Bool) → c ≡ true → ((((a || b) || c) || d) || e) ≡ true
 desk_makes a b c d e h = grind arith
 
 pub can_choose : (s : Shown) (now : Time) (set : List ℕ) → 1 ≤ s.basis.site.desks → Lasting s.entries → 1 ≤ s.spare_entries → CanAdd s (record { by = first_desk + trial_desk; time = now; what = LimitsSetIs set })

@@ -173,7 +173,7 @@ event_leaves env s (Finish by why) did desks legal last d =
 event_leaves env s (Write by count) did desks legal last d = nothing_leaves env s.history did.entries legal d.appends
 event_leaves env s (Call desk body) did desks legal last d =
     let there : env.is_desk desk ≡ true = (let n = d.enabled in grind arith) in
-    subst (Leaves env s.history) (sym d.appends) (desks.legal s.history desk s.time (Request body) there legal, desks.none_ended s.history desk s.time (Request body))
+    subst (Leaves env s.history) (sym d.appends) (desks.legal s.history desk s.time (Request body) d.answer there d.answered legal, desks.none_ended s.history desk s.time (Request body) d.answer d.answered)
 event_leaves env s (DrainLog count) did desks legal last d = nothing_leaves env s.history did.entries legal d.appends
 event_leaves env s (DrainSlot by count) did desks legal last d = nothing_leaves env s.history did.entries legal d.appends
 event_leaves env s Stop did desks legal last d =
@@ -181,7 +181,7 @@ event_leaves env s Stop did desks legal last d =
     let n = d.enabled in
     let going : is_stopped s.history ≡ false = grind arith in
     subst (Leaves env s.history) (sym d.appends) (leaves env s.history (e ∷ []) legal (one_follows env s.history e last going refl) (within_free env s.history (e ∷ []) refl refl legal))
-event_leaves env s (Try words) did desks legal last d = subst (Leaves env s.history) (sym d.appends) (desks.legal s.history trial_desk s.time (Trial words) d.enabled legal, desks.none_ended s.history trial_desk s.time (Trial words))
+event_leaves env s (Try words) did desks legal last d = subst (Leaves env s.history) (sym d.appends) (desks.legal s.history trial_desk s.time (Trial words) d.answer d.enabled d.answered legal, desks.none_ended s.history trial_desk s.time (Trial words) d.answer d.answered)
 
 legal_of : (env : Environment) (history whole : List Entry) → whole ≡ history → IsLegal (rules_of env) history → IsLegal (rules_of env) whole
 legal_of env history whole same legal = subst (IsLegal (rules_of env)) (sym same) legal
@@ -196,5 +196,5 @@ run_legal env s (event ∷ events) dids ending desks legal last (inr h) =
     let more = run_legal env (after s event h.0) events h.1 ending desks step.0 (lasting_append s.history h.0.entries last step.1) h.4 in
     legal_of env (next ++ history_of h.1) (s.history ++ history_of dids) (ap (λ (l : List Did). s.history ++ history_of l) h.2 ∙ sym (append_assoc s.history h.0.entries (history_of h.1))) more
 
-pub core_is_legal : CoreIsLegal
+pub core_is_legal : (env : Environment) → CoreIsLegal env
 core_is_legal env events dids ending desks h = run_legal env opening events dids ending desks (record { each = tt; entries = omega arith; bytes = omega arith }) refl h

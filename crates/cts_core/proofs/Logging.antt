@@ -11,7 +11,7 @@ use Rattle.cts_entry.specs.declared.event.Event.{Event}
 use Rattle.cts_entry.specs.declared.event.Event.TheVariants.{SetTime, Opens, Piece, Finish, Write, Call, DrainLog, DrainSlot, Stop, Try}
 use Rattle.cts_entry.specs.declared.event.Effect.{Effect}
 use Rattle.cts_entry.specs.Histories.{packets_from, commands_to}
-use Rattle.cts_core.specs.States.{Environment, State, opening, is_enabled, log_ahead, packets_log, commands_log}
+use Rattle.cts_core.specs.States.{Answer, Environment, State, opening, is_enabled, log_ahead, packets_log, commands_log}
 use Rattle.cts_core.specs.Runs.{Did, Does, after, drained, effect_of, Ending, Runs}
 use Rattle.cts_core.specs.Told.{history_of}
 use Rattle.cts_core.specs.Logs.{drained_by, packets_in, commands_in}
@@ -44,14 +44,14 @@ module _ (env : Environment) (keep : Entry → Bool) (tells : Effect → List �
 
   -- what an event gives is the log of the entries that it drains
   abbrev Drains : Type 0
-  Drains = (s : State) (event : Event) → tells (effect_of env s event) ≡ log_of (take (drained event) (log_ahead s))
+  Drains = (s : State) (event : Event) (a : Answer) → tells (effect_of env s event a) ≡ log_of (take (drained event) (log_ahead s))
 
   log_step : Drains → (s : State) (event : Event) (did : Did) → Does env s event did → s.log_cursor ≤ length s.history
       → log_of (take s.log_cursor s.history) ++ tells did.effect ≡ log_of (take (s.log_cursor + drained event) (s.history ++ did.entries))
   log_step drains s event did d within =
       let c = s.log_cursor in
       let n = drained event in
-      ap (λ (l : List ℕ). log_of (take c s.history) ++ l) (ap tells d.effect ∙ drains s event)
+      ap (λ (l : List ℕ). log_of (take c s.history) ++ l) (ap tells d.effect ∙ drains s event d.answer)
       ∙ (sym (log_append (take c s.history) (take n (drop c s.history)))
       ∙ (ap log_of (sym (take-add c n s.history)) ∙ ap log_of (sym (take-append-le (c + n) s.history did.entries (drained_within env s event d.enabled within)))))
 
@@ -83,31 +83,31 @@ module _ (env : Environment) (keep : Entry → Bool) (tells : Effect → List �
       ∙ (more ∙ (ap (λ (k : ℕ). log_of (take k (next.history ++ history_of h.1))) places
       ∙ ap (λ (l : List Entry). log_of (take (s.log_cursor + (drained event + drained_by events h.1)) l)) (append_assoc s.history e.entries (history_of h.1))))))
 
-packets_drain : (env : Environment) (s : State) (event : Event) → packets_in (effect_of env s event) ≡ flat_map (lay_out env.layout (names_in env.routing)) (filter (packets_from env.is_logged) (take (drained event) (log_ahead s)))
-packets_drain env s (SetTime time) = refl
-packets_drain env s (Opens by) = refl
-packets_drain env s (Piece by piece) = refl
-packets_drain env s (Finish by why) = refl
-packets_drain env s (Write by count) = refl
-packets_drain env s (Call desk body) = refl
-packets_drain env s (DrainLog count) = refl
-packets_drain env s (DrainSlot by count) = refl
-packets_drain env s Stop = refl
-packets_drain env s (Try words) = refl
+packets_drain : (env : Environment) (s : State) (event : Event) (a : Answer) → packets_in (effect_of env s event a) ≡ flat_map (lay_out env.layout (names_in env.routing)) (filter (packets_from env.is_logged) (take (drained event) (log_ahead s)))
+packets_drain env s (SetTime time) a = refl
+packets_drain env s (Opens by) a = refl
+packets_drain env s (Piece by piece) a = refl
+packets_drain env s (Finish by why) a = refl
+packets_drain env s (Write by count) a = refl
+packets_drain env s (Call desk body) a = refl
+packets_drain env s (DrainLog count) a = refl
+packets_drain env s (DrainSlot by count) a = refl
+packets_drain env s Stop a = refl
+packets_drain env s (Try words) a = refl
 
-commands_drain : (env : Environment) (s : State) (event : Event) → commands_in (effect_of env s event) ≡ flat_map (lay_out env.layout (names_in env.routing)) (filter (commands_to env.is_logged) (take (drained event) (log_ahead s)))
-commands_drain env s (SetTime time) = refl
-commands_drain env s (Opens by) = refl
-commands_drain env s (Piece by piece) = refl
-commands_drain env s (Finish by why) = refl
-commands_drain env s (Write by count) = refl
-commands_drain env s (Call desk body) = refl
-commands_drain env s (DrainLog count) = refl
-commands_drain env s (DrainSlot by count) = refl
-commands_drain env s Stop = refl
-commands_drain env s (Try words) = refl
+commands_drain : (env : Environment) (s : State) (event : Event) (a : Answer) → commands_in (effect_of env s event a) ≡ flat_map (lay_out env.layout (names_in env.routing)) (filter (commands_to env.is_logged) (take (drained event) (log_ahead s)))
+commands_drain env s (SetTime time) a = refl
+commands_drain env s (Opens by) a = refl
+commands_drain env s (Piece by piece) a = refl
+commands_drain env s (Finish by why) a = refl
+commands_drain env s (Write by count) a = refl
+commands_drain env s (Call desk body) a = refl
+commands_drain env s (DrainLog count) a = refl
+commands_drain env s (DrainSlot by count) a = refl
+commands_drain env s Stop a = refl
+commands_drain env s (Try words) a = refl
 
-pub core_is_logged : CoreIsLogged
+pub core_is_logged : (env : Environment) → CoreIsLogged env
 core_is_logged env events dids ending h =
     let places : 0 + drained_by events dids ≡ drained_by events dids = omega arith in
     let packets = log_run env (packets_from env.is_logged) packets_in (packets_drain env) opening events dids ending (omega arith) h in

@@ -10,8 +10,8 @@ use Rattle.cts_frame.specs.Packets.{IsPackets, fault_of}
 use Rattle.cts_frame.specs.Laws.{AllSound}
 use Rattle.cts_frame.proofs.Stagings.{has_packets, has_one_packets, packets_grow}
 use Rattle.cts_told.specs.Routing.{posted_entries}
-use Rattle.cts_core.specs.States.{Environment, State, is_enabled, takes_room, has_room, unsent}
-use Rattle.cts_core.specs.Runs.{Receives, Closes, Appends, Did, Does, after, Ending, Finished, NotEnabled, HistoryFull, Refuses, Runs, closing, closed_entry, effect_of}
+use Rattle.cts_core.specs.States.{Answer, Environment, State, Request, Trial, trial_desk, is_enabled, takes_room, has_room, unsent}
+use Rattle.cts_core.specs.Runs.{Receives, Closes, IsAnswered, silent, Appends, Did, Does, after, Ending, Finished, NotEnabled, HistoryFull, Refuses, Runs, closing, closed_entry, effect_of}
 use Rattle.cts_core.specs.Laws.{IsSoundEnvironment, HasRun, HasOneRun}
 
 -- what an enabled event appends
@@ -34,19 +34,58 @@ some_received env s by piece sound =
       },
     )
 
-some_appended : (env : Environment) (s : State) (event : Event) → IsSoundEnvironment env → is_enabled env s event ≡ true → (entries : List Entry) × Appends env s event entries
-some_appended env s (SetTime time) sound e = ([], refl)
-some_appended env s (Opens by) sound e = (_, refl)
-some_appended env s (Piece by piece) sound e = some_received env s by piece (sound by)
-some_appended env s (Finish by why) sound e =
-    let before = has_packets (env.routing.chain by) (s.pieces by) (sound by) in
+some_appended : (env : Environment) (s : State) (event : Event) (a : Answer) → IsSoundEnvironment env → (entries : List Entry) × Appends env s event a entries
+some_appended env s (SetTime time) a sound = ([], refl)
+some_appended env s (Opens by) a sound = (_, refl)
+some_appended env s (Piece by piece) a sound = some_received env s by piece (sound.chains by)
+some_appended env s (Finish by why) a sound =
+    let before = has_packets (env.routing.chain by) (s.pieces by) (sound.chains by) in
     (closed_entry s.time by why (unsent env s by) before.0 ∷ [], record { cuts = before.0; given = before.1; before = before.2; entries_are = refl })
-some_appended env s (Write by count) sound e = ([], refl)
-some_appended env s (Call desk body) sound e = (_, refl)
-some_appended env s (DrainLog count) sound e = ([], refl)
-some_appended env s (DrainSlot by count) sound e = ([], refl)
-some_appended env s Stop sound e = (_, refl)
-some_appended env s (Try words) sound e = (_, refl)
+some_appended env s (Write by count) a sound = ([], refl)
+some_appended env s (Call desk body) a sound = (_, refl)
+some_appended env s (DrainLog count) a sound = ([], refl)
+some_appended env s (DrainSlot by count) a sound = ([], refl)
+some_appended env s Stop a sound = (_, refl)
+some_appended env s (Try words) a sound = (_, refl)
+
+-- what is answered to an event
+
+some_answered : (env : Environment) (s : State) (event : Event) → IsSoundEnvironment env → (a : Answer) × IsAnswered env s event a
+some_answered env s (SetTime time) sound = (silent, refl)
+some_answered env s (Opens by) sound = (silent, refl)
+some_answered env s (Piece by piece) sound = (silent, refl)
+some_answered env s (Finish by why) sound = (silent, refl)
+some_answered env s (Write by count) sound = (silent, refl)
+some_answered env s (Call desk body) sound = sound.some_answer s.history desk s.time (Request body)
+some_answered env s (DrainLog count) sound = (silent, refl)
+some_answered env s (DrainSlot by count) sound = (silent, refl)
+some_answered env s Stop sound = (silent, refl)
+some_answered env s (Try words) sound = sound.some_answer s.history trial_desk s.time (Trial words)
+
+one_answered : (env : Environment) (s : State) (event : Event) (a b : Answer) → IsSoundEnvironment env → IsAnswered env s event a → IsAnswered env s event b → a ≡ b
+one_answered env s (SetTime time) a b sound h k = h ∙ sym k
+one_answered env s (Opens by) a b sound h k = h ∙ sym k
+one_answered env s (Piece by piece) a b sound h k = h ∙ sym k
+one_answered env s (Finish by why) a b sound h k = h ∙ sym k
+one_answered env s (Write by count) a b sound h k = h ∙ sym k
+one_answered env s (Call desk body) a b sound h k = sound.one_answer s.history desk s.time (Request body) a b h k
+one_answered env s (DrainLog count) a b sound h k = h ∙ sym k
+one_answered env s (DrainSlot by count) a b sound h k = h ∙ sym k
+one_answered env s Stop a b sound h k = h ∙ sym k
+one_answered env s (Try words) a b sound h k = sound.one_answer s.history trial_desk s.time (Trial words) a b h k
+
+-- an event that may find the history full asks no desk
+asks_none : (env : Environment) (s : State) (event : Event) (a b : Answer) (entries : List Entry) → takes_room event ≡ true → Appends env s event a entries → Appends env s event b entries
+asks_none env s (SetTime time) a b entries t h = absurd (cc t)
+asks_none env s (Opens by) a b entries t h = h
+asks_none env s (Piece by piece) a b entries t h = h
+asks_none env s (Finish by why) a b entries t h = absurd (cc t)
+asks_none env s (Write by count) a b entries t h = absurd (cc t)
+asks_none env s (Call desk body) a b entries t h = absurd (cc t)
+asks_none env s (DrainLog count) a b entries t h = absurd (cc t)
+asks_none env s (DrainSlot by count) a b entries t h = absurd (cc t)
+asks_none env s Stop a b entries t h = absurd (cc t)
+asks_none env s (Try words) a b entries t h = absurd (cc t)
 
 one_received : (env : Environment) (s : State) (by : ℕ) (piece : List ℕ) (xs ys : List Entry) → AllSound (env.routing.chain by) → Receives env s by piece xs → Receives env s by piece ys → xs ≡ ys
 one_received env s by piece xs ys sound h k =
@@ -61,17 +100,17 @@ one_closed env s by why xs ys sound h k =
     let cuts = (has_one_packets (env.routing.chain by) (s.pieces by) h.cuts k.cuts h.given k.given sound h.before k.before).0 in
     h.entries_are ∙ (ap (λ (c : List Pieces). closed_entry s.time by why (unsent env s by) c ∷ []) cuts ∙ sym k.entries_are)
 
-pub one_appended : (env : Environment) (s : State) (event : Event) (xs ys : List Entry) → IsSoundEnvironment env → Appends env s event xs → Appends env s event ys → xs ≡ ys
-one_appended env s (SetTime time) xs ys sound h k = h ∙ sym k
-one_appended env s (Opens by) xs ys sound h k = h ∙ sym k
-one_appended env s (Piece by piece) xs ys sound h k = one_received env s by piece xs ys (sound by) h k
-one_appended env s (Finish by why) xs ys sound h k = one_closed env s by why xs ys (sound by) h k
-one_appended env s (Write by count) xs ys sound h k = h ∙ sym k
-one_appended env s (Call desk body) xs ys sound h k = h ∙ sym k
-one_appended env s (DrainLog count) xs ys sound h k = h ∙ sym k
-one_appended env s (DrainSlot by count) xs ys sound h k = h ∙ sym k
-one_appended env s Stop xs ys sound h k = h ∙ sym k
-one_appended env s (Try words) xs ys sound h k = h ∙ sym k
+pub one_appended : (env : Environment) (s : State) (event : Event) (a : Answer) (xs ys : List Entry) → IsSoundEnvironment env → Appends env s event a xs → Appends env s event a ys → xs ≡ ys
+one_appended env s (SetTime time) a xs ys sound h k = h ∙ sym k
+one_appended env s (Opens by) a xs ys sound h k = h ∙ sym k
+one_appended env s (Piece by piece) a xs ys sound h k = one_received env s by piece xs ys (sound.chains by) h k
+one_appended env s (Finish by why) a xs ys sound h k = one_closed env s by why xs ys (sound.chains by) h k
+one_appended env s (Write by count) a xs ys sound h k = h ∙ sym k
+one_appended env s (Call desk body) a xs ys sound h k = h ∙ sym k
+one_appended env s (DrainLog count) a xs ys sound h k = h ∙ sym k
+one_appended env s (DrainSlot by count) a xs ys sound h k = h ∙ sym k
+one_appended env s Stop a xs ys sound h k = h ∙ sym k
+one_appended env s (Try words) a xs ys sound h k = h ∙ sym k
 
 -- what stands next: the event is refused in one way, or does one thing
 
@@ -84,13 +123,16 @@ pub data Next (env : Environment) (s : State) (event : Event) : Type 0 where
   Done : (did : Did) → Does env s event did → Next env s event
   Refused : (ending : Ending) → Refuses env s event ending → Next env s event
 
-next_of : (env : Environment) (s : State) (event : Event) (entries : List Entry) (b room : Bool) → is_enabled env s event ≡ true → Appends env s event entries → takes_room event ≡ b → has_room env s entries ≡ room → Next env s event
-next_of env s event entries true false e a takes full = Refused HistoryFull (e, takes, (entries, a, full))
-next_of env s event entries true true e a takes room = Done (record { entries = entries; effect = effect_of env s event }) (record { enabled = e; appends = a; room = λ h. room; effect = refl })
-next_of env s event entries false room e a takes h = Done (record { entries = entries; effect = effect_of env s event }) (record { enabled = e; appends = a; room = λ h. absurd (let f = takes in cc); effect = refl })
+next_of : (env : Environment) (s : State) (event : Event) (a : Answer) (entries : List Entry) (b room : Bool) → is_enabled env s event ≡ true → IsAnswered env s event a → Appends env s event a entries → takes_room event ≡ b → has_room env s entries ≡ room → Next env s event
+next_of env s event a entries true false e answered appends takes full = Refused HistoryFull (e, takes, (entries, asks_none env s event a silent entries takes appends, full))
+next_of env s event a entries true true e answered appends takes room = Done (record { entries = entries; effect = effect_of env s event a }) (record { enabled = e; answer = a; answered = answered; appends = appends; room = λ h. room; effect = refl })
+next_of env s event a entries false room e answered appends takes h = Done (record { entries = entries; effect = effect_of env s event a }) (record { enabled = e; answer = a; answered = answered; appends = appends; room = λ h. absurd (let f = takes in cc); effect = refl })
 
 next : (env : Environment) (s : State) (event : Event) → IsSoundEnvironment env → (is_enabled env s event ≡ true) ⊎ (is_enabled env s event ≡ false) → Next env s event
-next env s event sound (inl e) = let a = some_appended env s event sound e in next_of env s event a.0 (takes_room event) (has_room env s a.0) e a.1 refl refl
+next env s event sound (inl e) =
+    let answer = some_answered env s event sound in
+    let entries = some_appended env s event answer.0 sound in
+    next_of env s event answer.0 entries.0 (takes_room event) (has_room env s entries.0) e answer.1 entries.1 refl refl
 next env s event sound (inr e) = Refused NotEnabled e
 
 go_on : (env : Environment) (s : State) (event : Event) (events : List Event) → ((t : State) → (dids : List Did) × (ending : Ending) × Runs env t events dids ending) → Next env s event
@@ -98,7 +140,7 @@ go_on : (env : Environment) (s : State) (event : Event) (events : List Event) �
 go_on env s event events more (Done did d) = let rest = more (after s event did) in (did ∷ rest.0, rest.1, inr (did, rest.0, refl, d, rest.2))
 go_on env s event events more (Refused ending r) = ([], ending, inl (refl, r))
 
-pub has_run : HasRun
+pub has_run : (env : Environment) → HasRun env
 has_run env s [] sound = ([], Finished, (refl, refl))
 has_run env s (event ∷ events) sound = go_on env s event events (λ t. has_run env t events sound) (next env s event sound (true_or_false (is_enabled env s event)))
 
@@ -107,7 +149,7 @@ never_both : (env : Environment) (s : State) (event : Event) (ending : Ending) (
 never_both env s event Finished did sound r d = r
 never_both env s event NotEnabled did sound r d = let e = d.enabled in cc
 never_both env s event HistoryFull did sound r d =
-    let same = one_appended env s event r.2.0 did.entries sound r.2.1 d.appends in
+    let same = one_appended env s event d.answer r.2.0 did.entries sound (asks_none env s event silent d.answer r.2.0 r.1 r.2.1) d.appends in
     let room = d.room r.1 in
     let full = r.2.2 in
     cc
@@ -122,11 +164,13 @@ one_refusal env s event HistoryFull HistoryFull h k = refl
 
 one_did : (env : Environment) (s : State) (event : Event) (a b : Did) → IsSoundEnvironment env → Does env s event a → Does env s event b → a ≡ b
 one_did env s event a b sound h k =
-    let entries = one_appended env s event a.entries b.entries sound h.appends k.appends in
-    let effect = h.effect ∙ sym k.effect in
+    let answers = one_answered env s event h.answer k.answer sound h.answered k.answered in
+    let mine = subst (λ (x : Answer). Appends env s event x a.entries) answers h.appends in
+    let entries = one_appended env s event k.answer a.entries b.entries sound mine k.appends in
+    let effect = h.effect ∙ (ap (effect_of env s event) answers ∙ sym k.effect) in
     λ i. record { entries = entries i; effect = effect i }
 
-pub has_one_run : HasOneRun
+pub has_one_run : (env : Environment) → HasOneRun env
 has_one_run env s [] dids others ending other sound h k = (h.0 ∙ sym k.0, h.1 ∙ sym k.1)
 has_one_run env s (event ∷ events) dids others ending other sound (inl h) (inl k) = (h.0 ∙ sym k.0, one_refusal env s event ending other h.1 k.1)
 has_one_run env s (event ∷ events) dids others ending other sound (inl h) (inr k) = absurd (never_both env s event ending k.0 sound h.1 k.3)

@@ -89,5 +89,5 @@ passed_none env t by none first = record {
   count_is = refl;
 }
 
-pub cursor_is_place : CursorIsPlace
+pub cursor_is_place : (env : Environment) → CursorIsPlace env
 cursor_is_place env s by place count p = (ahead_is env s by place count p, unsent_is env s by place count p)

@@ -135,7 +135,7 @@ opens_mine env s did m line sound f d =
     let a : did.entries ≡ e ∷ [] = d.appends in
     let tells : latest (connects_maker m) did.entries ≡ Some true = ap (latest (connects_maker m)) a ∙ says_connects m e Opened says in
     let off : is_connected m s.history ≡ false = (let n = d.enabled in grind arith) in
-    let none = no_packets (env.routing.chain m) 1 (sound m) in
+    let none = no_packets (env.routing.chain m) 1 (sound.chains m) in
     let fresh : Connection = record { pieces = []; put = [] } in
     let zero_walk : [] ≡ spelled (spell env.routing m) (queue env.routing m (take 0 (walk env.routing m []))) = refl in
     let go : Going env.routing m (s.history ++ did.entries) [] 0 line.past fresh = record {
@@ -210,7 +210,7 @@ finish_by env s did m why past (Some c) sound w d =
     let e = closed_entry s.time m why (unsent env s m) k.cuts in
     let a : did.entries ≡ e ∷ [] = k.entries_are in
     let mine = subst (λ (l : List (List ℕ)). IsPackets (env.routing.chain m) l k.cuts k.given) go.pieces_are k.before in
-    let cuts : k.cuts ≡ go.cuts = (has_one_packets (env.routing.chain m) c.pieces k.cuts go.cuts k.given go.packets (sound m) mine go.packets_are).0 in
+    let cuts : k.cuts ≡ go.cuts = (has_one_packets (env.routing.chain m) c.pieces k.cuts go.cuts k.given go.packets (sound.chains m) mine go.packets_are).0 in
     let says : Says m e (Closed why (loss_of go.cuts) 0 (unsent env s m)) = record { maker = refl; what_is = ap (λ (x : List Pieces). Closed why (loss_of x) 0 (unsent env s m)) cuts } in
     let same : heard m (Finish m why) did c ≡ c = heard_nothing m (Finish m why) did c refl (ap (put_for m) d.effect) in
     let stays = going_closes env.routing m s.history (s.pieces m) (s.cursor m) past c go e why blames says in
@@ -240,7 +240,7 @@ takes env s did m piece past c sound go d r =
     let own_is : own ≡ piece ∷ [] = ap (λ (b : Bool). if b then piece ∷ [] else []) (eq-eqb m m refl) in
     let next : Connection = heard m (Piece m piece) did c in
     let earlier = subst (λ (l : List (List ℕ)). IsPackets (env.routing.chain m) l r.earlier r.given) go.pieces_are r.before in
-    let given : r.given ≡ go.packets = (has_one_packets (env.routing.chain m) c.pieces r.earlier go.cuts r.given go.packets (sound m) earlier go.packets_are).1 in
+    let given : r.given ≡ go.packets = (has_one_packets (env.routing.chain m) c.pieces r.earlier go.cuts r.given go.packets (sound.chains m) earlier go.packets_are).1 in
     let pieces : s.pieces m ++ piece ∷ [] ≡ c.pieces ++ own = ap (λ (l : List (List ℕ)). l ++ piece ∷ []) go.pieces_are ∙ ap (λ (l : List (List ℕ)). c.pieces ++ l) (sym own_is) in
     let now = subst (λ (l : List (List ℕ)). IsPackets (env.routing.chain m) l r.cuts (r.given ++ r.packets)) pieces r.after in
     let now' = subst (λ (l : List Output). IsPackets (env.routing.chain m) (c.pieces ++ own) r.cuts (l ++ r.packets)) given now in
@@ -399,7 +399,7 @@ moves env s (Write by count) did m line sound desks on f d = write_any env s did
 moves env s (Call desk body) did m line sound desks on f d =
     let there : env.is_desk desk ≡ true = (let n = d.enabled in grind arith) in
     let apart = other_than env (first_desk + desk) m (desks.desks desk there) on in
-    let none = ap (has_own m) d.appends ∙ none_of m (first_desk + desk) (env.answer s.history desk s.time (Request body)).entries apart (desks.answers s.history desk s.time (Request body)) in
+    let none = ap (has_own m) d.appends ∙ none_of m (first_desk + desk) d.answer.entries apart (desks.answers s.history desk s.time (Request body) d.answer tt d.answered) in
     quiet_event env s (Call desk body) did m line f none refl (ap (put_for m) d.effect) refl
 moves env s (DrainLog count) did m line sound desks on f d = quiet_event env s (DrainLog count) did m line f (no_entries m did.entries d.appends) refl (ap (put_for m) d.effect) refl
 moves env s (DrainSlot by count) did m line sound desks on f d = drain_any env s did by m count line f d (eqb_tells by m)
@@ -407,7 +407,7 @@ moves env s Stop did m line sound desks on f d =
     quiet_event env s Stop did m line f (one_entry m (record { by = server; time = s.time; what = StopEntry }) did.entries (other_than env server m desks.server on) d.appends) refl (ap (put_for m) d.effect) refl
 moves env s (Try words) did m line sound desks on f d =
     let apart = other_than env (first_desk + trial_desk) m (desks.desks trial_desk d.enabled) on in
-    let none = ap (has_own m) d.appends ∙ none_of m (first_desk + trial_desk) (env.answer s.history trial_desk s.time (Trial words)).entries apart (desks.answers s.history trial_desk s.time (Trial words)) in
+    let none = ap (has_own m) d.appends ∙ none_of m (first_desk + trial_desk) d.answer.entries apart (desks.answers s.history trial_desk s.time (Trial words) d.answer refl d.answered) in
     quiet_event env s (Try words) did m line f none refl (ap (put_for m) d.effect) refl
 
 -- any run
@@ -430,5 +430,5 @@ run_told env s (event ∷ events) dids ending m line sound desks on f (inr h) =
     subst (λ (l : List Did). Told env.routing m (s.history ++ history_of l) (told_from m line (event ∷ events) l)) (sym h.2)
     (subst (λ (l : List Entry). Told env.routing m l (told_from m (told_after m event h.0 line) events h.1)) (append_assoc s.history h.0.entries (history_of h.1)) more)
 
-pub core_is_told : CoreIsTold
+pub core_is_told : (env : Environment) → CoreIsTold env
 core_is_told env events dids ending m sound desks on h = run_told env opening events dids ending m (record { past = []; now = None }) sound desks on (refl, refl) h

@@ -28,13 +28,14 @@ use Rattle.cts_frame.specs.Cuts.{Pieces}
 use Rattle.cts_frame.specs.Packets.{IsPackets, loss_of, Fault, fault_of}
 use Rattle.cts_frame.proofs.Chainings.{interface_framings}
 use Rattle.cts_core.specs.States.{Answer, State, is_piece, is_enabled, is_line, has_room, takes_room, unsent, may_close, opening, put_next}
-use Rattle.cts_core.specs.Runs.{Did, Does, Appends, Receives, after, pieces_for, passed_for, closed_entry, closing}
+use Rattle.cts_core.specs.Runs.{Did, Does, silent, Appends, Receives, after, pieces_for, passed_for, closed_entry, closing}
 use Rattle.cts_core.proofs.Chaining.{all_renewed, begins, begins_anew, plain_more, same_framings}
 use Rattle.cts_core.proofs.CursorSteps.{PassesOn, passes, passed_opened, waits, waiting_kept}
 use Rattle.cts_core.proofs.Keeping.{pieces_turned, pieces_grow, pieces_stay, cursor_grows, cursor_turned}
 use Rattle.cts_told.proofs.Walks.{posted_packets}
 use Rattle.cts_core.specs.Environments.{basis_of, site_environment, writers_at}
-use Rattle.cts_core.specs.Trials.{tells, tried}
+use Rattle.cts_core.specs.Commands.{tells}
+use Rattle.cts_core.specs.Trials.{IsTried}
 use Rattle.cts_entry.specs.Legal.{most_bytes as bytes_limit, most_entries as entries_limit}
 use Rattle.cts_core.specs.Kept.{GivesRoom, is_within}
 use Rattle.cts_table.specs.States.{Shown}
@@ -77,7 +78,7 @@ room_is site w s entries n m e b h =
     ap (λ (k : Basis). is_within k w.history n m) h.basis
     ∙ (ap (λ (k : ℕ). nat_le k entries_limit && nat_le (bytes_in w.history + m) bytes_limit) count ∙ ap (λ (k : ℕ). nat_le (entries_in (s.history ++ entries)) entries_limit && nat_le k bytes_limit) size)
 
-finds_full : (site : SiteData) (w new : Held) (s : State) (event : Event) (entries : List Entry) (n m counted size : ℕ) → is_enabled (site_environment site) s event ≡ true → takes_room event ≡ true → Appends (site_environment site) s event entries
+finds_full : (site : SiteData) (w new : Held) (s : State) (event : Event) (entries : List Entry) (n m counted size : ℕ) → is_enabled (site_environment site) s event ≡ true → takes_room event ≡ true → Appends (site_environment site) s event silent entries
     → entries_in entries ≡ n → bytes_in entries ≡ m → is_within w.basis w.history n m ≡ false → counted ≡ entries_in w.history → size ≡ bytes_in w.history → IsUnmoved w new → Represents site w s → Steps site s event w (Err (Full counted size)) new
 finds_full site w new s event entries n m counted size t takes appends e b full c k kept h =
     ((t, takes, (entries, appends, sym (room_is site w s entries n m e b h) ∙ full)), c ∙ ap entries_in h.history, k ∙ ap bytes_in h.history, kept)
@@ -188,7 +189,7 @@ time_set site w s time m h =
     let did : Did = record { entries = []; effect = Posted } in
     let all : s.history ≡ s.history ++ [] = sym (append-nil s.history) in (
       did,
-      record { enabled = below time.micros 1000000 m; appends = refl; room = λ takes. absurd (cc takes); effect = refl },
+      record { enabled = below time.micros 1000000 m; answer = silent; answered = refl; appends = refl; room = λ takes. absurd (cc takes); effect = refl },
       refl,
       record {
         history = h.history ∙ all;
@@ -218,6 +219,8 @@ stopped site w new s off n h =
       did,
       record {
         enabled = ap not (ap is_stopped (sym h.history) ∙ off);
+        answer = silent;
+        answered = refl;
         appends = refl;
         room = λ takes. absurd (cc takes);
         effect = refl;
@@ -259,6 +262,8 @@ opens site w new s by built n t fits h =
       did,
       record {
         enabled = t;
+        answer = silent;
+        answered = refl;
         appends = refl;
         room = λ takes. sym (room_is site w s (entry ∷ []) 1 0 refl refl h) ∙ fits;
         effect = refl;
@@ -317,6 +322,8 @@ finished site w new s by why built n t h =
       did,
       record {
         enabled = t;
+        answer = silent;
+        answered = refl;
         appends = record {
           cuts = all.cuts;
           given = mine.packets;
@@ -532,6 +539,8 @@ received site w new s by piece entries why c t h k room settles =
       did,
       record {
         enabled = t;
+        answer = silent;
+        answered = refl;
         appends = posts_received site w s by piece entries why c h k;
         room = λ takes. sym (room_is site w s did.entries (entries_in entries) (bytes_in entries) (posts_count site by s.time left packets cuts fault entries mine_are) (posts_size site by s.time left packets cuts fault entries mine_are) h) ∙ room;
         effect = refl;
@@ -623,7 +632,7 @@ wrote site w new s by count next bytes n k h =
           (λ j other. pieces_stay j (Write by count) [] s.pieces refl refl) (λ j other. passes site s (Write by count) did j refl (written_of_other j by count other));
     } in (
       did,
-      record { enabled = t; appends = refl; room = λ takes. absurd (cc takes); effect = refl },
+      record { enabled = t; answer = silent; answered = refl; appends = refl; room = λ takes. absurd (cc takes); effect = refl },
       ap (Written by) gives,
       subst (λ (x : Held). Represents site x moved) (sym k.2) whole,
     )
@@ -642,17 +651,16 @@ room_made time k new connections n m g = ap (λ (x : Shown). held_with time x co
 
 -- ---- trial lines
 
--- what a trial answers and appends is what the environment's desk does
-trial_here : (site : SiteData) (w : Held) (s : State) (words : List (List ℕ)) → Represents site w s → tried w.basis w.history w.time words ≡ tried (basis_of site) s.history s.time words
-trial_here site w s words h = λ i. tried (h.basis i) (h.history i) (h.time i) words
+-- what a trial answers is what the environment's desk does
+trial_here : (site : SiteData) (w : Held) (s : State) (words : List (List ℕ)) (a : Answer) → Represents site w s → IsTried w.basis w.history w.time words a → IsTried (basis_of site) s.history s.time words a
+trial_here site w s words a h t = subst (λ (b : Basis). IsTried b s.history s.time words a) h.basis (subst (λ (l : List Entry). IsTried w.basis l s.time words a) h.history (subst (λ (now : Time). IsTried w.basis w.history now words a) h.time t))
 
 pub trial_done : (site : SiteData) (w new : Held) (s : State) (words : List (List ℕ)) (front : ℕ) (text : List ℕ) (es : List Entry) → 1 ≤ w.basis.site.desks → front ≡ length w.history
-    → tried w.basis w.history w.time words ≡ record { text = Some text; entries = es } → ((k : ℕ) → latest (connects_maker k) es ≡ None) → new ≡ record w { history = w.history ++ es } → Represents site w s
+    → IsTried w.basis w.history w.time words (record { text = Some text; entries = es }) → ((k : ℕ) → latest (connects_maker k) es ≡ None) → new ≡ record w { history = w.history ++ es } → Represents site w s
     → Steps site s (Try words) w (Ok (Tried front text)) new
 trial_done site w new s words front text es desks at answers none n h =
     let did : Did = record { entries = es; effect = Tried (length s.history) text } in
     let moved : State = after s (Try words) did in
-    let same = sym (trial_here site w s words h) ∙ answers in
     let some : 1 ≤ site.desks = subst (λ (b : Basis). 1 ≤ b.site.desks) h.basis desks in
     let whole : Represents site (record w { history = w.history ++ es }) moved = record {
       history = ap (λ (l : List Entry). l ++ es) h.history;
@@ -664,15 +672,17 @@ trial_done site w new s words front text es desks at answers none n h =
       did,
       record {
         enabled = below 0 site.desks (omega (arith, some));
-        appends = sym (ap (λ (a : Answer). a.entries) same);
+        answer = record { text = Some text; entries = es };
+        answered = trial_here site w s words (record { text = Some text; entries = es }) h answers;
+        appends = refl;
         room = λ takes. absurd (cc takes);
-        effect = sym (ap (λ (a : Answer). Tried (length s.history) (unwrap_or a.text [])) same);
+        effect = refl;
       },
       ap (λ (k : ℕ). Tried k text) (at ∙ ap length h.history),
       subst (λ (x : Held). Represents site x moved) (sym n) whole,
     )
 
 -- a look-up appends nothing
-pub trial_told : (site : SiteData) (w : Held) (s : State) (words : List (List ℕ)) (front : ℕ) (text : List ℕ) → 1 ≤ w.basis.site.desks → front ≡ length w.history → tried w.basis w.history w.time words ≡ tells text → Represents site w s
+pub trial_told : (site : SiteData) (w : Held) (s : State) (words : List (List ℕ)) (front : ℕ) (text : List ℕ) → 1 ≤ w.basis.site.desks → front ≡ length w.history → IsTried w.basis w.history w.time words (tells text) → Represents site w s
     → Steps site s (Try words) w (Ok (Tried front text)) w
 trial_told site w s words front text desks at answers h = trial_done site w w s words front text [] desks at answers (λ k. refl) (ap (λ (l : List Entry). record w { history = l }) (sym (append-nil w.history))) h

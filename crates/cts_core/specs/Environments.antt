@@ -1,10 +1,10 @@
 -- What a site gives to events: the environment in which they are done.
-use Rattle.std.specs.Prelude.{ℕ, false, Bool, ◌==◌, ◌&&◌, nat_lt, List, [], filter, map, slice_index_or, Option, Some, None, if◌then◌else◌}
+use Rattle.std.specs.Prelude.{◌≡◌, ℕ, false, Bool, ◌==◌, ◌&&◌, nat_lt, List, [], filter, map, slice_index_or, Option, Some, None, if◌then◌else◌}
 use Rattle.std.specs.List.{list_any}
 use Rattle.cts_chain.specs.Builds.{use_specs, writes}
 use Rattle.cts_chain.specs.Writing.{chain_spelling}
 use Rattle.cts_core.specs.States.{Answer, Environment, Question, Request, Trial}
-use Rattle.cts_core.specs.Trials.{tried}
+use Rattle.cts_core.specs.Trials.{IsTried}
 use Rattle.cts_table.specs.declared.basis.Basis.{Basis}
 use Rattle.cts_def.specs.Makers.{router_of}
 use Rattle.cts_def.specs.Packets.{unknown}
@@ -80,9 +80,9 @@ abbrev pub basis_of : SiteData → Basis
 basis_of site = record { site = site; entries = entries_limit; bytes = bytes_limit }
 
 -- a request is answered by what is not defined yet, and a trial line by what the site's history says
-abbrev pub answer_to : (List Entry → ℕ → Time → List ℕ → Answer) → SiteData → List Entry → ℕ → Time → Question → Answer
-answer_to answer site history desk now (Request body) = answer history desk now body
-answer_to answer site history desk now (Trial words) = tried (basis_of site) history now words
+abbrev pub IsAnswerTo : (List Entry → ℕ → Time → List ℕ → Answer) → SiteData → List Entry → ℕ → Time → Question → Answer → Type 0
+IsAnswerTo answer site history desk now (Request body) a = a ≡ answer history desk now body
+IsAnswerTo answer site history desk now (Trial words) a = IsTried (basis_of site) history now words a
 
 -- The environment that a site gives, with these in their places.
 abbrev pub environment_with : Undefined → SiteData → Environment
@@ -101,7 +101,7 @@ environment_with u site = record {
   is_desk = is_desk site;
   is_logged = is_logged site;
   layout = u.layout;
-  answer = answer_to u.answer site;
+  answers = IsAnswerTo u.answer site;
   most_entries = entries_limit;
   most_bytes = bytes_limit;
 }

@@ -15,7 +15,7 @@ use Rattle.cts_frame.specs.Framing.{Output}
 use Rattle.cts_frame.specs.Cuts.{Pieces}
 use Rattle.cts_frame.specs.Packets.{IsPackets, Fault, fault_of, loss_of}
 use Rattle.cts_told.specs.Routing.{posted_entries}
-use Rattle.cts_core.specs.States.{Environment, State, Request, Trial, trial_desk, is_enabled, takes_room, has_room, put_next, unsent, log_ahead, packets_log, commands_log}
+use Rattle.cts_core.specs.States.{Answer, Environment, State, Request, Trial, trial_desk, is_enabled, takes_room, has_room, put_next, unsent, log_ahead, packets_log, commands_log}
 
 -- a connection's Closed has what its chain gave to no packet, and how many of its queue were not put whole
 abbrev pub closed_entry : Time → ℕ → Why → ℕ → List Pieces → Entry
@@ -44,44 +44,63 @@ pub record Closes (env : Environment) (s : State) (by : ℕ) (why : Why) (entrie
   pub before : IsPackets (env.routing.chain by) (s.pieces by) cuts given
   pub entries_are : entries ≡ closed_entry s.time by why (unsent env s by) cuts ∷ []
 
--- the entries that an event appends
-abbrev pub Appends : Environment → State → Event → List Entry → Type 0
-Appends env s (SetTime time) entries = entries ≡ []
-Appends env s (Opens by) entries = entries ≡ record { by = by; time = s.time; what = Opened } ∷ []
-Appends env s (Piece by piece) entries = Receives env s by piece entries
-Appends env s (Finish by why) entries = Closes env s by why entries
-Appends env s (Write by count) entries = entries ≡ []
-Appends env s (Call desk body) entries = entries ≡ (env.answer s.history desk s.time (Request body)).entries
-Appends env s (DrainLog count) entries = entries ≡ []
-Appends env s (DrainSlot by count) entries = entries ≡ []
-Appends env s Stop entries = entries ≡ record { by = server; time = s.time; what = StopEntry } ∷ []
-Appends env s (Try words) entries = entries ≡ (env.answer s.history trial_desk s.time (Trial words)).entries
+-- what is answered where no desk is asked
+abbrev pub silent : Answer
+silent = record { text = None; entries = [] }
 
--- what an event gives besides
-abbrev pub effect_of : Environment → State → Event → Effect
-effect_of env s (SetTime time) = Posted
-effect_of env s (Opens by) = Posted
-effect_of env s (Piece by piece) = Posted
-effect_of env s (Finish by why) = Posted
-effect_of env s (Write by count) = Written by (put_next env s by count)
-effect_of env s (Call desk body) = Reply desk (length s.history) (env.answer s.history desk s.time (Request body)).text
-effect_of env s (DrainLog count) = Logged (packets_log env (take count (log_ahead s))) (commands_log env (take count (log_ahead s)))
-effect_of env s (DrainSlot by count) = Routed by (put_next env s by count)
-effect_of env s Stop = Posted
-effect_of env s (Try words) = Tried (length s.history) (unwrap_or (env.answer s.history trial_desk s.time (Trial words)).text [])
+-- A desk may answer this to the question that an event asks; an event that asks no desk has no answer.
+abbrev pub IsAnswered : Environment → State → Event → Answer → Type 0
+IsAnswered env s (SetTime time) a = a ≡ silent
+IsAnswered env s (Opens by) a = a ≡ silent
+IsAnswered env s (Piece by piece) a = a ≡ silent
+IsAnswered env s (Finish by why) a = a ≡ silent
+IsAnswered env s (Write by count) a = a ≡ silent
+IsAnswered env s (Call desk body) a = env.answers s.history desk s.time (Request body) a
+IsAnswered env s (DrainLog count) a = a ≡ silent
+IsAnswered env s (DrainSlot by count) a = a ≡ silent
+IsAnswered env s Stop a = a ≡ silent
+IsAnswered env s (Try words) a = env.answers s.history trial_desk s.time (Trial words) a
+
+-- the entries that an event appends, where a desk that it asks answers this
+abbrev pub Appends : Environment → State → Event → Answer → List Entry → Type 0
+Appends env s (SetTime time) a entries = entries ≡ []
+Appends env s (Opens by) a entries = entries ≡ record { by = by; time = s.time; what = Opened } ∷ []
+Appends env s (Piece by piece) a entries = Receives env s by piece entries
+Appends env s (Finish by why) a entries = Closes env s by why entries
+Appends env s (Write by count) a entries = entries ≡ []
+Appends env s (Call desk body) a entries = entries ≡ a.entries
+Appends env s (DrainLog count) a entries = entries ≡ []
+Appends env s (DrainSlot by count) a entries = entries ≡ []
+Appends env s Stop a entries = entries ≡ record { by = server; time = s.time; what = StopEntry } ∷ []
+Appends env s (Try words) a entries = entries ≡ a.entries
+
+-- what an event gives besides, where a desk that it asks answers this
+abbrev pub effect_of : Environment → State → Event → Answer → Effect
+effect_of env s (SetTime time) a = Posted
+effect_of env s (Opens by) a = Posted
+effect_of env s (Piece by piece) a = Posted
+effect_of env s (Finish by why) a = Posted
+effect_of env s (Write by count) a = Written by (put_next env s by count)
+effect_of env s (Call desk body) a = Reply desk (length s.history) a.text
+effect_of env s (DrainLog count) a = Logged (packets_log env (take count (log_ahead s))) (commands_log env (take count (log_ahead s)))
+effect_of env s (DrainSlot by count) a = Routed by (put_next env s by count)
+effect_of env s Stop a = Posted
+effect_of env s (Try words) a = Tried (length s.history) (unwrap_or a.text [])
 
 -- what an event did: the entries that it appended, and what it gave besides
 pub record Did : Type 0 where
   pub entries : List Entry
   pub effect : Effect
 
--- An event does this. An Opens or a Piece needs room for its entries; an answer of a desk has it by itself, and a Closed and a
+-- An event does this, by what a desk that it asks answers. An Opens or a Piece needs room for its entries; an answer of a desk has it by itself, and a Closed and a
 -- Stop take none.
 pub record Does (env : Environment) (s : State) (event : Event) (did : Did) : Type 0 where
   pub enabled : is_enabled env s event ≡ true
-  pub appends : Appends env s event did.entries
+  pub answer : Answer
+  pub answered : IsAnswered env s event answer
+  pub appends : Appends env s event answer did.entries
   pub room : takes_room event ≡ true → has_room env s did.entries ≡ true
-  pub effect : did.effect ≡ effect_of env s event
+  pub effect : did.effect ≡ effect_of env s event answer
 
 abbrev pub time_after : Event → Time → Time
 time_after (SetTime time) now = time
@@ -162,11 +181,11 @@ pub data Ending : Type 0 where
   NotEnabled : Ending
   HistoryFull : Ending
 
--- An event is refused, and changes nothing.
+-- An event is refused, and changes nothing. No event that asks a desk may find the history full.
 abbrev pub Refuses : Environment → State → Event → Ending → Type 0
 Refuses env s event Finished = ⊥
 Refuses env s event NotEnabled = is_enabled env s event ≡ false
-Refuses env s event HistoryFull = (is_enabled env s event ≡ true) × (takes_room event ≡ true) × ((entries : List Entry) × Appends env s event entries × (has_room env s entries ≡ false))
+Refuses env s event HistoryFull = (is_enabled env s event ≡ true) × (takes_room event ≡ true) × ((entries : List Entry) × Appends env s event silent entries × (has_room env s entries ≡ false))
 
 -- The events do this one after another, and end so. What the events did that were done stands in the list, in order.
 abbrev pub Runs : Environment → State → List Event → List Did → Ending → Type 0

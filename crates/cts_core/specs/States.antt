@@ -24,7 +24,7 @@ pub record Answer : Type 0 where
   pub entries : List Entry
 
 -- what events stand on: the site, as far as they need it, what desks answer, and the limits of the history
-pub record Environment : Type 0 where
+pub record Environment : Type 1 where
   pub routing : Routing
   -- whether a maker is a router's slot; whether it has a desk of this number
   pub is_slot : ℕ → Bool
@@ -33,8 +33,8 @@ pub record Environment : Type 0 where
   pub is_logged : ℕ → Bool
   -- how some bytes are laid out in a log
   pub layout : Heading → List ℕ → List ℕ
-  -- what a desk answers at a history and a time to a question
-  pub answer : List Entry → ℕ → Time → Question → Answer
+  -- what a desk may answer at a history and a time to a question
+  pub answers : List Entry → ℕ → Time → Question → Answer → Type 0
   pub most_entries : ℕ
   pub most_bytes : ℕ
 

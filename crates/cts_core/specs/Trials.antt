@@ -17,6 +17,7 @@ use Rattle.cts_table.specs.Lookups.{looked_up}
 use Rattle.cts_table.specs.declared.fault.Lookup.{Lookup}
 use Rattle.cts_table.specs.declared.fault.Lookup.TheVariants.{UnknownTarget, UnknownPacket, UnknownItem, NeverReceived, Memory}
 use Rattle.cts_watch.specs.Sets.{is_set_known}
+use Rattle.cts_core.specs.Commands.{IsSent, tells}
 use Rattle.cts_core.specs.Kept.{is_within}
 use Rattle.cts_core.specs.States.{Answer, trial_desk}
 
@@ -43,34 +44,30 @@ value_text (Err refusal) = message refusal
 
 -- ---- answers
 
--- a text alone
-abbrev pub tells : List ℕ → Answer
-tells text = record { text = Some text; entries = [] }
-
 -- a limits set that is known and has room in the history is chosen
 abbrev pub chooses : Bool → Bool → Time → List ℕ → Answer
 chooses true true now name = record { text = Some (codes "ok"); entries = record { by = first_desk + trial_desk; time = now; what = LimitsSetIs name } ∷ [] }
 chooses true false now name = tells (codes "History full")
 chooses false fits now name = tells (codes "Unknown limits set")
 
-abbrev pub found_for : Basis → List Entry → Time → Option Asked → Answer
-found_for b history now (Some (AskedValue kind target packet item)) = tells (value_text (looked_up b.site history target packet item (value_kind kind)))
-found_for b history now (Some (Set name)) = chooses (is_name name && is_set_known b.site history (in_upper_case name)) (is_within b history 1 0) now (in_upper_case name)
--- a command is not sent so far
-found_for b history now (Some (Command text)) = tells []
-found_for b history now None = tells []
+-- what desk 0 answers to what is asked, where the history is one of this site and these limits
+abbrev pub IsFound : Basis → List Entry → Time → Option Asked → Answer → Type 0
+IsFound b history now (Some (AskedValue kind target packet item)) a = tells (value_text (looked_up b.site history target packet item (value_kind kind))) ≡ a
+IsFound b history now (Some (Set name)) a = chooses (is_name name && is_set_known b.site history (in_upper_case name)) (is_within b history 1 0) now (in_upper_case name) ≡ a
+IsFound b history now (Some (Command text)) a = IsSent b history now text a
+IsFound b history now None a = tells [] ≡ a
 
--- what desk 0 answers to the words of a trial line, where the history is one of this site and these limits
-abbrev pub tried : Basis → List Entry → Time → List (List ℕ) → Answer
-tried b history now words = found_for b history now (trial_of words)
+-- what desk 0 answers to the words of a trial line
+abbrev pub IsTried : Basis → List Entry → Time → List (List ℕ) → Answer → Type 0
+IsTried b history now words a = IsFound b history now (trial_of words) a
 
 -- the trials that are built
 abbrev pub is_built_trial : Option Asked → Bool
 is_built_trial (Some (AskedValue kind target packet item)) = true
 is_built_trial (Some (Set name)) = true
-is_built_trial (Some (Command text)) = false
+is_built_trial (Some (Command text)) = true
 is_built_trial None = false
 
--- a trial that chooses a limits set answers this text, and appends what stands behind the history then
-abbrev pub Chosen : Basis → List Entry → Time → List ℕ → List ℕ → List Entry → Type 0
-Chosen b history now name text after = (es : List Entry) × (found_for b history now (Some (Set name)) ≡ record { text = Some text; entries = es }) × (after ≡ history ++ es)
+-- a trial that may append answers this text, and appends what stands behind the history then
+abbrev pub Changes : Basis → List Entry → Time → Asked → List ℕ → List Entry → Type 0
+Changes b history now asked text after = (es : List Entry) × IsFound b history now (Some asked) (record { text = Some text; entries = es }) × (after ≡ history ++ es)

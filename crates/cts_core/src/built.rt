@@ -10,7 +10,7 @@ use cts_entry::Event;
 use cts_scriptread::{Trial, trial_of};
 
 /// Whether the core does such events so far: those of connections and the clock, what is written to devices, a Stop, and trial
-/// lines that look a value up or choose a limits set.
+/// lines.
 pub fn is_built_event(event: &Event) -> bool
     ensures { result ≡ is_built_event event.now }
 {
@@ -34,7 +34,7 @@ fn is_built_trial(words: &[Bytes]) -> bool
     match trial_of(words) {
         Some(Trial::Value { .. }) => true,
         Some(Trial::Set { .. }) => true,
-        Some(Trial::Command { .. }) => false,
+        Some(Trial::Command { .. }) => true,
         None => false,
     }
 }

@@ -1,7 +1,8 @@
 // A world of one interface, event by event: what no script can ask for yet, a history that is full, and chains of protocols.
-ghost use Rattle.std.specs.Prelude.{◌≡◌, true, IfOk};
+ghost use Rattle.std.specs.Prelude.{◌≡◌, ◌≤◌, true, IfOk};
 ghost use Rattle.std.specs.Arc.{arc_value};
 ghost use Rattle.cts_core.specs.Built.{is_built_site};
+ghost use Rattle.cts_entry.specs.Legal.{most_entries as entries_limit, most_bytes as bytes_limit};
 
 use crate::read::{Answers, SITE, as_text, bytes_of, cut, rows_hold, same, site_of};
 use crate::shelves::stocked;
@@ -38,7 +39,7 @@ fn built_site(alloc: Global, definitions: &str, site: &str) -> Result<Arc<Site>,
 }
 
 /// The event of a row: the clock is set to second 5 or to no time of a clock, the interface opens, a piece comes, the interface
-/// ends by a stop, one that there is not by its peer, the server is stopped, or a trial.
+/// ends by a stop, one that there is not by its peer, the server is stopped, or a trial, which may send a command.
 fn event_of(alloc: Global, text: &str) -> Result<Event, Fail> {
     match text {
         "time" => Ok(Event::SetTime(TIME)),
@@ -56,6 +57,7 @@ fn long_event_of(alloc: Global, text: &str) -> Result<Event, Fail> {
     match word {
         "piece" => Ok(Event::Piece(0, Bytes::of(bytes_of(alloc, rest)?))),
         "try" => trial(alloc, rest),
+        "send" => sending(alloc, rest),
         _ => Err(Fail::new("no event")),
     }
 }
@@ -66,6 +68,14 @@ fn trial(alloc: Global, words: &str) -> Result<Event, Fail> {
         held.push(Bytes::copy(alloc, word.as_bytes())?)?;
     }
     Ok(Event::Try(List::of(held)))
+}
+
+/// A trial that sends a command of this text.
+fn sending(alloc: Global, text: &str) -> Result<Event, Fail> {
+    let mut words = Vec::new(alloc);
+    words.push(Bytes::copy(alloc, b"CMD")?)?;
+    words.push(Bytes::copy(alloc, text.as_bytes())?)?;
+    Ok(Event::Try(List::of(words)))
 }
 
 /// What the world answers to an event, in words.
@@ -181,16 +191,24 @@ struct Full;
 
 impl Answers for Full {
     fn answer(alloc: Global, asked: &str) -> Result<String, Fail> {
-        told_of_full::<Chain, Shelf>(alloc, asked, &mut stocked(alloc)?)
+        let site = built_site(alloc, "", SITE)?;
+        told_within::<Chain, Shelf>(alloc, site, 1, 10, asked, &mut stocked(alloc)?)
     }
 }
 
-fn told_of_full<C: Framer, B: Supplier<C>>(
+fn told_within<C: Framer, B: Supplier<C>>(
     alloc: Global,
+    site: Arc<Site>,
+    entries: u64,
+    bytes: u64,
     events: &str,
     shelf: &mut B,
-) -> Result<String, Fail> {
-    match World::with_limits(alloc, built_site(alloc, "", SITE)?, shelf, 1, 10) {
+) -> Result<String, Fail>
+    requires built { is_built_site (arc_value site) ≡ true }
+    requires entries { entries ≤ entries_limit }
+    requires bytes { bytes ≤ bytes_limit }
+{
+    match World::with_limits(alloc, site, shelf, entries, bytes) {
         Ok(world) => told::<C>(alloc, world, events),
         Err(_) => Err(Fail::new("no world")),
     }
@@ -199,6 +217,30 @@ fn told_of_full<C: Framer, B: Supplier<C>>(
 #[test]
 fn a_world_with_a_full_history_says_so(rt: HostRuntime) -> Result<(), Fail> {
     rows_hold::<Full>(&rt, rt.alloc(), FULL)
+}
+
+/// The same of a world whose history takes three entries and eight bytes, one of the entries the Opened, with a command of three bytes
+/// and one to the end: a command fits up to the last byte, and one without bytes up to the last entry.
+const SENT: &str = "\
+opens;send T C;send T E with L 'abcdef';send T X;send T E with L 'abcde';send T E;send T E with|posted;tried 1 ok;tried 2 History full;tried 2 Unknown command;tried 2 ok;tried 3 History full;tried 3 Invalid params; 0 0.000000 I OPENED;1 0.000000 DESK/0 COMMAND T C 000001;2 0.000000 DESK/0 COMMAND T E 6162636465;";
+
+/// A command of one number, and one of a text to the end.
+const COMMANDS: &str =
+    "COMMAND T C BIG_ENDIAN;APPEND_PARAMETER N 24 UINT 0 9 1;COMMAND T E BIG_ENDIAN;APPEND_PARAMETER L 0 STRING ''";
+
+struct Sent;
+
+impl Answers for Sent {
+    fn answer(alloc: Global, asked: &str) -> Result<String, Fail> {
+        let site = "INTERFACE I tcpip_client_interface.rb h 1 1 10.0 nil LENGTH 0 16 0 1;TARGET T";
+        let site = built_site(alloc, COMMANDS, site)?;
+        told_within::<Chain, Shelf>(alloc, site, 3, 8, asked, &mut stocked(alloc)?)
+    }
+}
+
+#[test]
+fn commands_are_sent_up_to_the_last_place_of_the_history(rt: HostRuntime) -> Result<(), Fail> {
+    rows_hold::<Sent>(&rt, rt.alloc(), SENT)
 }
 
 /// The same of a world whose interface has a target, behind protocols: packets bring their own time and names, and chains end with

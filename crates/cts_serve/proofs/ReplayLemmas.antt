@@ -4,15 +4,15 @@ use Rattle.std.proofs.lemmas.List.{append-nil, take_at}
 use Rattle.cts_entry.specs.declared.entry.Entry.{Entry}
 use Rattle.cts_entry.specs.declared.event.Event.{Event}
 use Rattle.cts_entry.specs.Histories.{entries_in, bytes_in}
-use Rattle.cts_frame.proofs.Sound.{chains_are_sound}
 use Rattle.cts_core.specs.States.{State, opening}
 use Rattle.cts_core.specs.Runs.{Did, Does, after, Ending, Finished, NotEnabled, HistoryFull, Runs}
 use Rattle.cts_core.specs.Laws.{IsSoundEnvironment}
 use Rattle.cts_core.proofs.OneRun.{has_run}
+use Rattle.cts_core.proofs.SiteSound.{site_sound as environment_sound}
 use Rattle.cts_outside.specs.Seen.{SinkSeen}
 use Rattle.cts_outside.proofs.Putting.{appended-nil, whole_then, part_first, part_then}
 use Rattle.cts_def.specs.Sites.{SiteData}
-use Rattle.cts_core.specs.Environments.{site_environment}
+use Rattle.cts_core.specs.Environments.{site_environment, stand_ins}
 use Rattle.cts_core.specs.Worlds.{Held, Represents}
 use Rattle.cts_serve.specs.Ending.Lines.{end_line}
 use Rattle.cts_serve.specs.Putting.{IsPut, FailsWithin}
@@ -66,7 +66,7 @@ goes_on site events rest x w new text p did d h = record {
 }
 
 pub site_sound : (site : SiteData) → IsSoundEnvironment (site_environment site)
-site_sound site by = chains_are_sound site by
+site_sound site = environment_sound stand_ins site
 
 -- ---- what is put
 

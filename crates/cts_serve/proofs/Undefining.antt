@@ -6,8 +6,8 @@ use Rattle.cts_entry.specs.declared.entry.Entry.{Entry}
 use Rattle.cts_entry.specs.declared.event.Event.{Event}
 use Rattle.cts_entry.specs.declared.event.Event.TheVariants.{SetTime, Opens, Piece, Finish, Write, Call, DrainLog, DrainSlot, Stop, Try}
 use Rattle.cts_entry.specs.declared.why.Why.{Why}
-use Rattle.cts_core.specs.States.{State, opening, is_enabled}
-use Rattle.cts_core.specs.Runs.{Did, Does, Receives, Closes, Appends, Refuses, Runs, Ending, Finished, NotEnabled, HistoryFull, after, effect_of}
+use Rattle.cts_core.specs.States.{Answer, State, opening, is_enabled}
+use Rattle.cts_core.specs.Runs.{Did, Does, Receives, Closes, IsAnswered, silent, Appends, Refuses, Runs, Ending, Finished, NotEnabled, HistoryFull, after, effect_of}
 use Rattle.cts_core.specs.Environments.{Undefined, environment_with}
 use Rattle.cts_core.specs.Built.{is_built_event}
 use Rattle.cts_core.proofs.Building.{and_tells}
@@ -32,42 +32,56 @@ module _ (u v : Undefined) (site : SiteData) where
   enabled_same s Stop b = refl
   enabled_same s (Try words) b = refl
 
-  effect_same : (s : State) (event : Event) → is_built_event event ≡ true → effect_of (environment_with u site) s event ≡ effect_of (environment_with v site) s event
-  effect_same s (SetTime time) b = refl
-  effect_same s (Opens by) b = refl
-  effect_same s (Piece by piece) b = refl
-  effect_same s (Finish by why) b = refl
-  effect_same s (Write by count) b = refl
-  effect_same s (Call desk body) b = absurd (cc b)
-  effect_same s (DrainLog count) b = absurd (cc b)
-  effect_same s (DrainSlot by count) b = absurd (cc b)
-  effect_same s Stop b = refl
-  effect_same s (Try words) b = refl
+  answered : (s : State) (event : Event) (a : Answer) → is_built_event event ≡ true → IsAnswered (environment_with u site) s event a → IsAnswered (environment_with v site) s event a
+  answered s (SetTime time) a b h = h
+  answered s (Opens by) a b h = h
+  answered s (Piece by piece) a b h = h
+  answered s (Finish by why) a b h = h
+  answered s (Write by count) a b h = h
+  answered s (Call desk body) a b h = absurd (cc b)
+  answered s (DrainLog count) a b h = absurd (cc b)
+  answered s (DrainSlot by count) a b h = absurd (cc b)
+  answered s Stop a b h = h
+  answered s (Try words) a b h = h
 
-  appends : (s : State) (event : Event) (entries : List Entry) → is_built_event event ≡ true → Appends (environment_with u site) s event entries → Appends (environment_with v site) s event entries
-  appends s (SetTime time) entries b a = a
-  appends s (Opens by) entries b a = a
-  appends s (Piece by piece) entries b a = receives s by piece entries a
-  appends s (Finish by why) entries b a = closes s by why entries a
-  appends s (Write by count) entries b a = a
-  appends s (Call desk body) entries b a = absurd (cc b)
-  appends s (DrainLog count) entries b a = absurd (cc b)
-  appends s (DrainSlot by count) entries b a = absurd (cc b)
-  appends s Stop entries b a = a
-  appends s (Try words) entries b a = a
+  effect_same : (s : State) (event : Event) (a : Answer) → is_built_event event ≡ true → effect_of (environment_with u site) s event a ≡ effect_of (environment_with v site) s event a
+  effect_same s (SetTime time) a b = refl
+  effect_same s (Opens by) a b = refl
+  effect_same s (Piece by piece) a b = refl
+  effect_same s (Finish by why) a b = refl
+  effect_same s (Write by count) a b = refl
+  effect_same s (Call desk body) a b = absurd (cc b)
+  effect_same s (DrainLog count) a b = absurd (cc b)
+  effect_same s (DrainSlot by count) a b = absurd (cc b)
+  effect_same s Stop a b = refl
+  effect_same s (Try words) a b = refl
+
+  appends : (s : State) (event : Event) (a : Answer) (entries : List Entry) → is_built_event event ≡ true → Appends (environment_with u site) s event a entries → Appends (environment_with v site) s event a entries
+  appends s (SetTime time) a entries b h = h
+  appends s (Opens by) a entries b h = h
+  appends s (Piece by piece) a entries b h = receives s by piece entries h
+  appends s (Finish by why) a entries b h = closes s by why entries h
+  appends s (Write by count) a entries b h = h
+  appends s (Call desk body) a entries b h = absurd (cc b)
+  appends s (DrainLog count) a entries b h = absurd (cc b)
+  appends s (DrainSlot by count) a entries b h = absurd (cc b)
+  appends s Stop a entries b h = h
+  appends s (Try words) a entries b h = h
 
   does : (s : State) (event : Event) (did : Did) → is_built_event event ≡ true → Does (environment_with u site) s event did → Does (environment_with v site) s event did
   does s event did b d = record {
     enabled = sym (enabled_same s event b) ∙ d.enabled;
-    appends = appends s event did.entries b d.appends;
+    answer = d.answer;
+    answered = answered s event d.answer b d.answered;
+    appends = appends s event d.answer did.entries b d.appends;
     room = d.room;
-    effect = d.effect ∙ effect_same s event b;
+    effect = d.effect ∙ effect_same s event d.answer b;
   }
 
   refuses : (s : State) (event : Event) (ending : Ending) → is_built_event event ≡ true → Refuses (environment_with u site) s event ending → Refuses (environment_with v site) s event ending
   refuses s event Finished b r = r
   refuses s event NotEnabled b r = sym (enabled_same s event b) ∙ r
-  refuses s event HistoryFull b r = (sym (enabled_same s event b) ∙ r.0, r.1, (r.2.0, appends s event r.2.0 b r.2.1, r.2.2))
+  refuses s event HistoryFull b r = (sym (enabled_same s event b) ∙ r.0, r.1, (r.2.0, appends s event silent r.2.0 b r.2.1, r.2.2))
 
   runs : (s : State) (events : List Event) (dids : List Did) (ending : Ending) → list_all is_built_event events ≡ true → Runs (environment_with u site) s events dids ending → Runs (environment_with v site) s events dids ending
   runs s [] dids ending all h = h

@@ -2,6 +2,7 @@
 use Rattle.std.specs.Prelude.{◌≡◌, ℕ, ◌≤◌, List, [], take, Option, Some, None, option_map, option_and_then, MatchOption, Result, Ok, Err, ◌⊎◌}
 use Rattle.std.specs.Option.{option_or}
 use Rattle.cts_core.specs.Runs.{Did, Ending, Runs}
+use Rattle.cts_core.specs.Sendings.{AreJudged}
 use Rattle.cts_core.specs.States.{opening}
 use Rattle.cts_def.specs.Sites.{SiteData}
 use Rattle.cts_entry.specs.declared.event.Event.{Event}
@@ -66,11 +67,12 @@ replayed script body (Err halt) = behind body (halt_ending script halt)
 abbrev pub replay_outcome : SiteData → List ℕ → List (ℕ × Event) → List Did → Ending → Outcome
 replay_outcome site script events dids ending = replayed script (replay_body site dids ending) (replay_answer events dids ending)
 
--- The outcome of a run of the script's events.
+-- The outcome of a run of the script's events, of whose commands each is refused exactly where something stands against it.
 pub record IsReplay (site : SiteData) (script : List ℕ) (events : List (ℕ × Event)) (o : Outcome) : Type 0 where
   pub dids : List Did
   pub ending : Ending
   pub runs : Runs (site_environment site) opening (events_of events) dids ending
+  pub commands : AreJudged site opening (events_of events) dids
   pub outcome : o ≡ replay_outcome site script events dids ending
 
 -- how many packets, commands, items of both, interfaces and routers there are

@@ -4,9 +4,13 @@
 #[cfg(test)]
 mod chains;
 #[cfg(test)]
+mod commands;
+#[cfg(test)]
 mod counting;
 #[cfg(test)]
 mod faults;
+#[cfg(test)]
+mod instrument;
 #[cfg(test)]
 mod limits;
 #[cfg(test)]

@@ -1,4 +1,5 @@
 // Commands that end before they do anything, and checks: one line, or none.
+use crate::instrument::INSTRUMENT_DEFINITIONS;
 use crate::table::{SITE, commands_end_so, ended};
 use cts_base::Bytes;
 use cts_outside::{MemFiles, MemSink};
@@ -64,25 +65,6 @@ fn each_file_has_its_refusals_before_the_next(rt: HostRuntime) -> Result<(), Fai
     commands_end_so(&rt, FILES)
 }
 
-// Two packets, one command and six items.
-const DEFINITIONS: &str = "\
-TELEMETRY INST HS BIG_ENDIAN \"Health and status\";\
-APPEND_ID_ITEM PKTID 8 UINT 1 \"Packet id\";\
-APPEND_ITEM TEMP1 16 UINT \"Temperature\";\
-POLY_READ_CONVERSION -100.0 0.00305;\
-LIMITS DEFAULT 1 ENABLED -80.0 -70.0 60.0 80.0;\
-LIMITS TVAC 1 ENABLED -80.0 -70.0 0.0 80.0;\
-UNITS CELSIUS C;\
-FORMAT_STRING \"%0.3f\";\
-APPEND_ITEM MODE 8 UINT;\
-STATE OFF 0;\
-STATE ON 1;\
-TELEMETRY AUX LINE BIG_ENDIAN \"A line of text\";\
-APPEND_ITEM TEXT 0 STRING;\
-COMMAND INST COLLECT BIG_ENDIAN \"Start a collect\";\
-APPEND_ID_PARAMETER OPCODE 8 UINT 7 7 7 \"Opcode\";\
-APPEND_PARAMETER DURATION 16 UINT 0 10 5 \"Duration\"";
-
 // Two interfaces and a router for them.
 const INSTRUMENT: &str = "\
 TITLE \"Demo\";\
@@ -96,7 +78,7 @@ ROUTE INST_INT";
 #[test]
 fn a_check_counts_what_there_is(rt: HostRuntime) -> Result<(), Fail> {
     let row = format!(in rt.alloc();
-        "check d s|{DEFINITIONS}|{INSTRUMENT}||Ok telemetry 2 commands 1 items 6 interfaces 2 routers 1;"
+        "check d s|{INSTRUMENT_DEFINITIONS}|{INSTRUMENT}||Ok telemetry 2 commands 1 items 6 interfaces 2 routers 1;"
     )?;
     commands_end_so(&rt, row.as_str())
 }

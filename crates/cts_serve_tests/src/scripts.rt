@@ -84,15 +84,12 @@ CALL 0 '{}'|NotBuilt not built: c;
 DRAIN LOG 0|NotBuilt not built: c;
 STOP|NotBuilt not built: c;
 OPEN I;OPEN I;STOP|NotBuilt not built: c;
-TRY CMD 'T C'|NotBuilt not built: c;
-TRY CMD ''|NotBuilt not built: c;
+TRY CMD 'T C';STOP|NotBuilt not built: c;
 STOP;OPEN K|ScriptRefused refused: c line 2: UnknownMaker;
 DRAIN LOG 0;WRITE I x;TRY CMD|ScriptRefused refused: c line 2: NotNumber;";
 
 #[test]
-fn lines_of_trial_commands_clients_logs_and_the_end_are_not_built(
-    rt: HostRuntime,
-) -> Result<(), Fail> {
+fn lines_of_clients_logs_and_the_end_are_not_built(rt: HostRuntime) -> Result<(), Fail> {
     replays_end_so(&rt, TWO, UNDONE)
 }
 

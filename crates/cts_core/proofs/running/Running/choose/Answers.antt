@@ -8,7 +8,8 @@ use Rattle.cts_table.specs.States.{Shown, CanAdd, added, with_room}
 use Rattle.cts_watch.specs.Sets.{is_set_known}
 use Rattle.cts_core.specs.Kept.{is_within}
 use Rattle.cts_core.specs.States.{trial_desk}
-use Rattle.cts_core.specs.Trials.{Chosen, chooses}
+use Rattle.cts_core.specs.Trials.{Changes, chooses}
+use Rattle.cts_scriptread.specs.Trials.{Set}
 use Rattle.cts_core.specs.Worlds.{Held, IsSoundHeld, held_with}
 use Rattle.cts_core.proofs.Holding.{can_choose, sound_chosen}
 use Rattle.cts_core.proofs.running.Running.choose.Goals as goal
@@ -38,7 +39,7 @@ returns-in-Ok-room-clause-ok g c =
     let here : chooses (is_name name && is_set_known w.basis.site w.history (in_upper_case name)) (is_within w.basis w.history 1 0) w.time (in_upper_case name) ≡ record { text = Some c.in_ok-done.done; entries = entry ∷ [] } =
     ap (λ (b : Bool). chooses b (is_within w.basis w.history 1 0) w.time (in_upper_case name)) known
     ∙ (ap (λ (b : Bool). chooses true b w.time (in_upper_case name)) c.in-Ok-room.ensures.answer ∙ ap (λ (t : List ℕ). record { text = Some t; entries = entry ∷ [] }) (sym c.in_ok-done.ensures)) in
-    subst (λ (x : Held). Chosen x.basis x.history x.time name c.in_ok-done.done c.set_limits_set.new.self.entries) c.self.view_is (entry ∷ [], here, ap (λ (k : Shown). k.entries) hall)
+    subst (λ (x : Held). Changes x.basis x.history x.time (Set name) c.in_ok-done.done c.set_limits_set.new.self.entries) c.self.view_is (entry ∷ [], here, ap (λ (k : Shown). k.entries) hall)
   where
     both : (a b : Bool) → a ≡ true → b ≡ true → (a && b) ≡ true
     both a b h k = grind arith

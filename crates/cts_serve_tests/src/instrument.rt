@@ -1,0 +1,20 @@
+// The instrument over which several tests run.
+
+/// Two packets, one command and six items.
+pub(crate) const INSTRUMENT_DEFINITIONS: &str = "\
+TELEMETRY INST HS BIG_ENDIAN \"Health and status\";\
+APPEND_ID_ITEM PKTID 8 UINT 1 \"Packet id\";\
+APPEND_ITEM TEMP1 16 UINT \"Temperature\";\
+POLY_READ_CONVERSION -100.0 0.00305;\
+LIMITS DEFAULT 1 ENABLED -80.0 -70.0 60.0 80.0;\
+LIMITS TVAC 1 ENABLED -80.0 -70.0 0.0 80.0;\
+UNITS CELSIUS C;\
+FORMAT_STRING \"%0.3f\";\
+APPEND_ITEM MODE 8 UINT;\
+STATE OFF 0;\
+STATE ON 1;\
+TELEMETRY AUX LINE BIG_ENDIAN \"A line of text\";\
+APPEND_ITEM TEXT 0 STRING;\
+COMMAND INST COLLECT BIG_ENDIAN \"Start a collect\";\
+APPEND_ID_PARAMETER OPCODE 8 UINT 7 7 7 \"Opcode\";\
+APPEND_PARAMETER DURATION 16 UINT 0 10 5 \"Duration\"";
