@@ -26,4 +26,4 @@ pub use known::{set_known, sets_known};
 pub use laws::known_sets_are_apart;
 pub use running::state_of;
 pub use types::{LimitsEvent, LimitsUsed};
-pub use watching::watches;
+pub use watching::{is_watched, watches};

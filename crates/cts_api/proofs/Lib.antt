@@ -1,0 +1,3 @@
+pub mod OneReply
+pub mod TextLemmas
+pub mod WholeAnswers

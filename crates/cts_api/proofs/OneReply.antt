@@ -1,0 +1,87 @@
+-- A body has one reply at a point.
+use Rattle.std.proofs.Common.{◌≡◌, ℕ, List, [], ◌∷◌, Option, Some, None, map, inl, inr, Result, Ok, Err, sym, ap, subst, ◌∙◌}
+use Rattle.std.specs.List.{filter_map}
+use Rattle.cts_cmd.proofs.OneCommand.{one_command}
+use Rattle.cts_cmd.proofs.Injecting.{injected_one}
+use Rattle.cts_cmd.proofs.Exact.{taken}
+use Rattle.cts_cmd.specs.declared.built.Built.{Built}
+use Rattle.cts_cmd.specs.Injects.{stood}
+use Rattle.cts_cmd.specs.Texts.{IsCommandText}
+use Rattle.cts_cmd.specs.declared.text_fault.TextFault.{TextFault}
+use Rattle.cts_cmd.specs.declared.request.Request.{Request}
+use Rattle.cts_def.specs.declared.time.Time.{Time}
+use Rattle.cts_entry.specs.declared.what.What.{What}
+use Rattle.cts_entry.specs.declared.what.What.TheVariants.{Command, Injected}
+use Rattle.cts_rpc.specs.Requests.{Outcome, not_json, not_request, bad_params, calls}
+use Rattle.cts_rpc.proofs.Whole.{outcome_is_one}
+use Rattle.serde_json.specs.Data.{Data}
+use Rattle.cts_api.specs.Asking.{Said, refused, gives, Order, in_text, in_parts, Asking, asks_value, asks_packet, asks_received, asks_sent, sends, asks_limits, sets_limits, enables, asks_set, chooses_set, asks_out_of_limits, asks_events, asks_interfaces, asks_interface, injects, stops}
+use Rattle.cts_api.specs.Answers.{Posting, posts_nothing, posts, posts_command, posts_injected, Done, answer}
+use Rattle.cts_api.specs.Kinds.{listed}
+use Rattle.cts_api.specs.Methods.{params_of, method_named}
+use Rattle.cts_api.specs.declared.method.Method.{Method}
+use Rattle.cts_api.specs.Points.{Point}
+use Rattle.cts_api.specs.Replies.{Reply, IsPosted, IsSaidTo, IsRequested, HasRequest, IsReplyTo, IsReplyOf, IsReplyFor, IsReply, with_item, made, reply_with}
+
+posted_one : (h : Point) (p : Posting) (xs ys : List What) → IsPosted h p xs → IsPosted h p ys → xs ≡ ys
+posted_one h posts_nothing xs ys a b = a ∙ sym b
+posted_one h (posts what) xs ys a b = a ∙ sym b
+posted_one h (posts_command interface r) xs ys (one, built, a) (other, rebuilt, b) =
+    a ∙ (ap (λ (c : Built). Command interface c.command c.bytes ∷ []) (one_command h.site.definitions r one other built rebuilt) ∙ sym b)
+posted_one h (posts_injected packet p members) xs ys (one, put, a) (other, again, b) =
+    a ∙ (ap (λ (c : List ℕ). Injected packet c ∷ []) (injected_one (filter_map (with_item p.items) members) (stood (h.current packet) p.length) one other put again) ∙ sym b)
+
+said_one : (h : Point) (by : ℕ) (time : Time) (id : Option Data) (said : Said Done) (a b : Reply) → IsSaidTo h by time id said a → IsSaidTo h by time id said b → a ≡ b
+said_one h by time id (refused code message) a b x y = x ∙ sym y
+said_one h by time id (gives done) a b (xs, posted, x) (ys, again, y) =
+    x ∙ (ap (λ (whats : List What). reply_with h id done.result (map (made by time) whats)) (posted_one h done.posting xs ys posted again) ∙ sym y)
+
+text_unique : (text : List ℕ) (r s : Request) → IsCommandText text r → IsCommandText text s → r ≡ s
+text_unique text r s a b = ap in_ok (taken text (Ok r) s a b) where
+  in_ok : Result Request TextFault → Request
+  in_ok (Ok q) = q
+  in_ok (Err e) = r
+
+requested_one : (o : Order) (a b : Option Request) → IsRequested o a → IsRequested o b → a ≡ b
+requested_one (in_parts c _) a b x y = x ∙ sym y
+requested_one (in_text text) a b (inl (r, reads, x)) (inl (s, also, y)) = x ∙ (ap (λ (q : Request). Some q) (text_unique text r s reads also) ∙ sym y)
+requested_one (in_text text) a b (inl (r, reads, x)) (inr (none, y)) = absurd (none r reads)
+requested_one (in_text text) a b (inr (none, x)) (inl (s, also, y)) = absurd (none s also)
+requested_one (in_text text) a b (inr (none, x)) (inr (nor, y)) = x ∙ sym y
+
+request_one : (asking : Asking) (a b : Option Request) → HasRequest asking a → HasRequest asking b → a ≡ b
+request_one (asks_value kind name) a b x y = x ∙ sym y
+request_one (asks_packet p kind) a b x y = x ∙ sym y
+request_one (asks_received p) a b x y = x ∙ sym y
+request_one (asks_sent p) a b x y = x ∙ sym y
+request_one (sends k order) a b x y = requested_one order a b x y
+request_one (asks_limits name set) a b x y = x ∙ sym y
+request_one (sets_limits name new) a b x y = x ∙ sym y
+request_one (enables on name) a b x y = x ∙ sym y
+request_one asks_set a b x y = x ∙ sym y
+request_one (chooses_set text) a b x y = x ∙ sym y
+request_one asks_out_of_limits a b x y = x ∙ sym y
+request_one (asks_events from) a b x y = x ∙ sym y
+request_one asks_interfaces a b x y = x ∙ sym y
+request_one (asks_interface name) a b x y = x ∙ sym y
+request_one (injects name _) a b x y = x ∙ sym y
+request_one stops a b x y = x ∙ sym y
+
+asked_one : (h : Point) (by : ℕ) (time : Time) (id : Option Data) (asked : Option Asking) (a b : Reply) → IsReplyTo h by time id asked a → IsReplyTo h by time id asked b → a ≡ b
+asked_one h by time id None a b x y = x ∙ sym y
+asked_one h by time id (Some asking) a b (r, has, x) (s, also, y) =
+    said_one h by time id (answer h s asking) a b (subst (λ (q : Option Request). IsSaidTo h by time id (answer h q asking) a) (request_one asking r s has also) x) y
+
+method_one : (h : Point) (by : ℕ) (time : Time) (id : Option Data) (params : List Data) (m : Option Method) (a b : Reply) → IsReplyOf h by time id params m a → IsReplyOf h by time id params m b → a ≡ b
+method_one h by time id params None a b x y = x ∙ sym y
+method_one h by time id params (Some m) a b x y = asked_one h by time id (params_of m params) a b x y
+
+outcome_one : (h : Point) (by : ℕ) (time : Time) (o : Outcome) (a b : Reply) → IsReplyFor h by time o a → IsReplyFor h by time o b → a ≡ b
+outcome_one h by time not_json a b x y = x ∙ sym y
+outcome_one h by time not_request a b x y = x ∙ sym y
+outcome_one h by time (bad_params id) a b x y = x ∙ sym y
+outcome_one h by time (calls method params id) a b x y = method_one h by time id (listed params) (method_named method) a b x y
+
+pub reply_one : (h : Point) (by : ℕ) (time : Time) (body : List ℕ) (a b : Reply) → IsReply h by time body a → IsReply h by time body b → a ≡ b
+reply_one h by time body a b (o, out, x) (p, again, y) =
+    outcome_one h by time p a b (subst (λ (q : Outcome). IsReplyFor h by time q a) (outcome_is_one body o p out again) x) y

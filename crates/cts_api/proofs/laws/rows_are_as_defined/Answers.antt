@@ -1,0 +1,66 @@
+use Rattle.std.proofs.Common.{◌≡◌, ◌∙◌, ℕ, List, ◌++◌, [], ◌∷◌, Some, None, pos, neg_ℤ, codes, refl, sym, ap, append_assoc}
+use Rattle.std.specs.Fmt.{signed_decimal}
+use Rattle.std.specs.Str.Lossy.{utf8_lossy}
+use Rattle.cts_api.proofs.TextLemmas.{ascii_is_kept}
+use Rattle.serde_json.specs.Data.{null, string}
+use Rattle.serde_json.specs.Written.{compact_text}
+use Rattle.cts_rpc.specs.Replies.{error_reply, result_reply}
+use Rattle.cts_api.specs.Replies.{Reply}
+use Rattle.cts_entry.specs.declared.what.What.TheVariants.{Stop}
+use Rattle.serde_json.proofs.OnLiterals.{serde_json_on_literals}
+use Rattle.cts_api.proofs.laws.rows_are_as_defined.Goals as goal
+
+abbrev parse_error_with : List ℕ → Reply
+parse_error_with m = record { text = Some (compact_text (error_reply null (neg_ℤ (pos 32700)) m)); entries = [] }
+
+-- the reply with this text as its result
+abbrev set_with : List ℕ → Reply
+set_with t = record { text = Some (compact_text (result_reply (string (codes "a")) (string t))); entries = [] }
+
+set_is_text : set_with (codes "DEFAULT") ≡ set_with (utf8_lossy (codes "DEFAULT"))
+set_is_text = ap set_with (sym (ascii_is_kept (codes "DEFAULT") refl))
+
+parse_error_is_text : utf8_lossy (codes "Parse error") ≡ codes "Parse error"
+parse_error_is_text = ascii_is_kept (codes "Parse error") refl
+
+pub returns : goal.returns
+unfolding serde_json_on_literals
+returns c = record {
+  set = refl;
+  set_with_a_param = refl;
+  name_in_another_case = refl;
+  one_text = refl;
+  two_words = refl;
+  one_text_for_limits = refl;
+  never_received = refl;
+  packet = refl;
+  packet_kind = refl;
+  unknown_count = refl;
+  unknown_packet = refl;
+  command_count = refl;
+  no_command_count = refl;
+  no_unknown_command = refl;
+  new_limits = refl;
+  eight_params = refl;
+  no_green = refl;
+  no_persistence = refl;
+  no_name_as_set = refl;
+  order = refl;
+  unknown_item_first = refl;
+  limits = refl;
+  disabled = refl;
+  unknown_set = refl;
+  chosen_set = refl;
+  events_from = refl;
+  interface = refl;
+  no_interface = refl;
+  interfaces = refl;
+  not_connected = refl;
+  injected_object = refl;
+  stop = refl;
+  stopped = refl;
+  method_without_id = refl;
+  stop_without_id = (None, refl, (Stop ∷ [], refl, refl));
+  set_text = (None, refl, ([], refl, set_is_text));
+  parse_error = sym (ap parse_error_with parse_error_is_text ∙ ap (λ t. record { text = Some (codes "{\"error\":{\"code\":" ++ t); entries = [] }) (append_assoc (signed_decimal (neg_ℤ (pos 32700))) (codes ",\"message\":\"Parse error\"}") (codes ",\"id\":null,\"jsonrpc\":\"2.0\"}")));
+}

@@ -1,0 +1,10 @@
+pub mod Asking
+pub mod Points
+pub mod Kinds
+pub mod Methods
+pub mod Shown
+pub mod Answers
+pub mod Replies
+pub mod Rows
+pub mod Seen
+pub mod Telling

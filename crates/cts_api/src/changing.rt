@@ -1,0 +1,98 @@
+//! What changes limits, and what stops the server: the entries that these append.
+
+ghost use Rattle.std.specs.Prelude.{option_map};
+ghost use Rattle.cts_api.specs.Answers.{choose_answer, enable_answer, new_set, set_limits_answer};
+ghost use Rattle.cts_api.specs.Seen.{item_name, limits_asked};
+ghost use Rattle.cts_api.specs.Telling.{point, Tells};
+
+use crate::limits::known_set;
+use crate::naming::item_at;
+use crate::params::{ItemWords, LimitsWords};
+use crate::refusal::Refusal;
+use cts_base::{Bytes, Name, NameFault};
+use cts_def::MOST_SETS;
+use cts_entry::What;
+use cts_table::Hall;
+use cts_watch::is_watched;
+use std::alloc::Global;
+
+fn new_set(alloc: Global, name: Option<&[u8]>) -> Result<Name, Refusal>
+    ensures { Tells (λ n. n) result (new_set (option_map (λ t. t.now) name.entry)) }
+{
+    let text = match name {
+        Some(text) => text,
+        None => b"CUSTOM",
+    };
+    match Name::read(alloc, text) {
+        Ok(set) => Ok(set),
+        Err(NameFault::BadName) => Err(Refusal::NoSuch(b"Unknown limits set")),
+        Err(NameFault::Memory) => Err(Refusal::Memory),
+    }
+}
+
+/// The entry of new limits of an item.
+///
+/// # Errors
+///
+/// The first that holds: `NoSuch` with `Unknown target`, `Unknown packet`, `Unknown item`, `No limits`, `Unknown limits set` for a set that is no
+/// name; `NotDone` with `Limits order`, or `Too many sets` for a set more than a server holds. `Memory` where none was found.
+pub fn set_limits(
+    alloc: Global,
+    hall: &Hall,
+    names: ItemWords<'_>,
+    new: LimitsWords<'_>,
+) -> Result<What, Refusal>
+    ensures told { Tells (λ w. w) result (set_limits_answer (point hall.now) (item_name names.entry) (limits_asked new.entry)) }
+{
+    let place = item_at(hall.site().definitions.telemetry.as_slice(), names)?;
+    let (packet, item) = (place.packet as u32, place.item);
+    let Some(now) = hall.limits_of(packet, item, hall.limits_set().as_slice()) else {
+        return Err(Refusal::NoSuch(b"No limits"));
+    };
+    let set = new_set(alloc, new.set)?;
+    if !new.limits.are_in_order() {
+        return Err(Refusal::NotDone(Bytes::copy(alloc, b"Limits order")?));
+    }
+    if !hall.set_known(set.as_slice()) && hall.sets_known() as usize >= MOST_SETS {
+        return Err(Refusal::NotDone(Bytes::copy(alloc, b"Too many sets")?));
+    }
+    Ok(What::SetLimits {
+        packet,
+        item,
+        set,
+        limits: new.limits,
+        persistence: new.persistence.unwrap_or(now.persistence),
+        enabled: new.enabled,
+    })
+}
+
+/// The entry by which samples of an item are taken, or no longer.
+///
+/// # Errors
+///
+/// `NoSuch`: `Unknown target`, `Unknown packet`, `Unknown item`, `No limits` where it has no state colours either, the first that holds.
+pub fn enable_limits(hall: &Hall, on: bool, names: ItemWords<'_>) -> Result<What, Refusal>
+    ensures told { Tells (λ w. w) result (enable_answer (point hall.now) on (item_name names.entry)) }
+{
+    let place = item_at(hall.site().definitions.telemetry.as_slice(), names)?;
+    if !is_watched(place.it) {
+        return Err(Refusal::NoSuch(b"No limits"));
+    }
+    Ok(What::Enable {
+        packet: place.packet as u32,
+        item: place.item,
+        enabled: on,
+    })
+}
+
+/// The entry by which a known limits set is the current one.
+///
+/// # Errors
+///
+/// `NoSuch`: `Unknown limits set`. `Memory` where none was found.
+pub fn choose_set(alloc: Global, hall: &Hall, name: &[u8]) -> Result<What, Refusal>
+    ensures told { Tells (λ w. w) result (choose_answer (point hall.now) name.now) }
+{
+    let set = known_set(alloc, hall, name)?;
+    Ok(What::LimitsSetIs { set })
+}

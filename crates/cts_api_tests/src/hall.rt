@@ -1,0 +1,83 @@
+// A hall over a site that is read from text.
+use cts_base::Bytes;
+use cts_def::{Ident, Site, Time};
+use cts_defread::read_definitions;
+use cts_plan::read_site;
+use cts_table::Hall;
+use cts_words::{Statement, statements};
+use std::alloc::Global;
+use std::sync::Arc;
+use std::test::Fail;
+
+const DEFINITIONS: &str = "\
+TELEMETRY T A BIG_ENDIAN;APPEND_ID_ITEM K 8 UINT 1;APPEND_ITEM V 16 UINT;\
+LIMITS DEFAULT 1 ENABLED 0 10 100 200;LIMITS NIGHT 1 ENABLED 0 10 2000 3000 20 30;UNITS Counts C;\
+APPEND_ITEM W 8 INT;APPEND_ITEM X 0 BLOCK;\
+TELEMETRY T B BIG_ENDIAN;APPEND_ID_ITEM K 8 UINT 2;\
+COMMAND T GO BIG_ENDIAN;APPEND_PARAMETER N 8 UINT 0 9 1";
+
+const SITE: &str = "INTERFACE I tcpip_server_interface.rb 1 1 nil nil;TARGET T;\
+INTERFACE J tcpip_server_interface.rb 2 2 nil nil";
+
+const NOW: Time = Time {
+    seconds: 0,
+    micros: 0,
+};
+
+fn statements_of(alloc: Global, text: &str) -> Result<Vec<Statement>, Fail> {
+    let mut lines = text.as_bytes().to_vec(alloc)?;
+    for byte in lines.iter_mut() {
+        if *byte == b';' {
+            *byte = b'\n';
+        }
+    }
+    if lines.len() > 67_108_864 {
+        return Err(Fail::new("too large"));
+    }
+    match statements(alloc, &lines) {
+        Ok(found) => Ok(found),
+        Err(_) => Err(Fail::new("no statements")),
+    }
+}
+
+fn site(alloc: Global) -> Result<Site, Fail> {
+    let found = statements_of(alloc, DEFINITIONS)?;
+    let Ok(definitions) = read_definitions(alloc, &found) else {
+        return Err(Fail::new("definitions are refused"));
+    };
+    let found = statements_of(alloc, SITE)?;
+    match read_site(alloc, &found, definitions) {
+        Ok(site) => Ok(site),
+        Err(_) => Err(Fail::new("the site is refused")),
+    }
+}
+
+fn receive(hall: &mut Hall, bytes: Bytes) -> bool {
+    if hall.site().definitions.telemetry.as_slice().is_empty()
+        || hall.site().interfaces.as_slice().is_empty()
+        || !hall.connected(0)
+        || hall.room(1, bytes.as_slice().len() as u64).is_err()
+    {
+        return false;
+    }
+    hall.packet(0, NOW, Ident::Known(0), bytes);
+    true
+}
+
+/// A hall whose first interface is connected and has received one packet A.
+pub fn hall_of(alloc: Global) -> Result<Hall, Fail> {
+    let site = site(alloc)?;
+    if site.interfaces.as_slice().is_empty() {
+        return Err(Fail::new("no interface"));
+    }
+    let mut hall = Hall::with_limits(alloc, Arc::new(alloc, site)?, 100, 100)?;
+    if hall.room(1, 0).is_err() {
+        return Err(Fail::new("no room"));
+    }
+    hall.opened(0, NOW);
+    let bytes = Bytes::copy(alloc, b"\x01\x05\x06\xff\x0a")?;
+    if !receive(&mut hall, bytes) {
+        return Err(Fail::new("not received"));
+    }
+    Ok(hall)
+}

@@ -1,0 +1,8 @@
+//! Tests of the methods over a hall whose site was read. They stand above these crates, so that none of them is proved a second time
+//! for them.
+#![tactic(auto)]
+
+#[cfg(test)]
+mod asked;
+#[cfg(test)]
+mod hall;
