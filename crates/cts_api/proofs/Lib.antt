@@ -1,3 +1,4 @@
 pub mod OneReply
+pub mod Sent
 pub mod TextLemmas
 pub mod WholeAnswers

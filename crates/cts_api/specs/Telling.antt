@@ -1,14 +1,24 @@
 -- What the look-ups and changes of the code answer, as the definitions say it.
-use Rattle.std.specs.Prelude.{◌≡◌, Some, None, Result, Ok, Err}
+use Rattle.std.specs.Prelude.{◌≡◌, List, [], ◌∷◌, Option, Some, None, Result, Ok, Err}
+use Rattle.cts_cmd.specs.Builds.{IsBuilt}
+use Rattle.cts_cmd.specs.Checks.{refusal}
+use Rattle.cts_cmd.specs.Refusals.{refusal_text}
+use Rattle.cts_cmd.specs.declared.built.Built.{Built}
+use Rattle.cts_cmd.specs.declared.refused.Refused.{Refused}
+use Rattle.cts_cmd.specs.declared.request.Checks.{Checks}
 use Rattle.cts_cmd.specs.declared.request.Request.{Request}
+use Rattle.cts_def.specs.Packets.{DefinitionsData}
+use Rattle.cts_entry.specs.declared.what.What.{What}
 use Rattle.cts_table.specs.States.{Shown}
 use Rattle.cts_api.specs.declared.naming.ItemPlace.{ItemPlace}
 use Rattle.cts_api.specs.declared.refusal.Refusal.{Refusal}
 use Rattle.cts_api.specs.declared.refusal.Refusal.TheVariants.{NoSuch, NotDone, BadParams, Memory}
-use Rattle.cts_api.specs.Answers.{ItemAt}
+use Rattle.serde_json.specs.View.{view}
+use Rattle.cts_api.specs.declared.sending.Done as code
+use Rattle.cts_api.specs.Answers.{Done, ItemAt}
 use Rattle.cts_api.specs.Asking.{Order, Said, gives}
 use Rattle.cts_api.specs.Points.{Point, point_of}
-use Rattle.cts_api.specs.Replies.{IsRequested}
+use Rattle.cts_api.specs.Replies.{IsPosted, IsRequested}
 use Rattle.cts_api.specs.Shown.{no_such, not_done, bad_params}
 
 -- the point behind all entries of a hall
@@ -36,3 +46,19 @@ IsRequestOf order (Ok r) = IsRequested order (Some r)
 IsRequestOf order (Err BadParams) = IsRequested order None
 IsRequestOf order (Err Memory) = Unit {0}
 IsRequestOf order (Err e) = ⊥
+
+-- The command of the request, at which no check fails; or what is said of the first that does.
+abbrev pub IsChecked : DefinitionsData → Checks → Request → Result Built Refusal → Type 0
+IsChecked d k r (Ok b) = (refusal d r k ≡ None) × IsBuilt d r b
+IsChecked d k r (Err (NotDone message)) = (e : Refused) × (refusal d r k ≡ Some e) × (message ≡ refusal_text e)
+IsChecked d k r (Err Memory) = Unit {0}
+IsChecked d k r (Err e) = ⊥
+
+abbrev pub listed : Option What → List What
+listed None = []
+listed (Some what) = what ∷ []
+
+-- What is answered and appended is what is said.
+abbrev pub IsDoneBy : Point → Said Done → Result code.Done Refusal → Type 0
+IsDoneBy h said (Ok done) = (d : Done) × (said ≡ gives d) × (view done.result ≡ d.result) × IsPosted h d.posting (listed done.what)
+IsDoneBy h said (Err e) = IsRefused e said

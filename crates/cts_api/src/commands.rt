@@ -97,7 +97,11 @@ fn object_of(alloc: Global, params: &[(Bytes, Given)]) -> Result<Map<String, Val
 }
 
 /// What is answered to a command that is sent: its names, and what was given by the names of its parameters.
-pub fn command_row(alloc: Global, command: &Packet, request: &Request) -> Result<Value, Memory>
+pub(crate) fn command_row(
+    alloc: Global,
+    command: &Packet,
+    request: &Request,
+) -> Result<Value, Memory>
     ensures { IfOk result (λ v. view v ≡ command_row command.now request.now) }
 {
     let mut row = Vec::new(alloc);

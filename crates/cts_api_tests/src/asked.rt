@@ -1,11 +1,11 @@
 // What calls ask, and what they answer.
 use crate::hall::hall_of;
 use cts_api::{
-    Asking, Refusal, choose_set, command_count, command_row, enable_limits, interface_names,
+    Asking, Done, Order, Refusal, choose_set, command_count, enable_limits, interface_names,
     interface_state, item_limits, item_value, limits_events, limits_set, method_named,
-    out_of_limits, packet_count, packet_values, read_asking, request, set_limits,
+    out_of_limits, packet_count, packet_values, read_asking, request, send, set_limits, stop,
 };
-use cts_cmd::Request;
+use cts_cmd::Checks;
 use cts_entry::What;
 use cts_table::Hall;
 use serde_json::Value;
@@ -101,11 +101,22 @@ disable_limits|[\"T\",\"A\",\"V\"]|0 1 off
 disable_limits|[\"T\",\"A\",\"W\"]|No limits
 set_limits_set|[\"night\"]|NIGHT
 set_limits_set|[\"DAWN\"]|Unknown limits set
-cmd|[\"t go with n 3\"]|[\"T\",\"GO\",{\"N\":3}]
-cmd|[\"T\",\"GO\",{\"n\":\"x\"}]|[\"T\",\"GO\",{\"N\":\"x\"}]
-cmd|[\"T\",\"GO\"]|[\"T\",\"GO\",{}]
+cmd|[\"t go with n 3\"]|[\"T\",\"GO\",{\"N\":3}] 0 0 3
+cmd|[\"T\",\"GO\",{\"n\":9}]|[\"T\",\"GO\",{\"N\":9}] 0 0 9
+cmd|[\"T\",\"GO\"]|[\"T\",\"GO\",{}] 0 0 1
 cmd|[\"T\"]|Invalid params
-cmd|[\"T\",\"GO\",{\"N\":null}]|Invalid params";
+cmd|[\"T\",\"GO\",{\"N\":null}]|Invalid params
+cmd|[\"X GO\"]|Unknown target
+cmd|[\"T STAY\"]|Unknown command
+cmd|[\"T GO with M 1, N 10\"]|Unknown parameter: M
+cmd|[\"T\",\"GO\",{\"N\":\"x\"}]|Wrong type: N
+cmd|[\"T GO with N 10\"]|Out of range: N 10 not in 0..9
+cmd_no_range_check|[\"T GO with N 10\"]|[\"T\",\"GO\",{\"N\":10}] 0 0 10
+cmd_no_checks|[\"T GO with N 256\"]|Overflow: N
+cmd|[\"V GO\"]|No interface
+cmd|[\"u go\"]|Not connected: J
+stop_server|[]|null stop
+stop_server|[1]|Invalid params";
 
 fn on(enabled: bool) -> &'static str {
     if enabled { "on" } else { "off" }
@@ -137,10 +148,32 @@ fn entry(alloc: Global, what: &What) -> Result<String, Fail> {
     }
 }
 
-fn sent(alloc: Global, hall: &Hall, request: &Request) -> Result<String, Fail> {
-    match hall.site().definitions.commands.as_slice().first() {
-        Some(command) => Ok(command_row(alloc, command, request)?.to_string(alloc)?),
-        None => Err(Fail::new("no command")),
+fn done(alloc: Global, done: &Done) -> Result<String, Fail> {
+    let result = done.result.to_string(alloc)?;
+    match &done.what {
+        Some(
+            What::Command {
+                interface,
+                command,
+                bytes,
+            },
+        ) => match bytes.as_slice() {
+            [byte] => Ok(format!(in alloc; "{result} {interface} {command} {byte}")?),
+            _ => Err(Fail::new("another length")),
+        },
+        Some(What::Stop) => Ok(format!(in alloc; "{result} stop")?),
+        _ => Err(Fail::new("another entry")),
+    }
+}
+
+fn sent(alloc: Global, hall: &Hall, checks: Checks, order: Order<'_>) -> Result<String, Fail> {
+    let found = match request(alloc, order) {
+        Ok(request) => send(alloc, hall, checks, &request),
+        Err(refusal) => Err(refusal),
+    };
+    match found {
+        Ok(found) => done(alloc, &found),
+        Err(refusal) => refused(alloc, &refusal),
     }
 }
 
@@ -165,10 +198,8 @@ fn change(alloc: Global, hall: &Hall, asking: Asking<'_>) -> Result<String, Fail
         Asking::SetLimits(names, new) => told(alloc, set_limits(alloc, hall, names, new)),
         Asking::Enable(on, names) => told(alloc, enable_limits(hall, on, names)),
         Asking::ChooseSet(name) => told(alloc, choose_set(alloc, hall, name)),
-        Asking::Command(_, order) => match request(alloc, order) {
-            Ok(request) => sent(alloc, hall, &request),
-            Err(refusal) => refused(alloc, &refusal),
-        },
+        Asking::Command(checks, order) => sent(alloc, hall, checks, order),
+        Asking::Stop => done(alloc, &stop(hall)),
         _ => Err(Fail::new("no change")),
     }
 }
