@@ -1,3 +1,4 @@
+pub mod Making
 pub mod OneReply
 pub mod Sent
 pub mod TextLemmas

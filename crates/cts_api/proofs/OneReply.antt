@@ -21,20 +21,7 @@ use Rattle.cts_api.specs.Kinds.{listed}
 use Rattle.cts_api.specs.Methods.{params_of, method_named}
 use Rattle.cts_api.specs.declared.method.Method.{Method}
 use Rattle.cts_api.specs.Points.{Point}
-use Rattle.cts_api.specs.Replies.{Reply, IsPosted, IsSaidTo, IsRequested, HasRequest, IsReplyTo, IsReplyOf, IsReplyFor, IsReply, with_item, made, reply_with}
-
-posted_one : (h : Point) (p : Posting) (xs ys : List What) → IsPosted h p xs → IsPosted h p ys → xs ≡ ys
-posted_one h posts_nothing xs ys a b = a ∙ sym b
-posted_one h (posts what) xs ys a b = a ∙ sym b
-posted_one h (posts_command interface r) xs ys (one, built, a) (other, rebuilt, b) =
-    a ∙ (ap (λ (c : Built). Command interface c.command c.bytes ∷ []) (one_command h.site.definitions r one other built rebuilt) ∙ sym b)
-posted_one h (posts_injected packet p members) xs ys (one, put, a) (other, again, b) =
-    a ∙ (ap (λ (c : List ℕ). Injected packet c ∷ []) (injected_one (filter_map (with_item p.items) members) (stood (h.current packet) p.length) one other put again) ∙ sym b)
-
-said_one : (h : Point) (by : ℕ) (time : Time) (id : Option Data) (said : Said Done) (a b : Reply) → IsSaidTo h by time id said a → IsSaidTo h by time id said b → a ≡ b
-said_one h by time id (refused code message) a b x y = x ∙ sym y
-said_one h by time id (gives done) a b (xs, posted, x) (ys, again, y) =
-    x ∙ (ap (λ (whats : List What). reply_with h id done.result (map (made by time) whats)) (posted_one h done.posting xs ys posted again) ∙ sym y)
+use Rattle.cts_api.specs.Replies.{Reply, IsRequested, HasRequest, IsReplyTo, IsReplyOf, IsReplyFor, IsReply, said_to}
 
 text_unique : (text : List ℕ) (r s : Request) → IsCommandText text r → IsCommandText text s → r ≡ s
 text_unique text r s a b = ap in_ok (taken text (Ok r) s a b) where
@@ -70,7 +57,7 @@ request_one stops a b x y = x ∙ sym y
 asked_one : (h : Point) (by : ℕ) (time : Time) (id : Option Data) (asked : Option Asking) (a b : Reply) → IsReplyTo h by time id asked a → IsReplyTo h by time id asked b → a ≡ b
 asked_one h by time id None a b x y = x ∙ sym y
 asked_one h by time id (Some asking) a b (r, has, x) (s, also, y) =
-    said_one h by time id (answer h s asking) a b (subst (λ (q : Option Request). IsSaidTo h by time id (answer h q asking) a) (request_one asking r s has also) x) y
+    x ∙ (ap (λ (q : Option Request). said_to h by time id (answer h q asking)) (request_one asking r s has also) ∙ sym y)
 
 method_one : (h : Point) (by : ℕ) (time : Time) (id : Option Data) (params : List Data) (m : Option Method) (a b : Reply) → IsReplyOf h by time id params m a → IsReplyOf h by time id params m b → a ≡ b
 method_one h by time id params None a b x y = x ∙ sym y

@@ -17,7 +17,9 @@ use Rattle.cts_api.specs.declared.refusal.Refusal.TheVariants.{NoSuch, NotDone, 
 use Rattle.cts_api.specs.Answers.{Done, appended, command_row, first_with, given_or, next, numbered, or_refused, posts, posts_command, posts_nothing, request_answer, routed, sound_request, stop_answer, told}
 use Rattle.cts_api.specs.Asking.{Said, gives}
 use Rattle.cts_api.specs.Points.{Point}
-use Rattle.cts_api.specs.Replies.{IsPosted}
+use Rattle.cts_api.specs.Made.{built}
+use Rattle.cts_api.specs.Replies.{posted}
+use Rattle.cts_api.proofs.Making.{commands_are_built}
 use Rattle.cts_api.specs.Shown.{not_done}
 use Rattle.cts_api.specs.Telling.{IsChecked, IsRefused}
 
@@ -83,14 +85,14 @@ module _ (h : Point) (k : Checks) (r : Request) where
 
   pub is_sent : (b : Built) (p : PacketData) (i : ℕ) (result : Data) → refusal h.site.definitions r k ≡ None → IsBuilt h.site.definitions r b → slice_get commands b.command ≡ Some p
       → routed h.site (h.route b.command) ≡ gives i → result ≡ command_row p r
-      → (d : Done) × (request_answer h k r ≡ gives d) × (result ≡ d.result) × IsPosted h d.posting (Command i b.command b.bytes ∷ [])
+      → (d : Done) × (request_answer h k r ≡ gives d) × (result ≡ d.result) × (posted h d.posting ≡ Command i b.command b.bytes ∷ [])
   is_sent b p i result none made there way row =
       let it : p ≡ made.command.it = some_so p made.command.it (sym there ∙ made.command.number) in
       let c : ℕ × PacketData = (b.command, made.command.it) in (
         record { result = command_row made.command.it r; posting = posts_command i r },
         ap (λ s. next s behind) (is_chosen b none made) ∙ ap (λ s. next s (sends_to c)) way,
         row ∙ ap (λ (x : PacketData). command_row x r) it,
-        (b, made, refl),
+        ap (λ (c : Built). Command i c.command c.bytes ∷ []) (commands_are_built h.site.definitions r b made),
       )
 
 -- ---- the server is stopped
@@ -98,8 +100,8 @@ module _ (h : Point) (k : Checks) (r : Request) where
 abbrev stop_if : Bool → Said Done
 stop_if stopped = if stopped then told (gives null) else appended (gives Stop)
 
-pub stands_already : (h : Point) (d : Data) → h.stopped ≡ true → d ≡ null → (x : Done) × (stop_answer h ≡ gives x) × (d ≡ x.result) × IsPosted h x.posting []
+pub stands_already : (h : Point) (d : Data) → h.stopped ≡ true → d ≡ null → (x : Done) × (stop_answer h ≡ gives x) × (d ≡ x.result) × (posted h x.posting ≡ [])
 stands_already h d e n = (record { result = null; posting = posts_nothing }, ap stop_if e, n, refl)
 
-pub stops_now : (h : Point) (d : Data) → h.stopped ≡ false → d ≡ null → (x : Done) × (stop_answer h ≡ gives x) × (d ≡ x.result) × IsPosted h x.posting (Stop ∷ [])
+pub stops_now : (h : Point) (d : Data) → h.stopped ≡ false → d ≡ null → (x : Done) × (stop_answer h ≡ gives x) × (d ≡ x.result) × (posted h x.posting ≡ Stop ∷ [])
 stops_now h d e n = (record { result = null; posting = posts Stop }, ap stop_if e, n, refl)

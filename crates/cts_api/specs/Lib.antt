@@ -4,7 +4,9 @@ pub mod Kinds
 pub mod Methods
 pub mod Shown
 pub mod Answers
+pub mod Made
 pub mod Replies
+pub mod Legal
 pub mod Rows
 pub mod Seen
 pub mod Telling

@@ -2,10 +2,8 @@
 use Rattle.std.specs.Prelude.{◌≡◌, ℕ, ℤ, pos, neg_ℤ, Bool, false, ◌⊎◌, List, [], ◌∷◌, map, Option, Some, None, option_map, codes, if◌then◌else◌}
 use Rattle.std.specs.List.{filter_map}
 use Rattle.std.specs.Str.Lossy.{utf8_lossy}
-use Rattle.cts_cmd.specs.Builds.{IsBuilt}
 use Rattle.cts_cmd.specs.Checks.{item_named}
 use Rattle.cts_cmd.specs.Texts.{IsCommandText}
-use Rattle.cts_cmd.specs.declared.built.Built.{Built}
 use Rattle.cts_cmd.specs.declared.request.Given.{Given}
 use Rattle.cts_cmd.specs.declared.request.Request.{Request}
 use Rattle.cts_def.specs.declared.time.Time.{Time}
@@ -20,8 +18,9 @@ use Rattle.serde_json.specs.Data.{Data, null}
 use Rattle.serde_json.specs.Written.{compact_text, has_float}
 use Rattle.cts_api.specs.Answers.{Posting, posts_nothing, posts, posts_command, posts_injected, Done, answer}
 use Rattle.cts_api.specs.Asking.{Said, refused, gives, Order, in_text, in_parts, Asking, asks_value, asks_packet, asks_received, asks_sent, sends, asks_limits, sets_limits, enables, asks_set, chooses_set, asks_out_of_limits, asks_events, asks_interfaces, asks_interface, injects, stops}
-use Rattle.cts_cmd.specs.Injects.{Injects, stood}
+use Rattle.cts_cmd.specs.Injects.{stood}
 use Rattle.cts_api.specs.Kinds.{listed, members_given}
+use Rattle.cts_api.specs.Made.{built, injected}
 use Rattle.cts_api.specs.Methods.{params_of, method_named}
 use Rattle.cts_api.specs.Points.{Point}
 use Rattle.cts_api.specs.declared.method.Method.{Method}
@@ -65,13 +64,12 @@ history_full id = refusal_to id (neg_ℤ (pos 32003)) (codes "History full")
 abbrev pub with_item : List ItemData → List ℕ × Given → Option (ItemData × Given)
 with_item items m = option_map (λ (i : ItemData). (i, m.1)) (item_named items m.0)
 
--- these are what is appended
-abbrev pub IsPosted : Point → Posting → List What → Type 0
-IsPosted h posts_nothing whats = whats ≡ []
-IsPosted h (posts what) whats = whats ≡ what ∷ []
-IsPosted h (posts_command interface r) whats = (b : Built) × IsBuilt h.site.definitions r b × (whats ≡ Command interface b.command b.bytes ∷ [])
-IsPosted h (posts_injected packet p members) whats =
-    (bytes : List ℕ) × Injects (filter_map (with_item p.items) members) (stood (h.current packet) p.length) bytes × (whats ≡ Injected packet bytes ∷ [])
+-- what is appended
+abbrev pub posted : Point → Posting → List What
+posted h posts_nothing = []
+posted h (posts what) = what ∷ []
+posted h (posts_command interface r) = let c = built h.site.definitions r in Command interface c.command c.bytes ∷ []
+posted h (posts_injected packet p members) = Injected packet (injected (filter_map (with_item p.items) members) (stood (h.current packet) p.length)) ∷ []
 
 abbrev pub made : ℕ → Time → What → Entry
 made by time what = record { by = by; time = time; what = what }
@@ -88,13 +86,12 @@ abbrev pub reply_with : Point → Option Data → Data → List Entry → Reply
 reply_with h id result entries = if fit h entries then done_reply id result entries else history_full id
 
 -- Full comes after all checks, and then nothing is appended.
-abbrev pub IsDone : Point → ℕ → Time → Option Data → Done → Reply → Type 0
-IsDone h by time id done reply =
-    (whats : List What) × IsPosted h done.posting whats × (reply ≡ reply_with h id done.result (map (made by time) whats))
+abbrev pub done_to : Point → ℕ → Time → Option Data → Done → Reply
+done_to h by time id done = reply_with h id done.result (map (made by time) (posted h done.posting))
 
-abbrev pub IsSaidTo : Point → ℕ → Time → Option Data → Said Done → Reply → Type 0
-IsSaidTo h by time id (refused code message) reply = reply ≡ refusal_to id code message
-IsSaidTo h by time id (gives done) reply = IsDone h by time id done reply
+abbrev pub said_to : Point → ℕ → Time → Option Data → Said Done → Reply
+said_to h by time id (refused code message) = refusal_to id code message
+said_to h by time id (gives done) = done_to h by time id done
 
 -- ---- a command's text
 
@@ -127,7 +124,7 @@ HasRequest stops o = o ≡ None
 
 abbrev pub IsReplyTo : Point → ℕ → Time → Option Data → Option Asking → Reply → Type 0
 IsReplyTo h by time id None reply = reply ≡ invalid_params id
-IsReplyTo h by time id (Some asking) reply = (r : Option Request) × HasRequest asking r × IsSaidTo h by time id (answer h r asking) reply
+IsReplyTo h by time id (Some asking) reply = (r : Option Request) × HasRequest asking r × (reply ≡ said_to h by time id (answer h r asking))
 
 abbrev pub IsReplyOf : Point → ℕ → Time → Option Data → List Data → Option Method → Reply → Type 0
 IsReplyOf h by time id params None reply = reply ≡ not_found id
@@ -145,6 +142,10 @@ IsReply h by time body reply = (o : Outcome) × IsOutcome body o × IsReplyFor h
 -- A body has one reply at each point.
 abbrev pub ReplyIsOne : Type 0
 ReplyIsOne = (h : Point) (by : ℕ) (time : Time) (body : List ℕ) (a b : Reply) → IsReply h by time body a → IsReply h by time body b → a ≡ b
+
+-- And each body has one.
+abbrev pub ReplyIsThere : Type 0
+ReplyIsThere = (h : Point) (by : ℕ) (time : Time) (body : List ℕ) → (a : Reply) × IsReply h by time body a
 
 -- No result has a number with a fraction, so that it has one text.
 abbrev pub AnswersAreWhole : Type 0

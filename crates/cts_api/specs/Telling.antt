@@ -18,7 +18,7 @@ use Rattle.cts_api.specs.declared.sending.Done as code
 use Rattle.cts_api.specs.Answers.{Done, ItemAt}
 use Rattle.cts_api.specs.Asking.{Order, Said, gives}
 use Rattle.cts_api.specs.Points.{Point, point_of}
-use Rattle.cts_api.specs.Replies.{IsPosted, IsRequested}
+use Rattle.cts_api.specs.Replies.{IsRequested, posted}
 use Rattle.cts_api.specs.Shown.{no_such, not_done, bad_params}
 
 -- the point behind all entries of a hall
@@ -60,5 +60,5 @@ listed (Some what) = what ∷ []
 
 -- What is answered and appended is what is said.
 abbrev pub IsDoneBy : Point → Said Done → Result code.Done Refusal → Type 0
-IsDoneBy h said (Ok done) = (d : Done) × (said ≡ gives d) × (view done.result ≡ d.result) × IsPosted h d.posting (listed done.what)
+IsDoneBy h said (Ok done) = (d : Done) × (said ≡ gives d) × (view done.result ≡ d.result) × (posted h d.posting ≡ listed done.what)
 IsDoneBy h said (Err e) = IsRefused e said

@@ -1,5 +1,6 @@
 //! Laws of the definitions.
 
+ghost use Rattle.cts_api.specs.Made.{CommandsAreBuilt, InjectionsAreWritten};
 ghost use Rattle.cts_api.specs.Replies.{AnswersAreWhole, ReplyIsOne};
 ghost use Rattle.cts_api.specs.Rows.{RowsHold};
 
@@ -16,4 +17,9 @@ pub fn reply_is_one()
 /// No result has a number with a fraction, so that each has one text.
 pub fn answers_are_whole()
     ensures { AnswersAreWhole }
+{}
+
+/// The bytes of a command that a reply appends are those that are built of its request.
+pub fn commands_are_built()
+    ensures { CommandsAreBuilt }
 {}
