@@ -10,3 +10,6 @@ pub mod Legal
 pub mod Rows
 pub mod Seen
 pub mod Telling
+pub mod Replied
+pub mod Responding
+pub mod Settling

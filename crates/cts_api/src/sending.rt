@@ -91,8 +91,8 @@ pub fn send(alloc: Global, hall: &Hall, checks: Checks, request: &Request) -> Re
     })
 }
 
-// No result.
-fn nothing() -> Value
+/// No result.
+pub(crate) fn nothing() -> Value
     ensures { view result ≡ null }
 {
     Value::Null

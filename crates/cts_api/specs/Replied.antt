@@ -1,0 +1,52 @@
+-- What the calls that reply leave: the text, the entries that stand behind the history, and how many these are.
+use Rattle.std.specs.Prelude.{◌≡◌, ℕ, false, List, ◌++◌, map, Option, Some, None, option_map, length, Result, Ok, Err}
+use Rattle.cts_base.specs.declared.memory.Memory.{Memory}
+use Rattle.cts_def.specs.declared.time.Time.{Time}
+use Rattle.cts_entry.specs.declared.entry.Entry.{Entry}
+use Rattle.cts_entry.specs.declared.what.What.{What}
+use Rattle.cts_entry.specs.Legal.{IsAllowed}
+use Rattle.cts_cmd.specs.declared.request.Request.{Request}
+use Rattle.cts_rpc.specs.Requests.{has_fraction}
+use Rattle.cts_rpc.specs.declared.call.Call.{Call}
+use Rattle.cts_table.specs.Keeping.{rules_of, IsOfSite}
+use Rattle.cts_table.specs.States.{Shown}
+use Rattle.serde_json.specs.Data.{Data}
+use Rattle.serde_json.specs.View.{items_view, view}
+use Rattle.cts_api.specs.declared.reply.Answer as code
+use Rattle.cts_api.specs.declared.refusal.Refusal.{Refusal}
+use Rattle.cts_api.specs.declared.refusal.Refusal.TheVariants.{NoSuch, NotDone, BadParams, Memory as NoMemory}
+use Rattle.cts_api.specs.declared.sending.Done as done
+use Rattle.cts_api.specs.Answers.{answer}
+use Rattle.cts_api.specs.Asking.{Asking, Said}
+use Rattle.cts_api.specs.Kinds.{listed}
+use Rattle.cts_api.specs.Methods.{method_named}
+use Rattle.cts_api.specs.Points.{Point}
+use Rattle.cts_api.specs.Replies.{Reply, HasRequest, IsReply, IsReplyOf, made, reply_with}
+use Rattle.cts_api.specs.Telling.{IsDoneBy, point}
+
+-- Only the entries of the reply stand behind those that were there.
+pub record Appends (old : Shown) (r : Reply) (appended : ℕ) (new : Shown) : Type 0 where
+  pub count : appended ≡ length r.entries
+  pub entries : new.entries ≡ old.entries ++ r.entries
+  pub basis : new.basis ≡ old.basis
+
+-- nothing was appended
+abbrev pub IsUnchanged : Shown → Shown → Type 0
+IsUnchanged old new = (new.entries ≡ old.entries) × (new.basis ≡ old.basis)
+
+-- The answer is the reply. Where no memory was found the entries are as they were.
+abbrev pub Gives : Shown → Reply → Result code.Answer Memory → Shown → Type 0
+Gives old r (Ok a) new = (a.text ≡ r.text) × Appends old r a.appended new
+Gives old r (Err e) new = IsUnchanged old new
+
+-- a body is answered
+abbrev pub Replied : Shown → ℕ → Time → List ℕ → Result code.Answer Memory → Shown → Type 0
+Replied old by time body (Ok a) new = (r : Reply) × IsReply (point old) by time body r × Gives old r (Ok a) new
+Replied old by time body (Err e) new = IsUnchanged old new
+
+-- A call is answered. An id with a fraction has no one text; no body gives such a call.
+abbrev pub Answered : Shown → ℕ → Time → Call → Result code.Answer Memory → Shown → Type 0
+Answered old by time c (Ok a) new =
+    (r : Reply) × IsReplyOf (point old) by time (option_map view c.id) (listed (items_view c.params)) (method_named c.method) r
+    × Appends old r a.appended new × (has_fraction (option_map view c.id) ≡ false → a.text ≡ r.text)
+Answered old by time c (Err e) new = IsUnchanged old new

@@ -1,0 +1,24 @@
+-- The codes of errors, and how a refusal is told.
+use Rattle.std.specs.Prelude.{◌≡◌, ℕ, ℤ, pos, neg_ℤ, List, Option, codes}
+use Rattle.serde_json.specs.Data.{Data}
+use Rattle.cts_api.specs.declared.response.Code.{Code}
+use Rattle.cts_api.specs.declared.response.Code.TheVariants.{ParseError, InvalidRequest, MethodNotFound, InvalidParams, NoSuch, NotDone, HistoryFull}
+use Rattle.cts_api.specs.declared.refusal.Refusal.{Refusal}
+use Rattle.cts_api.specs.declared.refusal.Refusal.TheVariants as why
+use Rattle.cts_api.specs.Replies.{error, respond}
+
+abbrev pub code_number : Code → ℤ
+code_number ParseError = neg_ℤ (pos 32700)
+code_number InvalidRequest = neg_ℤ (pos 32600)
+code_number MethodNotFound = neg_ℤ (pos 32601)
+code_number InvalidParams = neg_ℤ (pos 32602)
+code_number NoSuch = neg_ℤ (pos 32001)
+code_number NotDone = neg_ℤ (pos 32002)
+code_number HistoryFull = neg_ℤ (pos 32003)
+
+-- the response to a refusal; want of memory has none
+abbrev pub RefusesWith : Option Data → Refusal → Option (List ℕ) → Type 0
+RefusesWith id (why.NoSuch message) text = text ≡ respond id (error (code_number NoSuch) message.now)
+RefusesWith id (why.NotDone message) text = text ≡ respond id (error (code_number NotDone) message)
+RefusesWith id why.BadParams text = text ≡ respond id (error (code_number InvalidParams) (codes "Invalid params"))
+RefusesWith id why.Memory text = ⊥

@@ -1,0 +1,67 @@
+-- How a call that is done is settled: room for its entry, the text, and then the entry.
+use Rattle.std.specs.Prelude.{◌≡◌, ℕ, ◌≤◌, false, List, map, Option, Some, None, IfSome, Result, Ok, Err}
+use Rattle.cts_base.specs.declared.memory.Memory.{Memory}
+use Rattle.cts_cmd.specs.declared.request.Request.{Request}
+use Rattle.cts_def.specs.declared.time.Time.{Time}
+use Rattle.cts_entry.specs.declared.what.What.{What}
+use Rattle.cts_entry.specs.declared.what.What.TheVariants.{SetLimits}
+use Rattle.cts_entry.specs.Legal.{IsAllowed}
+use Rattle.cts_rpc.specs.Requests.{has_fraction}
+use Rattle.cts_table.specs.Keeping.{rules_of, IsOfSite}
+use Rattle.cts_table.specs.States.{Shown}
+use Rattle.serde_json.specs.Data.{Data}
+use Rattle.serde_json.specs.View.{view}
+use Rattle.cts_api.specs.declared.reply.Answer as code
+use Rattle.cts_api.specs.declared.refusal.Refusal.{Refusal}
+use Rattle.cts_api.specs.declared.refusal.Refusal.TheVariants.{NoSuch, NotDone, BadParams, Memory as NoMemory}
+use Rattle.cts_api.specs.declared.sending.Done as done
+use Rattle.cts_api.specs.Answers.{answer}
+use Rattle.cts_api.specs.Asking.{Asking, sets_limits}
+use Rattle.cts_api.specs.Points.{Point}
+use Rattle.cts_api.specs.Replied.{Appends, IsUnchanged}
+use Rattle.cts_api.specs.Replies.{HasRequest, made, reply_with}
+use Rattle.cts_api.specs.Telling.{IsDoneBy, listed, point}
+
+-- What is asked is answered so, where its request, if it is a command, is this one. Memory stands beside each answer.
+abbrev pub HasAnswered : Point → Asking → Result done.Done Refusal → Type 0
+HasAnswered h asking (Err NoMemory) = Unit {0}
+HasAnswered h asking (Err (NoSuch message)) = (r : Option Request) × HasRequest asking r × IsDoneBy h (answer h r asking) (Err (NoSuch message))
+HasAnswered h asking (Err (NotDone message)) = (r : Option Request) × HasRequest asking r × IsDoneBy h (answer h r asking) (Err (NotDone message))
+HasAnswered h asking (Err BadParams) = (r : Option Request) × HasRequest asking r × IsDoneBy h (answer h r asking) (Err BadParams)
+HasAnswered h asking (Ok d) = (r : Option Request) × HasRequest asking r × IsDoneBy h (answer h r asking) (Ok d)
+
+-- ---- the persistence of new limits is at least 1
+
+abbrev pub HasPersistence : Option ℕ → Type 0
+HasPersistence None = Unit {0}
+HasPersistence (Some n) = 1 ≤ n
+
+abbrev pub IsSoundAsking : Asking → Type 0
+IsSoundAsking (sets_limits name new) = HasPersistence new.persistence
+IsSoundAsking _ = Unit {0}
+
+abbrev pub IsPersistent : What → Type 0
+IsPersistent (SetLimits enabled packet item persistence set limits) = 1 ≤ persistence
+IsPersistent _ = Unit {0}
+
+abbrev pub LimitsPersist : Asking → Result done.Done Refusal → Type 0
+LimitsPersist (sets_limits name new) (Ok d) = HasPersistence new.persistence → IfSome d.what IsPersistent
+LimitsPersist _ _ = Unit {0}
+
+-- ---- what is settled
+
+-- what a desk says may stand behind the entries
+pub record CanSay (s : Shown) (by : ℕ) (time : Time) (what : What) : Type 0 where
+  pub allowed : IsAllowed (rules_of s.basis) s.entries (made by time what)
+  pub of_site : IsOfSite s.basis.site s.entries (made by time what)
+
+abbrev pub CanSayIt : Shown → ℕ → Time → Option What → Type 0
+CanSayIt s by time None = Unit {0}
+CanSayIt s by time (Some what) = CanSay s by time what
+
+-- A result is told and what is said appended, or the history has no room for it.
+abbrev pub Settled : Shown → ℕ → Time → Option Data → Data → Option What → Result code.Answer Memory → Shown → Type 0
+Settled old by time id value what (Ok a) new =
+    let r = reply_with (point old) id value (map (made by time) (listed what)) in
+    (has_fraction id ≡ false → a.text ≡ r.text) × Appends old r a.appended new
+Settled old by time id value what (Err e) new = IsUnchanged old new

@@ -1,0 +1,49 @@
+//! How a call that is done ends: its entry stands behind the history where there is room for it.
+
+ghost use Rattle.std.specs.Prelude.{◌≡◌, false, option_map};
+ghost use Rattle.serde_json.specs.View.{view};
+ghost use Rattle.serde_json.specs.Written.{has_float};
+ghost use Rattle.cts_api.specs.Settling.{CanSayIt, Settled};
+
+use crate::reply::Answer;
+use crate::response::{Code, error_to, result_to};
+use crate::sending::Done;
+use cts_base::Memory;
+use cts_def::Time;
+use cts_entry::{Entry, bytes_for, entries_for};
+use cts_table::{Hall, HallFault};
+use serde_json::Value;
+use std::alloc::Global;
+
+/// Appends what a call that is done says, and tells its result, or that the history is full. The text is made before the entry
+/// is appended, so that nothing stands where no memory was found for it.
+pub(crate) fn settle(
+    alloc: Global,
+    hall: &mut Hall,
+    by: u32,
+    time: Time,
+    id: Option<&Value>,
+    done: Done,
+) -> Result<Answer, Memory>
+    requires may { CanSayIt hall.old by time done.what }
+    requires whole { has_float (view done.result) ≡ false }
+    ensures { Settled hall.old by time (option_map (λ i. view i.now) id.entry) (view done.result) done.what result hall.new }
+{
+    hall.is_kept();
+    let Done { result: value, what } = done;
+    let Some(what) = what else {
+        let text = result_to(alloc, id, value)?;
+        return Ok(Answer { text, appended: 0 });
+    };
+    match hall.room(entries_for(&what), bytes_for(&what)) {
+        Ok(()) => {}
+        Err(HallFault::Full { .. }) => {
+            let text = error_to(alloc, id, Code::HistoryFull, b"History full")?;
+            return Ok(Answer { text, appended: 0 });
+        }
+        Err(HallFault::Memory) => return Err(Memory),
+    }
+    let text = result_to(alloc, id, value)?;
+    hall.append(Entry { by, time, what });
+    Ok(Answer { text, appended: 1 })
+}
