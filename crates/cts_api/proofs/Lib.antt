@@ -1,4 +1,6 @@
+pub mod Giving
 pub mod Making
+pub mod OfSite
 pub mod OneReply
 pub mod Sent
 pub mod TextLemmas

@@ -1,15 +1,16 @@
 -- What is built of a request is the command of the definition, and what an injection leaves are the bytes of its members.
-use Rattle.std.proofs.Common.{◌≡◌, ℕ, zero, suc, ℤ, pos, negsuc, ◌-◌, ◌^◌, ◌<◌, ◌-ℤ◌, Bool, true, false, List, [], ◌∷◌, ◌++◌, Option, length, take, drop, refl, sym, ◌∙◌, ap, subst, arith, inl, inr, ◌⊎◌}
+use Rattle.std.proofs.Common.{◌≡◌, ℕ, zero, suc, ◌+◌, Some, None, ℤ, pos, negsuc, ◌-◌, ◌^◌, ◌<◌, ◌-ℤ◌, Bool, true, false, List, [], ◌∷◌, ◌++◌, Option, length, take, drop, refl, sym, ◌∙◌, ap, subst, arith, inl, inr, ◌⊎◌}
 use Rattle.std.specs.Prelude.{replicate, slice_get, unwrap_or}
 use Rattle.std.proofs.lemmas.Bool.{cases_lt, le-ltb, lt-ltb}
 use Rattle.std.proofs.lemmas.Int.{ints}
+use Rattle.std.proofs.lemmas.List.{get_or-drop}
 use Rattle.cts_bits.specs.declared.place.Place.{Place}
 use Rattle.cts_bits.specs.Fields.{field, field_at}
 use Rattle.cts_bits.proofs.Outcomes.{one_outcome}
 use Rattle.cts_bits.proofs.Runs.{field_at-lt}
 use Rattle.cts_cmd.specs.Builds.{AreBytes, Writes, WritesAll, WritesNumber, place_of}
 use Rattle.cts_cmd.specs.Contents.{content, content_given}
-use Rattle.cts_cmd.specs.Injects.{Injects, base, from_base}
+use Rattle.cts_cmd.specs.Injects.{Injects, base, from_base, stood}
 use Rattle.cts_cmd.specs.declared.built.Built.{Built}
 use Rattle.cts_cmd.specs.declared.request.Given.{Given}
 use Rattle.cts_cmd.proofs.OneCommand.{number_of}
@@ -93,3 +94,35 @@ pub commands_are_built : CommandsAreBuilt
 commands_are_built d r b h =
     let bytes : bytes_in r (slice_get d.commands b.command) ≡ b.bytes = ap (bytes_in r) h.command.number ∙ bytes_are r.params h.command.it b.bytes h.bytes in
     ap (λ (o : Option ℕ). built_at d r (unwrap_or o 0)) h.command.first ∙ ap (λ (l : List ℕ). let x : Built = record { command = b.command; bytes = l } in x) bytes
+
+-- ---- injections
+
+bytes_drop : (n : ℕ) (xs : List ℕ) → AreBytes xs → AreBytes (drop n xs)
+bytes_drop n xs bytes k = let there = get_or-drop n xs k 0 in let small = bytes (n + k) in omega (arith, there, small)
+
+bytes_join : (n : ℕ) (xs ys : List ℕ) → AreBytes xs → AreBytes ys → AreBytes (take n xs ++ ys)
+bytes_join zero xs ys bytes more k = more k
+bytes_join (suc n) [] ys bytes more k = more k
+bytes_join (suc n) (x ∷ xs) ys bytes more zero = bytes zero
+bytes_join (suc n) (x ∷ xs) ys bytes more (suc k) = bytes_join n xs ys (λ j. bytes (suc j)) more k
+
+bytes_append : (xs ys : List ℕ) → AreBytes xs → AreBytes ys → AreBytes (xs ++ ys)
+bytes_append [] ys bytes more k = more k
+bytes_append (x ∷ xs) ys bytes more zero = bytes zero
+bytes_append (x ∷ xs) ys bytes more (suc k) = bytes_append xs ys (λ j. bytes (suc j)) more k
+
+-- what an injection is written over are bytes
+pub stood_bytes : (o : Option (List ℕ)) (count : ℕ) → ((bytes : List ℕ) → o ≡ Some bytes → AreBytes bytes) → AreBytes (stood o count)
+stood_bytes None count bytes = zeros count
+stood_bytes (Some here) count bytes = bytes_append here (replicate (count - length here) 0) (bytes here refl) (zeros (count - length here))
+
+pub injections_are_written : InjectionsAreWritten
+unfolding injected
+injections_are_written [] old new bytes w = sym w
+injections_are_written (m ∷ ms) old new bytes w =
+    let at = base (length old) m.0 in
+    let part = w.1.0 in
+    let wrote = content_written (from_base m.0) (content_given m.0 m.1) (drop at old) part (bytes_drop at old bytes) w.1.1 in
+    let next : with_member m old ≡ w.0 = ap (λ (p : List ℕ). take at old ++ p) wrote ∙ sym w.1.2 in
+    let left : AreBytes w.0 = subst AreBytes (sym w.1.2) (bytes_join at old part bytes (bytes_left (from_base m.0) (content_given m.0 m.1) (drop at old) part w.1.1)) in
+    ap (injected ms) next ∙ injections_are_written ms w.0 new left w.2

@@ -13,3 +13,4 @@ pub mod Telling
 pub mod Replied
 pub mod Responding
 pub mod Settling
+pub mod Injecting

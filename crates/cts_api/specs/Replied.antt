@@ -12,7 +12,7 @@ use Rattle.cts_table.specs.Keeping.{rules_of, IsOfSite}
 use Rattle.cts_table.specs.States.{Shown}
 use Rattle.serde_json.specs.Data.{Data}
 use Rattle.serde_json.specs.View.{items_view, view}
-use Rattle.cts_api.specs.declared.reply.Answer as code
+use Rattle.cts_api.specs.declared.settling.Answer as code
 use Rattle.cts_api.specs.declared.refusal.Refusal.{Refusal}
 use Rattle.cts_api.specs.declared.refusal.Refusal.TheVariants.{NoSuch, NotDone, BadParams, Memory as NoMemory}
 use Rattle.cts_api.specs.declared.sending.Done as done

@@ -36,7 +36,7 @@ fn new_set(alloc: Global, name: Option<&[u8]>) -> Result<Name, Refusal>
 ///
 /// The first that holds: `NoSuch` with `Unknown target`, `Unknown packet`, `Unknown item`, `No limits`, `Unknown limits set` for a set that is no
 /// name; `NotDone` with `Limits order`, or `Too many sets` for a set more than a server holds. `Memory` where none was found.
-pub fn set_limits(
+pub(crate) fn set_limits(
     alloc: Global,
     hall: &Hall,
     names: ItemWords<'_>,
@@ -71,7 +71,7 @@ pub fn set_limits(
 /// # Errors
 ///
 /// `NoSuch`: `Unknown target`, `Unknown packet`, `Unknown item`, `No limits` where it has no state colours either, the first that holds.
-pub fn enable_limits(hall: &Hall, on: bool, names: ItemWords<'_>) -> Result<What, Refusal>
+pub(crate) fn enable_limits(hall: &Hall, on: bool, names: ItemWords<'_>) -> Result<What, Refusal>
     ensures told { Tells (λ w. w) result (enable_answer (point hall.now) on (item_name names.entry)) }
 {
     let place = item_at(hall.site().definitions.telemetry.as_slice(), names)?;
@@ -90,7 +90,7 @@ pub fn enable_limits(hall: &Hall, on: bool, names: ItemWords<'_>) -> Result<What
 /// # Errors
 ///
 /// `NoSuch`: `Unknown limits set`. `Memory` where none was found.
-pub fn choose_set(alloc: Global, hall: &Hall, name: &[u8]) -> Result<What, Refusal>
+pub(crate) fn choose_set(alloc: Global, hall: &Hall, name: &[u8]) -> Result<What, Refusal>
     ensures told { Tells (λ w. w) result (choose_answer (point hall.now) name.now) }
 {
     let set = known_set(alloc, hall, name)?;

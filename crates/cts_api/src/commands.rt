@@ -58,7 +58,7 @@ fn all_given(
 /// # Errors
 ///
 /// `BadParams` exactly where a text asks for no command. `Memory` where none was found.
-pub fn request(alloc: Global, order: Order<'_>) -> Result<Request, Refusal>
+pub(crate) fn request(alloc: Global, order: Order<'_>) -> Result<Request, Refusal>
     ensures { IsRequestOf (order_data order.entry) result }
 {
     match order {

@@ -29,7 +29,7 @@ fn names_of(alloc: Global, interfaces: &[Interface]) -> Result<Vec<Value>, Memor
 /// # Errors
 ///
 /// `Memory` where none was found.
-pub fn interface_names(alloc: Global, hall: &Hall) -> Result<Value, Refusal>
+pub(crate) fn interface_names(alloc: Global, hall: &Hall) -> Result<Value, Refusal>
     ensures { Tells view result (interfaces_answer (point hall.now)) }
 {
     let interfaces = hall.site().interfaces.as_slice();
@@ -41,7 +41,7 @@ pub fn interface_names(alloc: Global, hall: &Hall) -> Result<Value, Refusal>
 /// # Errors
 ///
 /// `NoSuch`: `Unknown interface`. `Memory` where none was found.
-pub fn interface_state(alloc: Global, hall: &Hall, name: &[u8]) -> Result<Value, Refusal>
+pub(crate) fn interface_state(alloc: Global, hall: &Hall, name: &[u8]) -> Result<Value, Refusal>
     ensures { Tells view result (interface_answer (point hall.now) name.now) }
 {
     let Some(place) = interface_place(hall.site().interfaces.as_slice(), name) else {

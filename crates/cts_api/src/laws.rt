@@ -19,7 +19,8 @@ pub fn answers_are_whole()
     ensures { AnswersAreWhole }
 {}
 
-/// The bytes of a command that a reply appends are those that are built of its request.
-pub fn commands_are_built()
-    ensures { CommandsAreBuilt }
+/// The bytes that a reply appends are those that are built of a command's request, and those that an injection leaves.
+pub fn bytes_are_made()
+    ensures commands { CommandsAreBuilt }
+    ensures injections { InjectionsAreWritten }
 {}

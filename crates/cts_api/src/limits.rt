@@ -47,7 +47,7 @@ fn set_asked(alloc: Global, hall: &Hall, name: Option<&[u8]>) -> Result<Name, Re
 /// # Errors
 ///
 /// `Memory` where none was found.
-pub fn limits_set(alloc: Global, hall: &Hall) -> Result<Value, Refusal>
+pub(crate) fn limits_set(alloc: Global, hall: &Hall) -> Result<Value, Refusal>
     ensures { Tells view result (limits_set_answer (point hall.now)) }
 {
     Ok(text(alloc, hall.limits_set().as_slice())?)
@@ -101,7 +101,7 @@ fn limits_row(alloc: Global, set: &[u8], used: LimitsUsed) -> Result<Value, Memo
 ///
 /// `NoSuch`: `Unknown target`, `Unknown packet`, `Unknown item`, `No limits`, `Unknown limits set`, the first that holds. `Memory` where none was
 /// found.
-pub fn item_limits(
+pub(crate) fn item_limits(
     alloc: Global,
     hall: &Hall,
     names: ItemWords<'_>,
@@ -170,7 +170,7 @@ fn all_out_rows(alloc: Global, hall: &Hall, telemetry: &[Packet]) -> Result<Vec<
 /// # Errors
 ///
 /// `Memory` where none was found.
-pub fn out_of_limits(alloc: Global, hall: &Hall) -> Result<Value, Refusal>
+pub(crate) fn out_of_limits(alloc: Global, hall: &Hall) -> Result<Value, Refusal>
     ensures { Tells view result (out_of_limits_answer (point hall.now)) }
 {
     let telemetry = hall.site().definitions.telemetry.as_slice();
@@ -228,7 +228,7 @@ fn event_rows(
 /// # Errors
 ///
 /// `Memory` where none was found.
-pub fn limits_events(alloc: Global, hall: &Hall, from: u64) -> Result<Value, Refusal>
+pub(crate) fn limits_events(alloc: Global, hall: &Hall, from: u64) -> Result<Value, Refusal>
     ensures { Tells view result (events_answer (point hall.now) from) }
 {
     let events = hall.events(alloc, from)?;

@@ -7,7 +7,7 @@ use cts_conv::ValueKind;
 
 /// What a method does; of methods that differ in one word, that word.
 #[derive(Clone, Copy, Debug, PartialEq, Eq)]
-pub enum Method {
+pub(crate) enum Method {
     /// `tlm`, `tlm_raw`, `tlm_formatted` and `tlm_with_units`.
     Value(ValueKind),
     /// `get_tlm_packet`.
@@ -169,7 +169,7 @@ fn method_in(list: &[Row], name: &[u8]) -> Option<Method>
 }
 
 /// The method of this name, which stands exactly so; the names are those of the COSMOS 4 JSON API.
-pub fn method_named(name: &[u8]) -> Option<Method>
+pub(crate) fn method_named(name: &[u8]) -> Option<Method>
     ensures { result ≡ method_named name.now }
 {
     method_in(&METHODS, name)

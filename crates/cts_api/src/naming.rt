@@ -15,7 +15,7 @@ use cts_def::{Interface, Item, Packet};
 
 /// An item and its packet, each with its number.
 #[derive(Clone, Copy)]
-pub struct ItemPlace<'a> {
+pub(crate) struct ItemPlace<'a> {
     /// The number of the packet.
     pub packet: usize,
     /// The packet.

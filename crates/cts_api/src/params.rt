@@ -17,7 +17,7 @@ const PARTS: i128 = 1_000_000_000_000;
 
 /// The names of a packet or command, in any case.
 #[derive(Clone, Copy)]
-pub struct PacketWords<'a> {
+pub(crate) struct PacketWords<'a> {
     /// Its target.
     pub target: &'a [u8],
     /// Its own name.
@@ -26,7 +26,7 @@ pub struct PacketWords<'a> {
 
 /// The names of an item, in any case.
 #[derive(Clone, Copy)]
-pub struct ItemWords<'a> {
+pub(crate) struct ItemWords<'a> {
     /// The target of its packet.
     pub target: &'a [u8],
     /// Its packet.
@@ -37,7 +37,7 @@ pub struct ItemWords<'a> {
 
 /// New limits of an item, as they are given.
 #[derive(Clone, Copy)]
-pub struct LimitsWords<'a> {
+pub(crate) struct LimitsWords<'a> {
     /// The limits, in whatever order.
     pub limits: Limits,
     /// The set, in any case; CUSTOM where none is given.

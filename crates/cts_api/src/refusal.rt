@@ -8,7 +8,7 @@ use std::alloc::AllocError;
 
 /// Why a call whose params have the right count and kinds has no result.
 #[derive(Drop)]
-pub enum Refusal {
+pub(crate) enum Refusal {
     /// A name is unknown, or nothing stands under it yet: code -32001.
     NoSuch(&'static [u8]),
     /// What is asked for cannot be done: code -32002.

@@ -18,7 +18,7 @@ use std::alloc::Global;
 
 /// What a call answers, and what the entry says that it appends.
 #[derive(Drop)]
-pub struct Done {
+pub(crate) struct Done {
     /// The result.
     pub result: Value,
     /// What is appended, if anything.
@@ -70,7 +70,7 @@ fn routed(alloc: Global, hall: &Hall, command: u32) -> Result<u32, Refusal>
 ///
 /// `NotDone` with the first that holds: what is said of the first check that fails (`cts_cmd::refusal_text`), `No interface`,
 /// `Not connected: I`. `Memory` where none was found.
-pub fn send(alloc: Global, hall: &Hall, checks: Checks, request: &Request) -> Result<Done, Refusal>
+pub(crate) fn send(alloc: Global, hall: &Hall, checks: Checks, request: &Request) -> Result<Done, Refusal>
     ensures { IsDoneBy (point hall.now) (request_answer (point hall.now) checks request.now) result }
 {
     let built = checked(alloc, hall, checks, request)?;
@@ -99,7 +99,7 @@ pub(crate) fn nothing() -> Value
 }
 
 /// The entry that stops the server, where none stands.
-pub fn stop(hall: &Hall) -> Done
+pub(crate) fn stop(hall: &Hall) -> Done
     ensures { IsDoneBy (point hall.now) (stop_answer (point hall.now)) (Ok result) }
 {
     if hall.stopped() {

@@ -5,15 +5,23 @@ ghost use Rattle.serde_json.specs.View.{view};
 ghost use Rattle.serde_json.specs.Written.{has_float};
 ghost use Rattle.cts_api.specs.Settling.{CanSayIt, Settled};
 
-use crate::reply::Answer;
 use crate::response::{Code, error_to, result_to};
 use crate::sending::Done;
-use cts_base::Memory;
+use cts_base::{Bytes, Memory};
 use cts_def::Time;
 use cts_entry::{Entry, bytes_for, entries_for};
 use cts_table::{Hall, HallFault};
 use serde_json::Value;
 use std::alloc::Global;
+
+/// The reply to a request.
+#[derive(Drop)]
+pub struct Answer {
+    /// The text of the response; none where the request has no id.
+    pub text: Option<Bytes>,
+    /// How many entries it appended: none or one.
+    pub appended: u64,
+}
 
 /// Appends what a call that is done says, and tells its result, or that the history is full. The text is made before the entry
 /// is appended, so that nothing stands where no memory was found for it.

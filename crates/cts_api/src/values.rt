@@ -37,7 +37,7 @@ fn lookup_text(refusal: Lookup) -> &'static [u8]
 /// # Errors
 ///
 /// `NoSuch`: `Unknown target`, `Unknown packet`, `Unknown item`, `Never received`, the first that holds. `Memory` where none was found.
-pub fn item_value(
+pub(crate) fn item_value(
     alloc: Global,
     hall: &Hall,
     kind: ValueKind,
@@ -136,7 +136,7 @@ fn packet_rows(
 /// # Errors
 ///
 /// `NoSuch`: `Unknown target`, `Unknown packet`, `Never received`, the first that holds. `Memory` where none was found.
-pub fn packet_values(
+pub(crate) fn packet_values(
     alloc: Global,
     hall: &Hall,
     names: PacketWords<'_>,
@@ -162,7 +162,7 @@ pub fn packet_values(
 /// # Errors
 ///
 /// `NoSuch`: `Unknown target`, `Unknown packet`, the first that holds.
-pub fn packet_count(hall: &Hall, names: PacketWords<'_>) -> Result<Value, Refusal>
+pub(crate) fn packet_count(hall: &Hall, names: PacketWords<'_>) -> Result<Value, Refusal>
     ensures { Tells view result (received_answer (point hall.now) (packet_name names.entry)) }
 {
     if spells(names.target, b"UNKNOWN") {
@@ -180,7 +180,7 @@ pub fn packet_count(hall: &Hall, names: PacketWords<'_>) -> Result<Value, Refusa
 /// # Errors
 ///
 /// `NoSuch`: `Unknown target`, `Unknown packet`, the first that holds.
-pub fn command_count(hall: &Hall, names: PacketWords<'_>) -> Result<Value, Refusal>
+pub(crate) fn command_count(hall: &Hall, names: PacketWords<'_>) -> Result<Value, Refusal>
     ensures { Tells view result (sent_answer (point hall.now) (packet_name names.entry)) }
 {
     let (number, _command) = packet_at(hall.site().definitions.commands.as_slice(), names)?;

@@ -67,13 +67,13 @@ fn receive(hall: &mut Hall, bytes: Bytes) -> bool {
     true
 }
 
-/// A hall whose first interface is connected and has received one packet A.
-pub fn hall_of(alloc: Global) -> Result<Hall, Fail> {
+/// A hall with room for so many entries, whose first interface is connected and has received one packet A.
+pub fn hall_of(alloc: Global, entries: u64) -> Result<Hall, Fail> {
     let site = site(alloc)?;
     if site.interfaces.as_slice().is_empty() {
         return Err(Fail::new("no interface"));
     }
-    let mut hall = Hall::with_limits(alloc, Arc::new(alloc, site)?, 100, 100)?;
+    let mut hall = Hall::with_limits(alloc, Arc::new(alloc, site)?, entries.min(100), 100)?;
     if hall.room(1, 0).is_err() {
         return Err(Fail::new("no room"));
     }

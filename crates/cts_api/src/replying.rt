@@ -9,22 +9,13 @@ use crate::answering::asked;
 use crate::method::method_named;
 use crate::reading::read_asking;
 use crate::response::{Code, error_to, refusal_to};
-use crate::settling::settle;
+use crate::settling::{Answer, settle};
 use cts_base::{Bytes, Memory};
 use cts_def::Time;
 use cts_rpc::{Call, RpcFault, read};
 use cts_table::Hall;
 use serde_json::Value;
 use std::alloc::Global;
-
-/// The reply to a request.
-#[derive(Drop)]
-pub struct Answer {
-    /// The text of the response; none where the request has no id.
-    pub text: Option<Bytes>,
-    /// How many entries it appended: none or one.
-    pub appended: u64,
-}
 
 // A response that appends nothing.
 fn silent(text: Option<Bytes>) -> Answer
