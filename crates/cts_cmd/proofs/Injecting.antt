@@ -8,7 +8,8 @@ use Rattle.cts_def.specs.Spans.{is_number}
 use Rattle.cts_cmd.specs.declared.request.Given.{Given}
 use Rattle.cts_cmd.specs.declared.request.Given.TheVariants.{Whole, Text}
 use Rattle.cts_cmd.specs.Contents.{content_given}
-use Rattle.cts_cmd.specs.Injects.{Injects, base, from_base, is_wrong_raw, stood}
+use Rattle.cts_cmd.specs.Checks.{is_wrong_raw}
+use Rattle.cts_cmd.specs.Injects.{Injects, base, from_base, stood}
 use Rattle.cts_cmd.specs.Laws.{InjectionsHaveOneOutcome, InjectionsStandOnBytes, RawValuesAreOfTheirKind}
 use Rattle.cts_cmd.proofs.OneCommand.{written_one}
 

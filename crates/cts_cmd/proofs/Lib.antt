@@ -2,11 +2,14 @@ pub mod Runs
 pub mod Firsts
 pub mod Params
 pub mod Failing
+pub mod Behind
 pub mod Written
+pub mod Parts
 pub mod Unique
 pub mod Exact
 pub mod Total
 pub mod OneCommand
 pub mod Injecting
+pub mod Injected
 pub mod Stays
 pub mod Examples

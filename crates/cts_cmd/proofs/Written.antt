@@ -1,10 +1,12 @@
 -- What is written into a field, and what a command holds.
-use Rattle.std.proofs.Common.{◌≡◌, ℕ, zero, suc, ℤ, ◌≤◌, ◌<◌, Bool, true, false, cond, List, [], ◌∷◌, ◌++◌, Option, Some, None, length, take, get_or, refl, sym, ap, ◌∙◌, subst, arith}
+use Rattle.std.proofs.Common.{◌≡◌, ℕ, zero, suc, ℤ, ◌≤◌, ◌<◌, Bool, true, false, cond, List, [], ◌∷◌, ◌++◌, Option, Some, None, length, take, drop, get_or, refl, sym, ap, ◌∙◌, subst, arith}
 use Rattle.std.specs.Prelude.{◌&&◌, not, nat_le, nat_lt, is_none, slice_get, unwrap_or, replicate}
+use Rattle.std.specs.Int.{is_negative}
 use Rattle.std.specs.List.{find, list_all, list_any, position, position_or_len}
 use Rattle.std.proofs.Math.Seq.{take-append_seam}
 use Rattle.std.proofs.lemmas.Bool.{and_from, and_parts}
 use Rattle.std.proofs.lemmas.Bool.Decides.{nat_tests}
+use Rattle.std.proofs.lemmas.List.{length-append, take-append-drop}
 use Rattle.std.proofs.lemmas.List.Folds.{find_at}
 use Rattle.std.proofs.lemmas.List.Quantifiers.{position-Some}
 use Rattle.std.proofs.lemmas.Option.{get_or_from_slice_get, slice_get-get_or, slice_get_past, slice_get_within}
@@ -23,6 +25,8 @@ use Rattle.cts_cmd.specs.declared.request.Request.{Request}
 use Rattle.cts_cmd.specs.Builds.{IsBuilt, IsNamedAt, Writes, WritesAll, WritesNumber, lies_within, place_of}
 use Rattle.cts_cmd.specs.Checks.{has_target, refusal_among, refusal_at}
 use Rattle.cts_cmd.specs.Contents.{content}
+use Rattle.cts_cmd.specs.Injects.{WritesFrom, base, from_base}
+use Rattle.cts_cmd.proofs.Behind.{base_start, same_start}
 
 pub writes_number : (i : ItemData) (z : ℤ) (p : Place) (signed : Bool) (old new : List ℕ) → place_data p ≡ place_of i → signed ≡ is_signed i.kind → reach p ≤ length old
     → number_at (place_data p) signed new ≡ z → KeepsOtherBits p old new → ((k : ℕ) → get_or new k 0 < 256) → WritesNumber i z old new
@@ -39,12 +43,30 @@ writes_number i z p signed old new there same within value others bytes =
 back : (xs ys : List ℕ) (n : ℕ) → length xs ≡ n → take n (xs ++ ys) ≡ xs
 back xs ys n e = subst (λ m. take m (xs ++ ys) ≡ xs) e (take-append_seam xs ys)
 
-pub number_back : (i : ItemData) (held : Preset) (z y : ℤ) (old lent new rest : List ℕ) (n : ℕ) → held ≡ Whole z → y ≡ z → lent ≡ old → length lent ≡ n → WritesNumber i y lent new
-    → Writes i held old (take n (new ++ rest))
+-- a number does not change how many bytes there are
+number_long : (i : ItemData) (z : ℤ) (old new : List ℕ) → WritesFrom i (Whole z) old new → length new ≡ length old
+number_long i z old new w =
+    let at = base (length old) i in
+    let parts = length-append (take at old) w.0 in
+    let whole = length-append (take at old) (drop at old) in
+    let old_is = ap (λ (x : List ℕ). length x) (take-append-drop at old) in
+    let new_is = ap (λ (x : List ℕ). length x) w.2 in
+    omega (arith, w.1.others.len, parts, whole, old_is, new_is)
+
+pub number_back : (i : ItemData) (held : Preset) (z y : ℤ) (old lent new rest : List ℕ) (n : ℕ) → held ≡ Whole z → y ≡ z → lent ≡ old → length lent ≡ n → WritesFrom i (Whole y) lent new
+    → WritesFrom i held old (take n (new ++ rest))
 number_back i held z y old lent new rest n holds same stood count w =
-    subst (λ h. Writes i h old (take n (new ++ rest))) (sym holds)
-    (subst (λ b. WritesNumber i z old b) (sym (back new rest n (w.others.len ∙ count)))
-    (subst (λ b. WritesNumber i z b new) stood (subst (λ x. WritesNumber i x lent new) same w)))
+    subst (λ h. WritesFrom i h old (take n (new ++ rest))) (sym holds)
+    (subst (λ b. WritesFrom i (Whole z) old b) (sym (back new rest n (number_long i y lent new w ∙ count)))
+    (subst (λ b. WritesFrom i (Whole z) b new) stood (subst (λ x. WritesFrom i (Whole x) lent new) same w)))
+
+-- what is written from the start, where the item is counted from there
+pub from_the_start : (i : ItemData) (held : Preset) (old new : List ℕ) → is_negative i.offset ≡ false → WritesFrom i held old new → Writes i held old new
+from_the_start i held old new start w =
+    let at = base_start (length old) i start in
+    let part : new ≡ w.0 = w.2 ∙ ap (λ (n : ℕ). take n old ++ w.0) at in
+    let one : Writes (from_base i) held old w.0 = subst (λ (n : ℕ). Writes (from_base i) held (drop n old) w.0) at w.1 in
+    subst (λ b. Writes i held old b) (sym part) (subst (λ j. Writes j held old w.0) (same_start i start) one)
 
 -- ---- a command holds its fields
 

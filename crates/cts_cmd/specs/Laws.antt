@@ -14,7 +14,8 @@ use Rattle.cts_cmd.specs.declared.request.Given.TheVariants as given
 use Rattle.cts_cmd.specs.declared.request.Request.{Request}
 use Rattle.cts_cmd.specs.declared.text_fault.TextCause.{TextCause}
 use Rattle.cts_cmd.specs.Builds.{IsBuilt, WritesAll, place_of}
-use Rattle.cts_cmd.specs.Injects.{Injects, is_wrong_raw, stood}
+use Rattle.cts_cmd.specs.Checks.{is_wrong_raw}
+use Rattle.cts_cmd.specs.Injects.{Injects, stood}
 use Rattle.cts_cmd.specs.Texts.{FailsAt, IsCommandText}
 
 -- ---- texts

@@ -11,7 +11,7 @@ ghost use Rattle.cts_def.specs.declared.item_kind.Preset.{Preset};
 ghost use Rattle.cts_cmd.specs.Contents.{
   bent,
   bytes_given,
-  content,
+  content_of,
   given_for,
   greatest,
   least,
@@ -209,13 +209,13 @@ pub(crate) fn given_for<'a>(params: &'a [(Bytes, Given)], item: &Item) -> Option
     }
 }
 
-/// The number that the field of a number holds.
-pub(crate) fn number_held(item: &Item, params: &[(Bytes, Given)]) -> i128
+/// The number that the field of a number holds, where this is given for it, or nothing.
+pub(crate) fn number_held(item: &Item, given: Option<&Given>) -> i128
     requires { IsTrue (is_number item.now.kind) }
-    ensures value { content params.now item.now ≡ Preset.Whole result }
+    ensures value { content_of item.now (option_copied given.entry) ≡ Preset.Whole result }
     ensures spelled { IsTrue (is_spelled item.now.kind (unsigned_abs item.now.size) result) }
 {
-    match given_for(params, item) {
+    match given {
         Some(given) => written_number(item, number_given(item, given).unwrap_or(0)),
         None => match &item.preset {
             Preset::Whole(value) => *value,
@@ -224,17 +224,13 @@ pub(crate) fn number_held(item: &Item, params: &[(Bytes, Given)]) -> i128
     }
 }
 
-/// The bytes that the field of a text or block holds.
-pub(crate) fn bytes_held(
-    alloc: Global,
-    item: &Item,
-    params: &[(Bytes, Given)],
-) -> Result<Bytes, Memory>
+/// The bytes that the field of a text or block holds, where this is given for it, or nothing.
+pub(crate) fn bytes_held(alloc: Global, item: &Item, given: Option<&Given>) -> Result<Bytes, Memory>
     requires { is_number item.now.kind ≡ false }
-    ensures value { IfOk result (λ b. content params.now item.now ≡ Preset.Raw b) }
+    ensures value { IfOk result (λ b. content_of item.now (option_copied given.entry) ≡ Preset.Raw b) }
     ensures sized { IfOk result (λ b. is_to_the_end item.now ≡ false → length b ≡ unsigned_abs item.now.size / 8) }
 {
-    match given_for(params, item) {
+    match given {
         Some(given) => match bytes_given(alloc, item, given)? {
             Some(bytes) => written_bytes(alloc, item, bytes.as_slice()),
             None => written_bytes(alloc, item, &[]),

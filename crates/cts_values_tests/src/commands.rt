@@ -69,7 +69,8 @@ fn with_name(alloc: Global, what: &str, name: &[u8]) -> Result<String, Fail> {
     Ok(format!(in alloc; "{what} {}", as_text(name)?)?)
 }
 
-fn refusal_text(alloc: Global, refused: &Refused) -> Result<String, Fail> {
+/// The name of a refusal, with what it says.
+pub fn refusal_text(alloc: Global, refused: &Refused) -> Result<String, Fail> {
     match refused {
         Refused::UnknownParameter(name) => with_name(alloc, "UnknownParameter", name.as_slice()),
         Refused::Twice(name) => with_name(alloc, "Twice", name.as_slice()),

@@ -9,6 +9,8 @@ mod commands;
 #[cfg(test)]
 mod halls;
 #[cfg(test)]
+mod injections;
+#[cfg(test)]
 mod limits;
 #[cfg(test)]
 mod read;

@@ -1,0 +1,10 @@
+use Rattle.std.proofs.Common.{◌≡◌, ℕ, ◌<◌, true, get_or, rules}
+use Rattle.cts_def.specs.Items.{is_to_the_end}
+use Rattle.cts_cmd.proofs.Parts.{end_from}
+use Rattle.cts_cmd.proofs.write.put_text.Goals as goal
+
+pub returns-then-item-eq0-clause-written : goal.returns-then-item-eq0-clause-written
+returns-then-item-eq0-clause-written c =
+    let to : is_to_the_end c.args.item.now ≡ true = search rules in
+    let bytes : (k : ℕ) → get_or c.extend_from_slice.new.self.items k 0 < 256 = search rules in
+    end_from c.args.item.now c.args.bytes.now c.args.buffer.now.items c.extend_from_slice.new.self.items to c.in_ok-extend_from_slice.ensures.items bytes

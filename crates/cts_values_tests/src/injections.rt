@@ -1,0 +1,91 @@
+// Raw values that are written over the bytes of a packet that was read.
+use crate::commands::refusal_text;
+use crate::read::{Answers, bytes_of, cut, rows_hold, site_of};
+use cts_base::Bytes;
+use cts_cmd::{Given, Refused, inject, parse};
+use cts_def::Packet;
+use std::alloc::Global;
+use std::test::Fail;
+
+/// A packet of five bytes: numbers, a text, a number and a block that are counted from the end, and a block that goes to it.
+const PACKET: &str = "\
+TELEMETRY T P BIG_ENDIAN;\
+APPEND_ITEM N 4 UINT;\
+APPEND_ITEM S 4 INT;OVERFLOW SATURATE;\
+APPEND_ITEM C 8 UINT;OVERFLOW TRUNCATE;STATE OFF 0;STATE ON 1;\
+APPEND_ITEM NAME 24 STRING;OVERFLOW TRUNCATE;\
+ITEM LAST -16 16 UINT;\
+ITEM TAIL -8 8 BLOCK;\
+ITEM REST 40 0 BLOCK";
+
+/// The bytes afterwards or the refusal, the bytes that stand or `-` for none, and the members as a command text.
+const ROWS: &str = "\
+5000000000|-|T P with N 5
+0007000000|-|T P with c 7
+0f01000000|0f01|T P with C 1
+5f01000000|0f01|T P with N 5
+5f01020304050607|0f01020304050607|T P with N 5
+0000000102|-|T P with LAST 258
+0001020304050102|0001020304050607|T P with LAST 258
+0001610000|0001020304|T P with NAME 'a'
+0000616263|-|T P with NAME 'abcd'
+00010203ff|0001020304|T P with TAIL '0xff'
+0001020304050600|0001020304050607|T P with TAIL ''
+6000000000|-|T P with N 5, N 6
+0000000102|-|T P with TAIL '0xff', LAST 258
+00000001ff|-|T P with LAST 258, TAIL '0xff'
+0700000000|-|T P with S 100
+08ffffffff|ffffffffff|T P with S -100, N 0
+0001000000|-|T P with C 257
+00ff000000|-|T P with C -1
+UnknownParameter x|-|T P with NAME 5, N 16, x 1, y 2
+WrongType NAME|-|T P with N 16, name 5, C ON
+WrongType C|-|T P with C ON
+WrongType N|-|T P with N '5'
+WrongType NAME|-|T P with NAME '€'
+WrongType REST|-|T P with REST '0x01'
+Overflow N|-|T P with LAST 65535, n 16, TAIL '0x0102'
+Overflow N|-|T P with N -1
+Overflow TAIL|-|T P with TAIL '0x0102'";
+
+fn told(alloc: Global, answer: Result<Bytes, Refused>) -> Result<String, Fail> {
+    match answer {
+        Ok(bytes) => Ok(hex::encode(alloc, bytes.as_slice())?),
+        Err(refused) => refusal_text(alloc, &refused),
+    }
+}
+
+/// What is answered where these bytes stand, or none.
+fn injected(
+    alloc: Global,
+    packet: &Packet,
+    digits: &str,
+    members: &[(Bytes, Given)],
+) -> Result<String, Fail> {
+    if digits == "-" {
+        return told(alloc, inject(alloc, packet, None, members));
+    }
+    let bytes = bytes_of(alloc, digits)?;
+    told(alloc, inject(alloc, packet, Some(&bytes), members))
+}
+
+struct Injections;
+
+impl Answers for Injections {
+    fn answer(alloc: Global, asked: &str) -> Result<String, Fail> {
+        let (digits, text) = cut(asked)?;
+        let site = site_of(alloc, PACKET, "")?;
+        let [packet] = site.definitions.telemetry.as_slice() else {
+            return Err(Fail::new("no packet"));
+        };
+        let Ok(request) = parse(alloc, text.as_bytes()) else {
+            return Err(Fail::new("no members"));
+        };
+        injected(alloc, packet, digits, request.params.as_slice())
+    }
+}
+
+#[test]
+fn raw_values_are_written_over_packets(rt: HostRuntime) -> Result<(), Fail> {
+    rows_hold::<Injections>(&rt, rt.alloc(), ROWS)
+}
