@@ -6,7 +6,7 @@ ghost use Rattle.cts_entry.specs.Legal.{most_entries as entries_limit, most_byte
 
 use crate::read::{Answers, SITE, as_text, bytes_of, cut, rows_hold, same, site_of};
 use crate::shelves::stocked;
-use cts_base::{Bytes, List};
+use cts_base::Bytes;
 use cts_chain::{Chain, ChainFault};
 use cts_core::{Framer, Supplier, World, WorldFault, is_built_event, is_built_site};
 use cts_def::{Site, Time};
@@ -39,7 +39,7 @@ fn built_site(alloc: Global, definitions: &str, site: &str) -> Result<Arc<Site>,
 }
 
 /// The event of a row: the clock is set to second 5 or to no time of a clock, the interface opens, a piece comes, the interface
-/// ends by a stop, one that there is not by its peer, the server is stopped, or a trial, which may send a command.
+/// ends by a stop, one that there is not by its peer, the server is stopped, or desk 0 is asked, perhaps to send a command.
 fn event_of(alloc: Global, text: &str) -> Result<Event, Fail> {
     match text {
         "time" => Ok(Event::SetTime(TIME)),
@@ -56,26 +56,28 @@ fn long_event_of(alloc: Global, text: &str) -> Result<Event, Fail> {
     let (word, rest) = cut(text, ' ')?;
     match word {
         "piece" => Ok(Event::Piece(0, Bytes::of(bytes_of(alloc, rest)?))),
-        "try" => trial(alloc, rest),
+        "call" => Ok(Event::Call(0, Bytes::copy(alloc, rest.as_bytes())?)),
+        "ask" => asking(alloc, rest),
         "send" => sending(alloc, rest),
         _ => Err(Fail::new("no event")),
     }
 }
 
-fn trial(alloc: Global, words: &str) -> Result<Event, Fail> {
-    let mut held = Vec::new(alloc);
-    for word in words.split_ascii_whitespace() {
-        held.push(Bytes::copy(alloc, word.as_bytes())?)?;
-    }
-    Ok(Event::Try(List::of(held)))
+/// A request of a method and its params, with a blank between.
+fn asking(alloc: Global, text: &str) -> Result<Event, Fail> {
+    let (method, params) = cut(text, ' ')?;
+    let body = format!(in alloc;
+        "{{\"jsonrpc\":\"2.0\",\"method\":\"{method}\",\"params\":{params},\"id\":1}}"
+    )?;
+    Ok(Event::Call(0, Bytes::copy(alloc, body.as_bytes())?))
 }
 
-/// A trial that sends a command of this text.
+/// A request that sends a command of this text.
 fn sending(alloc: Global, text: &str) -> Result<Event, Fail> {
-    let mut words = Vec::new(alloc);
-    words.push(Bytes::copy(alloc, b"CMD")?)?;
-    words.push(Bytes::copy(alloc, text.as_bytes())?)?;
-    Ok(Event::Try(List::of(words)))
+    let body = format!(in alloc;
+        "{{\"jsonrpc\":\"2.0\",\"method\":\"cmd\",\"params\":[\"{text}\"],\"id\":1}}"
+    )?;
+    Ok(Event::Call(0, Bytes::copy(alloc, body.as_bytes())?))
 }
 
 /// What the world answers to an event, in words.
@@ -89,10 +91,23 @@ fn answer<C: Framer>(alloc: Global, world: &mut World<C>, event: &Event) -> Resu
 fn answer_text(alloc: Global, answer: Result<Effect, WorldFault>) -> Result<String, Fail> {
     match answer {
         Ok(Effect::Posted) => Ok(format!(in alloc; "posted")?),
-        Ok(Effect::Tried { front, text }) => {
+        Ok(
+            Effect::Reply {
+                desk,
+                front,
+                text: Some(text),
+            },
+        ) => {
             let text = as_text(text.as_slice())?;
-            Ok(format!(in alloc; "tried {front} {text}")?)
+            Ok(format!(in alloc; "{desk} at {front} {text}")?)
         }
+        Ok(
+            Effect::Reply {
+                desk,
+                front,
+                text: None,
+            },
+        ) => Ok(format!(in alloc; "{desk} at {front}")?),
         Ok(_) => Err(Fail::new("another effect")),
         Err(fault) => Ok(format!(in alloc; "{fault:?}")?),
     }
@@ -181,11 +196,12 @@ fn events_are_answered_where_they_may_come(rt: HostRuntime) -> Result<(), Fail> 
     rows_hold::<Events>(&rt, rt.alloc(), EVENTS)
 }
 
-/// The same of a world whose history takes one entry and ten bytes: where it was full it says so for good, but a trial of a full
-/// history only says so.
-const FULL: &str = "\
-opens;piece 00;piece 0307;stop;other ends|posted;posted;Full { entries: 1, bytes: 0 };Full { entries: 1, bytes: 0 };Full { entries: 1, bytes: 0 }; 0 0.000000 I OPENED;
-opens;try SET DEFAULT;try SET NIGHT;try TLM RAW T A V;stop|posted;tried 1 History full;tried 1 Unknown limits set;tried 1 Unknown target;posted; 0 0.000000 I OPENED;1 0.000000 SERVER STOP;";
+/// The same of a world whose history takes one entry and ten bytes: where it was full it says so for good, but a reply of a full
+/// history only says so, behind all checks, and the server may be stopped.
+const FULL: &str =
+    r#"opens;piece 00;piece 0307;stop;other ends|posted;posted;Full { entries: 1, bytes: 0 };Full { entries: 1, bytes: 0 };Full { entries: 1, bytes: 0 }; 0 0.000000 I OPENED;
+opens;ask set_limits_set ["DEFAULT"];ask set_limits_set ["NIGHT"];ask tlm_raw ["T A V"];stop|posted;0 at 1 {"error":{"code":-32003,"message":"History full"},"id":1,"jsonrpc":"2.0"};0 at 1 {"error":{"code":-32001,"message":"Unknown limits set"},"id":1,"jsonrpc":"2.0"};0 at 1 {"error":{"code":-32001,"message":"Unknown target"},"id":1,"jsonrpc":"2.0"};posted; 0 0.000000 I OPENED;1 0.000000 SERVER STOP;
+opens;call {"jsonrpc":"2.0","method":"set_limits_set","params":["DEFAULT"]};call {"jsonrpc":"2.0","method":"stop_server"};ask stop_server []|posted;0 at 1;0 at 1;0 at 2 {"id":1,"jsonrpc":"2.0","result":null}; 0 0.000000 I OPENED;1 0.000000 DESK/0 STOP;"#;
 
 struct Full;
 
@@ -221,8 +237,8 @@ fn a_world_with_a_full_history_says_so(rt: HostRuntime) -> Result<(), Fail> {
 
 /// The same of a world whose history takes three entries and eight bytes, one of the entries the Opened, with a command of three bytes
 /// and one to the end: a command fits up to the last byte, and one without bytes up to the last entry.
-const SENT: &str = "\
-opens;send T C;send T E with L 'abcdef';send T X;send T E with L 'abcde';send T E;send T E with|posted;tried 1 ok;tried 2 History full;tried 2 Unknown command;tried 2 ok;tried 3 History full;tried 3 Invalid params; 0 0.000000 I OPENED;1 0.000000 DESK/0 COMMAND T C 000001;2 0.000000 DESK/0 COMMAND T E 6162636465;";
+const SENT: &str =
+    r#"opens;send T C;send T E with L 'abcdef';send T X;send T E with L 'abcde';send T E;send T E with|posted;0 at 1 {"id":1,"jsonrpc":"2.0","result":["T","C",{}]};0 at 2 {"error":{"code":-32003,"message":"History full"},"id":1,"jsonrpc":"2.0"};0 at 2 {"error":{"code":-32002,"message":"Unknown command"},"id":1,"jsonrpc":"2.0"};0 at 2 {"id":1,"jsonrpc":"2.0","result":["T","E",{"L":"abcde"}]};0 at 3 {"error":{"code":-32003,"message":"History full"},"id":1,"jsonrpc":"2.0"};0 at 3 {"error":{"code":-32602,"message":"Invalid params"},"id":1,"jsonrpc":"2.0"}; 0 0.000000 I OPENED;1 0.000000 DESK/0 COMMAND T C 000001;2 0.000000 DESK/0 COMMAND T E 6162636465;"#;
 
 /// A command of one number, and one of a text to the end.
 const COMMANDS: &str =

@@ -3,7 +3,7 @@ use Rattle.std.specs.Prelude.{ℕ, List, [], ◌∷◌, ◌++◌, length, codes,
 use Rattle.std.specs.Fmt.{decimal}
 use Rattle.cts_def.specs.Sites.{SiteData}
 use Rattle.cts_entry.specs.declared.event.Effect.{Effect}
-use Rattle.cts_entry.specs.declared.event.Effect.TheVariants.{Posted, Reply, Written, Logged, Routed, Tried}
+use Rattle.cts_entry.specs.declared.event.Effect.TheVariants.{Posted, Reply, Written, Logged, Routed}
 use Rattle.cts_script.specs.Lines.{hex_or_dash, maker_text}
 use Rattle.cts_script.specs.Names.{interface_name}
 use Rattle.cts_script.specs.Spacing.{spaced}
@@ -24,4 +24,3 @@ effect_line site (Reply desk front text) = spaced (codes "REPLY" ∷ desk_text d
 effect_line site (Written interface bytes) = spaced (codes "WRITTEN" ∷ interface_name site interface ∷ hex_or_dash bytes ∷ []) ++ (10 ∷ [])
 effect_line site (Logged tlm cmd) = spaced (codes "LOGGED" ∷ decimal (length tlm) ∷ decimal (length cmd) ∷ []) ++ (10 ∷ [])
 effect_line site (Routed slot bytes) = spaced (codes "ROUTED" ∷ maker_text site slot ∷ hex_or_dash bytes ∷ []) ++ (10 ∷ [])
-effect_line site (Tried front text) = spaced (codes "TRIED" ∷ decimal front ∷ text ∷ []) ++ (10 ∷ [])

@@ -45,11 +45,6 @@ fn put_effect(out: &mut Vec<u8>, site: &Site, effect: &Effect) -> Result<(), Mem
             put_maker_word(out, site, *slot)?;
             put_bytes_end(out, bytes.as_slice())
         }
-        Effect::Tried { front, text } => {
-            put_text(out, b"TRIED")?;
-            put_number_word(out, *front)?;
-            put_word_end(out, text.as_slice())
-        }
     }
 }
 

@@ -23,7 +23,6 @@ use Rattle.cts_scriptread.specs.Forms.{keywords, keyword_of, parts, with_words}
 use Rattle.cts_scriptread.specs.Laws.{LinesAreRefused}
 use Rattle.cts_scriptread.specs.Lines.{IsLine, NamesMaker, WritesNumber, WritesCount, EndsBy, Says}
 use Rattle.cts_scriptread.specs.Makers.{interface_named, slot_named, maker_named}
-use Rattle.cts_scriptread.specs.Trials.{Asked, trial_of}
 use Rattle.cts_scriptread.specs.Words.{number_of, count_of, are_byte_digits, is_piece_size, why_of, is_log}
 use Rattle.cts_scriptread.proofs.OneEach.{one_event}
 use Rattle.cts_scriptread.proofs.Rows.{keyword_text, says_words}
@@ -94,7 +93,6 @@ known_keyword keyword.Write word h = ap (found_by keywords) h
 known_keyword keyword.Call word h = ap (found_by keywords) h
 known_keyword keyword.Drain word h = ap (found_by keywords) h
 known_keyword keyword.Stop word h = ap (found_by keywords) h
-known_keyword keyword.Try word h = ap (found_by keywords) h
 
 -- no cause holds
 abbrev NoneHolds : SiteData → Keyword → List (List ℕ) → Type 0
@@ -139,9 +137,6 @@ not_refused site words (event.DrainSlot slot count) h =
     let number = one_false (is_none (count_of h.1)) (is_count h.1 count h.4) in
     passes site keyword.Drain (h.0 ∷ h.1 ∷ []) words h.2 (refl, (maker, (number, (refl, (refl, (refl, tt))))))
 not_refused site words event.Stop h = passes site keyword.Stop [] words h (refl, (refl, (refl, (refl, (refl, (refl, tt))))))
-not_refused site words (event.Try behind) h =
-    let form : not (is_some (trial_of behind)) ≡ false = ap (λ (o : Option Asked). not (is_some o)) h.2 in
-    passes site keyword.Try behind words h.0 (form, (refl, (refl, (refl, (refl, (refl, tt))))))
 
 pub lines_are_refused : LinesAreRefused
 lines_are_refused site s = (

@@ -24,12 +24,11 @@ use Rattle.cts_entry.specs.declared.why.Why.TheVariants as why
 use Rattle.cts_reader.specs.Words.{keyword_in, is_keyword}
 use Rattle.cts_scriptread.specs.declared.form.Keyword.{Keyword}
 use Rattle.cts_scriptread.specs.declared.form.Keyword.TheVariants as keyword
-use Rattle.cts_scriptread.specs.Events.{time_at, time_in, opens_in, piece_in, finish_in, write_in, call_in, drain_of, drain_in, stop_in, try_in, event_of}
+use Rattle.cts_scriptread.specs.Events.{time_at, time_in, opens_in, piece_in, finish_in, write_in, call_in, drain_of, drain_in, stop_in, event_of}
 use Rattle.cts_scriptread.specs.Forms.{keywords, keyword_of, with_words}
 use Rattle.cts_scriptread.specs.Lines.{IsLine, NamesInterface, NamesSlot, NamesMaker, WritesNumber, WritesCount, EndsBy, Says}
 use Rattle.cts_scriptread.specs.Makers.{both, interface_named, router_named, side_of, slot_number, slot_named, maker_named}
 use Rattle.cts_scriptread.specs.Scripts.{event_in}
-use Rattle.cts_scriptread.specs.Trials.{Asked, trial_of}
 use Rattle.cts_scriptread.specs.Words.{natural_in, number_of, count_of, is_piece_size, if_piece, piece_of, why_of, is_log}
 
 -- ---- numbers
@@ -241,11 +240,6 @@ stop_row : (site : SiteData) (key : List ℕ) (ws : List (List ℕ)) (e : Event)
 stop_row site key [] e h said = let same : event.Stop ≡ e = cc in subst (Says site (key ∷ [])) same (line (codes "STOP") key [] h)
 stop_row site key (w ∷ ws) e h said = absurd cc
 
-try_row : (site : SiteData) (key : List ℕ) (ws : List (List ℕ)) (e : Event) → in_upper_case key ≡ codes "TRY" → try_in ws ≡ Some e → Says site (key ∷ ws) e
-try_row site key ws e h said =
-    let b = mapped_is (λ (a : Asked). event.Try ws) (trial_of ws) e said in
-    subst (Says site (key ∷ ws)) b.2 (line (codes "TRY") key ws h, b.0, b.1)
-
 -- ---- keywords
 
 abbrev pub keyword_text : Keyword → List ℕ
@@ -257,7 +251,6 @@ keyword_text keyword.Write = codes "WRITE"
 keyword_text keyword.Call = codes "CALL"
 keyword_text keyword.Drain = codes "DRAIN"
 keyword_text keyword.Stop = codes "STOP"
-keyword_text keyword.Try = codes "TRY"
 
 row : (site : SiteData) (key : List ℕ) (k : Keyword) (ws : List (List ℕ)) (e : Event) → in_upper_case key ≡ keyword_text k → event_of site k ws ≡ Some e → Says site (key ∷ ws) e
 row site key keyword.Time ws e h said = time_row site key ws e h said
@@ -268,7 +261,6 @@ row site key keyword.Write ws e h said = write_row site key ws e h said
 row site key keyword.Call ws e h said = call_row site key ws e h said
 row site key keyword.Drain ws e h said = drain_row site key ws e h said
 row site key keyword.Stop ws e h said = stop_row site key ws e h said
-row site key keyword.Try ws e h said = try_row site key ws e h said
 
 abbrev AreOwnTexts : List (List ℕ × Keyword) → Type 0
 AreOwnTexts list = AllByRecursion (λ (p : List ℕ × Keyword). p.0 ≡ keyword_text p.1) list
@@ -287,7 +279,7 @@ spelled_in (p ∷ list) word k own e = spelled_step (is_keyword word p.0) word p
 
 spelled_keyword : (word : List ℕ) (k : Keyword) → keyword_of word ≡ Some k → in_upper_case word ≡ keyword_text k
 unfolding keyword_of
-spelled_keyword word k e = spelled_in keywords word k (refl, (refl, (refl, (refl, (refl, (refl, (refl, (refl, (refl, tt))))))))) e
+spelled_keyword word k e = spelled_in keywords word k (refl, (refl, (refl, (refl, (refl, (refl, (refl, (refl, tt)))))))) e
 
 -- ---- a statement
 

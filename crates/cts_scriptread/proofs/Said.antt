@@ -14,9 +14,8 @@ use Rattle.cts_scriptread.specs.declared.form.Keyword.{Keyword}
 use Rattle.cts_scriptread.specs.declared.form.Keyword.TheVariants as keyword
 use Rattle.cts_reader.specs.Words.{any_word}
 use Rattle.cts_scriptread.specs.Causes.{is_unknown_maker, is_no_number, is_bad_hex, is_wrong_size, is_unknown_why, holds, order}
-use Rattle.cts_scriptread.specs.Events.{time_at, time_in, opens_in, piece_in, finish_in, write_in, call_in, drain_of, drain_in, stop_in, try_in, event_of}
+use Rattle.cts_scriptread.specs.Events.{time_at, time_in, opens_in, piece_in, finish_in, write_in, call_in, drain_of, drain_in, stop_in, event_of}
 use Rattle.cts_scriptread.specs.Forms.{fields}
-use Rattle.cts_scriptread.specs.Trials.{Asked, trial_of}
 use Rattle.cts_scriptread.specs.Makers.{both, interface_named, slot_named, maker_named}
 use Rattle.cts_scriptread.specs.Words.{number_of, count_of, are_byte_digits, is_piece_size, if_piece, piece_of, why_of, is_log}
 
@@ -151,9 +150,6 @@ stop_said : (words : List (List ℕ)) → not (length words == 0) ≡ false → 
 stop_said [] form = refl
 stop_said (w ∷ words) form = let e : suc (length words) ≡ 0 = same_length (length (w ∷ words)) 0 form in absurd (omega (arith, e))
 
-try_said : (words : List (List ℕ)) → not (is_some (trial_of words)) ≡ false → is_some (try_in words) ≡ true
-try_said words form = mapped (λ (a : Asked). event.Try words) (trial_of words) (there (trial_of words) (is_true (is_some (trial_of words)) form))
-
 -- no cause holds
 abbrev NoneHolds : SiteData → Keyword → List (List ℕ) → Type 0
 NoneHolds site k words = AllByRecursion (λ c. holds site c k words ≡ false) order
@@ -167,7 +163,6 @@ event_said site keyword.Write words h = write_said site words h.0 h.1.0 h.1.1.0
 event_said site keyword.Call words h = call_said words h.0 h.1.1.0
 event_said site keyword.Drain words h = drain_said site words h.0 h.1.0 h.1.1.0
 event_said site keyword.Stop words h = stop_said words h.0
-event_said site keyword.Try words h = try_said words h.0
 
 -- The words behind a keyword say an event, where no cause is found.
 pub says_event : (site : SiteData) (k : Keyword) (words : List (List ℕ)) → find (λ c. holds site c k words) order ≡ None → is_some (event_of site k words) ≡ true

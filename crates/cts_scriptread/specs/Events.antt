@@ -6,7 +6,6 @@ use Rattle.cts_entry.specs.declared.event.Event.TheVariants as event
 use Rattle.cts_scriptread.specs.declared.form.Keyword.{Keyword}
 use Rattle.cts_scriptread.specs.declared.form.Keyword.TheVariants as keyword
 use Rattle.cts_scriptread.specs.Makers.{both, interface_named, slot_named, maker_named}
-use Rattle.cts_scriptread.specs.Trials.{Asked, trial_of}
 use Rattle.cts_scriptread.specs.Words.{number_of, count_of, piece_of, why_of, is_log}
 
 abbrev pub time_at : ℕ → ℕ → Event
@@ -48,10 +47,6 @@ abbrev pub stop_in : List (List ℕ) → Option Event
 stop_in [] = Some event.Stop
 stop_in _ = None
 
--- a trial has all words behind its keyword
-abbrev pub try_in : List (List ℕ) → Option Event
-try_in words = option_map (λ (a : Asked). event.Try words) (trial_of words)
-
 abbrev pub event_of : SiteData → Keyword → List (List ℕ) → Option Event
 event_of site keyword.Time words = time_in words
 event_of site keyword.Open words = opens_in site words
@@ -61,4 +56,3 @@ event_of site keyword.Write words = write_in site words
 event_of site keyword.Call words = call_in words
 event_of site keyword.Drain words = drain_in site words
 event_of site keyword.Stop words = stop_in words
-event_of site keyword.Try words = try_in words

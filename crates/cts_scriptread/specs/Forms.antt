@@ -1,11 +1,10 @@
 -- The table of lines: the keywords, and what the words behind each have to be.
-use Rattle.std.specs.Prelude.{ℕ, Bool, ◌==◌, List, [], ◌∷◌, length, codes, Option, Some, None, is_some}
+use Rattle.std.specs.Prelude.{ℕ, Bool, ◌==◌, List, [], ◌∷◌, length, codes, Option, Some, None}
 use Rattle.cts_reader.specs.Words.{keyword_in}
 use Rattle.cts_scriptread.specs.declared.form.Field.{Field}
 use Rattle.cts_scriptread.specs.declared.form.Field.TheVariants as field
 use Rattle.cts_scriptread.specs.declared.form.Keyword.{Keyword}
 use Rattle.cts_scriptread.specs.declared.form.Keyword.TheVariants as keyword
-use Rattle.cts_scriptread.specs.Trials.{trial_of}
 
 -- the keywords, which are read in any case
 abbrev pub keywords : List (List ℕ × Keyword)
@@ -17,13 +16,12 @@ keywords =
     ∷ (codes "WRITE", keyword.Write)
     ∷ (codes "CALL", keyword.Call)
     ∷ (codes "DRAIN", keyword.Drain)
-    ∷ (codes "STOP", keyword.Stop)
-    ∷ (codes "TRY", keyword.Try) ∷ []
+    ∷ (codes "STOP", keyword.Stop) ∷ []
 
 unfoldable pub keyword_of : List ℕ → Option Keyword
 keyword_of word = keyword_in keywords word
 
--- what each word behind a keyword has to be; those of a trial line depend on the first of them
+-- what each word behind a keyword has to be
 abbrev pub fields : Keyword → List Field
 fields keyword.Time = field.Number ∷ field.Number ∷ []
 fields keyword.Open = field.Who ∷ []
@@ -33,11 +31,9 @@ fields keyword.Write = field.Interface ∷ field.Count ∷ []
 fields keyword.Call = field.Number ∷ field.Text ∷ []
 fields keyword.Drain = field.Drained ∷ field.Count ∷ []
 fields keyword.Stop = []
-fields keyword.Try = []
 
--- the words behind a keyword are those of its row
+-- the words behind a keyword are as many as those of its row
 abbrev pub has_form : Keyword → List (List ℕ) → Bool
-has_form keyword.Try words = is_some (trial_of words)
 has_form keyword words = length words == length (fields keyword)
 
 -- ---- a line

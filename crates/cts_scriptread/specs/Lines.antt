@@ -10,7 +10,6 @@ use Rattle.cts_entry.specs.declared.event.Event.TheVariants as event
 use Rattle.cts_entry.specs.declared.why.Why.{Why}
 use Rattle.cts_entry.specs.declared.why.Why.TheVariants as why
 use Rattle.cts_scriptread.specs.Words.{is_piece_size}
-use Rattle.cts_scriptread.specs.Trials.{Asked, trial_of}
 
 -- ---- words
 
@@ -72,4 +71,3 @@ Says site words (event.DrainLog count) = (number : List ℕ) × IsLine (codes "D
 Says site words (event.DrainSlot slot count) =
     (who : List ℕ) × (number : List ℕ) × IsLine (codes "DRAIN") (who ∷ number ∷ []) words × NamesSlot site who slot × WritesCount number count
 Says site words event.Stop = IsLine (codes "STOP") [] words
-Says site words (event.Try behind) = IsLine (codes "TRY") behind words × (asked : Asked) × (trial_of behind ≡ Some asked)

@@ -11,8 +11,8 @@ use std::fmt;
 pub enum ScriptCause {
     /// The first word is no keyword.
     UnknownKeyword,
-    /// The line has another number of words than its row, or is no trial that there is. Also a fault of the words: text that
-    /// is not UTF-8 (line 0), a quote without its end, and a join word that joins nothing.
+    /// The line has another number of words than its row. Also a fault of the words: text that is not UTF-8 (line 0), a quote
+    /// without its end, and a join word that joins nothing.
     WrongCount,
     /// Seconds, micros, a desk or a count is no whole number within its bounds.
     NotNumber,

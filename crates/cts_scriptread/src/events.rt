@@ -4,13 +4,12 @@ ghost use Rattle.std.specs.Prelude.{◌≡◌, IfOk};
 ghost use Rattle.cts_entry.specs.declared.event.Event.TheVariants.{Piece as PieceFrom};
 ghost use Rattle.cts_scriptread.specs.Makers.{both};
 ghost use Rattle.cts_scriptread.specs.Words.{piece_of};
-ghost use Rattle.cts_scriptread.specs.Events.{call_in, drain_in, event_of, finish_in, opens_in, piece_in, stop_in, time_in, try_in, write_in};
+ghost use Rattle.cts_scriptread.specs.Events.{call_in, drain_in, event_of, finish_in, opens_in, piece_in, stop_in, time_in, write_in};
 
 use crate::form::Keyword;
 use crate::makers::{interface_named, maker_named, slot_named};
-use crate::trial::trial_of;
 use crate::words::{count_of, is_log, number_of, piece_of, why_of};
-use cts_base::{Bytes, List, Memory};
+use cts_base::{Bytes, Memory};
 use cts_def::{Site, Time};
 use cts_entry::Event;
 use std::alloc::Global;
@@ -33,7 +32,6 @@ pub fn event_of(
         Keyword::Call => call_in(alloc, words),
         Keyword::Drain => Ok(drain_in(site, words)),
         Keyword::Stop => Ok(stop_in(words)),
-        Keyword::Try => try_in(alloc, words),
     }
 }
 
@@ -153,23 +151,4 @@ fn stop_in(words: &[Bytes]) -> Option<Event>
         [] => Some(Event::Stop),
         _ => None,
     }
-}
-
-fn try_in(alloc: Global, words: &[Bytes]) -> Result<Option<Event>, Memory>
-    ensures { IfOk result (λ event. event ≡ try_in words.now) }
-{
-    match trial_of(words) {
-        Some(_) => Ok(Some(Event::Try(copied(alloc, words)?))),
-        None => Ok(None),
-    }
-}
-
-fn copied(alloc: Global, words: &[Bytes]) -> Result<List<Bytes>, Memory>
-    ensures { IfOk result (λ copy. copy ≡ words.now) }
-{
-    let mut copy = List::new(alloc);
-    for word in words {
-        copy.push(Bytes::copy(alloc, word.as_slice())?)?;
-    }
-    Ok(copy)
 }

@@ -3,7 +3,6 @@
 ghost use Rattle.std.specs.Prelude.{◌≡◌, option_map};
 ghost use Rattle.cts_scriptread.specs.Forms.{fields, has_form, keyword_of, parts};
 
-use crate::trial::trial_of;
 use cts_base::Bytes;
 use cts_reader::{Spelled, keyword_in};
 
@@ -26,8 +25,6 @@ pub enum Keyword {
     Drain,
     /// The server stops.
     Stop,
-    /// A trial.
-    Try,
 }
 
 /// What a word of a line has to be.
@@ -52,7 +49,7 @@ pub enum Field {
 }
 
 /// All keywords.
-const KEYWORDS: [Spelled<Keyword>; 9] = [
+const KEYWORDS: [Spelled<Keyword>; 8] = [
     Spelled {
         text: b"TIME",
         keyword: Keyword::Time,
@@ -85,10 +82,6 @@ const KEYWORDS: [Spelled<Keyword>; 9] = [
         text: b"STOP",
         keyword: Keyword::Stop,
     },
-    Spelled {
-        text: b"TRY",
-        keyword: Keyword::Try,
-    },
 ];
 
 #[tactic(auto, unfolding(crate::specs::Forms::keyword_of))]
@@ -98,7 +91,7 @@ fn keyword_of(word: &[u8]) -> Option<Keyword>
     keyword_in(&KEYWORDS, word)
 }
 
-/// What each word behind a keyword has to be. Those of a trial line depend on the first of them.
+/// What each word behind a keyword has to be.
 pub fn fields(keyword: Keyword) -> &'static [Field]
     ensures { result.now ≡ fields keyword }
 {
@@ -111,18 +104,14 @@ pub fn fields(keyword: Keyword) -> &'static [Field]
         Keyword::Call => &[Field::Number, Field::Text],
         Keyword::Drain => &[Field::Drained, Field::Count],
         Keyword::Stop => &[],
-        Keyword::Try => &[],
     }
 }
 
-/// Whether the words behind a keyword are those of its row.
+/// Whether the words behind a keyword are as many as those of its row.
 pub fn has_form(keyword: Keyword, words: &[Bytes]) -> bool
     ensures { result ≡ has_form keyword words.now }
 {
-    match keyword {
-        Keyword::Try => trial_of(words).is_some(),
-        _ => words.len() == fields(keyword).len(),
-    }
+    words.len() == fields(keyword).len()
 }
 
 /// The keyword of a line, if its first word is one, and the words behind it.

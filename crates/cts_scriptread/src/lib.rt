@@ -9,7 +9,6 @@ mod judging;
 mod laws;
 mod makers;
 mod reading;
-mod trial;
 mod words;
 
 pub use cause::{ScriptCause, ScriptFault};
@@ -18,4 +17,3 @@ pub use laws::{
     numbers_are_written_within_their_bounds,
 };
 pub use reading::{read_events, read_script};
-pub use trial::{Trial, TrialKind, trial_of};

@@ -2,6 +2,8 @@
 #![tactic(auto)]
 
 #[cfg(test)]
+mod calls;
+#[cfg(test)]
 mod chains;
 #[cfg(test)]
 mod commands;
@@ -23,5 +25,3 @@ mod shelves;
 mod site;
 #[cfg(test)]
 mod table;
-#[cfg(test)]
-mod trials;

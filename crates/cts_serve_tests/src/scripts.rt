@@ -44,6 +44,7 @@ fn each_statement_of_a_script_has_one_event(rt: HostRuntime) -> Result<(), Fail>
 const CAUSES: &str = "\
 OPEN I;CONNECT I|ScriptRefused refused: c line 2: UnknownKeyword;
 OPEN I;;'STOP '|ScriptRefused refused: c line 3: UnknownKeyword;
+OPEN I;TRY TLM RAW T P I|ScriptRefused refused: c line 2: UnknownKeyword;
 OPEN|ScriptRefused refused: c line 1: WrongCount;
 OPEN I I|ScriptRefused refused: c line 1: WrongCount;
 CLOSE I|ScriptRefused refused: c line 1: WrongCount;
@@ -52,12 +53,9 @@ BYTES I 00 11|ScriptRefused refused: c line 1: WrongCount;
 OPEN I;TIME 5|ScriptRefused refused: c line 2: WrongCount;
 STOP now|ScriptRefused refused: c line 1: WrongCount;
 WRITE I|ScriptRefused refused: c line 1: WrongCount;
-TRY|ScriptRefused refused: c line 1: WrongCount;
-TRY OPEN I|ScriptRefused refused: c line 1: WrongCount;
-TRY TLM raw T P I|ScriptRefused refused: c line 1: WrongCount;
-TRY TLM RAW T P|ScriptRefused refused: c line 1: WrongCount;
-TRY SET A B|ScriptRefused refused: c line 1: WrongCount;
-TRY CMD T C|ScriptRefused refused: c line 1: WrongCount;
+CALL 0|ScriptRefused refused: c line 1: WrongCount;
+OPEN I;CALL 0 {\"id\": 1}|ScriptRefused refused: c line 2: WrongCount;
+CALL 0 '{}' '{}'|ScriptRefused refused: c line 1: WrongCount;
 OPEN I;;'|ScriptRefused refused: c line 3: WrongCount;
 OPEN K|ScriptRefused refused: c line 1: UnknownMaker;
 BYTES K 00|ScriptRefused refused: c line 1: UnknownMaker;
@@ -66,6 +64,8 @@ DRAIN I 1|ScriptRefused refused: c line 1: UnknownMaker;
 OPEN I;TIME 0 4294967296|ScriptRefused refused: c line 2: NotNumber;
 TIME -1 0|ScriptRefused refused: c line 1: NotNumber;
 CALL x y|ScriptRefused refused: c line 1: NotNumber;
+CALL DESK/0 '{}'|ScriptRefused refused: c line 1: NotNumber;
+CALL 4294967296 '{}'|ScriptRefused refused: c line 1: NotNumber;
 BYTES I 0|ScriptRefused refused: c line 1: BadHex;
 OPEN I;OPEN I;BYTES I 0g|ScriptRefused refused: c line 3: BadHex;
 OPEN I;BYTES I ''|ScriptRefused refused: c line 2: PieceSize;
@@ -80,16 +80,14 @@ fn each_cause_of_a_line_refuses_the_script(rt: HostRuntime) -> Result<(), Fail> 
 // Lines of which nothing is done yet. A script is refused for its grammar before that is looked at, and where a line is not
 // done yet, none is.
 const UNDONE: &str = "\
-CALL 0 '{}'|NotBuilt not built: c;
 DRAIN LOG 0|NotBuilt not built: c;
-STOP|NotBuilt not built: c;
-OPEN I;OPEN I;STOP|NotBuilt not built: c;
-TRY CMD 'T C';STOP|NotBuilt not built: c;
-STOP;OPEN K|ScriptRefused refused: c line 2: UnknownMaker;
-DRAIN LOG 0;WRITE I x;TRY CMD|ScriptRefused refused: c line 2: NotNumber;";
+OPEN I;OPEN I;DRAIN LOG 0|NotBuilt not built: c;
+CALL 0 '{}';DRAIN LOG 1|NotBuilt not built: c;
+DRAIN LOG 0;OPEN K|ScriptRefused refused: c line 2: UnknownMaker;
+DRAIN LOG 0;WRITE I x;CALL 0|ScriptRefused refused: c line 2: NotNumber;";
 
 #[test]
-fn lines_of_clients_logs_and_the_end_are_not_built(rt: HostRuntime) -> Result<(), Fail> {
+fn lines_of_logs_are_not_built(rt: HostRuntime) -> Result<(), Fail> {
     replays_end_so(&rt, TWO, UNDONE)
 }
 
@@ -103,6 +101,18 @@ OPEN I;WRITE I 1|ScriptRefused 0 0.000000 I OPENED;refused: c line 2: NotEnabled
 #[test]
 fn interfaces_write_what_waits_for_them(rt: HostRuntime) -> Result<(), Fail> {
     replays_end_so(&rt, TWO, WRITES)
+}
+
+// The server is stopped once; then nothing opens, and what is open goes on until it ends.
+const STOPS: &str = "\
+STOP|Ok 0 0.000000 SERVER STOP;END 1;
+TIME 3 4;stop;STOP|ScriptRefused 0 3.000004 SERVER STOP;refused: c line 3: NotEnabled;
+STOP;OPEN I|ScriptRefused 0 0.000000 SERVER STOP;refused: c line 2: NotEnabled;
+OPEN I;STOP;BYTES I 0002;CLOSE I STOP|Ok 0 0.000000 I OPENED;1 0.000000 SERVER STOP;2 0.000000 I PACKET UNKNOWN UNKNOWN 0002;3 0.000000 I CLOSED STOP held 0 0 0 0 skipped 0 empty 0 unposted 0 unsent 0;END 4;";
+
+#[test]
+fn the_server_is_stopped_once(rt: HostRuntime) -> Result<(), Fail> {
+    replays_end_so(&rt, TWO, STOPS)
 }
 
 // Why a connection ends. It ends by a Stop only behind one.
