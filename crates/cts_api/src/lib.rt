@@ -19,7 +19,10 @@ mod words;
 pub use changing::{choose_set, enable_limits, set_limits};
 pub use commands::request;
 pub use interfaces::{interface_names, interface_state};
-pub use laws::{answers_are_whole, commands_are_built, reply_is_one, rows_are_as_defined};
+pub use laws::{
+    answers_are_whole, commands_are_built, replies_are_legal, replies_are_of_their_desk,
+    reply_is_one, rows_are_as_defined,
+};
 pub use limits::{item_limits, limits_events, limits_set, out_of_limits};
 pub use method::{Method, method_named};
 pub use params::{ItemWords, LimitsWords, PacketWords};
