@@ -1,7 +1,10 @@
+pub mod Allowed
 pub mod Giving
+pub mod Leaving
 pub mod Making
 pub mod OfSite
 pub mod OneReply
 pub mod Sent
+pub mod SomeReply
 pub mod TextLemmas
 pub mod WholeAnswers

@@ -2,7 +2,6 @@
 use Rattle.std.specs.Prelude.{◌≡◌, ℕ, ℤ, pos, neg_ℤ, Bool, false, ◌⊎◌, List, [], ◌∷◌, map, Option, Some, None, option_map, codes, if◌then◌else◌}
 use Rattle.std.specs.List.{filter_map}
 use Rattle.std.specs.Str.Lossy.{utf8_lossy}
-use Rattle.cts_cmd.specs.Checks.{item_named}
 use Rattle.cts_cmd.specs.Texts.{IsCommandText}
 use Rattle.cts_cmd.specs.declared.request.Given.{Given}
 use Rattle.cts_cmd.specs.declared.request.Request.{Request}
@@ -18,7 +17,7 @@ use Rattle.serde_json.specs.Data.{Data, null}
 use Rattle.serde_json.specs.Written.{compact_text, has_float}
 use Rattle.cts_api.specs.Answers.{Posting, posts_nothing, posts, posts_command, posts_injected, Done, answer}
 use Rattle.cts_api.specs.Asking.{Said, refused, gives, Order, in_text, in_parts, Asking, asks_value, asks_packet, asks_received, asks_sent, sends, asks_limits, sets_limits, enables, asks_set, chooses_set, asks_out_of_limits, asks_events, asks_interfaces, asks_interface, injects, stops}
-use Rattle.cts_cmd.specs.Injects.{stood}
+use Rattle.cts_cmd.specs.Injects.{stood, with_item}
 use Rattle.cts_api.specs.Kinds.{listed, members_given}
 use Rattle.cts_api.specs.Made.{built, injected}
 use Rattle.cts_api.specs.Methods.{params_of, method_named}
@@ -59,10 +58,6 @@ abbrev pub history_full : Option Data → Reply
 history_full id = refusal_to id (neg_ℤ (pos 32003)) (codes "History full")
 
 -- ---- what is appended
-
--- the item that a member names; checks have found each of them
-abbrev pub with_item : List ItemData → List ℕ × Given → Option (ItemData × Given)
-with_item items m = option_map (λ (i : ItemData). (i, m.1)) (item_named items m.0)
 
 -- what is appended
 abbrev pub posted : Point → Posting → List What

@@ -13,7 +13,7 @@ use crate::naming::packet_at;
 use crate::params::PacketWords;
 use crate::refusal::Refusal;
 use crate::sending::{Done, nothing};
-use cts_cmd::{Refused, refusal_text};
+use cts_cmd::{Refused, inject as injected, refusal_text};
 use cts_entry::What;
 use cts_table::Hall;
 use serde_json::{Map, Value};
@@ -49,6 +49,14 @@ pub(crate) fn inject(
 {
     let (number, packet) = packet_at(hall.site().definitions.telemetry.as_slice(), names)?;
     let given = members_given(alloc, members)?;
-    let _ = (given, number, packet);
-    Err(Refusal::Memory)
+    match injected(alloc, packet, hall.current(number as u32), given.as_slice()) {
+        Ok(bytes) => Ok(Done {
+            result: nothing(),
+            what: Some(What::Injected {
+                packet: number as u32,
+                bytes,
+            }),
+        }),
+        Err(why) => Err(refused(alloc, why)),
+    }
 }

@@ -21,6 +21,9 @@ mod shown;
 mod values;
 mod words;
 
-pub use laws::{answers_are_whole, bytes_are_made, reply_is_one, rows_are_as_defined};
+pub use laws::{
+    answers_are_whole, bytes_are_made, replies_are_legal, replies_are_of_their_desk, reply_is_one,
+    rows_are_as_defined,
+};
 pub use replying::{answer, reply};
 pub use settling::Answer;
