@@ -1,9 +1,11 @@
 pub mod Allowed
 pub mod Giving
+pub mod Injected
 pub mod Leaving
 pub mod Making
 pub mod OfSite
 pub mod OneReply
+pub mod Persisting
 pub mod Sent
 pub mod SomeReply
 pub mod TextLemmas

@@ -28,22 +28,25 @@ use std::alloc::Global;
 
 // A result, with nothing to append.
 fn told(said: Result<Value, Refusal>) -> Result<Done, Refusal>
-    ensures { (h : Point) (data : Said Data) → Tells view said data → IsDoneBy h (told data) result }
+    ensures { (h : Point) (found : Said Data) → Tells view said found → IsDoneBy h (told found) result }
 {
-    Ok(Done {
-        result: said?,
-        what: None,
-    })
+    match said {
+        Ok(result) => Ok(Done { result, what: None }),
+        Err(refusal) => Err(refusal),
+    }
 }
 
 // An entry to append, with the result null.
 fn appended(said: Result<What, Refusal>) -> Result<Done, Refusal>
     ensures { (h : Point) (what : Said Saying) → Tells (λ w. w) said what → IsDoneBy h (appended what) result }
 {
-    Ok(Done {
-        what: Some(said?),
-        result: nothing(),
-    })
+    match said {
+        Ok(what) => Ok(Done {
+            result: nothing(),
+            what: Some(what),
+        }),
+        Err(refusal) => Err(refusal),
+    }
 }
 
 fn limits_changed(

@@ -1,8 +1,10 @@
 //! What changes limits, and what stops the server: the entries that these append.
 
-ghost use Rattle.std.specs.Prelude.{option_map};
+ghost use Rattle.std.specs.Prelude.{IfOk, option_map};
+ghost use Rattle.cts_def.specs.Items.{HasSoundLimits};
 ghost use Rattle.cts_api.specs.Answers.{choose_answer, enable_answer, new_set, set_limits_answer};
 ghost use Rattle.cts_api.specs.Seen.{item_name, limits_asked};
+ghost use Rattle.cts_api.specs.Settling.{HasPersistence, IsPersistent};
 ghost use Rattle.cts_api.specs.Telling.{point, Tells};
 
 use crate::limits::known_set;
@@ -10,7 +12,7 @@ use crate::naming::item_at;
 use crate::params::{ItemWords, LimitsWords};
 use crate::refusal::Refusal;
 use cts_base::{Bytes, Name, NameFault};
-use cts_def::MOST_SETS;
+use cts_def::{Item, MOST_SETS};
 use cts_entry::What;
 use cts_table::Hall;
 use cts_watch::is_watched;
@@ -30,6 +32,13 @@ fn new_set(alloc: Global, name: Option<&[u8]>) -> Result<Name, Refusal>
     }
 }
 
+// What an item's definition says of its limits: a persistence of at least 1.
+fn has_sound_limits(item: &Item)
+    ensures { HasSoundLimits item.now item.now.limits }
+{
+    let _kind = item.kind;
+}
+
 /// The entry of new limits of an item.
 ///
 /// # Errors
@@ -43,9 +52,12 @@ pub(crate) fn set_limits(
     new: LimitsWords<'_>,
 ) -> Result<What, Refusal>
     ensures told { Tells (λ w. w) result (set_limits_answer (point hall.now) (item_name names.entry) (limits_asked new.entry)) }
+    ensures persistent { HasPersistence new.entry.persistence → IfOk result (λ w. IsPersistent w) }
 {
     let place = item_at(hall.site().definitions.telemetry.as_slice(), names)?;
     let (packet, item) = (place.packet as u32, place.item);
+    hall.is_kept();
+    has_sound_limits(place.it);
     let Some(now) = hall.limits_of(packet, item, hall.limits_set().as_slice()) else {
         return Err(Refusal::NoSuch(b"No limits"));
     };

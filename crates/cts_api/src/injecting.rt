@@ -1,5 +1,7 @@
 //! Values that are put in place of a device.
 
+ghost use Rattle.std.specs.Prelude.{◌≡◌, ℕ, List, option_map, Some};
+ghost use Rattle.cts_cmd.specs.Builds.{AreBytes};
 ghost use Rattle.serde_json.specs.View.{members_view};
 ghost use Rattle.cts_api.specs.Answers.{inject_answer};
 ghost use Rattle.cts_api.specs.Asking.{Said};
@@ -32,6 +34,15 @@ fn refused(alloc: Global, refused: Refused) -> Refusal
     }
 }
 
+// What stands are bytes.
+fn are_bytes(current: Option<&[u8]>)
+    ensures { (bytes : List ℕ) → option_map (λ t. t.now) current.entry ≡ Some bytes → AreBytes bytes }
+{
+    if let Some(bytes) = current {
+        let _len = bytes.len();
+    }
+}
+
 /// The entry that puts raw values in place of a device: the current bytes of the packet, or zeros of its length, with these fields
 /// written.
 ///
@@ -49,7 +60,9 @@ pub(crate) fn inject(
 {
     let (number, packet) = packet_at(hall.site().definitions.telemetry.as_slice(), names)?;
     let given = members_given(alloc, members)?;
-    match injected(alloc, packet, hall.current(number as u32), given.as_slice()) {
+    let current = hall.current(number as u32);
+    are_bytes(current);
+    match injected(alloc, packet, current, given.as_slice()) {
         Ok(bytes) => Ok(Done {
             result: nothing(),
             what: Some(What::Injected {

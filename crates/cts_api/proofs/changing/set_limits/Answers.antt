@@ -1,0 +1,15 @@
+use Rattle.std.proofs.Common.{ℕ, ◌≤◌, Some, rules, ◌≡◌, refl, subst, sym}
+use Rattle.std.specs.Prelude.{slice_get, unwrap_or}
+use Rattle.cts_def.specs.Packets.{PacketData}
+use Rattle.cts_api.proofs.Persisting.{limits_persist, new_persists}
+use Rattle.cts_api.proofs.changing.set_limits.Goals as goal
+
+pub returns-clause-persistent : goal.returns-clause-persistent
+returns-clause-persistent c asked =
+    let site = c.args.hall.now.basis.site in
+    let history = c.args.hall.now.entries in
+    let p : ℕ = c.in_ok-place.place.packet in
+    let there : slice_get site.definitions.telemetry p ≡ Some c.in_ok-place.place.of.now = search rules in
+    let some = limits_persist site history c.is_kept.ensures.kept.of_site p c.in_ok-place.place.item c.in_ok-place.place.of.now c.in_ok-place.place.it.now c.has_sound_limits.ensures _ c.in-Some.now there c.in_ok-place.ensures.item (sym c.in-Some.ensures.used) in
+    let is : c.unwrap_or.result ≡ unwrap_or c.args.new.persistence c.in-Some.now.persistence = search rules in
+    subst (λ (n : ℕ). 1 ≤ n) (sym is) (new_persists c.args.new.persistence c.in-Some.now.persistence asked some)
