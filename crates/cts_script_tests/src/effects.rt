@@ -34,9 +34,14 @@ fn replies_have_their_lines(rt: HostRuntime) -> Result<(), Fail> {
     let reply = Effect::Reply {
         desk: 0,
         front: 12,
-        text: Some(Bytes::copy(rt.alloc(), b"{\"id\":1}")?),
+        text: Some(Bytes::copy(rt.alloc(), b"{\"id\":1,\"result\":\"-3.5 C\"}")?),
     };
-    prints(&rt, rt.alloc(), &reply, "REPLY DESK/0 12 {\"id\":1}\n")
+    prints(
+        &rt,
+        rt.alloc(),
+        &reply,
+        "REPLY DESK/0 12 {\"id\":1,\"result\":\"-3.5 C\"}\n",
+    )
 }
 
 #[test]
@@ -53,15 +58,6 @@ fn what_says_nothing_has_its_line(rt: HostRuntime) -> Result<(), Fail> {
         &none,
         "REPLY DESK/3 18446744073709551615 -\n",
     )
-}
-
-#[test]
-fn trials_have_their_lines(rt: HostRuntime) -> Result<(), Fail> {
-    let effect = Effect::Tried {
-        front: 2,
-        text: Bytes::copy(rt.alloc(), b"-3.5 C")?,
-    };
-    prints(&rt, rt.alloc(), &effect, "TRIED 2 -3.5 C\n")
 }
 
 #[test]

@@ -8,5 +8,3 @@ mod effects;
 mod read;
 #[cfg(test)]
 mod scripts;
-#[cfg(test)]
-mod trials;

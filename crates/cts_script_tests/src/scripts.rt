@@ -25,15 +25,19 @@ const EVENTS: &str = "\
 1 finish 1 Stopped,|close INST_INT STOP
 1 write 1 0,2 write 0 18446744073709551615,|WRITE INST_INT 0;WRITE I 18446744073709551615
 1 call 3 [97, 32, 98],2 call 4294967295 [],|CALL 3 'a b';CALL 4294967295 ''
+1 call 0 [123, 34, 97, 34, 58, 32, 34, 35, 34, 125],|CALL 0 '{\"a\": \"#\"}'
+1 call 0 [123, 34, 97, 34, 58, 49, 125],2 call 1 [105, 116, 39, 115],|call 0 {\"a\":1};Call +0x1 \"it's\"
+1 call 0 [97, 38],|CALL &;0 & # joined;a&
 1 log 3,2 slot 17 0,|DRAIN LOG 3;DRAIN OUT/1 0
-1 stop,3 stop,|STOP;;stop # now
-1 try 5,2 try 2,3 try 2,|TRY TLM RAW T P I;try SET A;Try CMD 'T C with A 1'";
+1 stop,3 stop,|STOP;;stop # now";
 
 /// Each row has a line and its cause, a bar, and a script whose lines end with `;`.
 const CAUSES: &str = "\
 1 UnknownKeyword|CONNECT I
 1 UnknownKeyword|'' I
 2 UnknownKeyword|STOP;'STOP ' x
+1 UnknownKeyword|TRY
+2 UnknownKeyword|STOP;TRY TLM RAW T P I
 1 WrongCount|TIME 5
 1 WrongCount|TIME 5 6 7
 1 WrongCount|OPEN
@@ -41,18 +45,13 @@ const CAUSES: &str = "\
 1 WrongCount|BYTES I 00 11
 1 WrongCount|CLOSE I
 1 WrongCount|WRITE I
+1 WrongCount|CALL
+1 WrongCount|CALL 0
 1 WrongCount|CALL 0 a b
+1 WrongCount|CALL 0 {\"a\": 1}
+1 WrongCount|CALL 0 '{}''{}'
 1 WrongCount|DRAIN LOG
 1 WrongCount|STOP now
-1 WrongCount|TRY
-1 WrongCount|TRY TLM RAW T P
-1 WrongCount|TRY TLM RAW T P I x
-1 WrongCount|TRY TLM raw T P I
-1 WrongCount|TRY tlm RAW T P I
-1 WrongCount|TRY SET
-1 WrongCount|TRY SET A B
-1 WrongCount|TRY CMD T C
-1 WrongCount|TRY LIMITS T
 1 UnknownMaker|OPEN X
 1 UnknownMaker|OPEN OUT
 1 UnknownMaker|OPEN OUT/2
@@ -71,6 +70,8 @@ const CAUSES: &str = "\
 1 NotNumber|WRITE I 18446744073709551616
 1 NotNumber|WRITE I ''
 1 NotNumber|CALL 4294967296 x
+1 NotNumber|CALL -1 x
+1 NotNumber|CALL DESK/0 x
 1 NotNumber|DRAIN LOG -1
 1 NotNumber|DRAIN OUT/0 1.0
 1 BadHex|BYTES I 0
@@ -85,6 +86,7 @@ const ORDER: &str = "\
 1 UnknownKeyword|CONNECT
 1 WrongCount|OPEN X Y
 1 WrongCount|WRITE X x x
+1 WrongCount|CALL x
 1 UnknownMaker|WRITE X x
 1 UnknownMaker|DRAIN X x
 1 UnknownMaker|BYTES X 0
@@ -92,6 +94,7 @@ const ORDER: &str = "\
 1 UnknownMaker|CLOSE X x
 1 BadHex|BYTES I z
 2 UnknownMaker|OPEN I;OPEN X;CONNECT
+2 NotNumber|CALL 0 x;CALL x x;TRY
 3 UnknownWhy|OPEN I;BYTES I 00;CLOSE I x;CLOSE X x
 1 WrongCount|STOP 'now
 1 WrongCount|OPEN X 'now
@@ -117,7 +120,6 @@ fn shown(alloc: Global, event: &Event) -> Result<String, AllocError> {
         Event::DrainLog(count) => format!(in alloc; "log {count}"),
         Event::DrainSlot(slot, count) => numbers(alloc, "slot", *slot, *count),
         Event::Stop => format!(in alloc; "stop"),
-        Event::Try(words) => format!(in alloc; "try {}", words.len()),
     }
 }
 
