@@ -34,12 +34,19 @@ fn refused(alloc: Global, refused: Refused) -> Refusal
     }
 }
 
+// Each of these is a byte.
+fn are_bytes(bytes: &[u8])
+    ensures { AreBytes bytes.now }
+{
+    let _len = bytes.len();
+}
+
 // What stands are bytes.
-fn are_bytes(current: Option<&[u8]>)
+fn is_of_bytes(current: Option<&[u8]>)
     ensures { (bytes : List ℕ) → option_map (λ t. t.now) current.entry ≡ Some bytes → AreBytes bytes }
 {
     if let Some(bytes) = current {
-        let _len = bytes.len();
+        are_bytes(bytes);
     }
 }
 
@@ -61,7 +68,7 @@ pub(crate) fn inject(
     let (number, packet) = packet_at(hall.site().definitions.telemetry.as_slice(), names)?;
     let given = members_given(alloc, members)?;
     let current = hall.current(number as u32);
-    are_bytes(current);
+    is_of_bytes(current);
     match injected(alloc, packet, current, given.as_slice()) {
         Ok(bytes) => Ok(Done {
             result: nothing(),

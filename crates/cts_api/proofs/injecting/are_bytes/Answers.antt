@@ -1,0 +1,5 @@
+use Rattle.std.proofs.Common.{arith, ℕ}
+use Rattle.cts_api.proofs.injecting.are_bytes.Goals as goal
+
+pub returns : goal.returns
+returns c k = let small = c.type_inv.bytes k in omega (arith, small)
