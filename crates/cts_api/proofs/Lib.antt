@@ -1,12 +1,15 @@
 pub mod Allowed
+pub mod Asked
 pub mod Giving
 pub mod Injected
 pub mod Leaving
 pub mod Making
+pub mod MaySay
 pub mod OfSite
 pub mod OneReply
 pub mod Persisting
 pub mod Sent
+pub mod Settled
 pub mod SomeReply
 pub mod TextLemmas
 pub mod WholeAnswers

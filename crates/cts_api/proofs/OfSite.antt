@@ -152,7 +152,7 @@ module _ (b : Basis) (history : List Entry) (by : ℕ) (few : length (known_sets
 
   -- what is posted of what is given is said
   abbrev AllSaid : Posting → Type 0
-  AllSaid p = (what : What) → posted h p ≡ what ∷ [] → IsPersistent what → Says what
+  AllSaid p = (what : What) → posted h p ≡ what ∷ [] → Says what
 
   head_is : (w what : What) → w ∷ [] ≡ what ∷ [] → w ≡ what
   head_is w what e = ap first_of e where
@@ -161,22 +161,28 @@ module _ (b : Basis) (history : List Entry) (by : ℕ) (few : length (known_sets
     first_of (x ∷ xs) = x
 
   nothing_said : AllSaid posts_nothing
-  nothing_said what e lasts = absurd (cc e)
+  nothing_said what e = absurd (cc e)
 
   told_said : (said : Said Data) (d : Done) → told said ≡ gives d → AllSaid d.posting
   told_said said d e = subst AllSaid (sym (told_posts said d e)) nothing_said
 
-  appended_said : (said : Said What) (d : Done) → ((w : What) → said ≡ gives w → IsPersistent w → Says w) → appended said ≡ gives d → AllSaid d.posting
+  appended_said : (said : Said What) (d : Done) → ((w : What) → said ≡ gives w → Says w) → appended said ≡ gives d → AllSaid d.posting
   appended_said said d says e =
       let a = appended_posts said d e in
-      subst AllSaid (sym a.2) (λ what same lasts. subst Says (head_is a.0 what same) (says a.0 a.1 (subst IsPersistent (sym (head_is a.0 what same)) lasts)))
+      subst AllSaid (sym a.2) (λ what same. subst Says (head_is a.0 what same) (says a.0 a.1))
+
+  new_limits_said : (name : ItemName) (new : NewLimits) (d : Done) (what : What) → appended (set_limits_answer h name new) ≡ gives d → posted h d.posting ≡ what ∷ [] → IsPersistent what → Says what
+  new_limits_said name new d what e same lasts =
+      let a = appended_posts (set_limits_answer h name new) d e in
+      let is : a.0 ≡ what = head_is a.0 what (ap (posted h) (sym a.2) ∙ same) in
+      subst Says is (limits_said name new a.0 a.1 (subst IsPersistent (sym is) lasts))
 
   request_said : (k : Checks) (r : Request) (d : Done) → request_answer h k r ≡ gives d → AllSaid d.posting
   request_said k r d e =
       let c = next_gives (sound_request b.site k r) (λ (x : ℕ × PacketData). of_command x) d e in
       let i = next_gives (routed b.site (h.route c.0.0)) (λ (n : ℕ). of_route c.0 n) d c.2 in
       let p : posts_command i.0 r ≡ d.posting = ap (λ (x : Done). x.posting) (given _ d i.2) in
-      subst AllSaid p (λ what same lasts. subst Says (head_is (Command i.0 (built b.site.definitions r).command (built b.site.definitions r).bytes) what same) (command_there k r c.0 c.1))
+      subst AllSaid p (λ what same. subst Says (head_is (Command i.0 (built b.site.definitions r).command (built b.site.definitions r).bytes) what same) (command_there k r c.0 c.1))
     where
       of_route : ℕ × PacketData → ℕ → Said Done
       of_route x n = gives (record { result = command_row x.1 r; posting = posts_command n r })
@@ -217,26 +223,31 @@ module _ (b : Basis) (history : List Entry) (by : ℕ) (few : length (known_sets
       by_refusal x within (Some why) given_it = absurd (injection_refused why d given_it)
       by_refusal x within None given_it =
           let is : posts_injected x.0 x.1 members ≡ d.posting = ap (λ (y : Done). y.posting) (given (done x) d given_it) in
-          subst AllSaid is (λ what same lasts. subst Says (head_is _ what same) within)
+          subst AllSaid is (λ what same. subst Says (head_is _ what same) within)
 
   stop_said : (stopped : Bool) (d : Done) → (if stopped then told (gives null) else appended (gives Stop)) ≡ gives d → AllSaid d.posting
   stop_said true d e = told_said (gives null) d e
-  stop_said false d e = appended_said (gives Stop) d (λ w is lasts. subst Says (given Stop w is) tt) e
+  stop_said false d e = appended_said (gives Stop) d (λ w is. subst Says (given Stop w is) tt) e
 
-  pub all_said : (r : Option Request) (a : Asking) (d : Done) → answer h r a ≡ gives d → AllSaid d.posting
-  all_said r (asks_value kind name) d e = told_said (value_answer h kind name) d e
-  all_said r (asks_packet p kind) d e = told_said (packet_answer h p kind) d e
-  all_said r (asks_received p) d e = told_said (received_answer h p) d e
-  all_said r (asks_sent p) d e = told_said (sent_answer h p) d e
-  all_said r (sends k order) d e = command_said k r d e
-  all_said r (asks_limits name set) d e = told_said (limits_answer h name set) d e
-  all_said r (sets_limits name new) d e = appended_said (set_limits_answer h name new) d (limits_said name new) e
-  all_said r (enables on name) d e = appended_said (enable_answer h on name) d (λ w is lasts. enabling_said on name w is) e
-  all_said r asks_set d e = told_said (limits_set_answer h) d e
-  all_said r (chooses_set name) d e = appended_said (choose_answer h name) d (λ w is lasts. choice_said name w is) e
-  all_said r asks_out_of_limits d e = told_said (out_of_limits_answer h) d e
-  all_said r (asks_events from) d e = told_said (events_answer h from) d e
-  all_said r asks_interfaces d e = told_said (interfaces_answer h) d e
-  all_said r (asks_interface name) d e = told_said (interface_answer h name) d e
-  all_said r (injects name members) d e = injected_said name (members_given members) d e
-  all_said r stops d e = stop_said h.stopped d e
+  -- new limits have to persist, and all else is said as it is
+  abbrev pub Lasts : Asking → What → Type 0
+  Lasts (sets_limits name new) what = IsPersistent what
+  Lasts _ what = Unit {0}
+
+  pub all_said : (r : Option Request) (a : Asking) (d : Done) (what : What) → answer h r a ≡ gives d → posted h d.posting ≡ what ∷ [] → Lasts a what → Says what
+  all_said r (asks_value kind name) d what e same lasts = told_said (value_answer h kind name) d e what same
+  all_said r (asks_packet p kind) d what e same lasts = told_said (packet_answer h p kind) d e what same
+  all_said r (asks_received p) d what e same lasts = told_said (received_answer h p) d e what same
+  all_said r (asks_sent p) d what e same lasts = told_said (sent_answer h p) d e what same
+  all_said r (sends k order) d what e same lasts = command_said k r d e what same
+  all_said r (asks_limits name set) d what e same lasts = told_said (limits_answer h name set) d e what same
+  all_said r (sets_limits name new) d what e same lasts = new_limits_said name new d what e same lasts
+  all_said r (enables on name) d what e same lasts = appended_said (enable_answer h on name) d (λ w is. enabling_said on name w is) e what same
+  all_said r asks_set d what e same lasts = told_said (limits_set_answer h) d e what same
+  all_said r (chooses_set name) d what e same lasts = appended_said (choose_answer h name) d (λ w is. choice_said name w is) e what same
+  all_said r asks_out_of_limits d what e same lasts = told_said (out_of_limits_answer h) d e what same
+  all_said r (asks_events from) d what e same lasts = told_said (events_answer h from) d e what same
+  all_said r asks_interfaces d what e same lasts = told_said (interfaces_answer h) d e what same
+  all_said r (asks_interface name) d what e same lasts = told_said (interface_answer h name) d e what same
+  all_said r (injects name members) d what e same lasts = injected_said name (members_given members) d e what same
+  all_said r stops d what e same lasts = stop_said h.stopped d e what same

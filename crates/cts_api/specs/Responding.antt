@@ -22,3 +22,10 @@ RefusesWith id (why.NoSuch message) text = text ≡ respond id (error (code_numb
 RefusesWith id (why.NotDone message) text = text ≡ respond id (error (code_number NotDone) message)
 RefusesWith id why.BadParams text = text ≡ respond id (error (code_number InvalidParams) (codes "Invalid params"))
 RefusesWith id why.Memory text = ⊥
+
+-- want of memory is told nobody
+abbrev pub IsTold : Refusal → Type 0
+IsTold (why.NoSuch message) = Unit {0}
+IsTold (why.NotDone message) = Unit {0}
+IsTold why.BadParams = Unit {0}
+IsTold why.Memory = ⊥

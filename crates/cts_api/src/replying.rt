@@ -1,6 +1,7 @@
 //! Replies: what a desk answers to a body, and what it appends.
 
-ghost use Rattle.std.specs.Prelude.{◌≡◌, false};
+ghost use Rattle.std.specs.Prelude.{◌≡◌, ◌≤◌, false, length, true};
+ghost use Rattle.cts_def.specs.Most.{most_sets};
 ghost use Rattle.cts_entry.specs.Legal.{has_ended};
 ghost use Rattle.cts_entry.specs.Workers.{is_desk};
 ghost use Rattle.cts_api.specs.Replied.{Answered, Replied};
@@ -11,7 +12,7 @@ use crate::reading::read_asking;
 use crate::response::{Code, error_to, refusal_to};
 use crate::settling::{Answer, settle};
 use cts_base::{Bytes, Memory};
-use cts_def::Time;
+use cts_def::{Site, Time};
 use cts_rpc::{Call, RpcFault, read};
 use cts_table::Hall;
 use serde_json::Value;
@@ -23,6 +24,13 @@ fn silent(text: Option<Bytes>) -> Answer
     ensures none { result.appended ≡ 0 }
 {
     Answer { text, appended: 0 }
+}
+
+// A site's definitions name no more limits sets than a server holds.
+fn has_few_sets(site: &Site)
+    ensures { length site.now.definitions.set_names ≤ most_sets }
+{
+    let _packets = site.definitions.telemetry.as_slice();
 }
 
 /// The reply of a desk to a call: the text of its response, and its entry behind the history. All checks come first, then whether
@@ -49,6 +57,8 @@ pub fn answer(
     let Some(asking) = read_asking(method, call.params.as_slice()) else {
         return Ok(silent(error_to(alloc, id, Code::InvalidParams, b"Invalid params")?));
     };
+    hall.is_kept();
+    has_few_sets(hall.site());
     match asked(alloc, hall, asking) {
         Ok(done) => settle(alloc, hall, by, time, id, done),
         Err(refusal) => Ok(silent(refusal_to(alloc, id, refusal)?)),

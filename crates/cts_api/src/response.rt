@@ -6,7 +6,7 @@ ghost use Rattle.cts_rpc.specs.Requests.{has_fraction};
 ghost use Rattle.serde_json.specs.View.{view};
 ghost use Rattle.serde_json.specs.Written.{has_float};
 ghost use Rattle.cts_api.specs.Replies.{error, respond};
-ghost use Rattle.cts_api.specs.Responding.{code_number, RefusesWith};
+ghost use Rattle.cts_api.specs.Responding.{code_number, IsTold, RefusesWith};
 
 use crate::refusal::Refusal;
 use cts_base::{Bytes, Memory};
@@ -85,7 +85,8 @@ pub(crate) fn refusal_to(
     id: Option<&Value>,
     refusal: Refusal,
 ) -> Result<Option<Bytes>, Memory>
-    ensures { has_fraction (option_map (λ i. view i.now) id.entry) ≡ false → IfOk result (λ t. RefusesWith (option_map (λ i. view i.now) id.entry) refusal t) }
+    ensures told { IfOk result (λ t. IsTold refusal) }
+    ensures text { has_fraction (option_map (λ i. view i.now) id.entry) ≡ false → IfOk result (λ t. RefusesWith (option_map (λ i. view i.now) id.entry) refusal t) }
 {
     match refusal {
         Refusal::NoSuch(message) => error_to(alloc, id, Code::NoSuch, message),
