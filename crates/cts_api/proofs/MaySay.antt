@@ -117,7 +117,7 @@ module _ (s : Shown) (by : ℕ) (time : Time) (a : Asking) (d : code.Done) (kept
   lasting (asks_events from) what good keeps is = tt
   lasting asks_interfaces what good keeps is = tt
   lasting (asks_interface name) what good keeps is = tt
-  lasting (injects name members) what good keeps is = tt
+  lasting (injects name _) what good keeps is = tt
   lasting stops what good keeps is = tt
 
   said : (what : Option What) → d.what ≡ what → CanSayIt s by time what

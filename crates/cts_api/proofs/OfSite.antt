@@ -194,7 +194,7 @@ module _ (b : Basis) (history : List Entry) (by : ℕ) (few : length (known_sets
   command_said k None d e = absurd (cc e)
   command_said k (Some r) d e = request_said k r d e
 
-  injection_refused : {A : Type 0} (why : Refused) (a : A) → injection_said {A} why ≡ gives a → ⊥
+  injection_refused : {A : Type 0} (why : Refused) (a : A) → injection_said {A = A} why ≡ gives a → ⊥
   injection_refused UnknownTarget a e = cc e
   injection_refused UnknownCommand a e = cc e
   injection_refused (UnknownParameter name) a e = cc e

@@ -1,6 +1,6 @@
 -- What is answered and settled is the reply.
-use Rattle.std.proofs.Common.{◌≡◌, ℕ, ◌≤◌, true, false, Bool, List, [], ◌∷◌, ◌++◌, length, map, Option, Some, None, Result, Ok, Err, refl, sym, ◌∙◌, ap, subst, arith, append-nil, codes}
-use Rattle.std.specs.Prelude.{IfSome, option_map, option_and_then, nat_le, ◌&&◌, if◌then◌else◌}
+use Rattle.std.proofs.Common.{◌≡◌, ℕ, ℤ, ◌≤◌, true, false, Bool, List, [], ◌∷◌, ◌++◌, length, map, Option, Some, None, Result, Ok, Err, refl, sym, ◌∙◌, ap, subst, arith, append-nil, codes}
+use Rattle.std.specs.Prelude.{IfOk, option_map, option_and_then, nat_le, ◌&&◌, if◌then◌else◌}
 use Rattle.std.proofs.lemmas.Bool.Decides.{nat_tests}
 use Rattle.cts_base.specs.declared.memory.Memory.{Memory}
 use Rattle.cts_cmd.specs.declared.request.Request.{Request}
@@ -10,7 +10,7 @@ use Rattle.cts_def.specs.declared.time.Time.{Time}
 use Rattle.cts_entry.specs.Legal.{has_ended}
 use Rattle.cts_entry.specs.Workers.{is_desk}
 use Rattle.cts_entry.specs.declared.what.What.{What}
-use Rattle.cts_rpc.specs.Requests.{has_fraction}
+use Rattle.cts_rpc.specs.Requests.{IsOutcome, Outcome, calls, has_fraction}
 use Rattle.cts_rpc.specs.declared.call.Call.{Call}
 use Rattle.cts_table.specs.Keeping.{IsKept, IsOfSite}
 use Rattle.cts_table.specs.States.{Shown}
@@ -27,8 +27,8 @@ use Rattle.cts_api.specs.Asking.{Asking, Said, refused}
 use Rattle.cts_api.specs.Kinds.{listed}
 use Rattle.cts_api.specs.Methods.{method_named, params_of}
 use Rattle.cts_api.specs.Points.{Point}
-use Rattle.cts_api.specs.Replied.{Answered, Appends, IsUnchanged}
-use Rattle.cts_api.specs.Replies.{HasRequest, IsReplyOf, IsReplyTo, Reply, invalid_params, made, not_found, posted, refusal_to, reply_with, said_to}
+use Rattle.cts_api.specs.Replied.{Answered, Appends, Replied}
+use Rattle.cts_api.specs.Replies.{HasRequest, IsReplyFor, IsReplyOf, IsReplyTo, Reply, invalid_params, made, not_found, posted, refusal_to, reply_with, said_to}
 use Rattle.cts_api.specs.Responding.{IsTold, RefusesWith}
 use Rattle.cts_api.specs.Settling.{CanSayIt, HasAnswered, IsSoundAsking, LimitsPersist, Settled}
 use Rattle.cts_api.specs.Telling.{listed as whats_of, point}
@@ -54,9 +54,11 @@ module _ (h : Point) (by : ℕ) (time : Time) (id : Option Data) (ds : List Data
   bad_params_of m is asks =
       subst (λ (y : Option Method). IsReplyOf h by time id ds y (invalid_params id)) (sym is) (subst (λ (y : Option Asking). IsReplyTo h by time id y (invalid_params id)) (sym asks) refl)
 
--- nothing is appended
-pub appends_none : (s : Shown) (text : Option (List ℕ)) → Appends s (record { text = text; entries = [] }) 0 s
-appends_none s text = record { count = refl; entries = sym (append-nil s.entries); basis = refl }
+-- a refusal appends nothing
+pub refused_so : (s : Shown) (by : ℕ) (time : Time) (c : Call) (n : ℤ) (message : List ℕ) (x : Result reply.Answer Memory) → let id = option_map view c.id in IsReplyOf (point s) by time id (listed (items_view c.params)) (method_named c.method) (refusal_to id n message)
+    → IfOk x (λ a. a.appended ≡ 0) → (has_fraction id ≡ false → IfOk x (λ a. a.text ≡ (refusal_to id n message).text)) → Answered s by time c x s
+refused_so s by time c n message (Err e) is none told = (refl, refl)
+refused_so s by time c n message (Ok x) is none told = (refusal_to (option_map view c.id) n message, is, record { count = none; entries = sym (append-nil s.entries); basis = refl }, told)
 
 module _ (s : Shown) (by : ℕ) (time : Time) (c : Call) (m : Method) (a : Asking) (named : method_named c.method ≡ Some m) (asks : params_of m (map view c.params) ≡ Some a) where
   abbrev h : Point
@@ -88,15 +90,27 @@ module _ (s : Shown) (by : ℕ) (time : Time) (c : Call) (m : Method) (a : Askin
       ap (λ (v : Data). reply_with h id v (map (made by time) (whats_of d.what))) has.2.2 ∙ ap (λ (whats : List What). reply_with h id done.result (map (made by time) whats)) (sym has.2.3) in
       (reply_with h id (view d.result) (map (made by time) (whats_of d.what)), of_call r _ (has.1, same ∙ said), t.1, t.0)
 
-  refused_of : (r : Option Request) (n : _) (message : List ℕ) (text : Option (List ℕ)) → HasRequest a r → answer h r a ≡ refused n message → (has_fraction id ≡ false → text ≡ (refusal_to id n message).text)
-      → Answered s by time c (Ok (record { text = text; appended = 0 })) s
-  refused_of r n message text has is told = (refusal_to id n message, of_call r _ (has, ap (said_to h by time id) (sym is)), appends_none s (refusal_to id n message).text, told)
+  refused_of : (r : Option Request) (n : ℤ) (message : List ℕ) (x : Result reply.Answer Memory) → HasRequest a r → answer h r a ≡ refused n message → IfOk x (λ y. y.appended ≡ 0) → (has_fraction id ≡ false → IfOk x (λ y. y.text ≡ (refusal_to id n message).text)) → Answered s by time c x s
+  refused_of r n message x has is none told = refused_so s by time c n message x (of_call r _ (has, ap (said_to h by time id) (sym is))) none told
 
-  pub refused_call : (e : Refusal) (text : Option (List ℕ)) → HasAnswered h a (Err e) → IsTold e → (has_fraction id ≡ false → RefusesWith id e text) → Answered s by time c (Ok (record { text = text; appended = 0 })) s
-  refused_call (NoSuch message) text has is told = refused_of has.0 _ message.now text has.1 has.2 told
-  refused_call (NotDone message) text has is told = refused_of has.0 _ message text has.1 has.2 told
-  refused_call BadParams text has is told = refused_of has.0 _ (codes "Invalid params") text has.1 has.2 told
-  refused_call NoMemory text has is told = absurd is
+  pub refused_call : (e : Refusal) (x : Result reply.Answer Memory) → HasAnswered h a (Err e) → IfOk x (λ y. IsTold e) → IfOk x (λ y. y.appended ≡ 0) → (has_fraction id ≡ false → IfOk x (λ y. RefusesWith id e y.text)) → Answered s by time c x s
+  refused_call (NoSuch message) x has is none told = refused_of has.0 _ message.now x has.1 has.2 none told
+  refused_call (NotDone message) x has is none told = refused_of has.0 _ message x has.1 has.2 none told
+  refused_call BadParams x has is none told = refused_of has.0 _ (codes "Invalid params") x has.1 has.2 none told
+  refused_call NoMemory (Ok x) has is none told = absurd is
+  refused_call NoMemory (Err e) has is none told = (refl, refl)
 
   pub whole : (d : code.Done) → HasAnswered h a (Ok d) → has_float (view d.result) ≡ false
   whole d has = ap has_float has.2.2 ∙ answers_whole h has.0 a has.2.0 has.2.1
+
+-- ---- the reply to a body
+
+pub replied_call : (s new : Shown) (by : ℕ) (time : Time) (body : List ℕ) (c : Call) (result : Result reply.Answer Memory) → IsOutcome body (calls c.method (items_view c.params) (option_map view c.id)) → has_fraction (option_map view c.id) ≡ false
+    → Answered s by time c result new → Replied s by time body result new
+replied_call s new by time body c (Ok x) out fine (r, is, appends, text) = (r, (calls c.method (items_view c.params) (option_map view c.id), out, is), (text fine, appends))
+replied_call s new by time body c (Err e) out fine unchanged = unchanged
+
+pub replied_refusal : (s : Shown) (by : ℕ) (time : Time) (body : List ℕ) (o : Outcome) (to : Option Data) (n : ℤ) (message : List ℕ) (x : Result reply.Answer Memory) → IsOutcome body o → IsReplyFor (point s) by time o (refusal_to to n message)
+    → IfOk x (λ a. a.appended ≡ 0) → IfOk x (λ a. a.text ≡ (refusal_to to n message).text) → Replied s by time body x s
+replied_refusal s by time body o to n message (Err e) out is none text = (refl, refl)
+replied_refusal s by time body o to n message (Ok x) out is none text = (refusal_to to n message, (o, out, is), (text, record { count = none; entries = sym (append-nil s.entries); basis = refl }))

@@ -1,29 +1,55 @@
 //! Replies: what a desk answers to a body, and what it appends.
 
-ghost use Rattle.std.specs.Prelude.{◌≡◌, ◌≤◌, false, length, true};
+ghost use Rattle.std.specs.Prelude.{◌≡◌, ◌≤◌, false, IfOk, length, option_map, true};
+ghost use Rattle.cts_rpc.specs.Requests.{has_fraction};
+ghost use Rattle.serde_json.specs.View.{view};
 ghost use Rattle.cts_def.specs.Most.{most_sets};
 ghost use Rattle.cts_entry.specs.Legal.{has_ended};
 ghost use Rattle.cts_entry.specs.Workers.{is_desk};
 ghost use Rattle.cts_api.specs.Replied.{Answered, Replied};
+ghost use Rattle.cts_api.specs.Replies.{error, respond};
+ghost use Rattle.cts_api.specs.Responding.{code_number, IsTold, RefusesWith};
 
 use crate::answering::asked;
 use crate::method::method_named;
 use crate::reading::read_asking;
 use crate::response::{Code, error_to, refusal_to};
+use crate::refusal::Refusal;
+use crate::sending::nothing;
 use crate::settling::{Answer, settle};
-use cts_base::{Bytes, Memory};
+use cts_base::Memory;
 use cts_def::{Site, Time};
-use cts_rpc::{Call, RpcFault, read};
+use cts_rpc::{Call, RpcFault, calls_are_whole, read};
 use cts_table::Hall;
 use serde_json::Value;
 use std::alloc::Global;
 
-// A response that appends nothing.
-fn silent(text: Option<Bytes>) -> Answer
-    ensures text { result.text ≡ text }
-    ensures none { result.appended ≡ 0 }
+// A response with an error, which appends nothing.
+fn refused(
+    alloc: Global,
+    id: Option<&Value>,
+    code: Code,
+    message: &[u8],
+) -> Result<Answer, Memory>
+    ensures none { IfOk result (λ a. a.appended ≡ 0) }
+    ensures text { has_fraction (option_map (λ i. view i.now) id.entry) ≡ false → IfOk result (λ a. a.text ≡ respond (option_map (λ i. view i.now) id.entry) (error (code_number code) message.now)) }
 {
-    Answer { text, appended: 0 }
+    Ok(Answer {
+        text: error_to(alloc, id, code, message)?,
+        appended: 0,
+    })
+}
+
+// A response to a call that is refused, which appends nothing.
+fn refusal_told(alloc: Global, id: Option<&Value>, refusal: Refusal) -> Result<Answer, Memory>
+    ensures none { IfOk result (λ a. a.appended ≡ 0) }
+    ensures told { IfOk result (λ a. IsTold refusal) }
+    ensures text { has_fraction (option_map (λ i. view i.now) id.entry) ≡ false → IfOk result (λ a. RefusesWith (option_map (λ i. view i.now) id.entry) refusal a.text) }
+{
+    Ok(Answer {
+        text: refusal_to(alloc, id, refusal)?,
+        appended: 0,
+    })
 }
 
 // A site's definitions name no more limits sets than a server holds.
@@ -52,16 +78,16 @@ pub fn answer(
 {
     let id = call.id.as_ref();
     let Some(method) = method_named(call.method.as_slice()) else {
-        return Ok(silent(error_to(alloc, id, Code::MethodNotFound, b"Method not found")?));
+        return refused(alloc, id, Code::MethodNotFound, b"Method not found");
     };
     let Some(asking) = read_asking(method, call.params.as_slice()) else {
-        return Ok(silent(error_to(alloc, id, Code::InvalidParams, b"Invalid params")?));
+        return refused(alloc, id, Code::InvalidParams, b"Invalid params");
     };
     hall.is_kept();
     has_few_sets(hall.site());
     match asked(alloc, hall, asking) {
         Ok(done) => settle(alloc, hall, by, time, id, done),
-        Err(refusal) => Ok(silent(refusal_to(alloc, id, refusal)?)),
+        Err(refusal) => refusal_told(alloc, id, refusal),
     }
 }
 
@@ -83,19 +109,17 @@ pub fn reply(
     requires active { has_ended by hall.old.entries ≡ false }
     ensures replied { Replied hall.old by time body.now result hall.new }
 {
+    calls_are_whole();
     match read(alloc, body) {
         Ok(call) => answer(alloc, hall, by, time, &call),
         Err(RpcFault::ParseError) => {
-            let text = error_to(alloc, Some(&Value::Null), Code::ParseError, b"Parse error")?;
-            Ok(silent(text))
+            refused(alloc, Some(&nothing()), Code::ParseError, b"Parse error")
         }
         Err(RpcFault::InvalidRequest) => {
-            let text = error_to(alloc, Some(&Value::Null), Code::InvalidRequest, b"Invalid Request")?;
-            Ok(silent(text))
+            refused(alloc, Some(&nothing()), Code::InvalidRequest, b"Invalid Request")
         }
         Err(RpcFault::InvalidParams { id }) => {
-            let text = error_to(alloc, id.as_ref(), Code::InvalidParams, b"Invalid params")?;
-            Ok(silent(text))
+            refused(alloc, id.as_ref(), Code::InvalidParams, b"Invalid params")
         }
         Err(RpcFault::Memory) => Err(Memory),
     }
