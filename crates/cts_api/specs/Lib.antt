@@ -10,3 +10,4 @@ pub mod Legal
 pub mod Rows
 pub mod Seen
 pub mod Telling
+pub mod Replied

@@ -1,0 +1,28 @@
+-- What the calls that reply leave: the text, the entries that stand behind the history, and how many these are.
+use Rattle.std.specs.Prelude.{◌≡◌, ℕ, List, ◌++◌, length, Result, Ok, Err}
+use Rattle.cts_base.specs.declared.memory.Memory.{Memory}
+use Rattle.cts_def.specs.declared.time.Time.{Time}
+use Rattle.cts_table.specs.States.{Shown}
+use Rattle.cts_api.specs.declared.replying.Answer as code
+use Rattle.cts_api.specs.Replies.{Reply, IsReply}
+use Rattle.cts_api.specs.Telling.{point}
+
+-- Only the entries of the reply stand behind those that were there.
+pub record Appends (old : Shown) (r : Reply) (appended : ℕ) (new : Shown) : Type 0 where
+  pub count : appended ≡ length r.entries
+  pub entries : new.entries ≡ old.entries ++ r.entries
+  pub basis : new.basis ≡ old.basis
+
+-- nothing was appended
+abbrev pub IsUnchanged : Shown → Shown → Type 0
+IsUnchanged old new = (new.entries ≡ old.entries) × (new.basis ≡ old.basis)
+
+-- The answer is the reply. Where no memory was found the entries are as they were.
+abbrev pub Gives : Shown → Reply → Result code.Answer Memory → Shown → Type 0
+Gives old r (Ok a) new = (a.text ≡ r.text) × Appends old r a.appended new
+Gives old r (Err e) new = IsUnchanged old new
+
+-- a body is answered
+abbrev pub Replied : Shown → ℕ → Time → List ℕ → Result code.Answer Memory → Shown → Type 0
+Replied old by time body (Ok a) new = (r : Reply) × IsReply (point old) by time body r × Gives old r (Ok a) new
+Replied old by time body (Err e) new = IsUnchanged old new
