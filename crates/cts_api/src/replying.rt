@@ -25,15 +25,15 @@ pub struct Answer {
 ///
 /// `Memory` where none was found; the entries are then as before.
 pub fn reply(
-    _alloc: Global,
-    _hall: &mut Hall,
-    _by: u32,
-    _time: Time,
-    _body: &[u8],
+    alloc: Global,
+    hall: &mut Hall,
+    by: u32,
+    time: Time,
+    body: &[u8],
 ) -> Result<Answer, Memory>
-    requires desk { is_desk _hall.old.basis.site _by ≡ true }
-    requires active { has_ended _by _hall.old.entries ≡ false }
-    ensures replied { Replied _hall.old _by _time _body.now result _hall.new }
+    requires desk { is_desk hall.old.basis.site by ≡ true }
+    requires active { has_ended by hall.old.entries ≡ false }
+    ensures replied { Replied hall.old by time body.now result hall.new }
 {
     Err(Memory)
 }

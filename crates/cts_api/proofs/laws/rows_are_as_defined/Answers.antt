@@ -60,7 +60,7 @@ returns c = record {
   stop = refl;
   stopped = refl;
   method_without_id = refl;
-  stop_without_id = (None, refl, (Stop ∷ [], refl, refl));
-  set_text = (None, refl, ([], refl, set_is_text));
+  stop_without_id = (None, refl, refl);
+  set_text = (None, refl, set_is_text);
   parse_error = sym (ap parse_error_with parse_error_is_text ∙ ap (λ t. record { text = Some (codes "{\"error\":{\"code\":" ++ t); entries = [] }) (append_assoc (signed_decimal (neg_ℤ (pos 32700))) (codes ",\"message\":\"Parse error\"}") (codes ",\"id\":null,\"jsonrpc\":\"2.0\"}")));
 }
