@@ -6,7 +6,6 @@ use Rattle.cts_entry.specs.declared.entry.Entry.{Entry}
 use Rattle.cts_entry.specs.declared.event.Event.{Event}
 use Rattle.cts_entry.specs.declared.event.Event.TheVariants.{SetTime, Opens, Piece, Finish, Write, Call, DrainLog, DrainSlot, Stop}
 use Rattle.cts_entry.specs.declared.why.Why.{Why}
-use Rattle.cts_api.specs.Replies.{Reply as Answer}
 use Rattle.cts_core.specs.States.{State, opening, is_enabled}
 use Rattle.cts_core.specs.Runs.{Did, Does, Receives, Closes, IsAnswered, silent, Appends, Refuses, Runs, Ending, Finished, NotEnabled, HistoryFull, after, effect_of}
 use Rattle.cts_core.specs.Environments.{Undefined, environment_with}
@@ -32,7 +31,7 @@ module _ (u v : Undefined) (site : SiteData) where
   enabled_same s (DrainSlot by count) b = absurd (cc b)
   enabled_same s Stop b = refl
 
-  answered : (s : State) (event : Event) (a : Answer) → is_built_event event ≡ true → IsAnswered (environment_with u site) s event a → IsAnswered (environment_with v site) s event a
+  answered : (s : State) (event : Event) (a : _) → is_built_event event ≡ true → IsAnswered (environment_with u site) s event a → IsAnswered (environment_with v site) s event a
   answered s (SetTime time) a b h = h
   answered s (Opens by) a b h = h
   answered s (Piece by piece) a b h = h
@@ -43,7 +42,7 @@ module _ (u v : Undefined) (site : SiteData) where
   answered s (DrainSlot by count) a b h = absurd (cc b)
   answered s Stop a b h = h
 
-  effect_same : (s : State) (event : Event) (a : Answer) → is_built_event event ≡ true → effect_of (environment_with u site) s event a ≡ effect_of (environment_with v site) s event a
+  effect_same : (s : State) (event : Event) (a : _) → is_built_event event ≡ true → effect_of (environment_with u site) s event a ≡ effect_of (environment_with v site) s event a
   effect_same s (SetTime time) a b = refl
   effect_same s (Opens by) a b = refl
   effect_same s (Piece by piece) a b = refl
@@ -54,7 +53,7 @@ module _ (u v : Undefined) (site : SiteData) where
   effect_same s (DrainSlot by count) a b = absurd (cc b)
   effect_same s Stop a b = refl
 
-  appends : (s : State) (event : Event) (a : Answer) (entries : List Entry) → is_built_event event ≡ true → Appends (environment_with u site) s event a entries → Appends (environment_with v site) s event a entries
+  appends : (s : State) (event : Event) (a : _) (entries : List Entry) → is_built_event event ≡ true → Appends (environment_with u site) s event a entries → Appends (environment_with v site) s event a entries
   appends s (SetTime time) a entries b h = h
   appends s (Opens by) a entries b h = h
   appends s (Piece by piece) a entries b h = receives s by piece entries h
