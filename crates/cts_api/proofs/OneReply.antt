@@ -29,7 +29,7 @@ text_unique text r s a b = ap in_ok (taken text (Ok r) s a b) where
   in_ok (Ok q) = q
   in_ok (Err e) = r
 
-requested_one : (o : Order) (a b : Option Request) → IsRequested o a → IsRequested o b → a ≡ b
+pub requested_one : (o : Order) (a b : Option Request) → IsRequested o a → IsRequested o b → a ≡ b
 requested_one (in_parts c _) a b x y = x ∙ sym y
 requested_one (in_text text) a b (inl (r, reads, x)) (inl (s, also, y)) = x ∙ (ap (λ (q : Request). Some q) (text_unique text r s reads also) ∙ sym y)
 requested_one (in_text text) a b (inl (r, reads, x)) (inr (none, y)) = absurd (none r reads)

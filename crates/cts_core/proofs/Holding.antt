@@ -5,7 +5,7 @@ use Rattle.std.proofs.lemmas.Bool.{cases_eq, ltb-true}
 use Rattle.std.proofs.lemmas.Bool.Decides.{nat_tests}
 use Rattle.std.proofs.lemmas.List.{length-set, get_or-set_same, get_or-set_other, length-map}
 use Rattle.std.proofs.lemmas.Option.{slice_get_within}
-use Rattle.cts_def.specs.Makers.{first_desk, server}
+use Rattle.cts_def.specs.Makers.{server}
 use Rattle.cts_def.specs.Packets.{PacketData, is_named}
 use Rattle.cts_def.specs.Sites.{SiteData}
 use Rattle.cts_def.specs.declared.ident.Ident.{Ident}
@@ -13,11 +13,11 @@ use Rattle.cts_def.specs.declared.ident.Ident.TheVariants.{Known, Unknown}
 use Rattle.cts_def.specs.declared.loss.Loss.{Loss}
 use Rattle.cts_def.specs.declared.time.Time.{Time}
 use Rattle.cts_entry.specs.declared.entry.Entry.{Entry}
-use Rattle.cts_entry.specs.declared.what.What.TheVariants.{Opened, Closed, LimitsSetIs, Stop}
+use Rattle.cts_entry.specs.declared.what.What.TheVariants.{Opened, Closed, Stop}
 use Rattle.cts_entry.specs.declared.why.Why.{Why}
 use Rattle.cts_entry.specs.Histories.{or_earlier, latest, connects, connects_maker, is_connected, is_stopped, entries_in, bytes_in}
 use Rattle.cts_entry.specs.Legal.{StopsAfter, AllAllowed, most_bytes as bytes_limit}
-use Rattle.cts_entry.specs.Workers.{is_desk, is_interface, is_slot, is_worker, is_maker}
+use Rattle.cts_entry.specs.Workers.{is_interface, is_slot, is_worker, is_maker}
 use Rattle.cts_chain.specs.Shapes.{ChainData}
 use Rattle.cts_frame.specs.Framing.{Heading, Output}
 use Rattle.cts_ident.specs.Identification.{first_of, fits, named}
@@ -31,8 +31,7 @@ use Rattle.cts_table.specs.States.{Shown, CanAdd}
 use Rattle.cts_core.specs.Built.{is_built_site}
 use Rattle.cts_core.specs.Environments.{site_environment, ident_by, ident_of}
 use Rattle.cts_core.specs.Kept.{CanAddAll, GivesRoom, is_within}
-use Rattle.cts_core.specs.States.{Environment, trial_desk}
-use Rattle.cts_core.specs.Trials.{chooses}
+use Rattle.cts_core.specs.States.{Environment}
 use Rattle.cts_chain.specs.Chains.{last_fault}
 use Rattle.cts_frame.specs.Packets.{capped}
 use Rattle.cts_core.specs.Takings.{AllIdle, CanPost, Posts, Takes, entries_of, lost}
@@ -44,7 +43,7 @@ use Rattle.cts_core.specs.declared.fault.WorldFault.{WorldFault}
 use Rattle.cts_core.specs.declared.fault.WorldFault.TheVariants.{NotEnabled, Full, Memory}
 use Rattle.cts_core.proofs.Building.{and_tells, below, ident_is}
 use Rattle.cts_core.proofs.Legality.{Lasting, lasting_append, none_ended, packets_follow}
-use Rattle.cts_core.proofs.Postings.{connected_kept, either_way, packets_count, packets_length, tells_maker, tells_no_other}
+use Rattle.cts_core.proofs.Postings.{connected_kept, packets_count, packets_length, tells_maker, tells_no_other}
 use Rattle.cts_entry.proofs.Appending.{connected-append}
 
 -- the connection at a place
@@ -313,27 +312,3 @@ can_post w mid by piece entries why test few is k = subst (λ (x : Held). CanPos
   fault = last_fault 1 k.0.chain.stages;
   why_is = k.3.why_is;
 })
-
--- ---- a limits set is chosen by desk 0
-
-pub desk_makes : (a b c d e : Bool) → c ≡ true → ((((a || b) || c) || d) || e) ≡ true
-desk_makes a b c d e h = grind arith
-
-pub can_choose : (s : Shown) (now : Time) (set : List ℕ) → 1 ≤ s.basis.site.desks → Lasting s.entries → 1 ≤ s.spare_entries → CanAdd s (record { by = first_desk + trial_desk; time = now; what = LimitsSetIs set })
-can_choose s now set desks last spare =
-    let desk : is_desk s.basis.site (first_desk + trial_desk) ≡ true = below 0 s.basis.site.desks (omega (arith, desks)) in
-    record {
-      allowed = record { active = none_ended (first_desk + trial_desk) s.entries last; says = desk };
-      of_site = record { maker = desk_makes (is_interface s.basis.site (first_desk + trial_desk)) (is_slot s.basis.site (first_desk + trial_desk)) (is_desk s.basis.site (first_desk + trial_desk)) false false desk; said = tt };
-      entry = spare;
-      bytes = omega arith;
-    }
-
-pub sound_chosen : (w : Held) (now : Time) (set : List ℕ) → IsSoundHeld w → IsSoundHeld (record w { history = w.history ++ record { by = first_desk + trial_desk; time = now; what = LimitsSetIs set } ∷ [] })
-sound_chosen w now set h = sound_more w (record { by = first_desk + trial_desk; time = now; what = LimitsSetIs set } ∷ []) h (λ k. either_way (first_desk + trial_desk == k) None) refl
-
--- what is appended opens and closes nothing
-pub chosen_quiet : (known fits : Bool) (now : Time) (name : List ℕ) (k : ℕ) → latest (connects_maker k) (chooses known fits now name).entries ≡ None
-chosen_quiet true true now name k = either_way (first_desk + trial_desk == k) None
-chosen_quiet true false now name k = refl
-chosen_quiet false fits now name k = refl

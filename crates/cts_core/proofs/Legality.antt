@@ -14,7 +14,7 @@ use Rattle.cts_entry.specs.declared.what.NotSent.TheVariants.{NotConnected as No
 use Rattle.cts_entry.specs.declared.why.Why.{Why}
 use Rattle.cts_entry.specs.declared.why.Why.TheVariants.{PeerEnded, ReadFault, WriteFault, BadFrame, Stopped, NoMemory, Full}
 use Rattle.cts_entry.specs.declared.event.Event.{Event}
-use Rattle.cts_entry.specs.declared.event.Event.TheVariants.{SetTime, Opens, Piece, Finish, Write, Call, DrainLog, DrainSlot, Stop, Try}
+use Rattle.cts_entry.specs.declared.event.Event.TheVariants.{SetTime, Opens, Piece, Finish, Write, Call, DrainLog, DrainSlot, Stop}
 use Rattle.cts_entry.specs.Histories.{latest, connects, connects_maker, is_connected, is_stopped, entries_in, bytes_in}
 use Rattle.cts_entry.proofs.Allowing.{allowed_append}
 use Rattle.cts_entry.proofs.Appending.{entries-append, bytes-append}
@@ -22,7 +22,7 @@ use Rattle.cts_entry.specs.Legal.{is_ended, has_ended, IsLine, IsOn, StopsAfter,
 use Rattle.cts_frame.specs.Framing.{Output}
 use Rattle.cts_frame.specs.Cuts.{Pieces}
 use Rattle.cts_frame.specs.Packets.{Fault, fault_of}
-use Rattle.cts_core.specs.States.{Environment, State, Request, Trial, trial_desk, opening, is_line, may_close, has_room, unsent}
+use Rattle.cts_core.specs.States.{Environment, State, opening, is_line, may_close, has_room, unsent}
 use Rattle.cts_core.specs.Runs.{Did, Does, Receives, Closes, after, closing, closed_entry, Ending, Runs}
 use Rattle.cts_core.specs.Told.{history_of}
 use Rattle.cts_core.specs.Laws.{rules_of, IsAnsweredLegally, CoreIsLegal}
@@ -173,7 +173,7 @@ event_leaves env s (Finish by why) did desks legal last d =
 event_leaves env s (Write by count) did desks legal last d = nothing_leaves env s.history did.entries legal d.appends
 event_leaves env s (Call desk body) did desks legal last d =
     let there : env.is_desk desk ≡ true = (let n = d.enabled in grind arith) in
-    subst (Leaves env s.history) (sym d.appends) (desks.legal s.history desk s.time (Request body) d.answer there d.answered legal, desks.none_ended s.history desk s.time (Request body) d.answer d.answered)
+    subst (Leaves env s.history) (sym d.appends) (desks.legal s.history desk s.time body d.answer there last d.answered legal, desks.none_ended s.history desk s.time body d.answer d.answered)
 event_leaves env s (DrainLog count) did desks legal last d = nothing_leaves env s.history did.entries legal d.appends
 event_leaves env s (DrainSlot by count) did desks legal last d = nothing_leaves env s.history did.entries legal d.appends
 event_leaves env s Stop did desks legal last d =
@@ -181,7 +181,6 @@ event_leaves env s Stop did desks legal last d =
     let n = d.enabled in
     let going : is_stopped s.history ≡ false = grind arith in
     subst (Leaves env s.history) (sym d.appends) (leaves env s.history (e ∷ []) legal (one_follows env s.history e last going refl) (within_free env s.history (e ∷ []) refl refl legal))
-event_leaves env s (Try words) did desks legal last d = subst (Leaves env s.history) (sym d.appends) (desks.legal s.history trial_desk s.time (Trial words) d.answer d.enabled d.answered legal, desks.none_ended s.history trial_desk s.time (Trial words) d.answer d.answered)
 
 legal_of : (env : Environment) (history whole : List Entry) → whole ≡ history → IsLegal (rules_of env) history → IsLegal (rules_of env) whole
 legal_of env history whole same legal = subst (IsLegal (rules_of env)) (sym same) legal
@@ -196,5 +195,5 @@ run_legal env s (event ∷ events) dids ending desks legal last (inr h) =
     let more = run_legal env (after s event h.0) events h.1 ending desks step.0 (lasting_append s.history h.0.entries last step.1) h.4 in
     legal_of env (next ++ history_of h.1) (s.history ++ history_of dids) (ap (λ (l : List Did). s.history ++ history_of l) h.2 ∙ sym (append_assoc s.history h.0.entries (history_of h.1))) more
 
-pub core_is_legal : (env : Environment) → CoreIsLegal env
-core_is_legal env events dids ending desks h = run_legal env opening events dids ending desks (record { each = tt; entries = omega arith; bytes = omega arith }) refl h
+pub core_is_legal : (env : Environment) → IsAnsweredLegally env → CoreIsLegal env
+core_is_legal env desks events dids ending h = run_legal env opening events dids ending desks (record { each = tt; entries = omega arith; bytes = omega arith }) refl h

@@ -8,10 +8,11 @@ use Rattle.std.proofs.lemmas.List.{take-append-le}
 use Rattle.std.proofs.Math.Seq.{take-add}
 use Rattle.cts_entry.specs.declared.entry.Entry.{Entry}
 use Rattle.cts_entry.specs.declared.event.Event.{Event}
-use Rattle.cts_entry.specs.declared.event.Event.TheVariants.{SetTime, Opens, Piece, Finish, Write, Call, DrainLog, DrainSlot, Stop, Try}
+use Rattle.cts_entry.specs.declared.event.Event.TheVariants.{SetTime, Opens, Piece, Finish, Write, Call, DrainLog, DrainSlot, Stop}
 use Rattle.cts_entry.specs.declared.event.Effect.{Effect}
 use Rattle.cts_entry.specs.Histories.{packets_from, commands_to}
-use Rattle.cts_core.specs.States.{Answer, Environment, State, opening, is_enabled, log_ahead, packets_log, commands_log}
+use Rattle.cts_api.specs.Replies.{Reply as Answer}
+use Rattle.cts_core.specs.States.{Environment, State, opening, is_enabled, log_ahead, packets_log, commands_log}
 use Rattle.cts_core.specs.Runs.{Did, Does, after, drained, effect_of, Ending, Runs}
 use Rattle.cts_core.specs.Told.{history_of}
 use Rattle.cts_core.specs.Logs.{drained_by, packets_in, commands_in}
@@ -33,7 +34,6 @@ drained_within env s (DrainLog count) e within =
     omega (arith, within, enough_of count (length (log_ahead s)) enough, length-drop s.log_cursor s.history)
 drained_within env s (DrainSlot by count) e within = omega (arith, within)
 drained_within env s Stop e within = omega (arith, within)
-drained_within env s (Try words) e within = omega (arith, within)
 
 module _ (env : Environment) (keep : Entry → Bool) (tells : Effect → List ℕ) where
   abbrev log_of : List Entry → List ℕ
@@ -93,7 +93,6 @@ packets_drain env s (Call desk body) a = refl
 packets_drain env s (DrainLog count) a = refl
 packets_drain env s (DrainSlot by count) a = refl
 packets_drain env s Stop a = refl
-packets_drain env s (Try words) a = refl
 
 commands_drain : (env : Environment) (s : State) (event : Event) (a : Answer) → commands_in (effect_of env s event a) ≡ flat_map (lay_out env.layout (names_in env.routing)) (filter (commands_to env.is_logged) (take (drained event) (log_ahead s)))
 commands_drain env s (SetTime time) a = refl
@@ -105,7 +104,6 @@ commands_drain env s (Call desk body) a = refl
 commands_drain env s (DrainLog count) a = refl
 commands_drain env s (DrainSlot by count) a = refl
 commands_drain env s Stop a = refl
-commands_drain env s (Try words) a = refl
 
 pub core_is_logged : (env : Environment) → CoreIsLogged env
 core_is_logged env events dids ending h =

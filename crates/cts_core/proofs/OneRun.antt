@@ -3,14 +3,15 @@ use Rattle.std.proofs.Common.{◌≡◌, ℕ, Bool, true, false, List, [], ◌�
 use Rattle.std.proofs.lemmas.List.{append_cancel_left}
 use Rattle.cts_entry.specs.declared.entry.Entry.{Entry}
 use Rattle.cts_entry.specs.declared.event.Event.{Event}
-use Rattle.cts_entry.specs.declared.event.Event.TheVariants.{SetTime, Opens, Piece, Finish, Write, Call, DrainLog, DrainSlot, Stop, Try}
+use Rattle.cts_entry.specs.declared.event.Event.TheVariants.{SetTime, Opens, Piece, Finish, Write, Call, DrainLog, DrainSlot, Stop}
 use Rattle.cts_frame.specs.Framing.{Output}
 use Rattle.cts_frame.specs.Cuts.{Pieces}
 use Rattle.cts_frame.specs.Packets.{IsPackets, fault_of}
 use Rattle.cts_frame.specs.Laws.{AllSound}
 use Rattle.cts_frame.proofs.Stagings.{has_packets, has_one_packets, packets_grow}
 use Rattle.cts_told.specs.Routing.{posted_entries}
-use Rattle.cts_core.specs.States.{Answer, Environment, State, Request, Trial, trial_desk, is_enabled, takes_room, has_room, unsent}
+use Rattle.cts_api.specs.Replies.{Reply as Answer}
+use Rattle.cts_core.specs.States.{Environment, State, is_enabled, takes_room, has_room, unsent}
 use Rattle.cts_core.specs.Runs.{Receives, Closes, IsAnswered, silent, Appends, Did, Does, after, Ending, Finished, NotEnabled, HistoryFull, Refuses, Runs, closing, closed_entry, effect_of}
 use Rattle.cts_core.specs.Laws.{IsSoundEnvironment, HasRun, HasOneRun}
 
@@ -46,7 +47,6 @@ some_appended env s (Call desk body) a sound = (_, refl)
 some_appended env s (DrainLog count) a sound = ([], refl)
 some_appended env s (DrainSlot by count) a sound = ([], refl)
 some_appended env s Stop a sound = (_, refl)
-some_appended env s (Try words) a sound = (_, refl)
 
 -- what is answered to an event
 
@@ -56,11 +56,10 @@ some_answered env s (Opens by) sound = (silent, refl)
 some_answered env s (Piece by piece) sound = (silent, refl)
 some_answered env s (Finish by why) sound = (silent, refl)
 some_answered env s (Write by count) sound = (silent, refl)
-some_answered env s (Call desk body) sound = sound.some_answer s.history desk s.time (Request body)
+some_answered env s (Call desk body) sound = sound.some_answer s.history desk s.time body
 some_answered env s (DrainLog count) sound = (silent, refl)
 some_answered env s (DrainSlot by count) sound = (silent, refl)
 some_answered env s Stop sound = (silent, refl)
-some_answered env s (Try words) sound = sound.some_answer s.history trial_desk s.time (Trial words)
 
 one_answered : (env : Environment) (s : State) (event : Event) (a b : Answer) → IsSoundEnvironment env → IsAnswered env s event a → IsAnswered env s event b → a ≡ b
 one_answered env s (SetTime time) a b sound h k = h ∙ sym k
@@ -68,11 +67,10 @@ one_answered env s (Opens by) a b sound h k = h ∙ sym k
 one_answered env s (Piece by piece) a b sound h k = h ∙ sym k
 one_answered env s (Finish by why) a b sound h k = h ∙ sym k
 one_answered env s (Write by count) a b sound h k = h ∙ sym k
-one_answered env s (Call desk body) a b sound h k = sound.one_answer s.history desk s.time (Request body) a b h k
+one_answered env s (Call desk body) a b sound h k = sound.one_answer s.history desk s.time body a b h k
 one_answered env s (DrainLog count) a b sound h k = h ∙ sym k
 one_answered env s (DrainSlot by count) a b sound h k = h ∙ sym k
 one_answered env s Stop a b sound h k = h ∙ sym k
-one_answered env s (Try words) a b sound h k = sound.one_answer s.history trial_desk s.time (Trial words) a b h k
 
 -- an event that may find the history full asks no desk
 asks_none : (env : Environment) (s : State) (event : Event) (a b : Answer) (entries : List Entry) → takes_room event ≡ true → Appends env s event a entries → Appends env s event b entries
@@ -85,7 +83,6 @@ asks_none env s (Call desk body) a b entries t h = absurd (cc t)
 asks_none env s (DrainLog count) a b entries t h = absurd (cc t)
 asks_none env s (DrainSlot by count) a b entries t h = absurd (cc t)
 asks_none env s Stop a b entries t h = absurd (cc t)
-asks_none env s (Try words) a b entries t h = absurd (cc t)
 
 one_received : (env : Environment) (s : State) (by : ℕ) (piece : List ℕ) (xs ys : List Entry) → AllSound (env.routing.chain by) → Receives env s by piece xs → Receives env s by piece ys → xs ≡ ys
 one_received env s by piece xs ys sound h k =
@@ -110,7 +107,6 @@ one_appended env s (Call desk body) a xs ys sound h k = h ∙ sym k
 one_appended env s (DrainLog count) a xs ys sound h k = h ∙ sym k
 one_appended env s (DrainSlot by count) a xs ys sound h k = h ∙ sym k
 one_appended env s Stop a xs ys sound h k = h ∙ sym k
-one_appended env s (Try words) a xs ys sound h k = h ∙ sym k
 
 -- what stands next: the event is refused in one way, or does one thing
 
@@ -140,9 +136,9 @@ go_on : (env : Environment) (s : State) (event : Event) (events : List Event) �
 go_on env s event events more (Done did d) = let rest = more (after s event did) in (did ∷ rest.0, rest.1, inr (did, rest.0, refl, d, rest.2))
 go_on env s event events more (Refused ending r) = ([], ending, inl (refl, r))
 
-pub has_run : (env : Environment) → HasRun env
-has_run env s [] sound = ([], Finished, (refl, refl))
-has_run env s (event ∷ events) sound = go_on env s event events (λ t. has_run env t events sound) (next env s event sound (true_or_false (is_enabled env s event)))
+pub has_run : (env : Environment) → IsSoundEnvironment env → HasRun env
+has_run env sound s [] = ([], Finished, (refl, refl))
+has_run env sound s (event ∷ events) = go_on env s event events (λ t. has_run env sound t events) (next env s event sound (true_or_false (is_enabled env s event)))
 
 -- refused and done exclude one another
 never_both : (env : Environment) (s : State) (event : Event) (ending : Ending) (did : Did) → IsSoundEnvironment env → Refuses env s event ending → Does env s event did → ⊥
@@ -170,12 +166,12 @@ one_did env s event a b sound h k =
     let effect = h.effect ∙ (ap (effect_of env s event) answers ∙ sym k.effect) in
     λ i. record { entries = entries i; effect = effect i }
 
-pub has_one_run : (env : Environment) → HasOneRun env
-has_one_run env s [] dids others ending other sound h k = (h.0 ∙ sym k.0, h.1 ∙ sym k.1)
-has_one_run env s (event ∷ events) dids others ending other sound (inl h) (inl k) = (h.0 ∙ sym k.0, one_refusal env s event ending other h.1 k.1)
-has_one_run env s (event ∷ events) dids others ending other sound (inl h) (inr k) = absurd (never_both env s event ending k.0 sound h.1 k.3)
-has_one_run env s (event ∷ events) dids others ending other sound (inr h) (inl k) = absurd (never_both env s event other h.0 sound k.1 h.3)
-has_one_run env s (event ∷ events) dids others ending other sound (inr h) (inr k) =
+pub has_one_run : (env : Environment) → IsSoundEnvironment env → HasOneRun env
+has_one_run env sound s [] dids others ending other h k = (h.0 ∙ sym k.0, h.1 ∙ sym k.1)
+has_one_run env sound s (event ∷ events) dids others ending other (inl h) (inl k) = (h.0 ∙ sym k.0, one_refusal env s event ending other h.1 k.1)
+has_one_run env sound s (event ∷ events) dids others ending other (inl h) (inr k) = absurd (never_both env s event ending k.0 sound h.1 k.3)
+has_one_run env sound s (event ∷ events) dids others ending other (inr h) (inl k) = absurd (never_both env s event other h.0 sound k.1 h.3)
+has_one_run env sound s (event ∷ events) dids others ending other (inr h) (inr k) =
     let head : h.0 ≡ k.0 = one_did env s event h.0 k.0 sound h.3 k.3 in
-    let tail = has_one_run env (after s event h.0) events h.1 k.1 ending other sound h.4 (subst (λ (d : Did). Runs env (after s event d) events k.1 other) (sym head) k.4) in
+    let tail = has_one_run env sound (after s event h.0) events h.1 k.1 ending other h.4 (subst (λ (d : Did). Runs env (after s event d) events k.1 other) (sym head) k.4) in
     (h.2 ∙ (cc (head, tail.0)) ∙ sym k.2, tail.1)

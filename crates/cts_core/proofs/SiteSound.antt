@@ -1,40 +1,62 @@
--- The environment of a site is sound.
-use Rattle.std.proofs.Common.{◌≡◌, ℕ, List, Option, Some, None, refl, sym, ◌∙◌}
-use Rattle.cts_def.specs.Sites.{SiteData}
-use Rattle.cts_def.specs.declared.time.Time.{Time}
-use Rattle.cts_entry.specs.declared.entry.Entry.{Entry}
+-- The environment of a site: its chains are sound, and its desks reply once to each body, in their own name and legally.
+use Rattle.std.proofs.Common.{◌≡◌, ℕ, ◌+◌, ◌-◌, ◌≤◌, Bool, true, false, ◌&&◌, ◌||◌, length, ◌∙◌, ap, arith}
+use Rattle.std.specs.Prelude.{nat_le, nat_lt}
+use Rattle.std.proofs.lemmas.Bool.Decides.{nat_tests}
+use Rattle.cts_api.specs.Points.{point_of}
+use Rattle.cts_api.proofs.Leaving.{of_their_desk, replies_are_legal}
+use Rattle.cts_api.proofs.OneReply.{reply_one}
+use Rattle.cts_api.proofs.SomeReply.{some_reply}
+use Rattle.cts_def.specs.Makers.{first_desk, first_slot, router_of, server}
+use Rattle.cts_def.specs.Sites.{IsSoundSite, SiteData}
+use Rattle.cts_entry.specs.Workers.{is_desk}
 use Rattle.cts_frame.proofs.Sound.{chains_are_sound}
-use Rattle.cts_scriptread.specs.Trials.{Asked, Value, Set, Command, trial_of}
-use Rattle.cts_table.specs.declared.basis.Basis.{Basis}
-use Rattle.cts_core.proofs.Commanding.{one_sent, some_sent}
-use Rattle.cts_core.specs.States.{Answer, Question, Request, Trial}
-use Rattle.cts_core.specs.Environments.{Undefined, IsAnswerTo, basis_of, environment_with}
-use Rattle.cts_core.specs.Trials.{IsFound}
-use Rattle.cts_core.specs.Laws.{IsSoundEnvironment}
-
-some_found : (b : Basis) (history : List Entry) (now : Time) (asked : Option Asked) → (a : Answer) × IsFound b history now asked a
-some_found b history now (Some (Value kind target packet item)) = (_, refl)
-some_found b history now (Some (Set name)) = (_, refl)
-some_found b history now (Some (Command text)) = some_sent b history now text
-some_found b history now None = (_, refl)
-
-one_found : (b : Basis) (history : List Entry) (now : Time) (asked : Option Asked) (x y : Answer) → IsFound b history now asked x → IsFound b history now asked y → x ≡ y
-one_found b history now (Some (Value kind target packet item)) x y h k = sym h ∙ k
-one_found b history now (Some (Set name)) x y h k = sym h ∙ k
-one_found b history now (Some (Command text)) x y h k = one_sent b history now text x y h k
-one_found b history now None x y h k = sym h ∙ k
-
-some_answer : (u : Undefined) (site : SiteData) (history : List Entry) (desk : ℕ) (now : Time) (question : Question) → (a : Answer) × IsAnswerTo u.answer site history desk now question a
-some_answer u site history desk now (Request body) = (u.answer history desk now body, refl)
-some_answer u site history desk now (Trial words) = some_found (basis_of site) history now (trial_of words)
-
-one_answer : (u : Undefined) (site : SiteData) (history : List Entry) (desk : ℕ) (now : Time) (question : Question) (a b : Answer) → IsAnswerTo u.answer site history desk now question a → IsAnswerTo u.answer site history desk now question b → a ≡ b
-one_answer u site history desk now (Request body) a b h k = h ∙ sym k
-one_answer u site history desk now (Trial words) a b h k = one_found (basis_of site) history now (trial_of words) a b h k
+use Rattle.cts_core.specs.Environments.{Undefined, basis_of, environment_with}
+use Rattle.cts_core.specs.Laws.{AreApart, IsAnsweredByDesks, IsAnsweredLegally, IsSoundEnvironment}
+use Rattle.cts_core.specs.States.{is_line}
+use Rattle.cts_core.proofs.Building.{and_false}
+use Rattle.cts_core.proofs.Legality.{none_ended}
 
 pub site_sound : (u : Undefined) (site : SiteData) → IsSoundEnvironment (environment_with u site)
 site_sound u site = record {
   chains = λ by. chains_are_sound site by;
-  some_answer = some_answer u site;
-  one_answer = one_answer u site;
+  some_answer = λ history desk now body. some_reply (point_of (basis_of site) history) (first_desk + desk) now body;
+  one_answer = λ history desk now body a b x y. reply_one (point_of (basis_of site) history) (first_desk + desk) now body a b x y;
+}
+
+pub by_desks : (u : Undefined) (site : SiteData) → IsAnsweredByDesks (environment_with u site)
+by_desks u site = λ history desk now body a is. (of_their_desk (point_of (basis_of site) history) (first_desk + desk) now body a is).0
+
+-- a desk is the maker of its number
+desk_is : (site : SiteData) (desk : ℕ) → nat_lt desk site.desks ≡ true → is_desk site (first_desk + desk) ≡ true
+desk_is site desk there =
+    let at : first_desk + desk - first_desk ≡ desk = omega arith in
+    let high : nat_le first_desk (first_desk + desk) ≡ true = grind (arith, nat_tests) in
+    ap (λ (b : Bool). b && nat_lt (first_desk + desk - first_desk) site.desks) high ∙ (ap (λ (n : ℕ). nat_lt n site.desks) at ∙ there)
+
+pub legally : (u : Undefined) (site : SiteData) → IsAnsweredLegally (environment_with u site)
+legally u site = record {
+  legal = λ history desk now body a there last is legal. replies_are_legal (basis_of site) history (first_desk + desk) now body a (desk_is site desk there) (none_ended (first_desk + desk) history last) legal is;
+  none_ended = λ history desk now body a is. (of_their_desk (point_of (basis_of site) history) (first_desk + desk) now body a is).1;
+}
+
+-- ---- makers are apart
+
+not_below : (n m : ℕ) → m ≤ n → nat_lt n m ≡ false
+not_below n m h = grind (arith, nat_tests)
+
+neither : (a b : Bool) → a ≡ false → b ≡ false → (a || b) ≡ false
+neither true b x y = x
+neither false b x y = y
+
+-- a number behind those of slots is that of no line
+no_line : (u : Undefined) (site : SiteData) (by : ℕ) → IsSoundSite site → first_desk ≤ by → is_line (environment_with u site) by ≡ false
+no_line u site by sound high =
+    neither (nat_le first_slot by && nat_lt (router_of by) (length site.routers)) (nat_lt by (length site.interfaces))
+    (and_false (nat_le first_slot by) (nat_lt (router_of by) (length site.routers)) (not_below (router_of by) (length site.routers) (omega (arith, high, sound.few_routers))))
+    (not_below by (length site.interfaces) (omega (arith, high, sound.few_interfaces)))
+
+pub apart : (u : Undefined) (site : SiteData) → IsSoundSite site → AreApart (environment_with u site)
+apart u site sound = record {
+  server = no_line u site server sound (omega arith);
+  desks = λ desk there. no_line u site (first_desk + desk) sound (omega arith);
 }

@@ -11,7 +11,7 @@ use Rattle.cts_entry.specs.declared.what.What.TheVariants.{Opened, Closed, Stop 
 use Rattle.cts_entry.specs.declared.why.Why.{Why}
 use Rattle.cts_entry.specs.declared.why.Why.TheVariants.{PeerEnded, ReadFault, WriteFault, BadFrame, Stopped, NoMemory, Full}
 use Rattle.cts_entry.specs.declared.event.Event.{Event}
-use Rattle.cts_entry.specs.declared.event.Event.TheVariants.{SetTime, Opens, Piece, Finish, Write, Call, DrainLog, DrainSlot, Stop, Try}
+use Rattle.cts_entry.specs.declared.event.Event.TheVariants.{SetTime, Opens, Piece, Finish, Write, Call, DrainLog, DrainSlot, Stop}
 use Rattle.cts_entry.specs.Histories.{latest, or_earlier, connects_maker, is_connected, is_own, has_own}
 use Rattle.cts_entry.specs.Queues.{spelled}
 use Rattle.cts_entry.specs.Places.{Posts, Stays}
@@ -23,10 +23,10 @@ use Rattle.cts_frame.specs.Packets.{IsPackets, Stages, cut_by, Fault, fault_of, 
 use Rattle.cts_frame.specs.Laws.{AllSound}
 use Rattle.cts_frame.proofs.Framings.{taken_none, ends_nil}
 use Rattle.cts_frame.proofs.Stagings.{has_one_packets}
-use Rattle.cts_core.specs.States.{Environment, State, Request, Trial, trial_desk, is_line, opening, may_close, unsent, ahead, put_next}
+use Rattle.cts_core.specs.States.{Environment, State, is_line, opening, may_close, unsent, ahead, put_next}
 use Rattle.cts_core.specs.Runs.{Did, Does, after, pieces_for, passed_for, pieces_after, cursor_after, Ending, Runs, Receives, Closes, closing, closed_entry}
 use Rattle.cts_core.specs.Told.{Connection, Line, IsStay, Told, ToldBy, told_from, told_after, turned, heard, put_for, one_or_none, history_of}
-use Rattle.cts_core.specs.Laws.{IsSoundEnvironment, IsAnsweredByDesks, CoreIsTold}
+use Rattle.cts_core.specs.Laws.{AreApart, IsSoundEnvironment, IsAnsweredByDesks, CoreIsTold}
 use Rattle.cts_told.specs.Routing.{time_in, said_of, posted_entries, walk, queue, spell}
 use Rattle.cts_told.specs.Connections.{Says, Shows, is_bad_frame, Blames}
 use Rattle.cts_told.proofs.Connecting.{says_connects}
@@ -389,26 +389,22 @@ drain_any env s did by m count line f d (inr t) =
 other_than : (env : Environment) (by m : ℕ) → is_line env by ≡ false → is_line env m ≡ true → by ≢ m
 other_than env by m off on e = let same = ap (is_line env) e in cc
 
-moves : (env : Environment) (s : State) (event : Event) (did : Did) (m : ℕ) (line : Line) → IsSoundEnvironment env → IsAnsweredByDesks env → is_line env m ≡ true → FitsLine env s m line → Does env s event did
+moves : (env : Environment) (s : State) (event : Event) (did : Did) (m : ℕ) (line : Line) → IsSoundEnvironment env → IsAnsweredByDesks env → AreApart env → is_line env m ≡ true → FitsLine env s m line → Does env s event did
     → FitsLine env (after s event did) m (told_after m event did line)
-moves env s (SetTime time) did m line sound desks on f d = quiet_event env s (SetTime time) did m line f (no_entries m did.entries d.appends) refl (ap (put_for m) d.effect) refl
-moves env s (Opens by) did m line sound desks on f d = opens_any env s did by m line sound f d (eqb_tells by m)
-moves env s (Piece by piece) did m line sound desks on f d = piece_any env s did by m piece line sound f d (eqb_tells by m)
-moves env s (Finish by why) did m line sound desks on f d = finish_any env s did by m why line sound f d (eqb_tells by m)
-moves env s (Write by count) did m line sound desks on f d = write_any env s did by m count line f d (eqb_tells by m)
-moves env s (Call desk body) did m line sound desks on f d =
+moves env s (SetTime time) did m line sound desks sites on f d = quiet_event env s (SetTime time) did m line f (no_entries m did.entries d.appends) refl (ap (put_for m) d.effect) refl
+moves env s (Opens by) did m line sound desks sites on f d = opens_any env s did by m line sound f d (eqb_tells by m)
+moves env s (Piece by piece) did m line sound desks sites on f d = piece_any env s did by m piece line sound f d (eqb_tells by m)
+moves env s (Finish by why) did m line sound desks sites on f d = finish_any env s did by m why line sound f d (eqb_tells by m)
+moves env s (Write by count) did m line sound desks sites on f d = write_any env s did by m count line f d (eqb_tells by m)
+moves env s (Call desk body) did m line sound desks sites on f d =
     let there : env.is_desk desk ≡ true = (let n = d.enabled in grind arith) in
-    let apart = other_than env (first_desk + desk) m (desks.desks desk there) on in
-    let none = ap (has_own m) d.appends ∙ none_of m (first_desk + desk) d.answer.entries apart (desks.answers s.history desk s.time (Request body) d.answer tt d.answered) in
+    let apart = other_than env (first_desk + desk) m (sites.desks desk there) on in
+    let none = ap (has_own m) d.appends ∙ none_of m (first_desk + desk) d.answer.entries apart (desks s.history desk s.time body d.answer d.answered) in
     quiet_event env s (Call desk body) did m line f none refl (ap (put_for m) d.effect) refl
-moves env s (DrainLog count) did m line sound desks on f d = quiet_event env s (DrainLog count) did m line f (no_entries m did.entries d.appends) refl (ap (put_for m) d.effect) refl
-moves env s (DrainSlot by count) did m line sound desks on f d = drain_any env s did by m count line f d (eqb_tells by m)
-moves env s Stop did m line sound desks on f d =
-    quiet_event env s Stop did m line f (one_entry m (record { by = server; time = s.time; what = StopEntry }) did.entries (other_than env server m desks.server on) d.appends) refl (ap (put_for m) d.effect) refl
-moves env s (Try words) did m line sound desks on f d =
-    let apart = other_than env (first_desk + trial_desk) m (desks.desks trial_desk d.enabled) on in
-    let none = ap (has_own m) d.appends ∙ none_of m (first_desk + trial_desk) d.answer.entries apart (desks.answers s.history trial_desk s.time (Trial words) d.answer refl d.answered) in
-    quiet_event env s (Try words) did m line f none refl (ap (put_for m) d.effect) refl
+moves env s (DrainLog count) did m line sound desks sites on f d = quiet_event env s (DrainLog count) did m line f (no_entries m did.entries d.appends) refl (ap (put_for m) d.effect) refl
+moves env s (DrainSlot by count) did m line sound desks sites on f d = drain_any env s did by m count line f d (eqb_tells by m)
+moves env s Stop did m line sound desks sites on f d =
+    quiet_event env s Stop did m line f (one_entry m (record { by = server; time = s.time; what = StopEntry }) did.entries (other_than env server m sites.server on) d.appends) refl (ap (put_for m) d.effect) refl
 
 -- any run
 
@@ -419,16 +415,16 @@ told_none : (m : ℕ) (line : Line) (events : List Event) → told_from m line e
 told_none m line [] = refl
 told_none m line (event ∷ events) = refl
 
-run_told : (env : Environment) (s : State) (events : List Event) (dids : List Did) (ending : Ending) (m : ℕ) (line : Line) → IsSoundEnvironment env → IsAnsweredByDesks env → is_line env m ≡ true → FitsLine env s m line → Runs env s events dids ending
+run_told : (env : Environment) (s : State) (events : List Event) (dids : List Did) (ending : Ending) (m : ℕ) (line : Line) → IsSoundEnvironment env → IsAnsweredByDesks env → AreApart env → is_line env m ≡ true → FitsLine env s m line → Runs env s events dids ending
     → Told env.routing m (s.history ++ history_of dids) (told_from m line events dids)
-run_told env s [] dids ending m line sound desks on f h = fits_told env s m line (s.history ++ history_of dids) (ap (λ (l : List Did). s.history ++ history_of l) h.0 ∙ append-nil s.history) f
-run_told env s (event ∷ events) dids ending m line sound desks on f (inl h) =
+run_told env s [] dids ending m line sound desks sites on f h = fits_told env s m line (s.history ++ history_of dids) (ap (λ (l : List Did). s.history ++ history_of l) h.0 ∙ append-nil s.history) f
+run_told env s (event ∷ events) dids ending m line sound desks sites on f (inl h) =
     subst (λ (l : List Did). Told env.routing m (s.history ++ history_of l) (told_from m line (event ∷ events) l)) (sym h.0) (fits_told env s m line (s.history ++ []) (append-nil s.history) f)
-run_told env s (event ∷ events) dids ending m line sound desks on f (inr h) =
+run_told env s (event ∷ events) dids ending m line sound desks sites on f (inr h) =
     let next = after s event h.0 in
-    let more = run_told env next events h.1 ending m (told_after m event h.0 line) sound desks on (moves env s event h.0 m line sound desks on f h.3) h.4 in
+    let more = run_told env next events h.1 ending m (told_after m event h.0 line) sound desks sites on (moves env s event h.0 m line sound desks sites on f h.3) h.4 in
     subst (λ (l : List Did). Told env.routing m (s.history ++ history_of l) (told_from m line (event ∷ events) l)) (sym h.2)
     (subst (λ (l : List Entry). Told env.routing m l (told_from m (told_after m event h.0 line) events h.1)) (append_assoc s.history h.0.entries (history_of h.1)) more)
 
-pub core_is_told : (env : Environment) → CoreIsTold env
-core_is_told env events dids ending m sound desks on h = run_told env opening events dids ending m (record { past = []; now = None }) sound desks on (refl, refl) h
+pub core_is_told : (env : Environment) → IsSoundEnvironment env → IsAnsweredByDesks env → CoreIsTold env
+core_is_told env sound desks events dids ending m sites on h = run_told env opening events dids ending m (record { past = []; now = None }) sound desks sites on (refl, refl) h

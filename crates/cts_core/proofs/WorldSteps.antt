@@ -8,7 +8,7 @@ use Rattle.cts_chain.specs.Chains.{StagesStand, framings_of, loss_in}
 use Rattle.cts_chain.specs.Laws.{AreOf}
 use Rattle.cts_chain.specs.Shapes.{ChainData, writers}
 use Rattle.cts_chain.proofs.Settled.{settled_gives_all, renewed_stands}
-use Rattle.cts_def.specs.Makers.{first_slot, server}
+use Rattle.cts_def.specs.Makers.{first_desk, first_slot, server}
 use Rattle.cts_def.specs.Protocols.{SpecData, UseData}
 use Rattle.cts_def.specs.Sites.{InterfaceData, SiteData}
 use Rattle.cts_def.specs.declared.time.Time.{Time}
@@ -17,8 +17,8 @@ use Rattle.cts_entry.specs.declared.what.What.TheVariants.{Opened, Closed, Stop 
 use Rattle.cts_entry.specs.declared.why.Why.{Why}
 use Rattle.cts_entry.specs.declared.why.Why.TheVariants.{BadFrame}
 use Rattle.cts_entry.specs.declared.event.Event.{Event}
-use Rattle.cts_entry.specs.declared.event.Event.TheVariants.{SetTime, Opens, Piece, Finish, Write, Stop, Try}
-use Rattle.cts_entry.specs.declared.event.Effect.TheVariants.{Posted, Tried, Written}
+use Rattle.cts_entry.specs.declared.event.Event.TheVariants.{SetTime, Opens, Piece, Finish, Write, Call, Stop}
+use Rattle.cts_entry.specs.declared.event.Effect.TheVariants.{Posted, Reply, Written}
 use Rattle.cts_entry.specs.Histories.{or_earlier, latest, connects, connects_maker, is_connected, is_stopped, entries_in, bytes_in}
 use Rattle.cts_entry.specs.Queues.{refused as refusals, spelled}
 use Rattle.cts_entry.proofs.Appending.{latest-append, connected-append}
@@ -27,15 +27,16 @@ use Rattle.cts_frame.specs.Framing.{Framing, Output, plain}
 use Rattle.cts_frame.specs.Cuts.{Pieces}
 use Rattle.cts_frame.specs.Packets.{IsPackets, loss_of, Fault, fault_of}
 use Rattle.cts_frame.proofs.Chainings.{interface_framings}
-use Rattle.cts_core.specs.States.{Answer, State, is_piece, is_enabled, is_line, has_room, takes_room, unsent, may_close, opening, put_next}
+use Rattle.cts_core.specs.States.{State, is_piece, is_enabled, is_line, has_room, takes_room, unsent, may_close, opening, put_next}
 use Rattle.cts_core.specs.Runs.{Did, Does, silent, Appends, Receives, after, pieces_for, passed_for, closed_entry, closing}
 use Rattle.cts_core.proofs.Chaining.{all_renewed, begins, begins_anew, plain_more, same_framings}
 use Rattle.cts_core.proofs.CursorSteps.{PassesOn, passes, passed_opened, waits, waiting_kept}
 use Rattle.cts_core.proofs.Keeping.{pieces_turned, pieces_grow, pieces_stay, cursor_grows, cursor_turned}
 use Rattle.cts_told.proofs.Walks.{posted_packets}
 use Rattle.cts_core.specs.Environments.{basis_of, site_environment, writers_at}
-use Rattle.cts_core.specs.Commands.{tells}
-use Rattle.cts_core.specs.Trials.{IsTried}
+use Rattle.cts_api.specs.Points.{point_of}
+use Rattle.cts_api.specs.Replies.{IsReply, Reply as Answer}
+use Rattle.cts_core.proofs.Replying.{reply_quiet}
 use Rattle.cts_entry.specs.Legal.{most_bytes as bytes_limit, most_entries as entries_limit}
 use Rattle.cts_core.specs.Kept.{GivesRoom, is_within}
 use Rattle.cts_table.specs.States.{Shown}
@@ -649,40 +650,37 @@ built_of site w s sound h = subst (λ (b : Basis). is_built_site b.site ≡ true
 pub room_made : (time : Time) (k new : Shown) (connections : List HeldConnection) (n m : ℕ) → GivesRoom k n m (Ok tt) new → held_with time new connections ≡ held_with time k connections
 room_made time k new connections n m g = ap (λ (x : Shown). held_with time x connections) g.1
 
--- ---- trial lines
+-- ---- a desk is asked
 
--- what a trial answers is what the environment's desk does
-trial_here : (site : SiteData) (w : Held) (s : State) (words : List (List ℕ)) (a : Answer) → Represents site w s → IsTried w.basis w.history w.time words a → IsTried (basis_of site) s.history s.time words a
-trial_here site w s words a h t = subst (λ (b : Basis). IsTried b s.history s.time words a) h.basis (subst (λ (l : List Entry). IsTried w.basis l s.time words a) h.history (subst (λ (now : Time). IsTried w.basis w.history now words a) h.time t))
+pub has_desk_is : (site : SiteData) (w : Held) (s : State) (desk : ℕ) (body : List ℕ) → Represents site w s → nat_lt desk w.basis.site.desks ≡ is_enabled (site_environment site) s (Call desk body)
+has_desk_is site w s desk body h = ap (λ (b : Basis). nat_lt desk b.site.desks) h.basis
 
-pub trial_done : (site : SiteData) (w new : Held) (s : State) (words : List (List ℕ)) (front : ℕ) (text : List ℕ) (es : List Entry) → 1 ≤ w.basis.site.desks → front ≡ length w.history
-    → IsTried w.basis w.history w.time words (record { text = Some text; entries = es }) → ((k : ℕ) → latest (connects_maker k) es ≡ None) → new ≡ record w { history = w.history ++ es } → Represents site w s
-    → Steps site s (Try words) w (Ok (Tried front text)) new
-trial_done site w new s words front text es desks at answers none n h =
-    let did : Did = record { entries = es; effect = Tried (length s.history) text } in
-    let moved : State = after s (Try words) did in
-    let some : 1 ≤ site.desks = subst (λ (b : Basis). 1 ≤ b.site.desks) h.basis desks in
-    let whole : Represents site (record w { history = w.history ++ es }) moved = record {
-      history = ap (λ (l : List Entry). l ++ es) h.history;
+-- what a desk replies behind what is held it replies behind the state
+reply_here : (site : SiteData) (w : Held) (s : State) (by : ℕ) (body : List ℕ) (a : Answer) → Represents site w s → IsReply (point_of w.basis w.history) by w.time body a → IsReply (point_of (basis_of site) s.history) by s.time body a
+reply_here site w s by body a h r = subst (λ (b : Basis). IsReply (point_of b s.history) by s.time body a) h.basis (subst (λ (l : List Entry). IsReply (point_of w.basis l) by s.time body a) h.history (subst (λ (now : Time). IsReply (point_of w.basis w.history) by now body a) h.time r))
+
+pub called : (site : SiteData) (w new : Held) (s : State) (desk : ℕ) (body : List ℕ) (front : ℕ) (text : Option (List ℕ)) (a : Answer) → nat_lt desk w.basis.site.desks ≡ true → front ≡ length w.history → text ≡ a.text
+    → IsReply (point_of w.basis w.history) (first_desk + desk) w.time body a → new ≡ record w { history = w.history ++ a.entries } → Represents site w s → Steps site s (Call desk body) w (Ok (Reply desk front text)) new
+called site w new s desk body front text a there at says is n h =
+    let did : Did = record { entries = a.entries; effect = Reply desk (length s.history) a.text } in
+    let moved : State = after s (Call desk body) did in
+    let none : (k : ℕ) → latest (connects_maker k) a.entries ≡ None = reply_quiet (point_of w.basis w.history) (first_desk + desk) w.time body a is in
+    let whole : Represents site (record w { history = w.history ++ a.entries }) moved = record {
+      history = ap (λ (l : List Entry). l ++ a.entries) h.history;
       time = h.time;
       basis = h.basis;
       count = h.count;
-      connections = λ k m. connection_kept site s moved k (connection_at w.connections k) (connected_kept k s.history es (none k)) (pieces_stay k (Try words) es s.pieces (none k) refl) (passes site s (Try words) did k (none k) refl) (h.connections k m);
+      connections = λ k m. connection_kept site s moved k (connection_at w.connections k) (connected_kept k s.history a.entries (none k)) (pieces_stay k (Call desk body) a.entries s.pieces (none k) refl) (passes site s (Call desk body) did k (none k) refl) (h.connections k m);
     } in (
       did,
       record {
-        enabled = below 0 site.desks (omega (arith, some));
-        answer = record { text = Some text; entries = es };
-        answered = trial_here site w s words (record { text = Some text; entries = es }) h answers;
+        enabled = sym (has_desk_is site w s desk body h) ∙ there;
+        answer = a;
+        answered = reply_here site w s (first_desk + desk) body a h is;
         appends = refl;
         room = λ takes. absurd (cc takes);
         effect = refl;
       },
-      ap (λ (k : ℕ). Tried k text) (at ∙ ap length h.history),
+      ap (λ (k : ℕ). Reply desk k text) (at ∙ ap length h.history) ∙ ap (Reply desk (length s.history)) says,
       subst (λ (x : Held). Represents site x moved) (sym n) whole,
     )
-
--- a look-up appends nothing
-pub trial_told : (site : SiteData) (w : Held) (s : State) (words : List (List ℕ)) (front : ℕ) (text : List ℕ) → 1 ≤ w.basis.site.desks → front ≡ length w.history → IsTried w.basis w.history w.time words (tells text) → Represents site w s
-    → Steps site s (Try words) w (Ok (Tried front text)) w
-trial_told site w s words front text desks at answers h = trial_done site w w s words front text [] desks at answers (λ k. refl) (ap (λ (l : List Entry). record w { history = l }) (sym (append-nil w.history))) h

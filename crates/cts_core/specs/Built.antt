@@ -1,10 +1,8 @@
--- What the core can run so far: interfaces, and the events that ask for nothing else.
+-- What the core can run so far: interfaces and desks, and the events that ask for nothing else.
 use Rattle.std.specs.Prelude.{◌==◌, Bool, true, false, length}
 use Rattle.cts_def.specs.Sites.{SiteData}
-use Rattle.cts_core.specs.Trials.{is_built_trial}
 use Rattle.cts_entry.specs.declared.event.Event.{Event}
-use Rattle.cts_scriptread.specs.Trials.{trial_of}
-use Rattle.cts_entry.specs.declared.event.Event.TheVariants.{SetTime, Opens, Piece, Finish, Write, Call, DrainLog, DrainSlot, Stop, Try}
+use Rattle.cts_entry.specs.declared.event.Event.TheVariants.{SetTime, Opens, Piece, Finish, Write, Call, DrainLog, DrainSlot, Stop}
 
 -- a site without routers
 abbrev pub is_built_site : SiteData → Bool
@@ -17,8 +15,7 @@ is_built_event (Opens by) = true
 is_built_event (Piece by piece) = true
 is_built_event (Finish by why) = true
 is_built_event (Write by count) = true
-is_built_event (Call desk body) = false
+is_built_event (Call desk body) = true
 is_built_event (DrainLog count) = false
 is_built_event (DrainSlot by count) = false
 is_built_event Stop = true
-is_built_event (Try words) = is_built_trial (trial_of words)

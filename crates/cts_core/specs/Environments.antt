@@ -1,12 +1,13 @@
 -- What a site gives to events: the environment in which they are done.
-use Rattle.std.specs.Prelude.{◌≡◌, ℕ, false, Bool, ◌==◌, ◌&&◌, nat_lt, List, [], filter, map, slice_index_or, Option, Some, None, if◌then◌else◌}
+use Rattle.std.specs.Prelude.{◌+◌, ℕ, false, Bool, ◌==◌, ◌&&◌, nat_lt, List, [], filter, map, slice_index_or, Option, Some, None, if◌then◌else◌}
 use Rattle.std.specs.List.{list_any}
 use Rattle.cts_chain.specs.Builds.{use_specs, writes}
 use Rattle.cts_chain.specs.Writing.{chain_spelling}
-use Rattle.cts_core.specs.States.{Answer, Environment, Question, Request, Trial}
-use Rattle.cts_core.specs.Trials.{IsTried}
+use Rattle.cts_api.specs.Points.{point_of}
+use Rattle.cts_api.specs.Replies.{Reply as Answer, IsReply}
+use Rattle.cts_core.specs.States.{Environment}
 use Rattle.cts_table.specs.declared.basis.Basis.{Basis}
-use Rattle.cts_def.specs.Makers.{router_of}
+use Rattle.cts_def.specs.Makers.{first_desk, router_of}
 use Rattle.cts_def.specs.Packets.{unknown}
 use Rattle.cts_def.specs.Protocols.{SpecData}
 use Rattle.cts_def.specs.Sites.{InterfaceData, SiteData}
@@ -70,19 +71,17 @@ spelling_at site by heading bytes = chain_spelling (writers_at site by) heading 
 
 -- ---- the environment
 
--- what is not defined yet: the layout in logs, and what desks answer to requests
+-- what is not defined yet: the layout in logs
 pub record Undefined : Type 0 where
   pub layout : Heading → List ℕ → List ℕ
-  pub answer : List Entry → ℕ → Time → List ℕ → Answer
 
 -- the limits of a server's history
 abbrev pub basis_of : SiteData → Basis
 basis_of site = record { site = site; entries = entries_limit; bytes = bytes_limit }
 
--- a request is answered by what is not defined yet, and a trial line by what the site's history says
-abbrev pub IsAnswerTo : (List Entry → ℕ → Time → List ℕ → Answer) → SiteData → List Entry → ℕ → Time → Question → Answer → Type 0
-IsAnswerTo answer site history desk now (Request body) a = a ≡ answer history desk now body
-IsAnswerTo answer site history desk now (Trial words) a = IsTried (basis_of site) history now words a
+-- a desk replies by what the site's history says
+abbrev pub IsAnswerOf : SiteData → List Entry → ℕ → Time → List ℕ → Answer → Type 0
+IsAnswerOf site history desk now body a = IsReply (point_of (basis_of site) history) (first_desk + desk) now body a
 
 -- The environment that a site gives, with these in their places.
 abbrev pub environment_with : Undefined → SiteData → Environment
@@ -101,14 +100,14 @@ environment_with u site = record {
   is_desk = is_desk site;
   is_logged = is_logged site;
   layout = u.layout;
-  answers = IsAnswerTo u.answer site;
+  answers = IsAnswerOf site;
   most_entries = entries_limit;
   most_bytes = bytes_limit;
 }
 
--- Stand-ins: nothing is laid out or answered. No event that a script can state so far asks for one of these.
+-- A stand-in: nothing is laid out. No event that a script can state so far asks for it.
 abbrev pub stand_ins : Undefined
-stand_ins = record { layout = λ heading bytes. []; answer = λ history desk time body. record { text = None; entries = [] } }
+stand_ins = record { layout = λ heading bytes. [] }
 
 abbrev pub site_environment : SiteData → Environment
 site_environment site = environment_with stand_ins site

@@ -1,8 +1,8 @@
--- Laws of a run in an environment whose chains are sound and in which each question has one answer.
+-- Laws of runs.
 use Rattle.std.specs.Prelude.{◌≡◌, ℕ, ◌+◌, ◌-◌, ◌&&◌, nat_le, true, false, List, ◌++◌, length, take, drop}
 use Rattle.std.specs.List.{All, list_any}
 use Rattle.cts_def.specs.Makers.{first_desk, server}
-use Rattle.cts_def.specs.Sites.{SiteData}
+use Rattle.cts_def.specs.Sites.{IsSoundSite, SiteData}
 use Rattle.cts_def.specs.declared.time.Time.{Time}
 use Rattle.cts_entry.specs.declared.entry.Entry.{Entry}
 use Rattle.cts_entry.specs.declared.event.Event.{Event}
@@ -10,42 +10,41 @@ use Rattle.cts_entry.specs.Legal.{Rules, is_ended, IsLegal}
 use Rattle.cts_frame.specs.Laws.{AllSound}
 use Rattle.cts_frame.specs.Packets.{capped}
 use Rattle.cts_told.specs.Routing.{queue, walk}
-use Rattle.cts_core.specs.States.{Answer, Environment, State, Question, Request, Trial, trial_desk, is_line, opening, ahead, unsent, packets_log, commands_log}
+use Rattle.cts_api.specs.Replies.{Reply as Answer}
+use Rattle.cts_core.specs.States.{Environment, State, is_line, opening, ahead, unsent, packets_log, commands_log}
 use Rattle.cts_core.specs.Runs.{Did, Ending, Runs}
 use Rattle.cts_core.specs.Environments.{Undefined, environment_with}
 use Rattle.cts_core.specs.Logs.{drained_by, packets_logged, commands_logged}
 use Rattle.cts_core.specs.Cursors.{IsPassed}
 use Rattle.cts_core.specs.Told.{Told, told, history_of}
 
--- the chain of each maker is sound, and each question to a desk has exactly one answer
+-- the chain of each maker is sound, and each body has exactly one reply of a desk
 pub record IsSoundEnvironment (env : Environment) : Type 0 where
   pub chains : (by : ℕ) → AllSound (env.routing.chain by)
-  pub some_answer : (history : List Entry) (desk : ℕ) (time : Time) (question : Question) → (a : Answer) × env.answers history desk time question a
-  pub one_answer : (history : List Entry) (desk : ℕ) (time : Time) (question : Question) (a b : Answer) → env.answers history desk time question a → env.answers history desk time question b → a ≡ b
+  pub some_answer : (history : List Entry) (desk : ℕ) (time : Time) (body : List ℕ) → (a : Answer) × env.answers history desk time body a
+  pub one_answer : (history : List Entry) (desk : ℕ) (time : Time) (body : List ℕ) (a b : Answer) → env.answers history desk time body a → env.answers history desk time body b → a ≡ b
 
 -- each list of events has a run
 abbrev pub HasRun : Environment → Type 0
-HasRun env = (s : State) (events : List Event) → IsSoundEnvironment env → (dids : List Did) × (ending : Ending) × Runs env s events dids ending
+HasRun env = (s : State) (events : List Event) → (dids : List Did) × (ending : Ending) × Runs env s events dids ending
 
 -- and no other
 abbrev pub HasOneRun : Environment → Type 0
-HasOneRun env = (s : State) (events : List Event) (dids others : List Did) (ending other : Ending) → IsSoundEnvironment env
+HasOneRun env = (s : State) (events : List Event) (dids others : List Did) (ending other : Ending)
     → Runs env s events dids ending → Runs env s events others other → (dids ≡ others) × (ending ≡ other)
 
--- the questions that a desk is asked: any request, and trial lines if it is the desk that acts for them
-abbrev pub MayBeAsked : ℕ → Question → Type 0
-MayBeAsked desk (Request body) = Unit {0}
-MayBeAsked desk (Trial words) = desk ≡ trial_desk
-
--- what desks answer is appended by them, and neither they nor the server are lines
-pub record IsAnsweredByDesks (env : Environment) : Type 0 where
+-- neither the server nor a desk is a line
+pub record AreApart (env : Environment) : Type 0 where
   pub server : is_line env server ≡ false
   pub desks : (desk : ℕ) → env.is_desk desk ≡ true → is_line env (first_desk + desk) ≡ false
-  pub answers : (history : List Entry) (desk : ℕ) (time : Time) (question : Question) (a : Answer) → MayBeAsked desk question → env.answers history desk time question a → All (λ (e : Entry). e.by ≡ first_desk + desk) a.entries
+
+-- what a desk replies is appended in its own name
+abbrev pub IsAnsweredByDesks : Environment → Type 0
+IsAnsweredByDesks env = (history : List Entry) (desk : ℕ) (time : Time) (body : List ℕ) (a : Answer) → env.answers history desk time body a → All (λ (e : Entry). e.by ≡ first_desk + desk) a.entries
 
 -- What the history of a run says of each interface and slot is what the events told of it.
 abbrev pub CoreIsTold : Environment → Type 0
-CoreIsTold env = (events : List Event) (dids : List Did) (ending : Ending) (m : ℕ) → IsSoundEnvironment env → IsAnsweredByDesks env → is_line env m ≡ true
+CoreIsTold env = (events : List Event) (dids : List Did) (ending : Ending) (m : ℕ) → AreApart env → is_line env m ≡ true
     → Runs env opening events dids ending → Told env.routing m (history_of dids) (told m events dids)
 
 -- The logs have what stands of the history up to the place that they have passed, and nothing else.
@@ -65,14 +64,15 @@ rules_of env = record {
   most_bytes = env.most_bytes;
 }
 
--- what desks answer behind a legal history leaves it legal, its limits too, and no worker ends by it
+-- What a desk replies behind a legal history in which nobody has ended leaves it legal, its limits too, and nobody ends by it.
 pub record IsAnsweredLegally (env : Environment) : Type 0 where
-  pub legal : (history : List Entry) (desk : ℕ) (time : Time) (question : Question) (a : Answer) → env.is_desk desk ≡ true → env.answers history desk time question a → IsLegal (rules_of env) history → IsLegal (rules_of env) (history ++ a.entries)
-  pub none_ended : (history : List Entry) (desk : ℕ) (time : Time) (question : Question) (a : Answer) → env.answers history desk time question a → list_any (λ (e : Entry). is_ended e.what) a.entries ≡ false
+  pub legal : (history : List Entry) (desk : ℕ) (time : Time) (body : List ℕ) (a : Answer) → env.is_desk desk ≡ true → list_any (λ (e : Entry). is_ended e.what) history ≡ false
+      → env.answers history desk time body a → IsLegal (rules_of env) history → IsLegal (rules_of env) (history ++ a.entries)
+  pub none_ended : (history : List Entry) (desk : ℕ) (time : Time) (body : List ℕ) (a : Answer) → env.answers history desk time body a → list_any (λ (e : Entry). is_ended e.what) a.entries ≡ false
 
 -- The history of a run is legal.
 abbrev pub CoreIsLegal : Environment → Type 0
-CoreIsLegal env = (events : List Event) (dids : List Did) (ending : Ending) → IsAnsweredLegally env → Runs env opening events dids ending → IsLegal (rules_of env) (history_of dids)
+CoreIsLegal env = (events : List Event) (dids : List Did) (ending : Ending) → Runs env opening events dids ending → IsLegal (rules_of env) (history_of dids)
 
 -- A maker's cursor may be kept as one place of the history, and a count of what was refused before it: what is ahead, and what
 -- a Closed says is unsent, follow from these two.
@@ -83,3 +83,7 @@ CursorIsPlace env = (s : State) (by place count : ℕ) → IsPassed env s by pla
 -- Sites keep a law, whatever stands for what is not defined yet.
 abbrev pub OfSites : (Environment → Type 0) → Type 0
 OfSites Law = (u : Undefined) (site : SiteData) → Law (environment_with u site)
+
+-- The numbers of a site's makers are apart, since it has at most sixteen interfaces and four routers.
+abbrev pub SitesAreApart : Type 0
+SitesAreApart = (u : Undefined) (site : SiteData) → IsSoundSite site → AreApart (environment_with u site)

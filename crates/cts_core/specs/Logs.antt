@@ -3,7 +3,7 @@ use Rattle.std.specs.Prelude.{ℕ, ◌+◌, List, [], ◌∷◌}
 use Rattle.std.specs.List.{flat_map}
 use Rattle.cts_entry.specs.declared.event.Event.{Event}
 use Rattle.cts_entry.specs.declared.event.Effect.{Effect}
-use Rattle.cts_entry.specs.declared.event.Effect.TheVariants.{Posted, Reply, Written, Logged, Routed, Tried}
+use Rattle.cts_entry.specs.declared.event.Effect.TheVariants.{Posted, Reply, Written, Logged, Routed}
 use Rattle.cts_core.specs.Runs.{Did, drained}
 
 -- how many entries the events gave to the logs that were done
@@ -18,7 +18,6 @@ packets_in (Reply desk front text) = []
 packets_in (Written interface bytes) = []
 packets_in (Logged packets commands) = packets
 packets_in (Routed slot bytes) = []
-packets_in (Tried front text) = []
 
 abbrev pub commands_in : Effect → List ℕ
 commands_in Posted = []
@@ -26,7 +25,6 @@ commands_in (Reply desk front text) = []
 commands_in (Written interface bytes) = []
 commands_in (Logged packets commands) = commands
 commands_in (Routed slot bytes) = []
-commands_in (Tried front text) = []
 
 -- all that was given to the log of packets, and to that of commands
 abbrev pub packets_logged : List Did → List ℕ

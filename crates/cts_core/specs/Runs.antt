@@ -1,5 +1,5 @@
 -- What each event does, and what a list of events does.
-use Rattle.std.specs.Prelude.{◌≡◌, ℕ, ◌+◌, ◌==◌, Bool, true, false, if◌then◌else◌, List, [], ◌∷◌, ◌++◌, length, take, Option, Some, None, unwrap_or, ◌⊎◌}
+use Rattle.std.specs.Prelude.{◌≡◌, ℕ, ◌+◌, ◌==◌, Bool, true, false, if◌then◌else◌, List, [], ◌∷◌, ◌++◌, length, take, Option, Some, None, ◌⊎◌}
 use Rattle.cts_def.specs.declared.time.Time.{Time}
 use Rattle.cts_entry.specs.declared.entry.Entry.{Entry}
 use Rattle.cts_def.specs.Makers.{server}
@@ -7,15 +7,16 @@ use Rattle.cts_entry.specs.declared.what.What.TheVariants.{Opened, Closed, Stop 
 use Rattle.cts_entry.specs.declared.why.Why.{Why}
 use Rattle.cts_entry.specs.declared.why.Why.TheVariants.{BadFrame}
 use Rattle.cts_entry.specs.declared.event.Event.{Event}
-use Rattle.cts_entry.specs.declared.event.Event.TheVariants.{SetTime, Opens, Piece, Finish, Write, Call, DrainLog, DrainSlot, Stop, Try}
+use Rattle.cts_entry.specs.declared.event.Event.TheVariants.{SetTime, Opens, Piece, Finish, Write, Call, DrainLog, DrainSlot, Stop}
 use Rattle.cts_entry.specs.declared.event.Effect.{Effect}
-use Rattle.cts_entry.specs.declared.event.Effect.TheVariants.{Posted, Reply, Written, Logged, Routed, Tried}
+use Rattle.cts_entry.specs.declared.event.Effect.TheVariants.{Posted, Reply, Written, Logged, Routed}
 use Rattle.cts_entry.specs.Histories.{latest, connects_maker}
 use Rattle.cts_frame.specs.Framing.{Output}
 use Rattle.cts_frame.specs.Cuts.{Pieces}
 use Rattle.cts_frame.specs.Packets.{IsPackets, Fault, fault_of, loss_of}
 use Rattle.cts_told.specs.Routing.{posted_entries}
-use Rattle.cts_core.specs.States.{Answer, Environment, State, Request, Trial, trial_desk, is_enabled, takes_room, has_room, put_next, unsent, log_ahead, packets_log, commands_log}
+use Rattle.cts_api.specs.Replies.{Reply as Answer}
+use Rattle.cts_core.specs.States.{Environment, State, is_enabled, takes_room, has_room, put_next, unsent, log_ahead, packets_log, commands_log}
 
 -- a connection's Closed has what its chain gave to no packet, and how many of its queue were not put whole
 abbrev pub closed_entry : Time → ℕ → Why → ℕ → List Pieces → Entry
@@ -48,18 +49,17 @@ pub record Closes (env : Environment) (s : State) (by : ℕ) (why : Why) (entrie
 abbrev pub silent : Answer
 silent = record { text = None; entries = [] }
 
--- A desk may answer this to the question that an event asks; an event that asks no desk has no answer.
+-- A desk may reply this to the body that an event brings; an event that asks no desk has no answer.
 abbrev pub IsAnswered : Environment → State → Event → Answer → Type 0
 IsAnswered env s (SetTime time) a = a ≡ silent
 IsAnswered env s (Opens by) a = a ≡ silent
 IsAnswered env s (Piece by piece) a = a ≡ silent
 IsAnswered env s (Finish by why) a = a ≡ silent
 IsAnswered env s (Write by count) a = a ≡ silent
-IsAnswered env s (Call desk body) a = env.answers s.history desk s.time (Request body) a
+IsAnswered env s (Call desk body) a = env.answers s.history desk s.time body a
 IsAnswered env s (DrainLog count) a = a ≡ silent
 IsAnswered env s (DrainSlot by count) a = a ≡ silent
 IsAnswered env s Stop a = a ≡ silent
-IsAnswered env s (Try words) a = env.answers s.history trial_desk s.time (Trial words) a
 
 -- the entries that an event appends, where a desk that it asks answers this
 abbrev pub Appends : Environment → State → Event → Answer → List Entry → Type 0
@@ -72,7 +72,6 @@ Appends env s (Call desk body) a entries = entries ≡ a.entries
 Appends env s (DrainLog count) a entries = entries ≡ []
 Appends env s (DrainSlot by count) a entries = entries ≡ []
 Appends env s Stop a entries = entries ≡ record { by = server; time = s.time; what = StopEntry } ∷ []
-Appends env s (Try words) a entries = entries ≡ a.entries
 
 -- what an event gives besides, where a desk that it asks answers this
 abbrev pub effect_of : Environment → State → Event → Answer → Effect
@@ -85,7 +84,6 @@ effect_of env s (Call desk body) a = Reply desk (length s.history) a.text
 effect_of env s (DrainLog count) a = Logged (packets_log env (take count (log_ahead s))) (commands_log env (take count (log_ahead s)))
 effect_of env s (DrainSlot by count) a = Routed by (put_next env s by count)
 effect_of env s Stop a = Posted
-effect_of env s (Try words) a = Tried (length s.history) (unwrap_or a.text [])
 
 -- what an event did: the entries that it appended, and what it gave besides
 pub record Did : Type 0 where
@@ -112,7 +110,6 @@ time_after (Call desk body) now = now
 time_after (DrainLog count) now = now
 time_after (DrainSlot by count) now = now
 time_after Stop now = now
-time_after (Try words) now = now
 
 -- the piece that an event brings from a maker's connection
 abbrev pub pieces_for : ℕ → Event → List (List ℕ)
@@ -125,7 +122,6 @@ pieces_for m (Call desk body) = []
 pieces_for m (DrainLog count) = []
 pieces_for m (DrainSlot by count) = []
 pieces_for m Stop = []
-pieces_for m (Try words) = []
 
 -- how many entries a maker passes by an event
 abbrev pub passed_for : ℕ → Event → ℕ
@@ -138,7 +134,6 @@ passed_for m (Call desk body) = 0
 passed_for m (DrainLog count) = 0
 passed_for m (DrainSlot by count) = if by == m then count else 0
 passed_for m Stop = 0
-passed_for m (Try words) = 0
 
 -- What is kept of a maker's connection, where entries tell whether it is opened or closed: with either, what was kept before
 -- is given up, and else there is so much.
@@ -163,7 +158,6 @@ drained (Call desk body) = 0
 drained (DrainLog count) = count
 drained (DrainSlot by count) = 0
 drained Stop = 0
-drained (Try words) = 0
 
 -- what the core holds after an event that did this
 abbrev pub after : State → Event → Did → State

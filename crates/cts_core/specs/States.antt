@@ -1,27 +1,18 @@
 -- What the server's core stands on, what it holds, and which events it takes.
-use Rattle.std.specs.Prelude.{ℕ, Bool, true, false, ◌&&◌, ◌||◌, not, nat_le, nat_lt, List, [], ◌++◌, length, take, drop, Option}
+use Rattle.std.specs.Prelude.{ℕ, Bool, true, false, ◌&&◌, ◌||◌, not, nat_le, nat_lt, List, [], ◌++◌, length, take, drop}
 use Rattle.cts_def.specs.declared.time.Time.{Time}
 use Rattle.cts_entry.specs.declared.entry.Entry.{Entry}
 use Rattle.cts_entry.specs.declared.why.Why.{Why}
 use Rattle.cts_entry.specs.declared.why.Why.TheVariants.{PeerEnded, ReadFault, WriteFault, BadFrame, Stopped, NoMemory, Full}
 use Rattle.cts_entry.specs.declared.event.Event.{Event}
-use Rattle.cts_entry.specs.declared.event.Event.TheVariants.{SetTime, Opens, Piece, Finish, Write, Call, DrainLog, DrainSlot, Stop, Try}
+use Rattle.cts_entry.specs.declared.event.Event.TheVariants.{SetTime, Opens, Piece, Finish, Write, Call, DrainLog, DrainSlot, Stop}
 use Rattle.cts_entry.specs.Histories.{is_connected, is_stopped, entries_in, bytes_in, since}
 use Rattle.cts_entry.specs.Queues.{spelled, unsent_of}
 use Rattle.cts_frame.specs.Framing.{Heading}
 use Rattle.cts_frame.specs.Packets.{capped}
 use Rattle.cts_told.specs.Routing.{Routing, names_in, spell, queue, walk}
 use Rattle.cts_told.specs.Streams.{telemetry_log, command_log}
-
--- what a desk is asked: a request of a client, or the words of a trial line of a script
-pub data Question : Type 0 where
-  Request : List ℕ → Question
-  Trial : List (List ℕ) → Question
-
--- what a desk answers to a question: a text or none, and the entries to append
-pub record Answer : Type 0 where
-  pub text : Option (List ℕ)
-  pub entries : List Entry
+use Rattle.cts_api.specs.Replies.{Reply as Answer}
 
 -- what events stand on: the site, as far as they need it, what desks answer, and the limits of the history
 pub record Environment : Type 1 where
@@ -33,8 +24,8 @@ pub record Environment : Type 1 where
   pub is_logged : ℕ → Bool
   -- how some bytes are laid out in a log
   pub layout : Heading → List ℕ → List ℕ
-  -- what a desk may answer at a history and a time to a question
-  pub answers : List Entry → ℕ → Time → Question → Answer → Type 0
+  -- what a desk may reply at a history and a time to the body of a request
+  pub answers : List Entry → ℕ → Time → List ℕ → Answer → Type 0
   pub most_entries : ℕ
   pub most_bytes : ℕ
 
@@ -84,10 +75,6 @@ packets_log env entries = telemetry_log env.layout (names_in env.routing) env.is
 abbrev pub commands_log : Environment → List Entry → List ℕ
 commands_log env entries = command_log env.layout (names_in env.routing) env.is_logged entries
 
--- the desk that acts for trial lines
-abbrev pub trial_desk : ℕ
-trial_desk = 0
-
 -- ---- which events are enabled
 
 -- why a script may close a connection: a stop only after a Stop
@@ -115,7 +102,6 @@ is_enabled env s (Call desk body) = env.is_desk desk
 is_enabled env s (DrainLog count) = nat_le count (length (log_ahead s))
 is_enabled env s (DrainSlot by count) = env.is_slot by && (is_connected by s.history && nat_le count (length (ahead env s by)))
 is_enabled env s Stop = not (is_stopped s.history)
-is_enabled env s (Try words) = env.is_desk trial_desk
 
 -- these entries would pass no limit
 abbrev pub has_room : Environment → State → List Entry → Bool
@@ -132,4 +118,3 @@ takes_room (Call desk body) = false
 takes_room (DrainLog count) = false
 takes_room (DrainSlot by count) = false
 takes_room Stop = false
-takes_room (Try words) = false

@@ -4,7 +4,7 @@ use Rattle.std.specs.List.{flat_map}
 use Rattle.cts_entry.specs.declared.entry.Entry.{Entry}
 use Rattle.cts_entry.specs.declared.event.Event.{Event}
 use Rattle.cts_entry.specs.declared.event.Effect.{Effect}
-use Rattle.cts_entry.specs.declared.event.Effect.TheVariants.{Posted, Reply, Written, Logged, Routed, Tried}
+use Rattle.cts_entry.specs.declared.event.Effect.TheVariants.{Posted, Reply, Written, Logged, Routed}
 use Rattle.cts_entry.specs.Histories.{latest, connects_maker}
 use Rattle.cts_entry.specs.Places.{Stays}
 use Rattle.cts_told.specs.Routing.{Routing}
@@ -29,7 +29,6 @@ put_for m (Reply desk front text) = []
 put_for m (Written interface bytes) = if interface == m then bytes else []
 put_for m (Logged tlm cmd) = []
 put_for m (Routed slot bytes) = if slot == m then bytes else []
-put_for m (Tried front text) = []
 
 -- the connection that stands takes a maker's piece, and what was put for it
 abbrev pub heard : ℕ → Event → Did → Connection → Connection

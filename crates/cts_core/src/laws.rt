@@ -1,20 +1,21 @@
 // Laws of the definitions. The function does nothing: its contract is the law.
-ghost use Rattle.cts_core.specs.Commands.{CommandsAreBuilt};
 ghost use Rattle.cts_core.specs.Sendings.{CommandsAreJudged};
-ghost use Rattle.cts_core.specs.Laws.{HasRun, HasOneRun, IsSoundEnvironment, CoreIsTold, CoreIsLogged, CoreIsLegal, CursorIsPlace, OfSites};
+ghost use Rattle.cts_core.specs.Laws.{HasRun, HasOneRun, IsAnsweredByDesks, IsAnsweredLegally, IsSoundEnvironment, CoreIsTold, CoreIsLogged, CoreIsLegal, CursorIsPlace, OfSites, SitesAreApart};
 
-/// In the environment of a site, whose chains are sound and in which each question to a desk has exactly one answer, each list of
-/// events, from any state of the core, does exactly one thing.
+/// In the environment of each site, each list of events, from any state of the core, does exactly one thing: its chains are sound, and
+/// each body has exactly one reply of a desk.
 pub fn runs()
     ensures some { OfSites HasRun }
     ensures one { OfSites HasOneRun }
     ensures sound { OfSites IsSoundEnvironment }
 {}
 
-/// In every run from the opening, what the history says of each interface and slot is what the
-/// events told of its connections.
+/// In every run from the opening, what the history says of each interface and slot is what the events told of its connections. Desks
+/// append in their own names, and the numbers of a site's makers are apart.
 pub fn core_is_told()
-    ensures { OfSites CoreIsTold }
+    ensures told { OfSites CoreIsTold }
+    ensures desks { OfSites IsAnsweredByDesks }
+    ensures apart { SitesAreApart }
 {}
 
 /// In every run from the opening, what was given to the logs is what they have to have of the
@@ -23,17 +24,17 @@ pub fn core_is_logged()
     ensures { OfSites CoreIsLogged }
 {}
 
-/// The history of every run from the opening is legal.
+/// The history of every run from the opening is legal, since what desks reply leaves it so.
 pub fn core_is_legal()
-    ensures { OfSites CoreIsLegal }
+    ensures legal { OfSites CoreIsLegal }
+    ensures desks { OfSites IsAnsweredLegally }
 {}
 
-/// In every run a command text of a trial line is refused exactly where it is none, a check fails, its target has no interface, that
-/// interface is not connected, or the history is full, and then nothing is appended; else its command is sent. The bytes that are
-/// sent are those that are built of the request.
+/// In every run a call of a method of commands appends nothing exactly where a check of its request fails, the target has no interface,
+/// that interface is not connected, or the history is full; and else exactly the command that is built of the request. Nor does it append
+/// anything where its text asks for no command.
 pub fn commands()
-    ensures judged { CommandsAreJudged }
-    ensures built { CommandsAreBuilt }
+    ensures { CommandsAreJudged }
 {}
 
 /// A running core may keep, for each connection, one place of the history and one count of what was

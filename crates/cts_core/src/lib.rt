@@ -3,6 +3,7 @@
 #![tactic(auto)]
 
 mod built;
+mod calling;
 mod connection;
 mod enabling;
 mod fault;
@@ -10,8 +11,6 @@ mod framer;
 mod laws;
 mod posting;
 mod running;
-mod sending;
-mod trying;
 mod world;
 mod writing;
 

@@ -97,10 +97,9 @@ impl<C: Framer> Running<C> {
             Event::Finish(by, why) => self.finish(*by, *why),
             Event::Stop => self.stop(),
             Event::Write(by, count) => self.write(*by, *count),
-            Event::Call(_, _) => Err(WorldFault::NotEnabled),
+            Event::Call(desk, body) => self.call(*desk, body.as_slice()),
             Event::DrainLog(_) => Err(WorldFault::NotEnabled),
             Event::DrainSlot(_, _) => Err(WorldFault::NotEnabled),
-            Event::Try(words) => self.attempt(words.as_slice()),
         }
     }
 

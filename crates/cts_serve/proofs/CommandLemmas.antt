@@ -46,7 +46,7 @@ module _ (stock : List Meaning) where
 
   replay_of : (site : SiteData) (script : List ℕ) (events : List (ℕ × Event)) → (o : Outcome) × IsReplay site script events o
   replay_of site script events =
-      let run = has_run (site_environment site) opening (events_of events) (site_sound site) in
+      let run = has_run (site_environment site) (site_sound site) opening (events_of events) in
       (replay_outcome site script events run.0 run.1, record { dids = run.0; ending = run.1; runs = run.2; commands = run_judged stand_ins site opening (events_of events) run.0 run.1 run.2; outcome = refl })
 
   done_of : (files : List ℕ → Option (List ℕ)) (r : RequestData) (script : Option (List ℕ)) → (o : Outcome) × IsDone files r script o

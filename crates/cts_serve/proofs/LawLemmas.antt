@@ -30,7 +30,7 @@ use Rattle.cts_serve.proofs.CommandLemmas.{some_outcome, third_is, refusal_is, n
 -- a script's events have one run, and so one outcome
 one_replay : (site : SiteData) (script : List ℕ) (events : List (ℕ × Event)) (o p : Outcome) → IsReplay site script events o → IsReplay site script events p → o ≡ p
 one_replay site script events o p h k =
-    let same = has_one_run (site_environment site) opening (events_of events) h.dids k.dids h.ending k.ending (site_sound site) h.runs k.runs in
+    let same = has_one_run (site_environment site) (site_sound site) opening (events_of events) h.dids k.dids h.ending k.ending h.runs k.runs in
     h.outcome ∙ (ap (λ (ds : List Did). replay_outcome site script events ds h.ending) same.0 ∙ (ap (λ (e : Ending). replay_outcome site script events k.dids e) same.1 ∙ sym k.outcome))
 
 one_done : (files : List ℕ → Option (List ℕ)) (r : RequestData) (script : Option (List ℕ)) (o p : Outcome) → IsDone files r script o → IsDone files r script p → o ≡ p

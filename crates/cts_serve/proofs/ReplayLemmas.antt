@@ -134,7 +134,7 @@ body_front site events left w text p dids ending =
 pub wants : (site : SiteData) (events left : List (ℕ × Event)) (w : Held) (text : List ℕ) (p : IsProgress site events left w text) (old new : SinkSeen)
     → IsPut text old new → Replays site events (Err halt.Memory) old new
 wants site events left w text p old new h =
-    let r = has_run (site_environment site) p.state (events_of left) (site_sound site) in
+    let r = has_run (site_environment site) (site_sound site) p.state (events_of left) in
     record {
       dids = p.prior ++ r.0;
       ending = r.1;
@@ -145,14 +145,14 @@ wants site events left w text p old new h =
 -- memory was wanted before anything was done
 pub wants_first : (site : SiteData) (events : List (ℕ × Event)) (out : SinkSeen) → Replays site events (Err halt.Memory) out out
 wants_first site events out =
-    let r = has_run (site_environment site) opening (events_of events) (site_sound site) in
+    let r = has_run (site_environment site) (site_sound site) opening (events_of events) in
     record { dids = r.0; ending = r.1; runs = r.2; puts = (0, (refl, sym (appended-nil out.told))) }
 
 -- a put failed within the lines of an event that was done
 faulted : (site : SiteData) (events rest : List (ℕ × Event)) (x : ℕ × Event) (w : Held) (text : List ℕ) (p : IsProgress site events (x ∷ rest) w text) (did : Did) (old mid new : SinkSeen)
     → Does (site_environment site) p.state x.1 did → IsPut text old mid → FailsWithin (event_text site p.state.history did) mid new → Replays site events (Err halt.WriteFault) old new
 faulted site events rest x w text p did old mid new d m fails =
-    let r = has_run (site_environment site) (after p.state x.1 did) (events_of rest) (site_sound site) in
+    let r = has_run (site_environment site) (site_sound site) (after p.state x.1 did) (events_of rest) in
     let lines = event_text site p.state.history did in
     let more = transcript site (p.state.history ++ did.entries) r.0 ++ body_tail (p.prior ++ did ∷ r.0) r.1 in
     record {

@@ -4,9 +4,9 @@ use Rattle.std.specs.List.{list_all}
 use Rattle.cts_def.specs.Sites.{SiteData}
 use Rattle.cts_entry.specs.declared.entry.Entry.{Entry}
 use Rattle.cts_entry.specs.declared.event.Event.{Event}
-use Rattle.cts_entry.specs.declared.event.Event.TheVariants.{SetTime, Opens, Piece, Finish, Write, Call, DrainLog, DrainSlot, Stop, Try}
+use Rattle.cts_entry.specs.declared.event.Event.TheVariants.{SetTime, Opens, Piece, Finish, Write, Call, DrainLog, DrainSlot, Stop}
 use Rattle.cts_entry.specs.declared.why.Why.{Why}
-use Rattle.cts_core.specs.States.{Answer, State, opening, is_enabled}
+use Rattle.cts_core.specs.States.{State, opening, is_enabled}
 use Rattle.cts_core.specs.Runs.{Did, Does, Receives, Closes, IsAnswered, silent, Appends, Refuses, Runs, Ending, Finished, NotEnabled, HistoryFull, after, effect_of}
 use Rattle.cts_core.specs.Environments.{Undefined, environment_with}
 use Rattle.cts_core.specs.Built.{is_built_event}
@@ -26,47 +26,43 @@ module _ (u v : Undefined) (site : SiteData) where
   enabled_same s (Piece by piece) b = refl
   enabled_same s (Finish by why) b = refl
   enabled_same s (Write by count) b = refl
-  enabled_same s (Call desk body) b = absurd (cc b)
+  enabled_same s (Call desk body) b = refl
   enabled_same s (DrainLog count) b = absurd (cc b)
   enabled_same s (DrainSlot by count) b = absurd (cc b)
   enabled_same s Stop b = refl
-  enabled_same s (Try words) b = refl
 
-  answered : (s : State) (event : Event) (a : Answer) → is_built_event event ≡ true → IsAnswered (environment_with u site) s event a → IsAnswered (environment_with v site) s event a
+  answered : (s : State) (event : Event) (a : _) → is_built_event event ≡ true → IsAnswered (environment_with u site) s event a → IsAnswered (environment_with v site) s event a
   answered s (SetTime time) a b h = h
   answered s (Opens by) a b h = h
   answered s (Piece by piece) a b h = h
   answered s (Finish by why) a b h = h
   answered s (Write by count) a b h = h
-  answered s (Call desk body) a b h = absurd (cc b)
+  answered s (Call desk body) a b h = h
   answered s (DrainLog count) a b h = absurd (cc b)
   answered s (DrainSlot by count) a b h = absurd (cc b)
   answered s Stop a b h = h
-  answered s (Try words) a b h = h
 
-  effect_same : (s : State) (event : Event) (a : Answer) → is_built_event event ≡ true → effect_of (environment_with u site) s event a ≡ effect_of (environment_with v site) s event a
+  effect_same : (s : State) (event : Event) (a : _) → is_built_event event ≡ true → effect_of (environment_with u site) s event a ≡ effect_of (environment_with v site) s event a
   effect_same s (SetTime time) a b = refl
   effect_same s (Opens by) a b = refl
   effect_same s (Piece by piece) a b = refl
   effect_same s (Finish by why) a b = refl
   effect_same s (Write by count) a b = refl
-  effect_same s (Call desk body) a b = absurd (cc b)
+  effect_same s (Call desk body) a b = refl
   effect_same s (DrainLog count) a b = absurd (cc b)
   effect_same s (DrainSlot by count) a b = absurd (cc b)
   effect_same s Stop a b = refl
-  effect_same s (Try words) a b = refl
 
-  appends : (s : State) (event : Event) (a : Answer) (entries : List Entry) → is_built_event event ≡ true → Appends (environment_with u site) s event a entries → Appends (environment_with v site) s event a entries
+  appends : (s : State) (event : Event) (a : _) (entries : List Entry) → is_built_event event ≡ true → Appends (environment_with u site) s event a entries → Appends (environment_with v site) s event a entries
   appends s (SetTime time) a entries b h = h
   appends s (Opens by) a entries b h = h
   appends s (Piece by piece) a entries b h = receives s by piece entries h
   appends s (Finish by why) a entries b h = closes s by why entries h
   appends s (Write by count) a entries b h = h
-  appends s (Call desk body) a entries b h = absurd (cc b)
+  appends s (Call desk body) a entries b h = h
   appends s (DrainLog count) a entries b h = absurd (cc b)
   appends s (DrainSlot by count) a entries b h = absurd (cc b)
   appends s Stop a entries b h = h
-  appends s (Try words) a entries b h = h
 
   does : (s : State) (event : Event) (did : Did) → is_built_event event ≡ true → Does (environment_with u site) s event did → Does (environment_with v site) s event did
   does s event did b d = record {

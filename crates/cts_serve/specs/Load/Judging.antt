@@ -10,7 +10,7 @@ use Rattle.cts_defread.specs.Definitions.{definitions_of}
 use Rattle.cts_entry.specs.declared.event.Event.{Event}
 use Rattle.cts_plan.specs.SiteFiles.{site_of}
 use Rattle.cts_scriptread.specs.Scripts.{events_of}
-use Rattle.cts_serve.specs.Load.Scripts.{are_scripted}
+use Rattle.cts_serve.specs.Load.Scripts.{are_built_events}
 use Rattle.cts_serve.specs.Load.Causes.{words_unloaded, or_unloaded}
 use Rattle.cts_serve.specs.declared.load.file_kind.FileKind.{FileKind}
 use Rattle.cts_serve.specs.declared.load.file_kind.FileKind.TheVariants.{Definitions, Site, Script}
@@ -61,7 +61,7 @@ abbrev pub judge_site : (SiteData → Bool) → DefinitionsData → List ℕ →
 judge_site is_built definitions bytes = judge Site (λ statements. verdict is_built (site_read definitions statements)) bytes
 
 abbrev pub judge_script : SiteData → List ℕ → Option Unloaded
-judge_script site bytes = judge Script (λ statements. verdict are_scripted (script_read site statements)) bytes
+judge_script site bytes = judge Script (λ statements. verdict are_built_events (script_read site statements)) bytes
 
 -- why a file gives nothing, if it does not: it is absent, or its bytes are judged so
 abbrev pub file_unloaded : (List ℕ → Option Unloaded) → Option (List ℕ) → Option Unloaded

@@ -1,6 +1,6 @@
 // Scripts: the events that their lines say.
 ghost use Rattle.std.specs.Prelude.{◌≡◌, true, IfOk, IfSome};
-ghost use Rattle.cts_serve.specs.Load.Scripts.{are_built_events, are_scripted, is_scripted, is_stop_event};
+ghost use Rattle.cts_serve.specs.Load.Scripts.{are_built_events};
 ghost use Rattle.cts_serve.specs.Load.Fetching.{Takes, LoadCounts, answer_seen};
 ghost use Rattle.cts_serve.specs.Load.Judging.{judge_script, events_in};
 
@@ -29,7 +29,7 @@ pub fn load_script<F: Files>(
     let found = read_statements(alloc, files, name, FileKind::Script)?;
     match read_events(alloc, &found, site) {
         Ok(events) => {
-            if are_scripted(&events) {
+            if are_built_events(&events) {
                 return Ok(events);
             }
             Err(Unloaded::NotBuilt)
@@ -43,23 +43,8 @@ pub fn load_script<F: Files>(
 }
 
 // Whether all events of a script can be replayed so far.
-fn are_scripted(events: &[(u32, Event)]) -> bool
-    ensures { result ≡ are_scripted events.now }
+fn are_built_events(events: &[(u32, Event)]) -> bool
+    ensures { result ≡ are_built_events events.now }
 {
-    events.iter().all(|event| is_scripted(&event.1))
-}
-
-fn is_scripted(event: &Event) -> bool
-    ensures { result ≡ is_scripted event.now }
-{
-    is_built_event(event) && !is_stop_event(event)
-}
-
-fn is_stop_event(event: &Event) -> bool
-    ensures { result ≡ is_stop_event event.now }
-{
-    match event {
-        Event::Stop => true,
-        _ => false,
-    }
+    events.iter().all(|event| is_built_event(&event.1))
 }
