@@ -98,7 +98,7 @@ a_maker : (a b c d e : Bool) → c ≡ true → ((((a || b) || c) || d) || e) �
 a_maker a b c d e h = grind arith
 
 module _ (s : Shown) (by : ℕ) (time : Time) (a : Asking) (d : code.Done) (kept : IsKept s.basis s.entries) (few : length s.basis.site.definitions.set_names ≤ most_sets)
-  (desk : is_desk s.basis.site by ≡ true) (active : has_ended by s.entries ≡ false) (asked : IsSoundAsking a) (persist : LimitsPersist a (Ok d)) (has : HasAnswered (point s) a (Ok d)) where
+    (desk : is_desk s.basis.site by ≡ true) (active : has_ended by s.entries ≡ false) (asked : IsSoundAsking a) (persist : LimitsPersist a (Ok d)) (has : HasAnswered (point s) a (Ok d)) where
   sets_few : length (known_sets s.basis.site s.entries) ≤ most_sets
   sets_few = few_known s.basis.site [] s.entries few kept.of_site
 

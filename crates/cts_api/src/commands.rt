@@ -29,7 +29,10 @@ fn given_in(alloc: Global, value: &Value) -> Result<Option<Given>, Memory>
 }
 
 // What an object gives, in the order of its names.
-pub(crate) fn members_given(alloc: Global, members: &Map<String, Value>) -> Result<Vec<(Bytes, Given)>, Memory>
+pub(crate) fn members_given(
+    alloc: Global,
+    members: &Map<String, Value>,
+) -> Result<Vec<(Bytes, Given)>, Memory>
     ensures { IfOk result (λ params. params.items ≡ members_given (members_view members.now.entries)) }
 {
     let mut params = Vec::new(alloc);

@@ -13,8 +13,8 @@ ghost use Rattle.cts_api.specs.Responding.{code_number, IsTold, RefusesWith};
 use crate::answering::asked;
 use crate::method::method_named;
 use crate::reading::read_asking;
-use crate::response::{Code, error_to, refusal_to};
 use crate::refusal::Refusal;
+use crate::response::{Code, error_to, refusal_to};
 use crate::sending::nothing;
 use crate::settling::{Answer, settle};
 use cts_base::Memory;
@@ -25,12 +25,7 @@ use serde_json::Value;
 use std::alloc::Global;
 
 // A response with an error, which appends nothing.
-fn refused(
-    alloc: Global,
-    id: Option<&Value>,
-    code: Code,
-    message: &[u8],
-) -> Result<Answer, Memory>
+fn refused(alloc: Global, id: Option<&Value>, code: Code, message: &[u8]) -> Result<Answer, Memory>
     ensures none { IfOk result (λ a. a.appended ≡ 0) }
     ensures text { has_fraction (option_map (λ i. view i.now) id.entry) ≡ false → IfOk result (λ a. a.text ≡ respond (option_map (λ i. view i.now) id.entry) (error (code_number code) message.now)) }
 {
@@ -116,7 +111,12 @@ pub fn reply(
             refused(alloc, Some(&nothing()), Code::ParseError, b"Parse error")
         }
         Err(RpcFault::InvalidRequest) => {
-            refused(alloc, Some(&nothing()), Code::InvalidRequest, b"Invalid Request")
+            refused(
+                alloc,
+                Some(&nothing()),
+                Code::InvalidRequest,
+                b"Invalid Request",
+            )
         }
         Err(RpcFault::InvalidParams { id }) => {
             refused(alloc, id.as_ref(), Code::InvalidParams, b"Invalid params")

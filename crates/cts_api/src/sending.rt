@@ -70,7 +70,12 @@ fn routed(alloc: Global, hall: &Hall, command: u32) -> Result<u32, Refusal>
 ///
 /// `NotDone` with the first that holds: what is said of the first check that fails (`cts_cmd::refusal_text`), `No interface`,
 /// `Not connected: I`. `Memory` where none was found.
-pub(crate) fn send(alloc: Global, hall: &Hall, checks: Checks, request: &Request) -> Result<Done, Refusal>
+pub(crate) fn send(
+    alloc: Global,
+    hall: &Hall,
+    checks: Checks,
+    request: &Request,
+) -> Result<Done, Refusal>
     ensures { IsDoneBy (point hall.now) (request_answer (point hall.now) checks request.now) result }
 {
     let built = checked(alloc, hall, checks, request)?;

@@ -38,7 +38,10 @@ pub(crate) fn settle(
     ensures { Settled hall.old by time (option_map (λ i. view i.now) id.entry) (view done.result) done.what result hall.new }
 {
     hall.is_kept();
-    let Done { result: value, what } = done;
+    let Done {
+        result: value,
+        what,
+    } = done;
     let Some(what) = what else {
         let text = result_to(alloc, id, value)?;
         return Ok(Answer { text, appended: 0 });

@@ -128,9 +128,7 @@ fn cut(row: &str) -> Result<(&str, &str), Fail> {
 fn is_over(entries: &[Entry], by: u32) -> bool
     ensures { result ≡ has_ended by entries.now }
 {
-    entries
-        .iter()
-        .any(|entry| entry.by == by && matches!(entry.what, What::Ended))
+    entries.iter().any(|entry| entry.by == by && matches!(entry.what, What::Ended))
 }
 
 fn asked(alloc: Global, hall: &mut Hall, body: &[u8]) -> Result<Answer, Fail> {
@@ -152,9 +150,9 @@ fn replied(alloc: Global, hall: &mut Hall, body: &str) -> Result<String, Fail> {
 }
 
 fn call(alloc: Global, method: &str, params: &str) -> Result<String, Fail> {
-    Ok(
-        format!(in alloc; "{{\"jsonrpc\":\"2.0\",\"method\":\"{method}\",\"params\":{params},\"id\":1}}")?,
-    )
+    Ok(format!(in alloc;
+        "{{\"jsonrpc\":\"2.0\",\"method\":\"{method}\",\"params\":{params},\"id\":1}}"
+    )?)
 }
 
 /// The response that a row wants: a result, or behind `!` the code and the message of a refusal.
@@ -165,9 +163,9 @@ fn wanted(alloc: Global, want: &str) -> Result<String, Fail> {
     let Some((code, message)) = refusal.split_once(' ') else {
         return Err(Fail::new("no message"));
     };
-    Ok(
-        format!(in alloc; "{{\"error\":{{\"code\":{code},\"message\":\"{message}\"}},\"id\":1,\"jsonrpc\":\"2.0\"}}")?,
-    )
+    Ok(format!(in alloc;
+        "{{\"error\":{{\"code\":{code},\"message\":\"{message}\"}},\"id\":1,\"jsonrpc\":\"2.0\"}}"
+    )?)
 }
 
 /// What a hall replies to the calls of a table, and how many entries it has then.

@@ -32,8 +32,8 @@ returns-in_default-read_asking c =
     let told = subst (λ (i : Option Data). has_fraction i ≡ false → IfOk c.refused-in_default-read_asking.result (λ a. a.text ≡ respond i (error (code_number InvalidParams) (codes "Invalid params")))) id c.refused-in_default-read_asking.ensures.text in
     record {
       answered = refused_so c.args.hall.now c.args.by c.args.time call (neg_ℤ (pos 32602)) (codes "Invalid params") c.refused-in_default-read_asking.result
-      (bad_params_of (point c.args.hall.now) c.args.by c.args.time (option_map view call.id) _ (method_named call.method) c.in-Some.method named (ap (params_of c.in-Some.method) (all_listed (map view call.params)) ∙ asks))
-      c.refused-in_default-read_asking.ensures.none told;
+          (bad_params_of (point c.args.hall.now) c.args.by c.args.time (option_map view call.id) _ (method_named call.method) c.in-Some.method named (ap (params_of c.in-Some.method) (all_listed (map view call.params)) ∙ asks))
+          c.refused-in_default-read_asking.ensures.none told;
     }
 
 pub settle-requires-clause-may : goal.settle-requires-clause-may
