@@ -1,5 +1,5 @@
 -- What is asked and wants no request is answered.
-use Rattle.std.proofs.Common.{Option, None, Result, Ok, Err}
+use Rattle.std.proofs.Common.{None, Result, Ok, Err}
 use Rattle.cts_api.specs.declared.refusal.Refusal.{Refusal}
 use Rattle.cts_api.specs.declared.refusal.Refusal.TheVariants.{NoSuch, NotDone, BadParams, Memory}
 use Rattle.cts_api.specs.declared.sending.Done as code

@@ -1,8 +1,7 @@
 -- What an answer that gives something has passed.
-use Rattle.std.proofs.Common.{◌≡◌, ℕ, ℤ, Bool, true, false, List, [], ◌∷◌, Option, Some, None, refl, sym, ◌∙◌, ap, subst}
+use Rattle.std.proofs.Common.{◌≡◌, ℕ, ℤ, Bool, true, false, List, Option, Some, None, refl, sym, ◌∙◌, ap, subst}
 use Rattle.std.specs.Prelude.{codes, option_map, slice_get}
 use Rattle.std.specs.List.{position}
-use Rattle.cts_cmd.specs.Checks.{has_target}
 use Rattle.cts_cmd.specs.declared.refused.Refused.{Refused}
 use Rattle.cts_def.specs.Items.{ItemData}
 use Rattle.cts_def.specs.Packets.{PacketData, is_named}
@@ -10,7 +9,7 @@ use Rattle.cts_entry.specs.declared.what.What.{What}
 use Rattle.serde_json.specs.Data.{Data, null}
 use Rattle.cts_api.specs.Answers.{Done, ItemAt, appended, check, first_with, given_or, is_called, item_at, next, numbered, or_refused, packet_at, posts, posts_nothing, told}
 use Rattle.cts_api.specs.Asking.{Said, refused, gives, ItemName, PacketName}
-use Rattle.cts_api.specs.Shown.{no_such, not_done}
+use Rattle.cts_api.specs.Shown.{no_such}
 
 pub given : {A : Type 0} (a b : A) → gives a ≡ gives b → a ≡ b
 given {A} a b e = ap inner e where

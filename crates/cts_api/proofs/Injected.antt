@@ -1,5 +1,5 @@
 -- What is said of values that are put in place of a device.
-use Rattle.std.proofs.Common.{◌≡◌, ℕ, List, [], ◌∷◌, Option, Some, None, refl, sym, ◌∙◌, ap}
+use Rattle.std.proofs.Common.{◌≡◌, ℕ, List, [], ◌∷◌, Option, Some, None, ◌∙◌, ap}
 use Rattle.std.specs.List.{filter_map}
 use Rattle.cts_cmd.specs.Builds.{AreBytes}
 use Rattle.cts_cmd.specs.Injects.{Injects, injection_refusal, stood, with_item}

@@ -10,7 +10,7 @@ use Rattle.cts_bits.proofs.Outcomes.{one_outcome}
 use Rattle.cts_bits.proofs.Runs.{field_at-lt}
 use Rattle.cts_cmd.specs.Builds.{AreBytes, Writes, WritesAll, WritesNumber, place_of}
 use Rattle.cts_cmd.specs.Contents.{content, content_given}
-use Rattle.cts_cmd.specs.Injects.{Injects, base, from_base, stood}
+use Rattle.cts_cmd.specs.Injects.{base, from_base, stood}
 use Rattle.cts_cmd.specs.declared.built.Built.{Built}
 use Rattle.cts_cmd.specs.declared.request.Given.{Given}
 use Rattle.cts_cmd.proofs.OneCommand.{number_of}

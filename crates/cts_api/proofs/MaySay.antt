@@ -1,15 +1,13 @@
 -- What a desk is asked to say it may say.
-use Rattle.std.proofs.Common.{◌≡◌, ℕ, ◌≤◌, true, false, Bool, List, [], ◌∷◌, length, Option, Some, None, Ok, refl, sym, ◌∙◌, ap, subst, arith}
+use Rattle.std.proofs.Common.{◌≡◌, ℕ, ◌≤◌, true, false, Bool, List, [], ◌∷◌, length, Option, Some, None, Ok, refl, ◌∙◌, ap, subst, arith}
 use Rattle.std.specs.Prelude.{IfSome, option_map, option_and_then, nat_le, unwrap_or, ◌&&◌, ◌||◌, if◌then◌else◌}
-use Rattle.std.proofs.lemmas.Bool.{or_right, or_left}
 use Rattle.std.proofs.lemmas.Bool.Decides.{nat_tests}
 use Rattle.cts_def.specs.Most.{most_sets}
-use Rattle.cts_def.specs.Sites.{IsSoundSite}
 use Rattle.cts_def.specs.declared.time.Time.{Time}
 use Rattle.cts_entry.specs.Legal.{has_ended}
-use Rattle.cts_entry.specs.Workers.{is_desk, is_interface, is_slot, is_maker}
+use Rattle.cts_entry.specs.Workers.{is_desk, is_interface, is_slot}
 use Rattle.cts_entry.specs.declared.what.What.{What}
-use Rattle.cts_table.specs.Keeping.{IsKept, IsOfSite}
+use Rattle.cts_table.specs.Keeping.{IsKept}
 use Rattle.cts_table.specs.States.{Shown}
 use Rattle.cts_watch.specs.Sets.{known_sets}
 use Rattle.serde_json.specs.Data.{Data}
@@ -19,7 +17,6 @@ use Rattle.cts_api.specs.declared.sending.Done as code
 use Rattle.cts_api.specs.Asking.{Asking, NewLimits, asks_value, asks_packet, asks_received, asks_sent, sends, asks_limits, sets_limits, enables, asks_set, chooses_set, asks_out_of_limits, asks_events, asks_interfaces, asks_interface, injects, stops}
 use Rattle.cts_api.specs.Kinds.{item_in, kind_in, limits_first, may_be, maybe_first, names_first, names_in, natural_in, new_limits, nothing, object_in, order_in, packet_first, packet_in, persistence, persistence_in, set_limits, single, switch_in, text_in}
 use Rattle.cts_api.specs.Methods.{params_of}
-use Rattle.cts_api.specs.Replies.{made}
 use Rattle.cts_api.specs.Settling.{CanSayIt, HasAnswered, HasPersistence, IsPersistent, IsSoundAsking, LimitsPersist}
 use Rattle.cts_api.specs.Telling.{listed as whats_of, point}
 use Rattle.cts_api.proofs.Allowed.{allowed}

@@ -1,14 +1,11 @@
 -- What a desk says is of its site: the numbers, items and sets that it names are there.
-use Rattle.std.proofs.Common.{◌≡◌, ℕ, suc, ◌≤◌, ◌<◌, Bool, true, false, ◌||◌, List, [], ◌∷◌, ◌++◌, length, Option, Some, None, Result, Ok, Err, refl, sym, ◌∙◌, ap, subst, arith, append-nil, append_assoc}
+use Rattle.std.proofs.Common.{◌≡◌, ℕ, ◌≤◌, ◌<◌, Bool, true, false, ◌||◌, List, [], ◌∷◌, ◌++◌, length, Option, Some, None, refl, sym, ◌∙◌, ap, subst, arith, append-nil, append_assoc}
 use Rattle.std.specs.Prelude.{codes, nat_lt, slice_get, is_some, option_and_then, unwrap_or, if◌then◌else◌}
-use Rattle.std.specs.List.{list_any}
-use Rattle.std.proofs.lemmas.Bool.{or_parts}
 use Rattle.std.proofs.lemmas.Bool.Decides.{nat_tests}
 use Rattle.std.proofs.lemmas.List.{length-append}
 use Rattle.std.proofs.lemmas.Option.{slice_get_within}
 use Rattle.cts_cmd.specs.Checks.{refusal}
 use Rattle.cts_cmd.specs.Injects.{injection_refusal}
-use Rattle.cts_cmd.specs.declared.built.Built.{Built}
 use Rattle.cts_cmd.specs.declared.refused.Refused.{Refused}
 use Rattle.cts_cmd.specs.declared.refused.Refused.TheVariants.{UnknownTarget, UnknownCommand, UnknownParameter, Twice, Missing, WrongType, UnknownState, OutOfRange, Overflow, Hazardous, Memory}
 use Rattle.cts_cmd.specs.declared.request.Checks.{Checks}
@@ -26,14 +23,14 @@ use Rattle.cts_table.specs.declared.basis.Basis.{Basis}
 use Rattle.cts_table.specs.Keeping.{AllOfSite, IsSaid}
 use Rattle.cts_watch.specs.Items.{has_colors, has_limits, item_at as item_in}
 use Rattle.cts_watch.specs.Settings.{limits_of, limits_used_in, watched_in, watched_of}
-use Rattle.cts_watch.specs.Sets.{is_among, known_sets, set_named, with_all, with_named, with_set}
+use Rattle.cts_watch.specs.Sets.{is_among, known_sets, set_named, with_all, with_named}
 use Rattle.cts_watch.specs.Watching.{is_watched}
 use Rattle.cts_watch.specs.declared.types.LimitsUsed.{LimitsUsed}
 use Rattle.serde_json.specs.Data.{Data, null}
-use Rattle.cts_api.specs.Answers.{Done, ItemAt, answer, check, choose_answer, command_answer, command_row, enable_answer, events_answer, first_with, given_or, inject_answer, interface_answer, interfaces_answer, item_at, known_set, limits_answer, limits_at, limits_set_answer, new_set, next, or_injection_refused, out_of_limits_answer, packet_answer, packet_at, posts, posts_command, posts_injected, posts_nothing, received_answer, request_answer, routed, sent_answer, set_limits_answer, sound_request, stop_answer, told, appended, value_answer, Posting}
-use Rattle.cts_api.specs.Asking.{Said, refused, gives, Asking, NewLimits, ItemName, PacketName, Order, asks_value, asks_packet, asks_received, asks_sent, sends, asks_limits, sets_limits, enables, asks_set, chooses_set, asks_out_of_limits, asks_events, asks_interfaces, asks_interface, injects, stops}
+use Rattle.cts_api.specs.Answers.{Done, ItemAt, answer, check, choose_answer, command_answer, command_row, enable_answer, events_answer, first_with, given_or, inject_answer, interface_answer, interfaces_answer, item_at, known_set, limits_answer, limits_at, limits_set_answer, new_set, next, or_injection_refused, out_of_limits_answer, packet_answer, packet_at, posts_command, posts_injected, posts_nothing, received_answer, request_answer, routed, sent_answer, set_limits_answer, sound_request, told, appended, value_answer, Posting}
+use Rattle.cts_api.specs.Asking.{Said, gives, Asking, NewLimits, ItemName, PacketName, asks_value, asks_packet, asks_received, asks_sent, sends, asks_limits, sets_limits, enables, asks_set, chooses_set, asks_out_of_limits, asks_events, asks_interfaces, asks_interface, injects, stops}
 use Rattle.cts_api.specs.Kinds.{members_given, or_else}
-use Rattle.cts_api.specs.Made.{built, built_at}
+use Rattle.cts_api.specs.Made.{built}
 use Rattle.cts_api.specs.Points.{Point, point_of}
 use Rattle.cts_api.specs.Replies.{posted}
 use Rattle.cts_api.specs.Settling.{IsPersistent}

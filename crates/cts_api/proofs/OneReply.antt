@@ -1,22 +1,15 @@
 -- A body has one reply at a point.
-use Rattle.std.proofs.Common.{◌≡◌, ℕ, List, [], ◌∷◌, Option, Some, None, map, inl, inr, Result, Ok, Err, sym, ap, subst, ◌∙◌}
-use Rattle.std.specs.List.{filter_map}
-use Rattle.cts_cmd.proofs.OneCommand.{one_command}
-use Rattle.cts_cmd.proofs.Injecting.{injected_one}
+use Rattle.std.proofs.Common.{◌≡◌, ℕ, List, Option, Some, None, inl, inr, Result, Ok, Err, sym, ap, subst, ◌∙◌}
 use Rattle.cts_cmd.proofs.Exact.{taken}
-use Rattle.cts_cmd.specs.declared.built.Built.{Built}
-use Rattle.cts_cmd.specs.Injects.{stood}
 use Rattle.cts_cmd.specs.Texts.{IsCommandText}
 use Rattle.cts_cmd.specs.declared.text_fault.TextFault.{TextFault}
 use Rattle.cts_cmd.specs.declared.request.Request.{Request}
 use Rattle.cts_def.specs.declared.time.Time.{Time}
-use Rattle.cts_entry.specs.declared.what.What.{What}
-use Rattle.cts_entry.specs.declared.what.What.TheVariants.{Command, Injected}
 use Rattle.cts_rpc.specs.Requests.{Outcome, not_json, not_request, bad_params, calls}
 use Rattle.cts_rpc.proofs.Whole.{outcome_is_one}
 use Rattle.serde_json.specs.Data.{Data}
-use Rattle.cts_api.specs.Asking.{Said, refused, gives, Order, in_text, in_parts, Asking, asks_value, asks_packet, asks_received, asks_sent, sends, asks_limits, sets_limits, enables, asks_set, chooses_set, asks_out_of_limits, asks_events, asks_interfaces, asks_interface, injects, stops}
-use Rattle.cts_api.specs.Answers.{Posting, posts_nothing, posts, posts_command, posts_injected, Done, answer}
+use Rattle.cts_api.specs.Asking.{Order, in_text, in_parts, Asking, asks_value, asks_packet, asks_received, asks_sent, sends, asks_limits, sets_limits, enables, asks_set, chooses_set, asks_out_of_limits, asks_events, asks_interfaces, asks_interface, injects, stops}
+use Rattle.cts_api.specs.Answers.{answer}
 use Rattle.cts_api.specs.Kinds.{listed}
 use Rattle.cts_api.specs.Methods.{params_of, method_named}
 use Rattle.cts_api.specs.declared.method.Method.{Method}

@@ -1,5 +1,5 @@
 -- The persistence of an item with limits is at least 1.
-use Rattle.std.proofs.Common.{◌≡◌, ℕ, ◌≤◌, Bool, true, false, List, [], ◌∷◌, ◌++◌, Option, Some, None, refl, sym, ◌∙◌, ap, subst, arith}
+use Rattle.std.proofs.Common.{◌≡◌, ℕ, ◌≤◌, Bool, true, false, List, [], ◌∷◌, ◌++◌, Option, Some, None, refl, ap, subst, arith}
 use Rattle.std.specs.Prelude.{◌==◌, ◌&&◌, is_some, option_map, slice_get, unwrap_or, if◌then◌else◌}
 use Rattle.cts_def.specs.Items.{HasSoundLimits, ItemData}
 use Rattle.cts_def.specs.Packets.{PacketData}

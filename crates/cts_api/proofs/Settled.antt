@@ -1,18 +1,12 @@
 -- What is answered and settled is the reply.
-use Rattle.std.proofs.Common.{◌≡◌, ℕ, ℤ, ◌≤◌, true, false, Bool, List, [], ◌∷◌, ◌++◌, length, map, Option, Some, None, Result, Ok, Err, refl, sym, ◌∙◌, ap, subst, arith, append-nil, codes}
-use Rattle.std.specs.Prelude.{IfOk, option_map, option_and_then, nat_le, ◌&&◌, if◌then◌else◌}
-use Rattle.std.proofs.lemmas.Bool.Decides.{nat_tests}
+use Rattle.std.proofs.Common.{◌≡◌, ℕ, ℤ, false, List, [], ◌∷◌, map, Option, Some, None, Result, Ok, Err, refl, sym, ◌∙◌, ap, subst, append-nil, codes}
+use Rattle.std.specs.Prelude.{IfOk, option_map}
 use Rattle.cts_base.specs.declared.memory.Memory.{Memory}
 use Rattle.cts_cmd.specs.declared.request.Request.{Request}
-use Rattle.cts_def.specs.Most.{most_sets}
-use Rattle.cts_def.specs.Sites.{IsSoundSite}
 use Rattle.cts_def.specs.declared.time.Time.{Time}
-use Rattle.cts_entry.specs.Legal.{has_ended}
-use Rattle.cts_entry.specs.Workers.{is_desk}
 use Rattle.cts_entry.specs.declared.what.What.{What}
 use Rattle.cts_rpc.specs.Requests.{IsOutcome, Outcome, calls, has_fraction}
 use Rattle.cts_rpc.specs.declared.call.Call.{Call}
-use Rattle.cts_table.specs.Keeping.{IsKept, IsOfSite}
 use Rattle.cts_table.specs.States.{Shown}
 use Rattle.serde_json.specs.Data.{Data}
 use Rattle.serde_json.specs.View.{items_of, items_view, view}
@@ -22,15 +16,15 @@ use Rattle.cts_api.specs.declared.refusal.Refusal.{Refusal}
 use Rattle.cts_api.specs.declared.refusal.Refusal.TheVariants.{NoSuch, NotDone, BadParams, Memory as NoMemory}
 use Rattle.cts_api.specs.declared.sending.Done as code
 use Rattle.cts_api.specs.declared.settling.Answer as reply
-use Rattle.cts_api.specs.Answers.{Done, answer}
-use Rattle.cts_api.specs.Asking.{Asking, Said, refused}
+use Rattle.cts_api.specs.Answers.{answer}
+use Rattle.cts_api.specs.Asking.{Asking, refused}
 use Rattle.cts_api.specs.Kinds.{listed}
 use Rattle.cts_api.specs.Methods.{method_named, params_of}
 use Rattle.cts_api.specs.Points.{Point}
-use Rattle.cts_api.specs.Replied.{Answered, Appends, Replied}
+use Rattle.cts_api.specs.Replied.{Answered, Replied}
 use Rattle.cts_api.specs.Replies.{HasRequest, IsReplyFor, IsReplyOf, IsReplyTo, Reply, invalid_params, made, not_found, posted, refusal_to, reply_with, said_to}
 use Rattle.cts_api.specs.Responding.{IsTold, RefusesWith}
-use Rattle.cts_api.specs.Settling.{CanSayIt, HasAnswered, IsSoundAsking, LimitsPersist, Settled}
+use Rattle.cts_api.specs.Settling.{HasAnswered, Settled}
 use Rattle.cts_api.specs.Telling.{listed as whats_of, point}
 use Rattle.cts_api.proofs.WholeAnswers.{answers_whole}
 

@@ -5,7 +5,6 @@ use Rattle.std.specs.Prelude.{◌≡◌, true}
 use Rattle.cts_api.specs.declared.refusal.Refusal.{Refusal}
 use Rattle.cts_api.specs.declared.refusal.Refusal.TheVariants.{NoSuch, NotDone, BadParams, Memory}
 use Rattle.cts_api.specs.Answers.{Done}
-use Rattle.cts_api.specs.Asking.{Said}
 use Rattle.cts_api.specs.Shown.{injection_said}
 use Rattle.cts_api.specs.Telling.{IsRefused}
 

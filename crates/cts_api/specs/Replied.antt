@@ -1,28 +1,16 @@
 -- What the calls that reply leave: the text, the entries that stand behind the history, and how many these are.
-use Rattle.std.specs.Prelude.{◌≡◌, ℕ, false, List, ◌++◌, map, Option, Some, None, option_map, length, Result, Ok, Err}
+use Rattle.std.specs.Prelude.{◌≡◌, ℕ, false, List, ◌++◌, option_map, length, Result, Ok, Err}
 use Rattle.cts_base.specs.declared.memory.Memory.{Memory}
 use Rattle.cts_def.specs.declared.time.Time.{Time}
-use Rattle.cts_entry.specs.declared.entry.Entry.{Entry}
-use Rattle.cts_entry.specs.declared.what.What.{What}
-use Rattle.cts_entry.specs.Legal.{IsAllowed}
-use Rattle.cts_cmd.specs.declared.request.Request.{Request}
 use Rattle.cts_rpc.specs.Requests.{has_fraction}
 use Rattle.cts_rpc.specs.declared.call.Call.{Call}
-use Rattle.cts_table.specs.Keeping.{rules_of, IsOfSite}
 use Rattle.cts_table.specs.States.{Shown}
-use Rattle.serde_json.specs.Data.{Data}
 use Rattle.serde_json.specs.View.{items_view, view}
 use Rattle.cts_api.specs.declared.settling.Answer as code
-use Rattle.cts_api.specs.declared.refusal.Refusal.{Refusal}
-use Rattle.cts_api.specs.declared.refusal.Refusal.TheVariants.{NoSuch, NotDone, BadParams, Memory as NoMemory}
-use Rattle.cts_api.specs.declared.sending.Done as done
-use Rattle.cts_api.specs.Answers.{answer}
-use Rattle.cts_api.specs.Asking.{Asking, Said}
 use Rattle.cts_api.specs.Kinds.{listed}
 use Rattle.cts_api.specs.Methods.{method_named}
-use Rattle.cts_api.specs.Points.{Point}
-use Rattle.cts_api.specs.Replies.{Reply, HasRequest, IsReply, IsReplyOf, made, reply_with}
-use Rattle.cts_api.specs.Telling.{IsDoneBy, point}
+use Rattle.cts_api.specs.Replies.{Reply, IsReply, IsReplyOf}
+use Rattle.cts_api.specs.Telling.{point}
 
 -- Only the entries of the reply stand behind those that were there.
 pub record Appends (old : Shown) (r : Reply) (appended : ℕ) (new : Shown) : Type 0 where

@@ -1,6 +1,6 @@
 use Rattle.std.proofs.Common.{None, refl, ap}
 use Rattle.serde_json.specs.Data.{null}
-use Rattle.cts_api.specs.Answers.{Done, appended, posts}
+use Rattle.cts_api.specs.Answers.{appended, posts}
 use Rattle.cts_api.proofs.answering.limits_changed.Goals as goal
 
 pub returns-clause-answered : goal.returns-clause-answered

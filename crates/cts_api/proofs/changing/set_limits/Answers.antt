@@ -1,6 +1,5 @@
-use Rattle.std.proofs.Common.{ℕ, ◌≤◌, Some, rules, ◌≡◌, refl, subst, sym}
+use Rattle.std.proofs.Common.{ℕ, ◌≤◌, Some, rules, ◌≡◌, subst, sym}
 use Rattle.std.specs.Prelude.{slice_get, unwrap_or}
-use Rattle.cts_def.specs.Packets.{PacketData}
 use Rattle.cts_api.proofs.Persisting.{limits_persist, new_persists}
 use Rattle.cts_api.proofs.changing.set_limits.Goals as goal
 

@@ -1,4 +1,4 @@
-use Rattle.std.proofs.Common.{arith, ℕ}
+use Rattle.std.proofs.Common.{arith}
 use Rattle.cts_api.proofs.injecting.are_bytes.Goals as goal
 
 pub returns : goal.returns

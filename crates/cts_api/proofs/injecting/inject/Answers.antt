@@ -1,8 +1,7 @@
-use Rattle.std.proofs.Common.{rules, ◌≡◌, ◌∙◌, ℕ, List, Option, Some, None, subst, sym, refl}
+use Rattle.std.proofs.Common.{rules, ◌≡◌, ◌∙◌, ℕ, List, Option, None, subst}
 use Rattle.std.specs.Prelude.{option_map}
 use Rattle.std.specs.List.{filter_map}
 use Rattle.serde_json.specs.View.{members_view, view}
-use Rattle.cts_cmd.specs.Builds.{AreBytes}
 use Rattle.cts_cmd.specs.Injects.{Injects, injection_refusal, stood, with_item}
 use Rattle.cts_cmd.specs.declared.request.Given.{Given}
 use Rattle.cts_api.specs.Answers.{packet_at}

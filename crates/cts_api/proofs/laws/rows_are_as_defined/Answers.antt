@@ -1,4 +1,4 @@
-use Rattle.std.proofs.Common.{◌≡◌, ◌∙◌, ℕ, List, ◌++◌, [], ◌∷◌, Some, None, pos, neg_ℤ, codes, refl, sym, ap, append_assoc}
+use Rattle.std.proofs.Common.{◌≡◌, ◌∙◌, ℕ, List, ◌++◌, [], Some, None, pos, neg_ℤ, codes, refl, sym, ap, append_assoc}
 use Rattle.std.specs.Fmt.{signed_decimal}
 use Rattle.std.specs.Str.Lossy.{utf8_lossy}
 use Rattle.cts_api.proofs.TextLemmas.{ascii_is_kept}
@@ -6,7 +6,6 @@ use Rattle.serde_json.specs.Data.{null, string}
 use Rattle.serde_json.specs.Written.{compact_text}
 use Rattle.cts_rpc.specs.Replies.{error_reply, result_reply}
 use Rattle.cts_api.specs.Replies.{Reply}
-use Rattle.cts_entry.specs.declared.what.What.TheVariants.{Stop}
 use Rattle.serde_json.proofs.OnLiterals.{serde_json_on_literals}
 use Rattle.cts_api.proofs.laws.rows_are_as_defined.Goals as goal
 

@@ -1,4 +1,4 @@
-use Rattle.std.proofs.Common.{rules, ◌≡◌, ◌≤◌, ◌∙◌, length, codes, pos, sym, false, map, List, Option, Some, None, ap, subst}
+use Rattle.std.proofs.Common.{rules, ◌≡◌, ◌≤◌, ◌∙◌, length, codes, pos, false, map, List, Option, Some, None, ap, subst}
 use Rattle.std.specs.Prelude.{IfOk, neg_ℤ, option_map}
 use Rattle.cts_def.specs.Most.{most_sets}
 use Rattle.cts_rpc.specs.Requests.{has_fraction}

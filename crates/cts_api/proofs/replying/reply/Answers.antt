@@ -1,4 +1,4 @@
-use Rattle.std.proofs.Common.{rules, ◌≡◌, ◌∙◌, codes, sym, false, Option, Some, None, refl, ap, subst, pos}
+use Rattle.std.proofs.Common.{rules, ◌≡◌, codes, false, Option, Some, refl, ap, subst, pos}
 use Rattle.std.specs.Prelude.{IfOk, neg_ℤ, option_map}
 use Rattle.cts_rpc.specs.Requests.{IsOutcome, bad_params, calls, has_fraction, not_json, not_request}
 use Rattle.serde_json.specs.Data.{Data, null}
@@ -6,7 +6,6 @@ use Rattle.serde_json.specs.View.{items_view, view}
 use Rattle.cts_api.specs.declared.response.Code.TheVariants.{InvalidParams, InvalidRequest, ParseError}
 use Rattle.cts_api.specs.Replies.{error, respond}
 use Rattle.cts_api.specs.Responding.{code_number}
-use Rattle.cts_api.specs.Telling.{point}
 use Rattle.cts_api.proofs.Settled.{replied_call, replied_refusal}
 use Rattle.cts_api.proofs.replying.reply.Goals as goal
 
