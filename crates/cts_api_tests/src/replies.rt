@@ -169,8 +169,7 @@ fn wanted(alloc: Global, want: &str) -> Result<String, Fail> {
 }
 
 /// What a hall replies to the calls of a table, and how many entries it has then.
-fn rows_hold(rt: &impl Abort, hall: &mut Hall, rows: &str) -> Result<(), Fail> {
-    let alloc = rt.alloc();
+fn rows_hold(rt: &impl Abort, alloc: Global, hall: &mut Hall, rows: &str) -> Result<(), Fail> {
     let before = hall.count();
     for row in rows.lines() {
         let (method, rest) = cut(row)?;
@@ -186,7 +185,7 @@ fn rows_hold(rt: &impl Abort, hall: &mut Hall, rows: &str) -> Result<(), Fail> {
 #[test]
 fn look_ups_and_refusals_are_replied_and_append_nothing(rt: HostRuntime) -> Result<(), Fail> {
     let mut hall = hall_of(rt.alloc(), 100)?;
-    rows_hold(&rt, &mut hall, ANSWERS)
+    rows_hold(&rt, rt.alloc(), &mut hall, ANSWERS)
 }
 
 /// The last entry as a transcript has it, without its number, its time and its maker.
@@ -205,8 +204,7 @@ fn last(alloc: Global, hall: &Hall) -> Result<String, Fail> {
     }
 }
 
-fn changes(rt: &impl Abort, row: &str) -> Result<(), Fail> {
-    let alloc = rt.alloc();
+fn changes(rt: &impl Abort, alloc: Global, row: &str) -> Result<(), Fail> {
     let (method, rest) = cut(row)?;
     let (params, rest) = cut(rest)?;
     let (want, entry) = cut(rest)?;
@@ -221,7 +219,7 @@ fn changes(rt: &impl Abort, row: &str) -> Result<(), Fail> {
 #[test]
 fn changes_have_their_entries(rt: HostRuntime) -> Result<(), Fail> {
     for row in CHANGES.lines() {
-        changes(&rt, row)?;
+        changes(&rt, rt.alloc(), row)?;
     }
     Ok(())
 }
@@ -243,12 +241,11 @@ tlm|[\"T A V\"]|1286";
 #[test]
 fn a_full_history_refuses_behind_all_checks(rt: HostRuntime) -> Result<(), Fail> {
     let mut hall = hall_of(rt.alloc(), 2)?;
-    rows_hold(&rt, &mut hall, FULL)?;
-    changes_when_full(&rt, &mut hall)
+    rows_hold(&rt, rt.alloc(), &mut hall, FULL)?;
+    stops_when_full(&rt, rt.alloc(), &mut hall)
 }
 
-fn changes_when_full(rt: &impl Abort, hall: &mut Hall) -> Result<(), Fail> {
-    let alloc = rt.alloc();
+fn stops_when_full(rt: &impl Abort, alloc: Global, hall: &mut Hall) -> Result<(), Fail> {
     let body = call(alloc, "stop_server", "[]")?;
     let found = replied(alloc, hall, body.as_str())?;
     assert_eq!(rt; found, wanted(alloc, "null")?);
@@ -307,6 +304,10 @@ fn the_longest_body_is_replied(rt: HostRuntime) -> Result<(), Fail> {
     let Some(text) = answer.text else {
         return Err(Fail::new("no response"));
     };
-    assert!(rt; text.as_slice() == b"{\"id\":1,\"jsonrpc\":\"2.0\",\"result\":\"DEFAULT\"}");
+    let text = str::from_utf8(text.as_slice())?;
+    assert_eq!(rt;
+        text,
+        "{\"id\":1,\"jsonrpc\":\"2.0\",\"result\":\"DEFAULT\"}"
+    );
     Ok(())
 }
