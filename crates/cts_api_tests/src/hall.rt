@@ -67,6 +67,12 @@ fn receive(hall: &mut Hall, bytes: Bytes) -> bool {
     true
 }
 
+/// A hall without entries.
+pub fn new_hall(alloc: Global) -> Result<Hall, Fail> {
+    let site = site(alloc)?;
+    Ok(Hall::new(alloc, Arc::new(alloc, site)?)?)
+}
+
 /// A hall with room for so many entries, whose first interface is connected and has received one packet A.
 pub fn hall_of(alloc: Global, entries: u64) -> Result<Hall, Fail> {
     let site = site(alloc)?;

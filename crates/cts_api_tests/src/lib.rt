@@ -6,3 +6,5 @@
 mod hall;
 #[cfg(test)]
 mod replies;
+#[cfg(test)]
+mod requests;

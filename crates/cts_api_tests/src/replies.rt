@@ -131,7 +131,8 @@ fn is_over(entries: &[Entry], by: u32) -> bool
     entries.iter().any(|entry| entry.by == by && matches!(entry.what, What::Ended))
 }
 
-fn asked(alloc: Global, hall: &mut Hall, body: &[u8]) -> Result<Answer, Fail> {
+/// What desk 0 replies to a body.
+pub fn asked(alloc: Global, hall: &mut Hall, body: &[u8]) -> Result<Answer, Fail> {
     if hall.site().desks == 0 || is_over(hall.entries(), FIRST_DESK) {
         return Err(Fail::new("no desk"));
     }
