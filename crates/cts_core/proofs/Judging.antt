@@ -1,6 +1,6 @@
 -- In a run a command is sent or refused, and refused exactly where something stands against it.
 use Rattle.std.proofs.Common.{◌≡◌, ◌⊎◌, ℕ, ◌+◌, Bool, true, false, List, [], ◌∷◌, length, Option, Some, None, Result, Ok, Err, codes, refl, sym, ◌∙◌, ap, subst, arith, inl, inr, unwrap_or}
-use Rattle.std.specs.Prelude.{◌&&◌, if◌then◌else◌, nat_le, option_map, slice_get}
+use Rattle.std.specs.Prelude.{◌&&◌, if◌then◌else◌, nat_le, option_and_then, option_map, slice_get}
 use Rattle.std.specs.List.{find, list_any, position, position_or_len}
 use Rattle.std.proofs.lemmas.List.Folds.{find_at}
 use Rattle.std.proofs.lemmas.List.Sums.{sum_by-cons}
@@ -12,7 +12,7 @@ use Rattle.cts_api.specs.Made.{built}
 use Rattle.cts_api.specs.Points.{Point, point_of}
 use Rattle.cts_api.specs.Replies.{IsReply, IsReplyFor, IsReplyOf, IsReplyTo, IsRequested, Reply as Answer, done_reply, fit, history_full, made, said_to}
 use Rattle.cts_api.specs.Shown.{not_done}
-use Rattle.cts_api.specs.declared.method.Method.{Method}
+use Rattle.cts_api.specs.Methods.{method_named, params_of}
 use Rattle.cts_api.proofs.OneReply.{requested_one}
 use Rattle.cts_cmd.specs.Checks.{has_target, refusal, refusal_at}
 use Rattle.cts_cmd.specs.declared.built.Built.{Built}
@@ -134,6 +134,11 @@ module _ (b : Basis) (history : List Entry) (by : ℕ) (time : Time) (id : Optio
 
 -- ---- calls
 
+-- what comes of a value in two steps comes of one between
+known_by : {A B : Type 0} (f : A → Option B) (o : Option A) (b : B) → option_and_then f o ≡ Some b → (a : A) × (o ≡ Some a) × (f a ≡ Some b)
+known_by f None b e = absurd (cc e)
+known_by f (Some a) b e = (a, refl, e)
+
 module _ (site : SiteData) (s : State) (desk : ℕ) (body : List ℕ) (did : Did) (a : Answer) (entries : did.entries ≡ a.entries) (is : IsReply (point_of (basis_of site) s.history) (first_desk + desk) s.time body a) where
   abbrev here : Point
   here = point_of (basis_of site) s.history
@@ -144,10 +149,11 @@ module _ (site : SiteData) (s : State) (desk : ℕ) (body : List ℕ) (did : Did
 
   asked_reply : (checks : Checks) (order : Order) (x : AsksFor body checks order) → Replies x.id checks order
   asked_reply checks order x =
-      let same : is.0 ≡ calls x.method x.params x.id = outcome_is_one body is.0 (calls x.method x.params x.id) is.1 x.asks in
+      let same : is.0 ≡ calls x.method x.params x.id = outcome_is_one body is.0 (calls x.method x.params x.id) is.1 x.calls_it in
       let one = subst (λ (q : Outcome). IsReplyFor here (first_desk + desk) s.time q a) same is.2 in
-      let two = subst (λ (m : Option Method). IsReplyOf here (first_desk + desk) s.time x.id (listed x.params) m a) x.known one in
-      let three = subst (λ (q : Option Asking). IsReplyTo here (first_desk + desk) s.time x.id q a) x.sends_it two in
+      let known = known_by (λ m. params_of m (listed x.params)) (method_named x.method) (sends checks order) x.sends_it in
+      let two = subst (λ m. IsReplyOf here (first_desk + desk) s.time x.id (listed x.params) m a) known.1 one in
+      let three = subst (λ (q : Option Asking). IsReplyTo here (first_desk + desk) s.time x.id q a) known.2 two in
       (three.0, three.1, three.2)
 
   judged_by : (id : Option Data) (k : Checks) (r : Request) → Judges (basis_of site) s.history (first_desk + desk) s.time id k r a → IsJudged site s desk k r did

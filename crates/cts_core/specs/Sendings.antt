@@ -1,11 +1,10 @@
 -- Which commands of a run are sent, and which are refused.
-use Rattle.std.specs.Prelude.{◌≡◌, ◌⊎◌, ◌↔◌, ℕ, ◌+◌, false, List, [], ◌∷◌, length, Option, Some, None, Ok, Err}
-use Rattle.cts_api.specs.Asking.{Order, sends}
+use Rattle.std.specs.Prelude.{◌≡◌, ◌⊎◌, ◌↔◌, ℕ, ◌+◌, false, List, [], ◌∷◌, length, Option, Some, None, option_and_then, Ok, Err}
+use Rattle.cts_api.specs.Asking.{Asking, Order, sends}
 use Rattle.cts_api.specs.Kinds.{listed}
 use Rattle.cts_api.specs.Made.{built}
 use Rattle.cts_api.specs.Methods.{method_named, params_of}
 use Rattle.cts_api.specs.Replies.{IsRequested}
-use Rattle.cts_api.specs.declared.method.Method.{Method}
 use Rattle.cts_cmd.specs.Checks.{refusal}
 use Rattle.cts_cmd.specs.declared.built.Built.{Built}
 use Rattle.cts_cmd.specs.declared.refused.Refused.{Refused}
@@ -27,15 +26,17 @@ use Rattle.cts_core.specs.Kept.{is_within}
 use Rattle.cts_core.specs.Runs.{Did, Ending, Runs, after}
 use Rattle.cts_core.specs.States.{State}
 
+-- what the params of a call ask of the method that has its name
+abbrev pub asked_by : List ℕ → Items → Option Asking
+asked_by method params = option_and_then (λ m. params_of m (listed params)) (method_named method)
+
 -- The body calls a method that sends commands: its params ask to send this order with these checks.
 pub record AsksFor (body : List ℕ) (checks : Checks) (order : Order) : Type 0 where
   pub method : List ℕ
   pub params : Items
   pub id : Option Data
-  pub kind : Method
-  pub asks : IsOutcome body (calls method params id)
-  pub known : method_named method ≡ Some kind
-  pub sends_it : params_of kind (listed params) ≡ Some (sends checks order)
+  pub calls_it : IsOutcome body (calls method params id)
+  pub sends_it : asked_by method params ≡ Some (sends checks order)
 
 -- ---- when a command is not sent
 
