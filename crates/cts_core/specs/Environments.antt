@@ -105,7 +105,7 @@ environment_with u site = record {
   most_bytes = bytes_limit;
 }
 
--- A stand-in: nothing is laid out. No event that a script can state so far asks for it.
+-- A stand-in: nothing is laid out. No event that is built asks for it.
 abbrev pub stand_ins : Undefined
 stand_ins = record { layout = λ heading bytes. [] }
 

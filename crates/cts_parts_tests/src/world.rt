@@ -1,4 +1,4 @@
-// A world of one interface, event by event: what no script can ask for yet, a history that is full, and chains of protocols.
+// A world of one interface, event by event: a history with small limits that is full, which no script can ask for, and chains of protocols.
 ghost use Rattle.std.specs.Prelude.{◌≡◌, ◌≤◌, true, IfOk};
 ghost use Rattle.std.specs.Arc.{arc_value};
 ghost use Rattle.cts_core.specs.Built.{is_built_site};

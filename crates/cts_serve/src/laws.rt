@@ -10,8 +10,7 @@ pub fn outcomes()
     ensures short { ShortExactly }
 {}
 
-/// What write chains spell, how logs are laid out and what desks answer is not defined yet. No run of
-/// the events that are built, on a site that is built, rests on it.
+/// How logs are laid out is not defined yet. No run of the events that are built, on a site that is built, rests on it.
 pub fn stand_ins()
     ensures { RestsOnNoStandIn }
 {}
