@@ -21,6 +21,8 @@ pub struct World<C: Framer> {
     running: Running<C>,
     /// What it answers for good, once its history was full or memory ran out.
     ended: Option<WorldFault>,
+    /// How many entries the logs have passed.
+    log_cursor: u64,
 }
 
 impl<C: Framer> Model for World<C> {
@@ -28,7 +30,7 @@ impl<C: Framer> Model for World<C> {
 
     ghost Value = { WorldData };
 
-    ghost view = { λ a. record { held = a.running; ended = a.ended } };
+    ghost view = { λ a. record { held = a.running; ended = a.ended; log_cursor = a.log_cursor } };
 }
 
 impl<C: Framer> World<C> {
@@ -38,7 +40,8 @@ impl<C: Framer> World<C> {
     ghost use Rattle.cts_chain.specs.Stocking.{first_short};
     ghost use Rattle.cts_core.specs.Built.{is_built_event, is_built_site};
     ghost use Rattle.cts_core.specs.States.{State, opening};
-    ghost use Rattle.cts_core.specs.Endings.{GoesOn, held_in, lasting};
+    ghost use Rattle.cts_core.specs.Endings.{GoesOn, HasPassed, held_in, lasting};
+    ghost use Rattle.cts_core.specs.Runs.{Did, after};
     ghost use Rattle.cts_core.specs.Worlds.{Represents, Steps, first_held};
     ghost use Rattle.cts_def.specs.Sites.{SiteData};
     ghost use Rattle.cts_entry.specs.Legal.{most_entries as entries_limit, most_bytes as bytes_limit};
@@ -58,6 +61,7 @@ impl<C: Framer> World<C> {
         requires { is_built_site (arc_value site) ≡ true }
         ensures stands { IfOk result (λ world. Represents (arc_value site) (held_in world) opening) }
         ensures going { IfOk result (λ world. GoesOn world) }
+        ensures log { IfOk result (λ world. HasPassed world opening) }
         ensures enough { OnOk result (first_short (B.stock shelf.old) (use_specs (uses_in (arc_value site).interfaces)) ≡ None) }
         ensures fault { IfErr result (λ e. FaultIs (B.stock shelf.old) (uses_in (arc_value site).interfaces) e) }
     {
@@ -78,6 +82,7 @@ impl<C: Framer> World<C> {
         ensures held { IfOk result (λ world. (chains : List ChainData) × AreFresh (chains_in (arc_value site).interfaces) chains × (held_in world ≡ first_held (arc_value site) entries bytes chains)) }
         ensures few { length (arc_value site).interfaces ≤ 16 }
         ensures going { IfOk result (λ world. GoesOn world) }
+        ensures log { IfOk result (λ world. HasPassed world opening) }
         ensures enough { OnOk result (first_short (B.stock shelf.old) (use_specs (uses_in (arc_value site).interfaces)) ≡ None) }
         ensures fault { IfErr result (λ e. FaultIs (B.stock shelf.old) (uses_in (arc_value site).interfaces) e) }
     {
@@ -87,6 +92,7 @@ impl<C: Framer> World<C> {
             Ok(running) => Ok(World {
                 running,
                 ended: None,
+                log_cursor: 0,
             }),
             Err(_) => Err(ChainFault::Memory),
         }
@@ -100,12 +106,20 @@ impl<C: Framer> World<C> {
         self.running.hall()
     }
 
+    /// How many entries of the history the logs have passed. No event that is built passes any.
+    pub fn log_cursor(&self) -> u64
+        ensures { result ≡ self.now.log_cursor }
+    {
+        self.log_cursor
+    }
+
     /// Does one event, which has to be built. Its entries then stand at the end of the history. Where it is not enabled,
     /// nothing is changed. Where the history is full or memory runs out nothing is appended, and the world answers that to
     /// every further event.
     pub fn step(&mut self, event: &Event) -> Result<Effect, WorldFault>
         requires { is_built_event event.now ≡ true }
         ensures step { (site : SiteData) (s : State) → GoesOn self.old → Represents site (held_in self.old) s → Steps site s event.now (held_in self.old) result (held_in self.new) }
+        ensures log { (s : State) (did : Did) → HasPassed self.old s → HasPassed self.new (after s event.now did) }
         ensures lasts { GoesOn self.old → self.new.ended ≡ lasting result }
         ensures ended { (fault : WorldFault) → self.old.ended ≡ Some fault → (result ≡ Err fault) × (self.new ≡ self.old) }
     {
