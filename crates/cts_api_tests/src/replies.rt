@@ -3,9 +3,10 @@ ghost use Rattle.std.specs.Prelude.{◌≡◌};
 ghost use Rattle.cts_entry.specs.Legal.{has_ended};
 
 use crate::hall::hall_of;
-use cts_api::{Answer, reply};
+use cts_api::{Answer, answer, reply};
 use cts_def::{FIRST_DESK, Time};
 use cts_entry::{Entry, What};
+use cts_rpc::read;
 use cts_script::entry_lines;
 use cts_table::Hall;
 use std::alloc::Global;
@@ -290,6 +291,31 @@ fn a_change_without_an_id_is_done(rt: HostRuntime) -> Result<(), Fail> {
     let answer = asked(alloc, &mut hall, body.as_bytes())?;
     assert!(rt; answer.text.is_none() && answer.appended == 1);
     assert_eq!(rt; last(alloc, &hall)?.as_str(), "COMMAND T GO 01");
+    Ok(())
+}
+
+// A call that was read before is answered as its body is replied.
+#[test]
+fn a_call_is_answered_as_its_body_is(rt: HostRuntime) -> Result<(), Fail> {
+    let alloc = rt.alloc();
+    let mut hall = hall_of(alloc, 100)?;
+    if hall.site().desks == 0 || is_over(hall.entries(), FIRST_DESK) {
+        return Err(Fail::new("no desk"));
+    }
+    let body = call(alloc, "tlm", "[\"T A V\"]")?;
+    let Ok(call) = read(alloc, body.as_bytes()) else {
+        return Err(Fail::new("no call"));
+    };
+    let Ok(found) = answer(alloc, &mut hall, FIRST_DESK, NOW, &call) else {
+        return Err(Fail::new("no memory"));
+    };
+    let Some(text) = found.text else {
+        return Err(Fail::new("no response"));
+    };
+    assert_eq!(rt;
+        str::from_utf8(text.as_slice())?,
+        wanted(alloc, "1286")?.as_str()
+    );
     Ok(())
 }
 
