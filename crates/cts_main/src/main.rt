@@ -2,11 +2,7 @@
 //! and ends with the status of the command that the words ask for. All else stands in the crates below.
 #![tactic(auto)]
 
-mod console;
-mod disk;
-
-use crate::console::Console;
-use crate::disk::DiskFiles;
+use cts_adapters::{Console, DiskFiles};
 use cts_base::Memory;
 use cts_chain::Chain;
 use cts_fixed::Fixed;

@@ -1,6 +1,6 @@
 use Rattle.std.proofs.Common.{◌≤◌, length, take}
 use Rattle.std.specs.Io.KnownBytes.{Appends}
-use Rattle.cts_main.proofs.console.write_whole.Given as goal
+use Rattle.cts_adapters.proofs.console.write_whole.Given as goal
 
 -- the bytes before the place are written
 abbrev pub invariant-tries : goal.invariant-tries

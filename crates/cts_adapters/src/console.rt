@@ -3,7 +3,7 @@ ghost use Rattle.std.specs.Prelude.{◌≡◌, None, OnOk, OnErr};
 ghost use Rattle.std.specs.Io.KnownBytes.{Appends};
 ghost use Rattle.cts_outside.specs.Causes.{Cause};
 ghost use Rattle.cts_outside.specs.Contents.{Puts};
-ghost use Rattle.cts_main.specs.Writes.{AppendsPart};
+ghost use Rattle.cts_adapters.specs.Writes.{AppendsPart};
 
 use cts_outside::{PutFailed, Sink};
 use std::io::{ErrorKind, Write};

@@ -1,9 +1,9 @@
 use Rattle.std.proofs.Common.{arith, rules}
 use Rattle.std.proofs.lemmas.List.{take_rest}
 use Rattle.std.proofs.KnownBytes.{Appends-kept}
-use Rattle.cts_main.proofs.Writing.{written_more}
-use Rattle.cts_main.proofs.console.write_whole.Goals as goal
-use Rattle.cts_main.proofs.console.write_whole.Goals.{in-Ok, in-Err}
+use Rattle.cts_adapters.proofs.Writing.{written_more}
+use Rattle.cts_adapters.proofs.console.write_whole.Goals as goal
+use Rattle.cts_adapters.proofs.console.write_whole.Goals.{in-Ok, in-Err}
 
 pub tries-preserved : goal.tries-preserved
 tries-preserved g c =
