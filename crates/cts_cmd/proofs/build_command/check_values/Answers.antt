@@ -1,0 +1,5 @@
+use Rattle.std.proofs.Common.{rules}
+use Rattle.cts_cmd.proofs.build_command.check_values.Goals as goal
+
+pub returns : goal.returns
+returns c = search rules

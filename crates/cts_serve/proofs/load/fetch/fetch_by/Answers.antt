@@ -1,0 +1,14 @@
+use Rattle.std.proofs.Common.{rules}
+use Rattle.cts_serve.proofs.load.fetch.fetch_by.Goals as goal
+
+pub returns-clause-stays : goal.returns-clause-stays
+returns-clause-stays c = search rules
+
+pub returns-clause-content : goal.returns-clause-content
+returns-clause-content c = search rules
+
+pub returns-clause-small : goal.returns-clause-small
+returns-clause-small c = search rules
+
+pub returns-clause-counts : goal.returns-clause-counts
+returns-clause-counts c = search rules
