@@ -10,7 +10,7 @@ use cts_def::{Interface, Kind, ProtoSpec, ProtoUse};
 use cts_proto::{Shelf, Stocked};
 
 /// How many boxes of each kind are needed.
-#[derive(Clone, Copy, Debug, PartialEq, Eq)]
+#[derive(Clone, Copy)]
 pub(crate) struct Needs {
     pub bursts: u32,
     pub fixed: u32,

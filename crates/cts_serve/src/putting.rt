@@ -7,7 +7,7 @@ use cts_base::Memory;
 use cts_outside::Sink;
 
 /// Why a text was not put.
-#[derive(Clone, Copy, Debug, PartialEq, Eq)]
+#[derive(Clone, Copy)]
 pub enum Unput {
     /// A put failed within it.
     WriteFault,

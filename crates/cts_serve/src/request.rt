@@ -6,7 +6,7 @@ use crate::load::file_kind::FileKind;
 use std::marker::Model;
 
 /// The files that a command asks for, by their names. One that only checks has no script.
-#[derive(Debug, Drop)]
+#[derive(Drop)]
 pub struct Request<'a> {
     /// The definitions.
     pub definitions: &'a str,

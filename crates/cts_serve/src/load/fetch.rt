@@ -8,7 +8,7 @@ use cts_outside::{FileGot, Files};
 use std::alloc::{AllocError, Global};
 
 /// Why a file was not read whole.
-#[derive(Clone, Copy, Debug, PartialEq, Eq)]
+#[derive(Clone, Copy)]
 pub enum FetchFault {
     /// It holds more bytes than the limit.
     TooLarge,

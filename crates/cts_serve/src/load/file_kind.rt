@@ -1,7 +1,7 @@
 // The kinds of files that a command reads.
 
 /// What a file is for.
-#[derive(Clone, Copy, Debug, PartialEq, Eq)]
+#[derive(Clone, Copy)]
 pub enum FileKind {
     /// Definitions.
     Definitions,

@@ -12,7 +12,7 @@ use cts_scriptread::ScriptCause;
 use cts_words::WordFault;
 
 /// Why a file gives nothing.
-#[derive(Clone, Copy, Debug, PartialEq, Eq)]
+#[derive(Clone, Copy)]
 pub enum Unloaded {
     /// There is no file of that name.
     Absent,
@@ -29,7 +29,7 @@ pub enum Unloaded {
 }
 
 /// Why a line of a file is refused.
-#[derive(Clone, Copy, Debug, PartialEq, Eq)]
+#[derive(Clone, Copy)]
 pub enum Cause {
     /// A quoted word does not end on it.
     OpenQuote,

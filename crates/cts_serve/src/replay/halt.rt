@@ -1,7 +1,7 @@
 // Why a replay halts.
 
 /// Why a replay halts before its end.
-#[derive(Clone, Copy, Debug, PartialEq, Eq)]
+#[derive(Clone, Copy)]
 pub enum Halt {
     /// The event of this line is not enabled.
     NotEnabled { line: u32 },
