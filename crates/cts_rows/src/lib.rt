@@ -6,4 +6,6 @@ mod rows;
 mod texts;
 
 pub use rows::{Answers, rows_end_so, rows_hold, same};
-pub use texts::{as_text, bytes_of, cut, digits_of, lines};
+pub use texts::{
+    as_text, bytes_by_number, bytes_of, cut, digits_of, in_one_line, lines, pieces_of,
+};

@@ -31,6 +31,31 @@ fn with_line_feed(byte: u8) -> u8 {
     if byte == b';' { b'\n' } else { byte }
 }
 
+/// The bytes of a text, each the number of a character, and a line feed for each `;`.
+pub fn bytes_by_number(alloc: Global, text: &str) -> Result<Vec<u8>, Fail> {
+    let mut out = Vec::new(alloc);
+    for c in text.chars() {
+        out.push(byte_of(c)?)?;
+    }
+    Ok(out)
+}
+
+fn byte_of(c: char) -> Result<u8, Fail> {
+    match u8::try_from(c as u32) {
+        Ok(byte) => Ok(with_line_feed(byte)),
+        Err(_) => Err(Fail::new("no byte")),
+    }
+}
+
+/// What was printed, with `;` for each line feed. A `;` in it is refused, so that it is not taken for the end of a line.
+pub fn in_one_line(alloc: Global, printed: &[u8]) -> Result<String, Fail> {
+    let text = as_text(printed)?;
+    if text.contains(';') {
+        return Err(Fail::new("a ; is printed"));
+    }
+    Ok(text.replace(alloc, '\n', ";")?)
+}
+
 /// The bytes of pairs of hexadecimal digits.
 pub fn bytes_of(alloc: Global, digits: &str) -> Result<Vec<u8>, Fail> {
     match hex::decode(alloc, digits.as_bytes()) {
@@ -42,4 +67,28 @@ pub fn bytes_of(alloc: Global, digits: &str) -> Result<Vec<u8>, Fail> {
 /// The bytes as pairs of hexadecimal digits.
 pub fn digits_of(alloc: Global, bytes: &[u8]) -> Result<String, Fail> {
     Ok(hex::encode(alloc, bytes)?)
+}
+
+/// The pairs of digits, with a blank behind pair `k` where bit `k` of `cuts` is set.
+pub fn pieces_of(alloc: Global, digits: &str, cuts: u32) -> Result<String, Fail> {
+    let mut out = String::new(alloc);
+    let mut left = cuts;
+    let mut odd = false;
+    for digit in digits.chars() {
+        push_digit(&mut out, digit, odd && left % 2 == 1)?;
+        if odd {
+            left /= 2;
+        }
+        odd = !odd;
+    }
+    Ok(out)
+}
+
+/// Appends a digit, and a blank where the text is cut behind it.
+fn push_digit(out: &mut String, digit: char, is_cut: bool) -> Result<(), Fail> {
+    out.push(digit)?;
+    if is_cut {
+        out.push(' ')?;
+    }
+    Ok(())
 }
