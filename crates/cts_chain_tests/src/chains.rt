@@ -2,11 +2,11 @@
 ghost use Rattle.std.specs.Prelude.{OnOk};
 ghost use Rattle.cts_chain.specs.Shapes.{IsChain, IsIdle};
 
-use crate::read::{Answers, bytes_of, cut, rows_hold, same, shown};
+use crate::read::{bytes_in, shown};
 use crate::shelves::chain_of;
 use cts_chain::{Chain, ChainStep, Chained};
+use cts_rows::{Answers, cut, pieces_of, rows_end_so, same};
 use std::alloc::Global;
-use std::process::Abort;
 use std::test::Fail;
 
 /// Protocols, pieces, and the packets that they give; then the last answer, what is held, skipped and empty.
@@ -53,28 +53,34 @@ struct Told;
 
 impl Answers for Told {
     fn answer(alloc: Global, asked: &str) -> Result<String, Fail> {
-        let (protocols, pieces) = cut(asked)?;
+        let (protocols, pieces) = cut(asked, '|')?;
         told_by(alloc, protocols, pieces)
     }
 }
 
 #[test]
 fn packets_answers_and_losses(rt: HostRuntime) -> Result<(), Fail> {
-    rows_hold::<Told>(&rt, rt.alloc(), ROWS)
+    rows_end_so::<Told>(rt.alloc(), ROWS)
 }
 
 #[test]
 fn greatest_frames(rt: HostRuntime) -> Result<(), Fail> {
-    rows_hold::<Told>(&rt, rt.alloc(), GREATEST)
+    rows_end_so::<Told>(rt.alloc(), GREATEST)
 }
 
 /// What a chain of these protocols gives of the pieces between blanks, and what is lost at its reset.
 fn told_by(alloc: Global, protocols: &str, pieces: &str) -> Result<String, Fail> {
     let pieces = pieces.split(' ').collect::<Vec<&str>>(alloc)?;
-    let mut out = String::new(alloc);
     let mut chain = chain_of(alloc, protocols)?;
-    let last = feed_all(alloc, &mut chain, pieces.as_slice(), &mut out)?;
-    let loss = lost(alloc, &mut chain)?;
+    told_of_pieces(alloc, &mut chain, pieces.as_slice())
+}
+
+fn told_of_pieces(alloc: Global, chain: &mut Chain, pieces: &[&str]) -> Result<String, Fail>
+    requires { IsIdle (⟦<Chain as Chained>⟧.shape chain.old) }
+{
+    let mut out = String::new(alloc);
+    let last = feed_all(alloc, chain, pieces, &mut out)?;
+    let loss = lost(alloc, chain)?;
     Ok(format!(in alloc; "{out}{last:?} {loss}")?)
 }
 
@@ -116,7 +122,7 @@ fn feed_one(
     requires { IsIdle (⟦<Chain as Chained>⟧.shape chain.old) }
     ensures { OnOk result (IsIdle (⟦<Chain as Chained>⟧.shape chain.new)) }
 {
-    feed(chain, &bytes_of(alloc, piece)?)?;
+    feed(chain, &bytes_in(alloc, piece)?)?;
     drain(alloc, chain, out, 100)
 }
 
@@ -166,28 +172,27 @@ FIXED 1 0 nil true false true|0105060201|010506 Bad { stage: 1, cause: UnknownSt
 
 #[test]
 fn all_cuts_of_a_connection_give_the_same(rt: HostRuntime) -> Result<(), Fail> {
-    for row in CONNECTIONS.lines() {
-        all_cuts_hold(&rt, rt.alloc(), row)?;
+    for row in CONNECTIONS.split('\n') {
+        all_cuts_hold(rt.alloc(), row)?;
     }
     Ok(())
 }
 
 /// All ways to cut the row's connection behind its first seven bytes give the same.
-fn all_cuts_hold(rt: &impl Abort, alloc: Global, row: &str) -> Result<(), Fail> {
+fn all_cuts_hold(alloc: Global, row: &str) -> Result<(), Fail> {
     for cuts in 0..128 {
-        cuts_hold(rt, alloc, row, cuts)?;
+        cuts_hold(alloc, row, cuts)?;
     }
     Ok(())
 }
 
 /// The row's connection gives what it should where it is cut behind byte `k` for each bit `k` of `cuts` that is set.
-fn cuts_hold(rt: &impl Abort, alloc: Global, row: &str, cuts: u32) -> Result<(), Fail> {
-    let (protocols, rest) = cut(row)?;
-    let (bytes, wanted) = cut(rest)?;
+fn cuts_hold(alloc: Global, row: &str, cuts: u32) -> Result<(), Fail> {
+    let (protocols, rest) = cut(row, '|')?;
+    let (bytes, wanted) = cut(rest, '|')?;
     let pieces = pieces_of(alloc, bytes, cuts)?;
     let told = told_by(alloc, protocols, pieces.as_str())?;
-    same(rt, told.as_str(), wanted, pieces.as_str());
-    Ok(())
+    same(told.as_str(), wanted, pieces.as_str())
 }
 
 /// A head, a packet, and the first byte of a next head.
@@ -198,32 +203,8 @@ const HEAD: &str =
 fn a_head_may_be_cut_at_each_byte(rt: HostRuntime) -> Result<(), Fail> {
     let mut cuts: u32 = 1;
     for _ in 0..20 {
-        cuts_hold(&rt, rt.alloc(), HEAD, cuts)?;
+        cuts_hold(rt.alloc(), HEAD, cuts)?;
         cuts = cuts.saturating_mul(2);
-    }
-    Ok(())
-}
-
-/// The digits of the bytes, with a cut behind byte `k` where bit `k` of `cuts` is set.
-fn pieces_of(alloc: Global, bytes: &str, cuts: u32) -> Result<String, Fail> {
-    let mut out = String::new(alloc);
-    let mut left = cuts;
-    let mut odd = false;
-    for digit in bytes.chars() {
-        push_digit(&mut out, digit, odd && left % 2 == 1)?;
-        if odd {
-            left /= 2;
-        }
-        odd = !odd;
-    }
-    Ok(out)
-}
-
-/// Appends a digit, and a blank where the text is cut behind it.
-fn push_digit(out: &mut String, digit: char, is_cut: bool) -> Result<(), Fail> {
-    out.push(digit)?;
-    if is_cut {
-        out.push(' ')?;
     }
     Ok(())
 }

@@ -2,12 +2,13 @@
 ghost use Rattle.std.specs.Prelude.{IfOk};
 ghost use Rattle.cts_chain.specs.Shapes.{IsIdle};
 
-use crate::read::{same, site_of};
+use crate::read::site_with;
 use cts_chain::{Chain, Chained};
 use cts_def::{Interface, Kind, Site};
 use cts_fixed::Fixed;
 use cts_preid::Preidentified;
 use cts_proto::{Boxed, Shelf};
+use cts_rows::same;
 use cts_stream::{Burst, Length, Terminated};
 use std::alloc::Global;
 use std::test::Fail;
@@ -60,7 +61,7 @@ fn interface_of(site: &Site) -> Result<&Interface, Fail> {
 pub fn chain_of(alloc: Global, protocols: &str) -> Result<Chain, Fail>
     ensures { IfOk result (λ chain. IsIdle (⟦<Chain as Chained>⟧.shape chain)) }
 {
-    let site = site_of(alloc, protocols)?;
+    let site = site_with(alloc, protocols)?;
     chain_at(alloc, interface_of(&site)?)
 }
 
@@ -94,20 +95,31 @@ const THREE: &str =
 
 /// What is told of this chain before and behind one more box of LENGTH, and whether a box of BURST is left.
 fn told_of_three(alloc: Global) -> Result<String, Fail> {
-    let site = site_of(alloc, THREE)?;
-    let interface = interface_of(&site)?;
+    let site = site_with(alloc, THREE)?;
+    told_of_interface(alloc, interface_of(&site)?)
+}
+
+fn told_of_interface(alloc: Global, interface: &Interface) -> Result<String, Fail> {
     let mut shelf = stocked(alloc)?;
-    let before = built(alloc, &mut shelf, interface)?;
-    stock(alloc, &mut shelf, Kind::Length)?;
-    let behind = built(alloc, &mut shelf, interface)?;
-    let left = shelf.take(Kind::Burst).is_some();
+    told_over(alloc, &mut shelf, interface)
+}
+
+fn told_over(alloc: Global, shelf: &mut Shelf, interface: &Interface) -> Result<String, Fail> {
+    let before = built(alloc, shelf, interface)?;
+    stock(alloc, shelf, Kind::Length)?;
+    let behind = built(alloc, shelf, interface)?;
+    let left = takes_burst(shelf);
     Ok(format!(in alloc; "{before}; {behind}; {left}")?)
+}
+
+/// Whether a box of BURST was left, which is taken.
+fn takes_burst(shelf: &mut Shelf) -> bool {
+    shelf.take(Kind::Burst).is_some()
 }
 
 #[test]
 fn the_first_kind_that_is_short_is_told(rt: HostRuntime) -> Result<(), Fail> {
     let wanted = "ShelfEmpty { kind: Length, needed: 3, stocked: 2 } 2 1; built 0 0; true";
     let told = told_of_three(rt.alloc())?;
-    same(&rt, told.as_str(), wanted, THREE);
-    Ok(())
+    same(told.as_str(), wanted, THREE)
 }

@@ -2,11 +2,11 @@
 ghost use Rattle.cts_chain.specs.Shapes.{IsChain};
 
 use crate::chains::feed;
-use crate::read::{Answers, bytes_of, cut, name_of, rows_hold, shown};
+use crate::read::{bytes_in, label_of, name_of, shown};
 use crate::shelves::chain_of;
-use cts_base::Name;
 use cts_chain::{Chain, ChainStep, Chained};
 use cts_def::{Label, Time};
+use cts_rows::{Answers, bytes_of, cut, rows_end_so};
 use std::alloc::Global;
 use std::test::Fail;
 
@@ -53,55 +53,54 @@ struct Written;
 
 impl Answers for Written {
     fn answer(alloc: Global, asked: &str) -> Result<String, Fail> {
-        let (protocols, bytes) = cut(asked)?;
+        let (protocols, bytes) = cut(asked, '|')?;
         let chain = chain_of(alloc, protocols)?;
-        let bytes = bytes_of(alloc, bytes)?;
+        let bytes = bytes_in(alloc, bytes)?;
         written_by(alloc, &chain, &bytes)
     }
 }
 
 #[test]
 fn the_last_protocol_writes_first(rt: HostRuntime) -> Result<(), Fail> {
-    rows_hold::<Written>(&rt, rt.alloc(), WRITTEN)
+    rows_end_so::<Written>(rt.alloc(), WRITTEN)
 }
 
 #[test]
 fn greatest_frames_are_written(rt: HostRuntime) -> Result<(), Fail> {
-    rows_hold::<Written>(&rt, rt.alloc(), GREATEST)
+    rows_end_so::<Written>(rt.alloc(), GREATEST)
 }
 
 /// What the chain writes behind a byte ee, with its refusal in front where it has one.
 fn written_by(alloc: Global, chain: &Chain, bytes: &[u8]) -> Result<String, Fail>
     requires { IsChain (⟦<Chain as Chained>⟧.shape chain.now) }
 {
-    let label = label_of(alloc, "TARGET", "PACKET")?;
+    let label = label_of(alloc, MOMENT, "TARGET", "PACKET")?;
     let mut out = bytes_of(alloc, "ee")?;
-    match chain.encode(&label, bytes, &mut out) {
-        Ok(()) => shown(alloc, &out),
-        Err(fault) => {
-            let out = shown(alloc, &out)?;
-            Ok(format!(in alloc; "{fault:?} {out}")?)
-        }
+    let refusal = refusal_of(alloc, chain, &label, bytes, &mut out)?;
+    let out = shown(alloc, &out)?;
+    Ok(format!(in alloc; "{refusal}{out}")?)
+}
+
+/// Appends what the chain writes, and answers its refusal with a blank, or nothing.
+fn refusal_of(
+    alloc: Global,
+    chain: &Chain,
+    label: &Label,
+    bytes: &[u8],
+    out: &mut Vec<u8>,
+) -> Result<String, Fail>
+    requires { IsChain (⟦<Chain as Chained>⟧.shape chain.now) }
+{
+    match chain.encode(label, bytes, out) {
+        Ok(()) => Ok(String::new(alloc)),
+        Err(fault) => Ok(format!(in alloc; "{fault:?} ")?),
     }
 }
 
-fn label_of(alloc: Global, target: &str, packet: &str) -> Result<Label, Fail> {
-    Ok(Label {
-        time: Time {
-            seconds: 5,
-            micros: 6,
-        },
-        target: named(alloc, target)?,
-        packet: named(alloc, packet)?,
-    })
-}
-
-fn named(alloc: Global, text: &str) -> Result<Name, Fail> {
-    match Name::read(alloc, text.as_bytes()) {
-        Ok(name) => Ok(name),
-        Err(_) => Err(Fail::new("no name")),
-    }
-}
+const MOMENT: Time = Time {
+    seconds: 5,
+    micros: 6,
+};
 
 /// The names of a target and a packet, bytes, and what they bring along through a frame: the time, and whether the bytes and the
 /// names are the same. A head with the names of the last row has 270 bytes, the pattern two: the greatest frame.
@@ -115,22 +114,22 @@ struct Again;
 
 impl Answers for Again {
     fn answer(alloc: Global, asked: &str) -> Result<String, Fail> {
-        let (target, rest) = cut(asked)?;
-        let (packet, bytes) = cut(rest)?;
+        let (target, rest) = cut(asked, '|')?;
+        let (packet, bytes) = cut(rest, '|')?;
         let target = name_of(alloc, target)?;
         let packet = name_of(alloc, packet)?;
-        let bytes = bytes_of(alloc, bytes)?;
+        let bytes = bytes_in(alloc, bytes)?;
         told_again(alloc, target.as_str(), packet.as_str(), &bytes)
     }
 }
 
 #[test]
 fn a_packet_brings_its_time_and_names(rt: HostRuntime) -> Result<(), Fail> {
-    rows_hold::<Again>(&rt, rt.alloc(), AGAIN)
+    rows_end_so::<Again>(rt.alloc(), AGAIN)
 }
 
 fn told_again(alloc: Global, target: &str, packet: &str, bytes: &[u8]) -> Result<String, Fail> {
-    let label = label_of(alloc, target, packet)?;
+    let label = label_of(alloc, MOMENT, target, packet)?;
     let mut chain = chain_of(alloc, "PREIDENTIFIED 0xabcd")?;
     let mut out = Vec::new(alloc);
     write(&chain, &label, bytes, &mut out)?;

@@ -1,16 +1,16 @@
 // Calls of desks: values that are looked up, limits sets that are chosen, and what a request has to be.
 use crate::commands::DEMO_SITE;
 use crate::instrument::INSTRUMENT_DEFINITIONS;
-use crate::table::{commands_end_so, cut, replays_of_packets_end_so};
+use crate::table::{WHOLE, commands_end_so, replays_end_so};
 use std::test::Fail;
 
 // A value before its packet was received, and after.
-const WHOLE: &str =
+const LOOKED_UP: &str =
     r#"replay d s c|TELEMETRY T A BIG_ENDIAN;APPEND_ITEM LEN 16 UINT;APPEND_ITEM V 16 UINT|INTERFACE I tcpip_client_interface.rb localhost 8080 8080 10.0 nil LENGTH 0 16 0 1;TARGET T|OPEN I;CALL 0 '{"jsonrpc":"2.0","method":"tlm_raw","params":["T A V"],"id":1}';BYTES I 00040500;CALL 0 '{"jsonrpc":"2.0","method":"tlm_raw","params":["T A V"],"id":2}'|Ok 0 0.000000 I OPENED;REPLY DESK/0 1 {"error":{"code":-32001,"message":"Never received"},"id":1,"jsonrpc":"2.0"};1 0.000000 I PACKET T A 00040500;REPLY DESK/0 2 {"id":2,"jsonrpc":"2.0","result":1280};END 2;"#;
 
 #[test]
 fn a_value_is_looked_up_before_and_after_its_packet(rt: HostRuntime) -> Result<(), Fail> {
-    commands_end_so(&rt, WHOLE)
+    commands_end_so(rt.alloc(), WHOLE, LOOKED_UP)
 }
 
 // The changes of an item's limits state, by its limits in the set that is chosen, and by the colours of its states.
@@ -20,7 +20,7 @@ replay d s c|TELEMETRY T A BIG_ENDIAN;APPEND_ITEM LEN 16 UINT;APPEND_ITEM V 16 U
 
 #[test]
 fn limits_events_stand_behind_their_entries(rt: HostRuntime) -> Result<(), Fail> {
-    commands_end_so(&rt, EVENTS)
+    commands_end_so(rt.alloc(), WHOLE, EVENTS)
 }
 
 // A packet of ten bytes with an item of each sort, and one that is never received.
@@ -42,6 +42,9 @@ APPEND_ITEM TEXT 0 STRING";
 
 const SITE: &str =
     "INTERFACE I tcpip_client_interface.rb h 1 1 nil nil LENGTH 0 16 0 1;TARGET INST";
+
+const RESULT: &str =
+    r#"OPEN I;BYTES I 000affff01414243beef;CALL 0 '{"jsonrpc":"2.0","method":"$","params":$,"id":1}'|Ok 0 0.000000 I OPENED;1 0.000000 I PACKET INST HS 000affff01414243beef;REPLY DESK/0 2 {"id":1,"jsonrpc":"2.0","result":$};END 2;"#;
 
 // Each row has a method and its params behind a packet with 65535, 1, `ABC` and the bytes beef in its items, and the result:
 // 65535 times 0.00305 is 199.88175.
@@ -69,16 +72,11 @@ interface_state|["i"]|"CONNECTED""#;
 
 #[test]
 fn each_call_has_its_result(rt: HostRuntime) -> Result<(), Fail> {
-    for row in RESULTS.lines() {
-        let (method, rest) = cut(row)?;
-        let (params, result) = cut(rest)?;
-        let row = format!(in rt.alloc();
-            "OPEN I;BYTES I 000affff01414243beef;CALL 0 '{{\"jsonrpc\":\"2.0\",\"method\":\"{method}\",\"params\":{params},\"id\":1}}'|Ok 0 0.000000 I OPENED;1 0.000000 I PACKET INST HS 000affff01414243beef;REPLY DESK/0 2 {{\"id\":1,\"jsonrpc\":\"2.0\",\"result\":{result}}};END 2;"
-        )?;
-        replays_of_packets_end_so(&rt, DEFINITIONS, SITE, row.as_str())?;
-    }
-    Ok(())
+    replays_end_so(rt.alloc(), DEFINITIONS, SITE, RESULT, RESULTS)
 }
+
+const REFUSAL: &str =
+    r#"CALL 0 '{"jsonrpc":"2.0","method":"$","params":$,"id":1}'|Ok REPLY DESK/0 0 {"error":{"code":$},"id":1,"jsonrpc":"2.0"};END 0;"#;
 
 // Each row has a method and its params, and the code and the message of the refusal.
 const REFUSALS: &str = r#"tlm_raw|["PUMP HS TEMP"]|-32001,"message":"Unknown target"
@@ -104,15 +102,7 @@ TLM_RAW|["INST HS TEMP"]|-32601,"message":"Method not found""#;
 
 #[test]
 fn each_refusal_has_its_code_and_message(rt: HostRuntime) -> Result<(), Fail> {
-    for row in REFUSALS.lines() {
-        let (method, rest) = cut(row)?;
-        let (params, error) = cut(rest)?;
-        let row = format!(in rt.alloc();
-            "CALL 0 '{{\"jsonrpc\":\"2.0\",\"method\":\"{method}\",\"params\":{params},\"id\":1}}'|Ok REPLY DESK/0 0 {{\"error\":{{\"code\":{error}}},\"id\":1,\"jsonrpc\":\"2.0\"}};END 0;"
-        )?;
-        replays_of_packets_end_so(&rt, DEFINITIONS, SITE, row.as_str())?;
-    }
-    Ok(())
+    replays_end_so(rt.alloc(), DEFINITIONS, SITE, REFUSAL, REFUSALS)
 }
 
 // Calls before anything happened; the count and the value of a second packet; a set is chosen at its time, again and
@@ -128,7 +118,7 @@ CALL 4 '{}'|ScriptRefused refused: c line 1: NotEnabled;"#;
 
 #[test]
 fn replies_stand_between_the_entries(rt: HostRuntime) -> Result<(), Fail> {
-    replays_of_packets_end_so(&rt, DEFINITIONS, SITE, ORDERS)
+    replays_end_so(rt.alloc(), DEFINITIONS, SITE, WHOLE, ORDERS)
 }
 
 // What is no request has no id; an id may be a text, a whole number or null, and without one there is no response, also to what is refused.
@@ -148,7 +138,7 @@ CALL 0 '{"jsonrpc":"2.0","method":"nothing","params":{},"id":7}'|Ok REPLY DESK/0
 
 #[test]
 fn requests_are_answered_by_their_ids(rt: HostRuntime) -> Result<(), Fail> {
-    replays_of_packets_end_so(&rt, DEFINITIONS, SITE, REQUESTS)
+    replays_end_so(rt.alloc(), DEFINITIONS, SITE, WHOLE, REQUESTS)
 }
 
 // Without a device: a packet is injected, limits are set, and the server is stopped, once.
@@ -159,7 +149,13 @@ CALL 0 '{"jsonrpc":"2.0","method":"disable_limits","params":["INST","HS","TEMP1"
 
 #[test]
 fn calls_change_what_stands(rt: HostRuntime) -> Result<(), Fail> {
-    replays_of_packets_end_so(&rt, INSTRUMENT_DEFINITIONS, DEMO_SITE, CHANGES)
+    replays_end_so(
+        rt.alloc(),
+        INSTRUMENT_DEFINITIONS,
+        DEMO_SITE,
+        WHOLE,
+        CHANGES,
+    )
 }
 
 // A day of the instrument and its auxiliary unit.
@@ -168,5 +164,5 @@ const DAY: &str =
 
 #[test]
 fn calls_go_on_between_what_devices_say(rt: HostRuntime) -> Result<(), Fail> {
-    replays_of_packets_end_so(&rt, INSTRUMENT_DEFINITIONS, DEMO_SITE, DAY)
+    replays_end_so(rt.alloc(), INSTRUMENT_DEFINITIONS, DEMO_SITE, WHOLE, DAY)
 }

@@ -1,27 +1,10 @@
 // Replays over chains of all protocols.
-use crate::table::{cut, lines, said};
-use std::process::Abort;
+use crate::table::commands_end_so;
 use std::test::Fail;
 
 // Each row has the protocols of the interface, a script and how its replay ends, with bars between.
-fn chains_end_so<R: Abort + AllocGlobal>(
-    rt: &R,
-    definitions: &str,
-    target: &str,
-    rows: &str,
-) -> Result<(), Fail> {
-    let alloc = rt.alloc();
-    for row in rows.lines() {
-        let (chain, rest) = cut(row)?;
-        let (script, want) = cut(rest)?;
-        let site = format!(in alloc;
-            "INTERFACE I tcpip_client_interface.rb h 1 1 10.0 nil {chain}{target}"
-        )?;
-        let found = said(alloc, "replay d s c", definitions, site.as_str(), script)?;
-        assert_eq!(rt; found, lines(alloc, want)?, "at {row}");
-    }
-    Ok(())
-}
+const OF_NO_PACKETS: &str =
+    "replay d s c||INTERFACE I tcpip_client_interface.rb h 1 1 10.0 nil $|$|$";
 
 // A sync pattern that is cut, and bytes before it; a termination that is cut, and a line without bytes; two stages; what came at
 // once, and in two pieces; a length at the limit, and one past it; an error of the second stage; what two stages still hold, skipped and
@@ -41,8 +24,11 @@ LENGTH 0 32 0 1|OPEN I;BYTES I 00100001|Ok 0 0.000000 I OPENED;1 0.000000 I CLOS
 
 #[test]
 fn each_protocol_cuts_what_comes(rt: HostRuntime) -> Result<(), Fail> {
-    chains_end_so(&rt, "", "", CHAINS)
+    commands_end_so(rt.alloc(), OF_NO_PACKETS, CHAINS)
 }
+
+const OF_ONE_PACKET: &str =
+    "replay d s c|TELEMETRY T A BIG_ENDIAN;APPEND_ID_ITEM K 8 UINT 1;APPEND_ITEM V 16 UINT|INTERFACE I tcpip_client_interface.rb h 1 1 10.0 nil $;TARGET T|$|$";
 
 // Two packets of five bytes, in pieces; an unknown start, which is one byte; and as an error.
 const KNOWN: &str = "\
@@ -52,9 +38,11 @@ FIXED 1 0 nil true false true|OPEN I;BYTES I 0105060205|Ok 0 0.000000 I OPENED;1
 
 #[test]
 fn packets_of_known_length(rt: HostRuntime) -> Result<(), Fail> {
-    let definitions = "TELEMETRY T A BIG_ENDIAN;APPEND_ID_ITEM K 8 UINT 1;APPEND_ITEM V 16 UINT";
-    chains_end_so(&rt, definitions, ";TARGET T", KNOWN)
+    commands_end_so(rt.alloc(), OF_ONE_PACKET, KNOWN)
 }
+
+const OF_PACKETS: &str =
+    "replay d s c|TELEMETRY T A BIG_ENDIAN;APPEND_ITEM V 16 UINT;TELEMETRY T B BIG_ENDIAN;APPEND_ITEM W 16 UINT;TELEMETRY INST HS BIG_ENDIAN;APPEND_ID_ITEM K 8 UINT 1;APPEND_ITEM TEMP 16 UINT;APPEND_ITEM MODE 8 UINT|INTERFACE I tcpip_client_interface.rb h 1 1 10.0 nil $;TARGET T;TARGET INST|$|$";
 
 // Frames bring their own time and names, whatever the bytes are and the clock shows; two in one piece; a name that no packet has; a head that is cut; a
 // count above the greatest.
@@ -67,7 +55,5 @@ PREIDENTIFIED 0xAAAA 1|OPEN I;BYTES I AAAA00000064000000000154014100000002|Ok 0 
 
 #[test]
 fn packets_bring_their_time_and_names(rt: HostRuntime) -> Result<(), Fail> {
-    let definitions =
-        "TELEMETRY T A BIG_ENDIAN;APPEND_ITEM V 16 UINT;TELEMETRY T B BIG_ENDIAN;APPEND_ITEM W 16 UINT;TELEMETRY INST HS BIG_ENDIAN;APPEND_ID_ITEM K 8 UINT 1;APPEND_ITEM TEMP 16 UINT;APPEND_ITEM MODE 8 UINT";
-    chains_end_so(&rt, definitions, ";TARGET T;TARGET INST", NAMED)
+    commands_end_so(rt.alloc(), OF_PACKETS, NAMED)
 }

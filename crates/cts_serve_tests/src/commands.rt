@@ -1,6 +1,6 @@
 // Calls that send commands, and what interfaces write of them.
 use crate::instrument::INSTRUMENT_DEFINITIONS;
-use crate::table::{cut, replays_of_packets_end_so};
+use crate::table::{WHOLE, replays_end_so};
 use std::test::Fail;
 
 /// The interfaces of its demo, of which the first gives commands their length.
@@ -20,7 +20,7 @@ CALL 0 '{"jsonrpc":"2.0","method":"cmd","params":["INST COLLECT"],"id":1}';OPEN 
 
 #[test]
 fn commands_are_sent_and_written(rt: HostRuntime) -> Result<(), Fail> {
-    replays_of_packets_end_so(&rt, INSTRUMENT_DEFINITIONS, DEMO_SITE, WRITES)
+    replays_end_so(rt.alloc(), INSTRUMENT_DEFINITIONS, DEMO_SITE, WHOLE, WRITES)
 }
 
 // A value in its range, outside of it, and without a spelling, by methods with all checks and without that of ranges; a
@@ -30,7 +30,7 @@ const CHECKS: &str =
 
 #[test]
 fn methods_leave_checks_out(rt: HostRuntime) -> Result<(), Fail> {
-    replays_of_packets_end_so(&rt, INSTRUMENT_DEFINITIONS, DEMO_SITE, CHECKS)
+    replays_end_so(rt.alloc(), INSTRUMENT_DEFINITIONS, DEMO_SITE, WHOLE, CHECKS)
 }
 
 const DEFINITIONS: &str = "\
@@ -49,6 +49,9 @@ APPEND_PARAMETER SPEED 8 UINT 0 255 1";
 
 const SITE: &str =
     "INTERFACE I tcpip_client_interface.rb h 1 1 nil nil LENGTH 0 16 0 1;TARGET INST";
+
+const REFUSAL: &str =
+    r#"CALL 0 '{"jsonrpc":"2.0","method":"cmd","params":["$"],"id":1}'|Ok REPLY DESK/0 0 {"error":{"code":$},"id":1,"jsonrpc":"2.0"};END 0;"#;
 
 // Command texts, and the code and the message of each. A text is asked for its form first, then for each check in its order, and
 // then for its route.
@@ -77,15 +80,11 @@ INST ARM with KEY 1|-32002,"message":"Not connected: I""#;
 
 #[test]
 fn each_refusal_of_a_command_has_its_message(rt: HostRuntime) -> Result<(), Fail> {
-    for row in REFUSALS.lines() {
-        let (text, error) = cut(row)?;
-        let row = format!(in rt.alloc();
-            "CALL 0 '{{\"jsonrpc\":\"2.0\",\"method\":\"cmd\",\"params\":[\"{text}\"],\"id\":1}}'|Ok REPLY DESK/0 0 {{\"error\":{{\"code\":{error}}},\"id\":1,\"jsonrpc\":\"2.0\"}};END 0;"
-        )?;
-        replays_of_packets_end_so(&rt, DEFINITIONS, SITE, row.as_str())?;
-    }
-    Ok(())
+    replays_end_so(rt.alloc(), DEFINITIONS, SITE, REFUSAL, REFUSALS)
 }
+
+const SENT: &str =
+    r#"OPEN I;CALL 0 '{"jsonrpc":"2.0","method":"$","params":$,"id":1}'|Ok 0 0.000000 I OPENED;1 0.000000 DESK/0 COMMAND $;REPLY DESK/0 1 {"id":1,"jsonrpc":"2.0","result":$};END 2;"#;
 
 // What is not given is the default, and what is given by a state its value; a shorter text is filled up. The same may be given in
 // an object, and hazards are taken by the methods that do not ask for them. Each row has a method, params, the bytes and the result.
@@ -99,14 +98,5 @@ cmd_no_checks|["INST","ARM",{"KEY":10,"MODE":1}]|INST ARM 0a01|["INST","ARM",{"K
 
 #[test]
 fn commands_hold_what_is_given_and_else_the_defaults(rt: HostRuntime) -> Result<(), Fail> {
-    for row in BYTES.lines() {
-        let (method, rest) = cut(row)?;
-        let (params, rest) = cut(rest)?;
-        let (bytes, result) = cut(rest)?;
-        let row = format!(in rt.alloc();
-            "OPEN I;CALL 0 '{{\"jsonrpc\":\"2.0\",\"method\":\"{method}\",\"params\":{params},\"id\":1}}'|Ok 0 0.000000 I OPENED;1 0.000000 DESK/0 COMMAND {bytes};REPLY DESK/0 1 {{\"id\":1,\"jsonrpc\":\"2.0\",\"result\":{result}}};END 2;"
-        )?;
-        replays_of_packets_end_so(&rt, DEFINITIONS, SITE, row.as_str())?;
-    }
-    Ok(())
+    replays_end_so(rt.alloc(), DEFINITIONS, SITE, SENT, BYTES)
 }

@@ -1,10 +1,10 @@
 // A box of the tests' own: it passes each call on, and counts those of `next`.
 use crate::shelves::{put, without_length};
-use crate::table::{SITE, ended_over, files, lines};
+use crate::table::{SITE, said_over};
 use cts_base::Memory;
 use cts_def::{Kind, Label, ProtoSpec};
-use cts_outside::MemSink;
-use cts_proto::{EncodeFault, Given, Protocol, Step};
+use cts_proto::{EncodeFault, Given, Protocol, Shelf, Step};
+use cts_rows::same;
 use cts_stream::Length;
 use std::alloc::Global;
 use std::sync::Arc;
@@ -57,22 +57,34 @@ impl Protocol for Counting {
     }
 }
 
+/// Puts a box on a shelf that counts there.
+fn put_counting(
+    alloc: Global,
+    shelf: &mut Shelf,
+    calls: &Arc<AtomicU64, Global>,
+) -> Result<(), Fail> {
+    let counting = Counting {
+        inner: Length::blank(alloc),
+        calls: Arc::try_clone(calls)?,
+    };
+    put(shelf, Box::new(alloc, counting)?)
+}
+
+const SCRIPT: &str = "OPEN I;BYTES I 0004AABB";
+
+/// How a replay ends over a shelf whose one box of LENGTH counts there.
+fn said_of_counting(alloc: Global, calls: &Arc<AtomicU64, Global>) -> Result<String, Fail> {
+    let mut shelf = without_length(alloc)?;
+    put_counting(alloc, &mut shelf, calls)?;
+    said_over(alloc, &mut shelf, "replay d s c", "", SITE, SCRIPT)
+}
+
 // The boxes of the shelf do the cutting.
 #[test]
 fn the_box_on_the_shelf_cuts_what_comes(rt: HostRuntime) -> Result<(), Fail> {
-    let alloc: Global = rt.alloc();
-    let calls = Arc::new(alloc, AtomicU64::new(0))?;
-    let mut shelf = without_length(alloc)?;
-    let counting = Counting {
-        inner: Length::blank(alloc),
-        calls: Arc::try_clone(&calls)?,
-    };
-    put(&mut shelf, Box::new(alloc, counting)?)?;
-    let mut files = files(alloc, "", SITE, "OPEN I;BYTES I 0004AABB", Vec::new(alloc))?;
-    let mut sink = MemSink::new(alloc, Vec::new(alloc));
-    let found = ended_over(alloc, "replay d s c", &mut shelf, &mut files, &mut sink)?;
-    let want = "Ok 0 0.000000 I OPENED;1 0.000000 I PACKET UNKNOWN UNKNOWN 0004aabb;END 2;";
-    assert_eq!(rt; found, lines(alloc, want)?);
+    let calls = Arc::new(rt.alloc(), AtomicU64::new(0))?;
+    let found = said_of_counting(rt.alloc(), &calls)?;
+    let wanted = "Ok 0 0.000000 I OPENED;1 0.000000 I PACKET UNKNOWN UNKNOWN 0004aabb;END 2;";
     assert!(rt; calls.load(Ordering::SeqCst) > 0);
-    Ok(())
+    same(found.as_str(), wanted, SCRIPT)
 }

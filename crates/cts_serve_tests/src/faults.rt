@@ -1,89 +1,124 @@
 // Commands whose reads and puts fail, each in its turn.
-use crate::table::{SITE, ended, files, lines};
-use cts_outside::MemSink;
+use crate::shelves::stocked;
+use crate::table::{SITE, ended, files};
+use cts_outside::{MemFiles, MemSink};
+use cts_rows::{Answers, rows_hold, same};
 use cts_serve::Status;
-use std::process::Abort;
+use std::alloc::Global;
 use std::test::Fail;
 
 const SCRIPT: &str = "OPEN I;BYTES I 0004AABB;CLOSE I PEER";
 
-// The first row is how a command ends where its first read fails, and so on; at the last one no read fails.
-fn reads_fail_so<R: Abort + AllocGlobal>(rt: &R, words: &str, rows: &str) -> Result<(), Fail> {
-    let alloc = rt.alloc();
-    for (read, row) in rows.lines().enumerate() {
-        let mut files = files(alloc, "", SITE, SCRIPT, vec![in alloc; read as u64]?)?;
-        let mut sink = MemSink::new(alloc, Vec::new(alloc));
-        let found = ended(alloc, words, &mut files, &mut sink)?;
-        assert_eq!(rt; found, lines(alloc, row)?, "at {row}");
-        assert_eq!(rt; files.faults() == 1, !row.starts_with("Ok"), "at {row}");
+/// Of a command, its definitions, and the read and the put that fail: how many of each failed, and how it ends.
+struct Failing;
+
+impl Answers for Failing {
+    fn answer(alloc: Global, asked: &str) -> Result<String, Fail> {
+        let parts = asked.split('|').collect::<Vec<&str>>(alloc)?;
+        let [words, definitions, read, put] = parts.as_slice() else {
+            return Err(Fail::new("not four parts"));
+        };
+        ended_where_fails(alloc, words, definitions, read, put)
     }
-    Ok(())
 }
 
-// Each file but the empty one takes a read for its bytes and one for its end.
+fn ended_where_fails(
+    alloc: Global,
+    words: &str,
+    definitions: &str,
+    read: &str,
+    put: &str,
+) -> Result<String, Fail> {
+    let mut files = files(alloc, definitions, SITE, SCRIPT, numbers_of(alloc, read)?)?;
+    let mut sink = MemSink::new(alloc, numbers_of(alloc, put)?);
+    ended_with_faults(alloc, words, &mut files, &mut sink)
+}
+
+/// A number, or none for a dash.
+fn numbers_of(alloc: Global, text: &str) -> Result<Vec<u64>, Fail> {
+    if text == "-" {
+        return Ok(Vec::new(alloc));
+    }
+    Ok(vec![in alloc; text.parse::<u64>()?]?)
+}
+
+fn ended_with_faults(
+    alloc: Global,
+    words: &str,
+    files: &mut MemFiles,
+    sink: &mut MemSink,
+) -> Result<String, Fail> {
+    let mut shelf = stocked(alloc)?;
+    let ended = ended(alloc, words, &mut shelf, files, sink)?;
+    Ok(format!(in alloc; "{} {} {ended}", files.faults(), sink.faults())?)
+}
+
+// Each file but the empty one takes a read for its bytes and one for its end. The first row is how a command ends where its first
+// read fails, and so on; at the last one no read fails.
+const READS: &str = "\
+1 0 ReadFault read fault: d;|replay d s c||0|-
+1 0 ReadFault read fault: s;|replay d s c||1|-
+1 0 ReadFault read fault: s;|replay d s c||2|-
+1 0 ReadFault read fault: c;|replay d s c||3|-
+1 0 ReadFault read fault: c;|replay d s c||4|-
+0 0 Ok 0 0.000000 I OPENED;1 0.000000 I PACKET UNKNOWN UNKNOWN 0004aabb;2 0.000000 I CLOSED PEER held 0 0 0 0 skipped 0 empty 0 unposted 0 unsent 0;END 3;|replay d s c||5|-
+1 0 ReadFault read fault: d;|check d s||0|-
+1 0 ReadFault read fault: s;|check d s||1|-
+1 0 ReadFault read fault: s;|check d s||2|-
+0 0 Ok telemetry 0 commands 0 items 0 interfaces 1 routers 0;|check d s||3|-";
+
 #[test]
 fn a_read_that_fails_ends_the_command(rt: HostRuntime) -> Result<(), Fail> {
-    let rows = "\
-ReadFault read fault: d;
-ReadFault read fault: s;
-ReadFault read fault: s;
-ReadFault read fault: c;
-ReadFault read fault: c;
-Ok 0 0.000000 I OPENED;1 0.000000 I PACKET UNKNOWN UNKNOWN 0004aabb;2 0.000000 I CLOSED PEER held 0 0 0 0 skipped 0 empty 0 unposted 0 unsent 0;END 3;";
-    reads_fail_so(&rt, "replay d s c", rows)?;
-    let rows = "\
-ReadFault read fault: d;
-ReadFault read fault: s;
-ReadFault read fault: s;
-Ok telemetry 0 commands 0 items 0 interfaces 1 routers 0;";
-    reads_fail_so(&rt, "check d s", rows)
+    rows_hold::<Failing>(rt.alloc(), READS)
 }
 
 // The first row is how a command ends where its first put fails, and so on; at the last one no put fails.
-fn puts_fail_so<R: Abort + AllocGlobal>(rt: &R, words: &str, rows: &str) -> Result<(), Fail> {
-    let alloc = rt.alloc();
-    for (put, row) in rows.lines().enumerate() {
-        let mut files = files(alloc, "", SITE, SCRIPT, Vec::new(alloc))?;
-        let mut sink = MemSink::new(alloc, vec![in alloc; put as u64]?);
-        let found = ended(alloc, words, &mut files, &mut sink)?;
-        assert_eq!(rt; found, lines(alloc, row)?, "at {row}");
-        assert_eq!(rt; sink.faults() == 1, !row.starts_with("Ok"), "at {row}");
-    }
-    Ok(())
-}
+const PUTS: &str = "\
+0 1 WriteFault |replay d s c||-|0
+0 1 WriteFault 0 0.000000 I OPENED;|replay d s c||-|1
+0 1 WriteFault 0 0.000000 I OPENED;1 0.000000 I PACKET UNKNOWN UNKNOWN 0004aabb;|replay d s c||-|2
+0 1 WriteFault 0 0.000000 I OPENED;1 0.000000 I PACKET UNKNOWN UNKNOWN 0004aabb;2 0.000000 I CLOSED PEER held 0 0 0 0 skipped 0 empty 0 unposted 0 unsent 0;|replay d s c||-|3
+0 0 Ok 0 0.000000 I OPENED;1 0.000000 I PACKET UNKNOWN UNKNOWN 0004aabb;2 0.000000 I CLOSED PEER held 0 0 0 0 skipped 0 empty 0 unposted 0 unsent 0;END 3;|replay d s c||-|4
+0 1 WriteFault |check d s||-|0
+0 0 Ok telemetry 0 commands 0 items 0 interfaces 1 routers 0;|check d s||-|1";
 
 #[test]
 fn a_put_that_fails_ends_the_command(rt: HostRuntime) -> Result<(), Fail> {
-    let rows = "\
-WriteFault \n\
-WriteFault 0 0.000000 I OPENED;
-WriteFault 0 0.000000 I OPENED;1 0.000000 I PACKET UNKNOWN UNKNOWN 0004aabb;
-WriteFault 0 0.000000 I OPENED;1 0.000000 I PACKET UNKNOWN UNKNOWN 0004aabb;2 0.000000 I CLOSED PEER held 0 0 0 0 skipped 0 empty 0 unposted 0 unsent 0;
-Ok 0 0.000000 I OPENED;1 0.000000 I PACKET UNKNOWN UNKNOWN 0004aabb;2 0.000000 I CLOSED PEER held 0 0 0 0 skipped 0 empty 0 unposted 0 unsent 0;END 3;";
-    puts_fail_so(&rt, "replay d s c", rows)?;
-    let rows = "\
-WriteFault \n\
-Ok telemetry 0 commands 0 items 0 interfaces 1 routers 0;";
-    puts_fail_so(&rt, "check d s", rows)
+    rows_hold::<Failing>(rt.alloc(), PUTS)
 }
 
 #[test]
 fn a_last_line_that_fails_leaves_the_status(rt: HostRuntime) -> Result<(), Fail> {
-    let alloc = rt.alloc();
-    let mut files = files(alloc, "A", SITE, SCRIPT, Vec::new(alloc))?;
-    let mut sink = MemSink::new(alloc, vec![in alloc; 0u64]?);
-    let found = ended(alloc, "replay d s c", &mut files, &mut sink)?;
-    assert_eq!(rt; found.as_slice(), b"ConfigRefused ".as_slice());
-    Ok(())
+    rows_hold::<Failing>(rt.alloc(), "0 1 ConfigRefused |replay d s c|A|-|0")
 }
+
+const STATUSES: [Status; 11] = [
+    Status::Ok,
+    Status::Memory,
+    Status::Usage,
+    Status::ReadFault,
+    Status::Absent,
+    Status::WriteFault,
+    Status::ConfigRefused,
+    Status::ShelfEmpty,
+    Status::ScriptRefused,
+    Status::HistoryFull,
+    Status::NotBuilt,
+];
+
+fn show_status(alloc: Global, out: &mut String, status: Status) -> Result<(), Fail> {
+    let text = format!(in alloc; "{status:?} {};", status.code())?;
+    Ok(out.push_str(text.as_str())?)
+}
+
+const CODES: &str =
+    "Ok 0;Memory 1;Usage 2;ReadFault 3;Absent 3;WriteFault 4;ConfigRefused 5;ShelfEmpty 6;ScriptRefused 7;HistoryFull 8;NotBuilt 13;";
 
 #[test]
 fn exit_statuses(rt: HostRuntime) -> Result<(), Fail> {
-    assert!(rt; Status::Ok.code() == 0 && Status::Memory.code() == 1 && Status::Usage.code() == 2);
-    assert!(rt; Status::ReadFault.code() == 3 && Status::Absent.code() == 3);
-    assert!(rt; Status::WriteFault.code() == 4 && Status::ConfigRefused.code() == 5);
-    assert!(rt; Status::ShelfEmpty.code() == 6);
-    assert!(rt; Status::ScriptRefused.code() == 7 && Status::HistoryFull.code() == 8);
-    assert!(rt; Status::NotBuilt.code() == 13);
-    Ok(())
+    let mut out = String::new(rt.alloc());
+    for status in STATUSES {
+        show_status(rt.alloc(), &mut out, status)?;
+    }
+    same(out.as_str(), CODES, "statuses")
 }

@@ -1,105 +1,125 @@
 // The greatest files, definitions and pieces that are taken.
-use crate::table::{SITE, ended, said};
-use cts_base::Bytes;
-use cts_outside::{MemFiles, MemSink};
-use std::alloc::{AllocError, Global};
+use crate::shelves::stocked;
+use crate::table::{SITE, ended_without_faults, hold_bytes, said};
+use cts_outside::MemFiles;
+use cts_rows::{Answers, rows_end_so};
+use std::alloc::Global;
 use std::test::Fail;
 
 // How a replay ends without a site, by its definitions.
-fn said_of(alloc: Global, definitions: &str) -> Result<Vec<u8>, Fail> {
+fn said_of(alloc: Global, definitions: &str) -> Result<String, Fail> {
     said(alloc, "replay d s c", definitions, "-", "-")
 }
 
-// A text so often behind another one.
-fn repeated(alloc: Global, front: &str, part: &str, count: u32) -> Result<String, AllocError> {
-    let mut text = String::from_str(alloc, front)?;
-    for _ in 0..count {
-        text.push_str(part)?;
+/// How a replay ends whose script brings a piece of so many bytes.
+struct Piece;
+
+impl Answers for Piece {
+    fn answer(alloc: Global, asked: &str) -> Result<String, Fail> {
+        let digits = "a5".repeat(alloc, asked.parse::<usize>()?)?;
+        let script = format!(in alloc; "BYTES I {digits}")?;
+        said(alloc, "replay d s c", "", SITE, script.as_str())
     }
-    Ok(text)
 }
+
+const PIECES: &str = "\
+65536|ScriptRefused refused: c line 1: NotEnabled;
+65537|ScriptRefused refused: c line 1: PieceSize;";
 
 #[test]
 fn a_piece_has_65536_bytes_at_most(rt: HostRuntime) -> Result<(), Fail> {
-    let mut script = repeated(rt.alloc(), "BYTES I ", "a5", 65_536)?;
-    let found = said(rt.alloc(), "replay d s c", "", SITE, script.as_str())?;
-    assert_eq!(rt;
-        found.as_slice(),
-        b"ScriptRefused refused: c line 1: NotEnabled\n".as_slice()
-    );
-    script.push_str("a5")?;
-    let found = said(rt.alloc(), "replay d s c", "", SITE, script.as_str())?;
-    assert_eq!(rt;
-        found.as_slice(),
-        b"ScriptRefused refused: c line 1: PieceSize\n".as_slice()
-    );
-    Ok(())
+    rows_end_so::<Piece>(rt.alloc(), PIECES)
 }
 
-// How a replay ends whose definitions are one word of so many letters.
-fn said_of_one_word(alloc: Global, length: usize) -> Result<Vec<u8>, Fail> {
-    let mut held = Vec::new(alloc);
-    let word = vec![in alloc; b'a'; length]?;
-    held.push((Bytes::copy(alloc, b"d")?, Bytes::of(word)))?;
-    let mut files = MemFiles::new(held, Vec::new(alloc));
-    let mut sink = MemSink::new(alloc, Vec::new(alloc));
-    ended(alloc, "replay d s c", &mut files, &mut sink)
+/// How a replay ends whose definitions are one word of so many letters.
+struct Word;
+
+impl Answers for Word {
+    fn answer(alloc: Global, asked: &str) -> Result<String, Fail> {
+        let word = vec![in alloc; b'a'; asked.parse::<usize>()?]?;
+        said_of_bytes(alloc, word)
+    }
 }
+
+fn said_of_bytes(alloc: Global, definitions: Vec<u8>) -> Result<String, Fail> {
+    let mut held = Vec::new(alloc);
+    hold_bytes(alloc, &mut held, "d", definitions)?;
+    let mut files = MemFiles::new(held, Vec::new(alloc));
+    let mut shelf = stocked(alloc)?;
+    ended_without_faults(alloc, "replay d s c", &mut shelf, &mut files)
+}
+
+const WORDS: &str = "\
+67108864|ConfigRefused refused: d line 1: UnknownKeyword;
+67108865|ConfigRefused refused: d line 0: TooLarge;";
 
 #[test]
 fn a_file_has_67108864_bytes_at_most(rt: HostRuntime) -> Result<(), Fail> {
-    assert_eq!(rt;
-        said_of_one_word(rt.alloc(), 67_108_864)?.as_slice(),
-        b"ConfigRefused refused: d line 1: UnknownKeyword\n".as_slice()
-    );
-    assert_eq!(rt;
-        said_of_one_word(rt.alloc(), 67_108_865)?.as_slice(),
-        b"ConfigRefused refused: d line 0: TooLarge\n".as_slice()
-    );
-    Ok(())
+    rows_end_so::<Word>(rt.alloc(), WORDS)
 }
 
-// Sixteen packets of 4,096 items each.
-fn packets(alloc: Global) -> Result<String, AllocError> {
-    let mut text = String::new(alloc);
-    for number in 0..65_536u32 {
-        if number % 4096 == 0 {
-            text.push_str(format!(in alloc; "TELEMETRY T P{number} BIG_ENDIAN;")?.as_str())?;
-        }
-        text.push_str(format!(in alloc; "APPEND_ITEM I{number} 8 UINT;")?.as_str())?;
-    }
-    Ok(text)
+// Appends a number between two texts.
+fn push_numbered(
+    alloc: Global,
+    out: &mut String,
+    front: &str,
+    number: u32,
+    behind: &str,
+) -> Result<(), Fail> {
+    let text = format!(in alloc; "{front}{number}{behind}")?;
+    Ok(out.push_str(text.as_str())?)
 }
+
+// Appends an item, each 4,096 of them behind a packet.
+fn push_item(alloc: Global, out: &mut String, number: u32) -> Result<(), Fail> {
+    if number % 4096 == 0 {
+        push_numbered(alloc, out, "TELEMETRY T P", number, " BIG_ENDIAN;")?;
+    }
+    push_numbered(alloc, out, "APPEND_ITEM I", number, " 8 UINT;")
+}
+
+/// How a replay ends whose definitions are sixteen packets of 4,096 items each and what is asked.
+struct Items;
+
+impl Answers for Items {
+    fn answer(alloc: Global, asked: &str) -> Result<String, Fail> {
+        let mut text = String::new(alloc);
+        for number in 0..65_536u32 {
+            push_item(alloc, &mut text, number)?;
+        }
+        text.push_str(asked)?;
+        said_of(alloc, text.as_str())
+    }
+}
+
+const BEHIND_ITEMS: &str = "\
+|Absent absent: s;
+TELEMETRY T Q BIG_ENDIAN;APPEND_ITEM A 8 UINT|ConfigRefused refused: d line 65554: TooMany;";
 
 #[test]
 fn definitions_have_65536_items_at_most(rt: HostRuntime) -> Result<(), Fail> {
-    let mut text = packets(rt.alloc())?;
-    assert_eq!(rt;
-        said_of(rt.alloc(), text.as_str())?.as_slice(),
-        b"Absent absent: s\n".as_slice()
-    );
-    text.push_str("TELEMETRY T Q BIG_ENDIAN;APPEND_ITEM A 8 UINT")?;
-    assert_eq!(rt;
-        said_of(rt.alloc(), text.as_str())?.as_slice(),
-        b"ConfigRefused refused: d line 65554: TooMany\n".as_slice()
-    );
-    Ok(())
+    rows_end_so::<Items>(rt.alloc(), BEHIND_ITEMS)
 }
+
+/// How a replay ends whose definitions are 4,096 commands and what is asked.
+struct Commands;
+
+impl Answers for Commands {
+    fn answer(alloc: Global, asked: &str) -> Result<String, Fail> {
+        let mut text = String::new(alloc);
+        for number in 0..4096u32 {
+            push_numbered(alloc, &mut text, "COMMAND T C", number, " BIG_ENDIAN;")?;
+        }
+        text.push_str(asked)?;
+        said_of(alloc, text.as_str())
+    }
+}
+
+const BEHIND_COMMANDS: &str = "\
+|Absent absent: s;
+COMMAND U C BIG_ENDIAN|ConfigRefused refused: d line 4097: TooMany;";
 
 #[test]
 fn definitions_have_4096_commands_at_most(rt: HostRuntime) -> Result<(), Fail> {
-    let mut text = String::new(rt.alloc());
-    for number in 0..4096u32 {
-        text.push_str(format!(in rt.alloc(); "COMMAND T C{number} BIG_ENDIAN;")?.as_str())?;
-    }
-    assert_eq!(rt;
-        said_of(rt.alloc(), text.as_str())?.as_slice(),
-        b"Absent absent: s\n".as_slice()
-    );
-    text.push_str("COMMAND U C BIG_ENDIAN")?;
-    assert_eq!(rt;
-        said_of(rt.alloc(), text.as_str())?.as_slice(),
-        b"ConfigRefused refused: d line 4097: TooMany\n".as_slice()
-    );
-    Ok(())
+    rows_end_so::<Commands>(rt.alloc(), BEHIND_COMMANDS)
 }

@@ -1,10 +1,11 @@
 // Commands that end before they do anything, and checks: one line, or none.
 use crate::instrument::INSTRUMENT_DEFINITIONS;
-use crate::table::{SITE, commands_end_so, ended};
-use cts_base::Bytes;
-use cts_outside::{MemFiles, MemSink};
-use std::alloc::Global;
+use crate::table::{WHOLE, commands_end_so, said};
+use cts_rows::same;
 use std::test::Fail;
+
+const MISUSED: &str =
+    "$||INTERFACE I tcpip_client_interface.rb h 8080 8080 10.0 nil LENGTH 0 16 0 1||Usage usage: check DEFS SITE | replay DEFS SITE SCRIPT | rehearse N | dump LOG | serve DEFS SITE;";
 
 // The first row has no words.
 const OTHER_WORDS: &str = "
@@ -19,13 +20,7 @@ serve d s";
 
 #[test]
 fn words_that_fit_no_command(rt: HostRuntime) -> Result<(), Fail> {
-    for words in OTHER_WORDS.lines() {
-        let row = format!(in rt.alloc();
-            "{words}||{SITE}||Usage usage: check DEFS SITE | replay DEFS SITE SCRIPT | rehearse N | dump LOG | serve DEFS SITE;"
-        )?;
-        commands_end_so(&rt, row.as_str())?;
-    }
-    Ok(())
+    commands_end_so(rt.alloc(), MISUSED, OTHER_WORDS)
 }
 
 // A check says how much there is, and takes limits and routers. Each file has its refusals before the next one is read.
@@ -62,7 +57,7 @@ replay d s c||INTERFACE I tcpip_client_interface.rb h 1 1 nil nil LENGTH 0 16 0 
 
 #[test]
 fn each_file_has_its_refusals_before_the_next(rt: HostRuntime) -> Result<(), Fail> {
-    commands_end_so(&rt, FILES)
+    commands_end_so(rt.alloc(), WHOLE, FILES)
 }
 
 // Two interfaces and a router for them.
@@ -77,46 +72,26 @@ ROUTE INST_INT";
 
 #[test]
 fn a_check_counts_what_there_is(rt: HostRuntime) -> Result<(), Fail> {
-    let row = format!(in rt.alloc();
-        "check d s|{INSTRUMENT_DEFINITIONS}|{INSTRUMENT}||Ok telemetry 2 commands 1 items 6 interfaces 2 routers 1;"
+    let found = said(
+        rt.alloc(),
+        "check d s",
+        INSTRUMENT_DEFINITIONS,
+        INSTRUMENT,
+        "",
     )?;
-    commands_end_so(&rt, row.as_str())
+    let wanted = "Ok telemetry 2 commands 1 items 6 interfaces 2 routers 1;";
+    same(found.as_str(), wanted, "the instrument")
 }
 
-// Holds a file of this name.
-fn hold(
-    alloc: Global,
-    held: &mut Vec<(Bytes, Bytes)>,
-    name: &str,
-    content: &[u8],
-) -> Result<(), Fail> {
-    let name = Bytes::copy(alloc, name.as_bytes())?;
-    held.push((name, Bytes::copy(alloc, content)?))?;
-    Ok(())
-}
+const NO_TEXT: &str =
+    "replay d s c|$|INTERFACE I tcpip_client_interface.rb h 8080 8080 10.0 nil LENGTH 0 16 0 1|$|$";
 
-// How a replay ends whose definitions and script are these bytes.
-fn ended_over(alloc: Global, definitions: &[u8], script: &[u8]) -> Result<Vec<u8>, Fail> {
-    let mut held = Vec::new(alloc);
-    hold(alloc, &mut held, "d", definitions)?;
-    hold(alloc, &mut held, "s", SITE.as_bytes())?;
-    hold(alloc, &mut held, "c", script)?;
-    let mut files = MemFiles::new(held, Vec::new(alloc));
-    let mut sink = MemSink::new(alloc, Vec::new(alloc));
-    ended(alloc, "replay d s c", &mut files, &mut sink)
-}
+// Definitions that are no text, and a script that is none: each character is the byte of its number.
+const NO_TEXTS: &str = "\
+A;\u{ff} '||ConfigRefused refused: d line 0: NotText;
+|OPEN I;\u{80}|ScriptRefused refused: c line 0: WrongCount;";
 
 #[test]
 fn a_file_that_is_no_text_is_refused_as_a_whole(rt: HostRuntime) -> Result<(), Fail> {
-    let found = ended_over(rt.alloc(), b"A\n\xff '", b"")?;
-    assert_eq!(rt;
-        found.as_slice(),
-        b"ConfigRefused refused: d line 0: NotText\n".as_slice()
-    );
-    let found = ended_over(rt.alloc(), b"", b"OPEN I\n\x80")?;
-    assert_eq!(rt;
-        found.as_slice(),
-        b"ScriptRefused refused: c line 0: WrongCount\n".as_slice()
-    );
-    Ok(())
+    commands_end_so(rt.alloc(), NO_TEXT, NO_TEXTS)
 }

@@ -1,6 +1,7 @@
 // Replays of scripts.
-use crate::table::{SITE, replays_end_so, said};
-use std::alloc::{AllocError, Global};
+use crate::table::{SITE, WHOLE, replays_end_so, said};
+use cts_rows::{pieces_of, same};
+use std::alloc::Global;
 use std::test::Fail;
 
 // A packet in one piece and in pieces of one byte; bytes in no packet; a length within its own field, after which no bytes may
@@ -21,7 +22,7 @@ OPEN I;CLOSE I PEER;CLOSE I PEER;|ScriptRefused 0 0.000000 I OPENED;1 0.000000 I
 
 #[test]
 fn connections_open_bring_packets_and_close(rt: HostRuntime) -> Result<(), Fail> {
-    replays_end_so(&rt, SITE, CONNECTIONS)
+    replays_end_so(rt.alloc(), "", SITE, WHOLE, CONNECTIONS)
 }
 
 const TWO: &str =
@@ -37,7 +38,7 @@ open i;ByTeS i 00;close J PEER|ScriptRefused 0 0.000000 I OPENED;refused: c line
 
 #[test]
 fn each_statement_of_a_script_has_one_event(rt: HostRuntime) -> Result<(), Fail> {
-    replays_end_so(&rt, TWO, STATEMENTS)
+    replays_end_so(rt.alloc(), "", TWO, WHOLE, STATEMENTS)
 }
 
 // Each cause of a line, with the line of the first one that has a cause: nothing of the lines in front of it is done.
@@ -74,7 +75,7 @@ OPEN I;;CLOSE I FULL;OPEN K|ScriptRefused refused: c line 3: UnknownWhy;";
 
 #[test]
 fn each_cause_of_a_line_refuses_the_script(rt: HostRuntime) -> Result<(), Fail> {
-    replays_end_so(&rt, TWO, CAUSES)
+    replays_end_so(rt.alloc(), "", TWO, WHOLE, CAUSES)
 }
 
 // Lines of which nothing is done yet. A script is refused for its grammar before that is looked at, and where a line is not
@@ -88,7 +89,7 @@ DRAIN LOG 0;WRITE I x;CALL 0|ScriptRefused refused: c line 2: NotNumber;";
 
 #[test]
 fn lines_of_logs_are_not_built(rt: HostRuntime) -> Result<(), Fail> {
-    replays_end_so(&rt, TWO, UNDONE)
+    replays_end_so(rt.alloc(), "", TWO, WHOLE, UNDONE)
 }
 
 // An interface writes as many commands as wait for it, while it is connected.
@@ -100,7 +101,7 @@ OPEN I;WRITE I 1|ScriptRefused 0 0.000000 I OPENED;refused: c line 2: NotEnabled
 
 #[test]
 fn interfaces_write_what_waits_for_them(rt: HostRuntime) -> Result<(), Fail> {
-    replays_end_so(&rt, TWO, WRITES)
+    replays_end_so(rt.alloc(), "", TWO, WHOLE, WRITES)
 }
 
 // The server is stopped once; then nothing opens, and what is open goes on until it ends.
@@ -112,7 +113,7 @@ OPEN I;STOP;BYTES I 0002;CLOSE I STOP|Ok 0 0.000000 I OPENED;1 0.000000 SERVER S
 
 #[test]
 fn the_server_is_stopped_once(rt: HostRuntime) -> Result<(), Fail> {
-    replays_end_so(&rt, TWO, STOPS)
+    replays_end_so(rt.alloc(), "", TWO, WHOLE, STOPS)
 }
 
 // Why a connection ends. It ends by a Stop only behind one.
@@ -124,7 +125,7 @@ OPEN I;CLOSE I STOP|ScriptRefused 0 0.000000 I OPENED;refused: c line 2: NotEnab
 
 #[test]
 fn connections_end_for_each_reason(rt: HostRuntime) -> Result<(), Fail> {
-    replays_end_so(&rt, TWO, ENDS)
+    replays_end_so(rt.alloc(), "", TWO, WHOLE, ENDS)
 }
 
 // Entries have the time of the last line that sets it, which may go back; micros are below a million.
@@ -139,30 +140,32 @@ OPEN I;TIME 7 4294967295;OPEN J|ScriptRefused 0 0.000000 I OPENED;refused: c lin
 
 #[test]
 fn entries_have_the_time_that_was_set(rt: HostRuntime) -> Result<(), Fail> {
-    replays_end_so(&rt, TWO, TIMES)
+    replays_end_so(rt.alloc(), "", TWO, WHOLE, TIMES)
 }
 
+// What is printed of a connection with these bytes.
+const BYTES: &str = "0003aa00020004bbcc0006";
+
+const PRINTED: &str =
+    "Ok 0 0.000000 I OPENED;1 0.000000 I PACKET UNKNOWN UNKNOWN 0003aa;2 0.000000 I PACKET UNKNOWN UNKNOWN 0002;3 0.000000 I PACKET UNKNOWN UNKNOWN 0004bbcc;4 0.000000 I CLOSED PEER held 2 0 0 0 skipped 0 empty 0 unposted 0 unsent 0;END 5;";
+
 // A script that brings the bytes of a connection in pieces: a cut after byte k where bit k is set.
-fn script_with_cuts(alloc: Global, digits: &str, cuts: u32) -> Result<String, AllocError> {
-    let mut script = String::from_str(alloc, "OPEN I;BYTES I ")?;
-    for (at, digit) in digits.as_bytes().iter().enumerate() {
-        if at > 0 && at % 2 == 0 && (cuts >> ((at / 2 - 1) % 32)) % 2 == 1 {
-            script.push_str(";BYTES I ")?;
-        }
-        script.push(*digit as char)?;
-    }
-    script.push_str(";CLOSE I PEER")?;
-    Ok(script)
+fn script_with_cuts(alloc: Global, cuts: u32) -> Result<String, Fail> {
+    let pieces = pieces_of(alloc, BYTES, cuts)?;
+    let pieces = pieces.as_str().replace(alloc, ' ', ";BYTES I ")?;
+    Ok(format!(in alloc; "OPEN I;BYTES I {pieces};CLOSE I PEER")?)
+}
+
+fn cuts_give_the_text(alloc: Global, cuts: u32) -> Result<(), Fail> {
+    let script = script_with_cuts(alloc, cuts)?;
+    let found = said(alloc, "replay d s c", "", SITE, script.as_str())?;
+    same(found.as_str(), PRINTED, script.as_str())
 }
 
 #[test]
 fn every_cut_of_a_connection_gives_one_text(rt: HostRuntime) -> Result<(), Fail> {
-    let want =
-        b"Ok 0 0.000000 I OPENED\n1 0.000000 I PACKET UNKNOWN UNKNOWN 0003aa\n2 0.000000 I PACKET UNKNOWN UNKNOWN 0002\n3 0.000000 I PACKET UNKNOWN UNKNOWN 0004bbcc\n4 0.000000 I CLOSED PEER held 2 0 0 0 skipped 0 empty 0 unposted 0 unsent 0\nEND 5\n".as_slice();
     for cuts in 0..1024u32 {
-        let script = script_with_cuts(rt.alloc(), "0003aa00020004bbcc0006", cuts)?;
-        let found = said(rt.alloc(), "replay d s c", "", SITE, script.as_str())?;
-        assert_eq!(rt; found.as_slice(), want, "cuts {cuts}");
+        cuts_give_the_text(rt.alloc(), cuts)?;
     }
     Ok(())
 }
@@ -187,33 +190,10 @@ TARGET POWER;\
 INTERFACE PUMP_INT tcpip_client_interface.rb localhost 8081 8081 10.0 nil LENGTH 0 16 0 1;\
 TARGET PUMP";
 
-const DAY: &str = "\
-OPEN POWER_INT;\
-OPEN PUMP_INT;\
-BYTES POWER_INT 000401;\
-BYTES POWER_INT 0C0004;\
-BYTES PUMP_INT 00040190;\
-BYTES POWER_INT 0207;\
-BYTES POWER_INT 000463FF000501;\
-CLOSE POWER_INT PEER;\
-OPEN POWER_INT;\
-BYTES POWER_INT 0004010D";
-
-const DAY_PRINTED: &[u8] = b"\
-Ok 0 0.000000 POWER_INT OPENED\n\
-1 0.000000 PUMP_INT OPENED\n\
-2 0.000000 POWER_INT PACKET POWER STATUS 0004010c\n\
-3 0.000000 PUMP_INT PACKET PUMP STATUS 00040190\n\
-4 0.000000 POWER_INT PACKET POWER FAULT 00040207\n\
-5 0.000000 POWER_INT PACKET UNKNOWN UNKNOWN 000463ff\n\
-6 0.000000 POWER_INT CLOSED PEER held 3 0 0 0 skipped 0 empty 0 unposted 0 unsent 0\n\
-7 0.000000 POWER_INT OPENED\n\
-8 0.000000 POWER_INT PACKET POWER STATUS 0004010d\n\
-END 9\n";
+const DAY: &str =
+    "OPEN POWER_INT;OPEN PUMP_INT;BYTES POWER_INT 000401;BYTES POWER_INT 0C0004;BYTES PUMP_INT 00040190;BYTES POWER_INT 0207;BYTES POWER_INT 000463FF000501;CLOSE POWER_INT PEER;OPEN POWER_INT;BYTES POWER_INT 0004010D|Ok 0 0.000000 POWER_INT OPENED;1 0.000000 PUMP_INT OPENED;2 0.000000 POWER_INT PACKET POWER STATUS 0004010c;3 0.000000 PUMP_INT PACKET PUMP STATUS 00040190;4 0.000000 POWER_INT PACKET POWER FAULT 00040207;5 0.000000 POWER_INT PACKET UNKNOWN UNKNOWN 000463ff;6 0.000000 POWER_INT CLOSED PEER held 3 0 0 0 skipped 0 empty 0 unposted 0 unsent 0;7 0.000000 POWER_INT OPENED;8 0.000000 POWER_INT PACKET POWER STATUS 0004010d;END 9;";
 
 #[test]
 fn packets_of_two_interfaces_have_their_names(rt: HostRuntime) -> Result<(), Fail> {
-    let found = said(rt.alloc(), "replay d s c", UNITS, TWO_UNITS, DAY)?;
-    assert_eq!(rt; found.as_slice(), DAY_PRINTED);
-    Ok(())
+    replays_end_so(rt.alloc(), UNITS, TWO_UNITS, WHOLE, DAY)
 }

@@ -1,12 +1,10 @@
 // Shelves of boxes for commands, and what commands say of a shelf that lacks one.
-use crate::table::{SITE, cut, ended_over, files, lines};
+use crate::table::command_ends_so;
 use cts_fixed::Fixed;
-use cts_outside::MemSink;
 use cts_preid::Preidentified;
 use cts_proto::{Boxed, Shelf};
 use cts_stream::{Burst, Length, Terminated};
 use std::alloc::Global;
-use std::process::Abort;
 use std::test::Fail;
 
 /// Puts a box on a shelf.
@@ -17,44 +15,34 @@ pub fn put(shelf: &mut Shelf, protocol: Boxed) -> Result<(), Fail> {
     }
 }
 
+/// Puts a box of LENGTH on a shelf.
+fn put_length(alloc: Global, shelf: &mut Shelf) -> Result<(), Fail> {
+    put(shelf, Box::new(alloc, Length::blank(alloc))?)
+}
+
+/// Puts a box of each kind but LENGTH on a shelf.
+fn put_others(alloc: Global, shelf: &mut Shelf) -> Result<(), Fail> {
+    put(shelf, Box::new(alloc, Burst::blank(alloc))?)?;
+    put(shelf, Box::new(alloc, Fixed::blank(alloc))?)?;
+    put(shelf, Box::new(alloc, Terminated::blank(alloc))?)?;
+    put(shelf, Box::new(alloc, Preidentified::blank(alloc))?)
+}
+
 /// A shelf with a box of each kind but LENGTH.
 pub fn without_length(alloc: Global) -> Result<Shelf, Fail> {
     let mut shelf = Shelf::new(alloc);
-    put(&mut shelf, Box::new(alloc, Burst::blank(alloc))?)?;
-    put(&mut shelf, Box::new(alloc, Fixed::blank(alloc))?)?;
-    put(&mut shelf, Box::new(alloc, Terminated::blank(alloc))?)?;
-    put(&mut shelf, Box::new(alloc, Preidentified::blank(alloc))?)?;
+    put_others(alloc, &mut shelf)?;
     Ok(shelf)
 }
 
 /// A shelf with two boxes of each kind but LENGTH, and four of LENGTH.
 pub fn stocked(alloc: Global) -> Result<Shelf, Fail> {
     let mut shelf = without_length(alloc)?;
-    put(&mut shelf, Box::new(alloc, Burst::blank(alloc))?)?;
-    put(&mut shelf, Box::new(alloc, Fixed::blank(alloc))?)?;
-    put(&mut shelf, Box::new(alloc, Terminated::blank(alloc))?)?;
-    put(&mut shelf, Box::new(alloc, Preidentified::blank(alloc))?)?;
+    put_others(alloc, &mut shelf)?;
     for _ in 0..4 {
-        put(&mut shelf, Box::new(alloc, Length::blank(alloc))?)?;
+        put_length(alloc, &mut shelf)?;
     }
     Ok(shelf)
-}
-
-// Each row has a command, its definitions, its site, its script and how it ends over a shelf without a box of LENGTH.
-fn commands_without_length_end_so<R: Abort + AllocGlobal>(rt: &R, rows: &str) -> Result<(), Fail> {
-    let alloc = rt.alloc();
-    for row in rows.lines() {
-        let (words, rest) = cut(row)?;
-        let (definitions, rest) = cut(rest)?;
-        let (site, rest) = cut(rest)?;
-        let (script, want) = cut(rest)?;
-        let mut shelf = without_length(alloc)?;
-        let mut files = files(alloc, definitions, site, script, Vec::new(alloc))?;
-        let mut sink = MemSink::new(alloc, Vec::new(alloc));
-        let found = ended_over(alloc, words, &mut shelf, &mut files, &mut sink)?;
-        assert_eq!(rt; found, lines(alloc, want)?, "at {row}");
-    }
-    Ok(())
 }
 
 // Words, definitions and the site have their refusals before the shelf is looked at, and the script after it: where the shelf is
@@ -71,24 +59,31 @@ replay d s c||INTERFACE I tcpip_client_interface.rb h 1 1 nil nil LENGTH 0 16 0 
 replay d s c||INTERFACE I tcpip_client_interface.rb h 1 1 nil nil LENGTH 0 16 0 1;INTERFACE J tcpip_client_interface.rb h 2 2 nil nil LENGTH 0 16 0 1|OPEN I|ShelfEmpty shelf empty: LENGTH needed 2 stocked 0;
 replay d s c|||OPEN I|ScriptRefused refused: c line 1: UnknownMaker;";
 
+// Each row has a command, its definitions, its site, its script and how it ends over a shelf without a box of LENGTH.
+fn row_ends_so(alloc: Global, row: &str) -> Result<(), Fail> {
+    let mut shelf = without_length(alloc)?;
+    command_ends_so(alloc, &mut shelf, row)
+}
+
 #[test]
 fn a_shelf_that_lacks_a_box_ends_the_replay(rt: HostRuntime) -> Result<(), Fail> {
-    commands_without_length_end_so(&rt, SHORT)
+    for row in SHORT.split('\n') {
+        row_ends_so(rt.alloc(), row)?;
+    }
+    Ok(())
 }
 
 // The box that one replay took is gone: the next one finds none.
+const AGAIN: &str = "\
+replay d s c||INTERFACE I tcpip_client_interface.rb h 8080 8080 10.0 nil LENGTH 0 16 0 1|OPEN I|Ok 0 0.000000 I OPENED;END 1;
+replay d s c||INTERFACE I tcpip_client_interface.rb h 8080 8080 10.0 nil LENGTH 0 16 0 1|OPEN I|ShelfEmpty shelf empty: LENGTH needed 1 stocked 0;";
+
 #[test]
 fn a_replay_takes_its_boxes_from_the_shelf(rt: HostRuntime) -> Result<(), Fail> {
-    let alloc = rt.alloc();
-    let mut shelf = without_length(alloc)?;
-    put(&mut shelf, Box::new(alloc, Length::blank(alloc))?)?;
-    let want = lines(alloc, "Ok 0 0.000000 I OPENED;END 1;")?;
-    let again = lines(alloc, "ShelfEmpty shelf empty: LENGTH needed 1 stocked 0;")?;
-    for row in [want, again] {
-        let mut files = files(alloc, "", SITE, "OPEN I", Vec::new(alloc))?;
-        let mut sink = MemSink::new(alloc, Vec::new(alloc));
-        let found = ended_over(alloc, "replay d s c", &mut shelf, &mut files, &mut sink)?;
-        assert_eq!(rt; found, row);
+    let mut shelf = without_length(rt.alloc())?;
+    put_length(rt.alloc(), &mut shelf)?;
+    for row in AGAIN.split('\n') {
+        command_ends_so(rt.alloc(), &mut shelf, row)?;
     }
     Ok(())
 }

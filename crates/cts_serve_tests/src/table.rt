@@ -1,33 +1,107 @@
-// Commands over files and a sink in memory, from rows of text.
+// How commands end over files, a shelf and a sink in memory, from rows of text.
 use crate::shelves::stocked;
 use cts_base::Bytes;
 use cts_chain::Chain;
-use cts_def::Site;
-use cts_defread::read_definitions;
 use cts_outside::{MemFiles, MemSink};
-use cts_plan::read_site;
 use cts_proto::Shelf;
-use cts_serve::run;
-use cts_words::{Statement, statements};
-use std::alloc::{AllocError, Global};
-use std::process::Abort;
+use cts_rows::{bytes_by_number, cut, in_one_line, same};
+use cts_serve::{Status, run};
+use std::alloc::Global;
 use std::test::Fail;
 
 /// The site of the tests that need one.
 pub const SITE: &str = "INTERFACE I tcpip_client_interface.rb h 8080 8080 10.0 nil LENGTH 0 16 0 1";
 
-/// A text whose lines end with line feeds, of one whose lines end with `;`.
-pub fn lines(alloc: Global, text: &str) -> Result<Vec<u8>, AllocError> {
-    let mut out = text.as_bytes().to_vec(alloc)?;
-    for byte in out.iter_mut() {
-        if *byte == b';' {
-            *byte = b'\n';
-        }
+/// The form of rows that have all that there is.
+pub const WHOLE: &str = "$";
+
+/// Each row, put into the form, has a command, its definitions, its site, its script and how it ends, with bars between; lines end with `;`.
+pub fn commands_end_so(alloc: Global, form: &str, rows: &str) -> Result<(), Fail> {
+    for row in rows.split('\n') {
+        row_ends_so(alloc, form, row)?;
+    }
+    Ok(())
+}
+
+/// The same of replays over these definitions and this site. Each row, put into the form, has a script and how its replay ends.
+pub fn replays_end_so(
+    alloc: Global,
+    definitions: &str,
+    site: &str,
+    form: &str,
+    rows: &str,
+) -> Result<(), Fail> {
+    let form = format!(in alloc; "replay d s c|{definitions}|{site}|{form}")?;
+    commands_end_so(alloc, form.as_str(), rows)
+}
+
+fn row_ends_so(alloc: Global, form: &str, row: &str) -> Result<(), Fail> {
+    let row = filled(alloc, form, row)?;
+    let mut shelf = stocked(alloc)?;
+    command_ends_so(alloc, &mut shelf, row.as_str())
+}
+
+/// The form with the row's parts in the place of its marks `$`; the last part may have bars.
+fn filled(alloc: Global, form: &str, row: &str) -> Result<String, Fail> {
+    let mut out = form.to_string(alloc)?;
+    for part in row.splitn(form.split('$').skip(1).count(), '|') {
+        out = with_part(alloc, out.as_str(), part)?;
     }
     Ok(out)
 }
 
-/// The files of these contents, by the names `d`, `s` and `c`. A dash is no file.
+fn with_part(alloc: Global, form: &str, part: &str) -> Result<String, Fail> {
+    let (front, behind) = cut(form, '$')?;
+    Ok(format!(in alloc; "{front}{part}{behind}")?)
+}
+
+/// A row with all five parts holds over this shelf.
+pub fn command_ends_so(alloc: Global, shelf: &mut Shelf, row: &str) -> Result<(), Fail> {
+    let parts = row.splitn(5, '|').collect::<Vec<&str>>(alloc)?;
+    let [words, definitions, site, script, wanted] = parts.as_slice() else {
+        return Err(Fail::new("not five parts"));
+    };
+    let found = said_over(alloc, shelf, words, definitions, site, script)?;
+    same(found.as_str(), wanted, row)
+}
+
+/// How a command ends over these files and a shelf with boxes of each kind, where nothing fails.
+pub fn said(
+    alloc: Global,
+    words: &str,
+    definitions: &str,
+    site: &str,
+    script: &str,
+) -> Result<String, Fail> {
+    let mut shelf = stocked(alloc)?;
+    said_over(alloc, &mut shelf, words, definitions, site, script)
+}
+
+/// The same over this shelf.
+pub fn said_over(
+    alloc: Global,
+    shelf: &mut Shelf,
+    words: &str,
+    definitions: &str,
+    site: &str,
+    script: &str,
+) -> Result<String, Fail> {
+    let mut files = files(alloc, definitions, site, script, Vec::new(alloc))?;
+    ended_without_faults(alloc, words, shelf, &mut files)
+}
+
+/// How a command ends over this shelf and these files, where no put fails.
+pub fn ended_without_faults(
+    alloc: Global,
+    words: &str,
+    shelf: &mut Shelf,
+    files: &mut MemFiles,
+) -> Result<String, Fail> {
+    let mut sink = MemSink::new(alloc, Vec::new(alloc));
+    ended(alloc, words, shelf, files, &mut sink)
+}
+
+/// The files of these contents, by the names `d`, `s` and `c`, and which of their reads fail.
 pub fn files(
     alloc: Global,
     definitions: &str,
@@ -35,118 +109,54 @@ pub fn files(
     script: &str,
     failing: Vec<u64>,
 ) -> Result<MemFiles, Fail> {
-    let mut files = Vec::new(alloc);
-    for (name, text) in [("d", definitions), ("s", site), ("c", script)] {
-        if text != "-" {
-            let name = Bytes::copy(alloc, name.as_bytes())?;
-            files.push((name, Bytes::of(lines(alloc, text)?)))?;
-        }
+    let mut held = Vec::new(alloc);
+    hold(alloc, &mut held, "d", definitions)?;
+    hold(alloc, &mut held, "s", site)?;
+    hold(alloc, &mut held, "c", script)?;
+    Ok(MemFiles::new(held, failing))
+}
+
+/// Holds a file of this name. A dash is no file.
+fn hold(alloc: Global, held: &mut Vec<(Bytes, Bytes)>, name: &str, text: &str) -> Result<(), Fail> {
+    if text == "-" {
+        return Ok(());
     }
-    Ok(MemFiles::new(files, failing))
+    let content = bytes_by_number(alloc, text)?;
+    hold_bytes(alloc, held, name, content)
 }
 
-/// How a command ends over a shelf with boxes of each kind: its status, and behind a blank all that it prints.
-pub fn ended(
+/// Holds a file of this name with these bytes.
+pub fn hold_bytes(
     alloc: Global,
-    words: &str,
-    files: &mut MemFiles,
-    sink: &mut MemSink,
-) -> Result<Vec<u8>, Fail> {
-    let mut shelf = stocked(alloc)?;
-    ended_over(alloc, words, &mut shelf, files, sink)
+    held: &mut Vec<(Bytes, Bytes)>,
+    name: &str,
+    content: Vec<u8>,
+) -> Result<(), Fail> {
+    let name = Bytes::copy(alloc, name.as_bytes())?;
+    Ok(held.push((name, Bytes::of(content)))?)
 }
 
-/// The same over this shelf.
-pub fn ended_over(
+/// How a command ends: its status, and behind a blank all that it prints, with `;` for each line feed.
+pub fn ended(
     alloc: Global,
     words: &str,
     shelf: &mut Shelf,
     files: &mut MemFiles,
     sink: &mut MemSink,
-) -> Result<Vec<u8>, Fail> {
+) -> Result<String, Fail> {
     let words = words.split_whitespace().collect::<Vec<&str>>(alloc)?;
-    let status = run::<Chain, Shelf, MemFiles, MemSink>(alloc, &words, shelf, files, sink);
-    let mut text = format!(in alloc; "{status:?} ")?.as_bytes().to_vec(alloc)?;
-    text.extend_from_slice(sink.bytes())?;
-    Ok(text)
+    let status = status_of(alloc, &words, shelf, files, sink);
+    let printed = in_one_line(alloc, sink.bytes())?;
+    Ok(format!(in alloc; "{status:?} {printed}")?)
 }
 
-/// How a command ends over these files, where nothing fails.
-pub fn said(
+/// The status of a command. Nothing is said of it, so that no test has to carry what is.
+fn status_of(
     alloc: Global,
-    words: &str,
-    definitions: &str,
-    site: &str,
-    script: &str,
-) -> Result<Vec<u8>, Fail> {
-    let mut files = files(alloc, definitions, site, script, Vec::new(alloc))?;
-    let mut sink = MemSink::new(alloc, Vec::new(alloc));
-    ended(alloc, words, &mut files, &mut sink)
-}
-
-/// The part of a row in front of its first bar, and the rest.
-pub fn cut(row: &str) -> Result<(&str, &str), Fail> {
-    match row.split_once('|') {
-        Some(parts) => Ok(parts),
-        None => Err(Fail::new("no bar")),
-    }
-}
-
-/// Each row has a command, its definitions, its site, its script and how it ends, with bars between; lines end with `;`.
-pub fn commands_end_so<R: Abort + AllocGlobal>(rt: &R, rows: &str) -> Result<(), Fail> {
-    for row in rows.lines() {
-        let (words, rest) = cut(row)?;
-        let (definitions, rest) = cut(rest)?;
-        let (site, rest) = cut(rest)?;
-        let (script, want) = cut(rest)?;
-        let want = lines(rt.alloc(), want)?;
-        let found = said(rt.alloc(), words, definitions, site, script)?;
-        assert_eq!(rt; found, want, "at {row}");
-    }
-    Ok(())
-}
-
-/// Each row has a script and how its replay ends, over the one site.
-pub fn replays_end_so<R: Abort + AllocGlobal>(rt: &R, site: &str, rows: &str) -> Result<(), Fail> {
-    replays_of_packets_end_so(rt, "", site, rows)
-}
-
-/// Each row has a script and how its replay ends, over the one site and its definitions.
-pub fn replays_of_packets_end_so<R: Abort + AllocGlobal>(
-    rt: &R,
-    definitions: &str,
-    site: &str,
-    rows: &str,
-) -> Result<(), Fail> {
-    for row in rows.lines() {
-        let (script, want) = cut(row)?;
-        let want = lines(rt.alloc(), want)?;
-        let found = said(rt.alloc(), "replay d s c", definitions, site, script)?;
-        assert_eq!(rt; found, want, "at {row}");
-    }
-    Ok(())
-}
-
-fn statements_of(alloc: Global, text: &str) -> Result<Vec<Statement>, Fail> {
-    let text = lines(alloc, text)?;
-    if text.len() > 67_108_864 {
-        return Err(Fail::new("too large"));
-    }
-    match statements(alloc, &text) {
-        Ok(found) => Ok(found),
-        Err(_) => Err(Fail::new("no statements")),
-    }
-}
-
-/// The site of two texts whose lines end with `;`.
-pub fn site_of(alloc: Global, definitions: &str, site: &str) -> Result<Site, Fail> {
-    let found = statements_of(alloc, definitions)?;
-    let Ok(definitions) = read_definitions(alloc, &found) else {
-        return Err(Fail::new("definitions are refused"));
-    };
-    let found = statements_of(alloc, site)?;
-    match read_site(alloc, &found, definitions) {
-        Ok(site) => Ok(site),
-        Err(_) => Err(Fail::new("the site is refused")),
-    }
+    words: &[&str],
+    shelf: &mut Shelf,
+    files: &mut MemFiles,
+    sink: &mut MemSink,
+) -> Status {
+    run::<Chain, Shelf, MemFiles, MemSink>(alloc, words, shelf, files, sink)
 }
