@@ -24,7 +24,7 @@ use Rattle.cts_api.specs.Points.{Point}
 use Rattle.cts_api.specs.Replied.{Answered, Replied}
 use Rattle.cts_api.specs.Replies.{HasRequest, IsReplyFor, IsReplyOf, IsReplyTo, Reply, invalid_params, made, not_found, posted, refusal_to, reply_with, said_to}
 use Rattle.cts_api.specs.Responding.{IsTold, RefusesWith}
-use Rattle.cts_api.specs.Settling.{HasAnswered, Settled}
+use Rattle.cts_api.specs.Settling.{CanEnd, CanSayIt, Ends, HasAnswered, Settled}
 use Rattle.cts_api.specs.Telling.{listed as whats_of, point}
 use Rattle.cts_api.proofs.WholeAnswers.{answers_whole}
 
@@ -74,7 +74,7 @@ module _ (s : Shown) (by : ℕ) (time : Time) (c : Call) (m : Method) (a : Askin
   of_call : (r : Option Request) (x : Reply) → IsOf r x → IsReplyOf h by time id ds (method_named c.method) x
   of_call r x is = reply_of h by time id ds (method_named c.method) m a r x named asks_listed is.0 is.1
 
-  pub settled : (d : code.Done) (result : Result reply.Answer Memory) (new : Shown) → HasAnswered h a (Ok d) → Settled s by time id (view d.result) d.what result new → Answered s by time c result new
+  settled : (d : code.Done) (result : Result reply.Answer Memory) (new : Shown) → HasAnswered h a (Ok d) → Settled s by time id (view d.result) d.what result new → Answered s by time c result new
   settled d (Err e) new has t = t
   settled d (Ok x) new has t =
       let r = has.0 in
@@ -87,15 +87,23 @@ module _ (s : Shown) (by : ℕ) (time : Time) (c : Call) (m : Method) (a : Askin
   refused_of : (r : Option Request) (n : ℤ) (message : List ℕ) (x : Result reply.Answer Memory) → HasRequest a r → answer h r a ≡ refused n message → IfOk x (λ y. y.appended ≡ 0) → (has_fraction id ≡ false → IfOk x (λ y. y.text ≡ (refusal_to id n message).text)) → Answered s by time c x s
   refused_of r n message x has is none told = refused_so s by time c n message x (of_call r _ (has, ap (said_to h by time id) (sym is))) none told
 
-  pub refused_call : (e : Refusal) (x : Result reply.Answer Memory) → HasAnswered h a (Err e) → IfOk x (λ y. IsTold e) → IfOk x (λ y. y.appended ≡ 0) → (has_fraction id ≡ false → IfOk x (λ y. RefusesWith id e y.text)) → Answered s by time c x s
+  refused_call : (e : Refusal) (x : Result reply.Answer Memory) → HasAnswered h a (Err e) → IfOk x (λ y. IsTold e) → IfOk x (λ y. y.appended ≡ 0) → (has_fraction id ≡ false → IfOk x (λ y. RefusesWith id e y.text)) → Answered s by time c x s
   refused_call (NoSuch message) x has is none told = refused_of has.0 _ message.now x has.1 has.2 none told
   refused_call (NotDone message) x has is none told = refused_of has.0 _ message x has.1 has.2 none told
   refused_call BadParams x has is none told = refused_of has.0 _ (codes "Invalid params") x has.1 has.2 none told
   refused_call NoMemory (Ok x) has is none told = absurd is
   refused_call NoMemory (Err e) has is none told = (refl, refl)
 
-  pub whole : (d : code.Done) → HasAnswered h a (Ok d) → has_float (view d.result) ≡ false
+  whole : (d : code.Done) → HasAnswered h a (Ok d) → has_float (view d.result) ≡ false
   whole d has = ap has_float has.2.2 ∙ answers_whole h has.0 a has.2.0 has.2.1
+
+  pub may_end : (said : Result code.Done Refusal) → ((d : code.Done) → said ≡ Ok d → CanSayIt s by time d.what) → HasAnswered h a said → CanEnd s by time said
+  may_end (Ok d) say has = (say d refl, whole d has)
+  may_end (Err e) say has = tt
+
+  pub ended : (said : Result code.Done Refusal) (result : Result reply.Answer Memory) (new : Shown) → HasAnswered h a said → Ends s by time id said result new → Answered s by time c result new
+  ended (Ok d) result new has ends = settled d result new has ends
+  ended (Err e) result new has ends = subst (λ (n : Shown). Answered s by time c result n) (sym ends.same) (refused_call e result has ends.told ends.none ends.text)
 
 -- ---- the reply to a body
 

@@ -187,6 +187,14 @@ abbrev pub new_set : Option (List ℕ) → Said (List ℕ)
 new_set None = gives (codes "CUSTOM")
 new_set (Some name) = check (is_name name) (no_such (codes "Unknown limits set")) (gives (in_upper_case name))
 
+-- what new limits of an item that has these limits now are
+abbrev pub limits_given : Point → ℕ → ℕ → LimitsUsed → NewLimits → Said What
+limits_given h packet item now new =
+    next (new_set new.set) (λ (s : List ℕ).
+    check (are_in_order new.limits) (not_done (codes "Limits order"))
+    (check (h.is_known s || nat_lt h.sets most_sets) (not_done (codes "Too many sets"))
+    (gives (SetLimits new.enabled packet item (or_else now.persistence new.persistence) s new.limits))))
+
 abbrev pub set_limits_answer : Point → ItemName → NewLimits → Said What
 set_limits_answer h name new =
     next (item_at h.site.definitions.telemetry name) (λ (at : ItemAt).

@@ -1,5 +1,5 @@
 -- How a call that is done is settled: room for its entry, the text, and then the entry.
-use Rattle.std.specs.Prelude.{◌≡◌, ℕ, ◌≤◌, false, map, Option, Some, None, IfSome, Result, Ok, Err}
+use Rattle.std.specs.Prelude.{◌≡◌, ℕ, ◌≤◌, false, map, Option, Some, None, IfSome, IfOk, Result, Ok, Err}
 use Rattle.cts_base.specs.declared.memory.Memory.{Memory}
 use Rattle.cts_cmd.specs.declared.request.Request.{Request}
 use Rattle.cts_def.specs.declared.time.Time.{Time}
@@ -10,6 +10,8 @@ use Rattle.cts_rpc.specs.Requests.{has_fraction}
 use Rattle.cts_table.specs.Keeping.{rules_of, IsOfSite}
 use Rattle.cts_table.specs.States.{Shown}
 use Rattle.serde_json.specs.Data.{Data}
+use Rattle.serde_json.specs.View.{view}
+use Rattle.serde_json.specs.Written.{has_float}
 use Rattle.cts_api.specs.declared.settling.Answer as code
 use Rattle.cts_api.specs.declared.refusal.Refusal.{Refusal}
 use Rattle.cts_api.specs.declared.refusal.Refusal.TheVariants.{NoSuch, NotDone, BadParams, Memory as NoMemory}
@@ -19,6 +21,7 @@ use Rattle.cts_api.specs.Asking.{Asking, sets_limits}
 use Rattle.cts_api.specs.Points.{Point}
 use Rattle.cts_api.specs.Replied.{Appends, IsUnchanged}
 use Rattle.cts_api.specs.Replies.{HasRequest, made, reply_with}
+use Rattle.cts_api.specs.Responding.{IsTold, RefusesWith}
 use Rattle.cts_api.specs.Telling.{IsDoneBy, listed, point}
 
 -- What is asked is answered so, where its request, if it is a command, is this one. Memory stands beside each answer.
@@ -64,3 +67,22 @@ Settled old by time id value what (Ok a) new =
     let r = reply_with (point old) id value (map (made by time) (listed what)) in
     (has_fraction id ≡ false → a.text ≡ r.text) × Appends old r a.appended new
 Settled old by time id value what (Err e) new = IsUnchanged old new
+
+-- ---- how a call ends
+
+-- what is done may be said, and its result has one text
+abbrev pub CanEnd : Shown → ℕ → Time → Result done.Done Refusal → Type 0
+CanEnd s by time (Ok d) = CanSayIt s by time d.what × (has_float (view d.result) ≡ false)
+CanEnd s by time (Err e) = Unit {0}
+
+-- A refusal is told, and appends nothing.
+pub record Refuses (old : Shown) (id : Option Data) (why : Refusal) (x : Result code.Answer Memory) (new : Shown) : Type 0 where
+  pub same : new ≡ old
+  pub none : IfOk x (λ a. a.appended ≡ 0)
+  pub told : IfOk x (λ a. IsTold why)
+  pub text : has_fraction id ≡ false → IfOk x (λ a. RefusesWith id why a.text)
+
+-- What is done is settled.
+abbrev pub Ends : Shown → ℕ → Time → Option Data → Result done.Done Refusal → Result code.Answer Memory → Shown → Type 0
+Ends old by time id (Ok d) x new = Settled old by time id (view d.result) d.what x new
+Ends old by time id (Err why) x new = Refuses old id why x new

@@ -1,8 +1,8 @@
 //! What changes limits, and what stops the server: the entries that these append.
 
-ghost use Rattle.std.specs.Prelude.{IfOk, option_map};
+ghost use Rattle.std.specs.Prelude.{◌≤◌, IfOk, option_map};
 ghost use Rattle.cts_def.specs.Items.{HasSoundLimits};
-ghost use Rattle.cts_api.specs.Answers.{choose_answer, enable_answer, new_set, set_limits_answer};
+ghost use Rattle.cts_api.specs.Answers.{choose_answer, enable_answer, limits_given, new_set, set_limits_answer};
 ghost use Rattle.cts_api.specs.Seen.{item_name, limits_asked};
 ghost use Rattle.cts_api.specs.Settling.{HasPersistence, IsPersistent};
 ghost use Rattle.cts_api.specs.Telling.{point, Tells};
@@ -14,7 +14,7 @@ use crate::refusal::Refusal;
 use cts_base::{Bytes, Name, NameFault};
 use cts_def::{Item, MOST_SETS};
 use cts_entry::What;
-use cts_table::Hall;
+use cts_table::{Hall, LimitsUsed};
 use cts_watch::is_watched;
 use std::alloc::Global;
 
@@ -39,6 +39,35 @@ fn has_sound_limits(item: &Item)
     let _kind = item.kind;
 }
 
+// The entry of new limits of an item that has these limits now.
+fn limits_given(
+    alloc: Global,
+    hall: &Hall,
+    packet: u32,
+    item: u32,
+    now: LimitsUsed,
+    new: LimitsWords<'_>,
+) -> Result<What, Refusal>
+    ensures told { Tells (λ w. w) result (limits_given (point hall.now) packet item now (limits_asked new.entry)) }
+    ensures persistent { HasPersistence new.entry.persistence → 1 ≤ now.persistence → IfOk result (λ w. IsPersistent w) }
+{
+    let set = new_set(alloc, new.set)?;
+    if !new.limits.are_in_order() {
+        return Err(Refusal::NotDone(Bytes::copy(alloc, b"Limits order")?));
+    }
+    if !hall.set_known(set.as_slice()) && hall.sets_known() as usize >= MOST_SETS {
+        return Err(Refusal::NotDone(Bytes::copy(alloc, b"Too many sets")?));
+    }
+    Ok(What::SetLimits {
+        packet,
+        item,
+        set,
+        limits: new.limits,
+        persistence: new.persistence.unwrap_or(now.persistence),
+        enabled: new.enabled,
+    })
+}
+
 /// The entry of new limits of an item.
 ///
 /// # Errors
@@ -61,21 +90,7 @@ pub(crate) fn set_limits(
     let Some(now) = hall.limits_of(packet, item, hall.limits_set().as_slice()) else {
         return Err(Refusal::NoSuch(b"No limits"));
     };
-    let set = new_set(alloc, new.set)?;
-    if !new.limits.are_in_order() {
-        return Err(Refusal::NotDone(Bytes::copy(alloc, b"Limits order")?));
-    }
-    if !hall.set_known(set.as_slice()) && hall.sets_known() as usize >= MOST_SETS {
-        return Err(Refusal::NotDone(Bytes::copy(alloc, b"Too many sets")?));
-    }
-    Ok(What::SetLimits {
-        packet,
-        item,
-        set,
-        limits: new.limits,
-        persistence: new.persistence.unwrap_or(now.persistence),
-        enabled: new.enabled,
-    })
+    limits_given(alloc, hall, packet, item, now, new)
 }
 
 /// The entry by which samples of an item are taken, or no longer.

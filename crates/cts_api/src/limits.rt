@@ -1,8 +1,9 @@
 //! Limits: what they are, and what is out of them.
 
-ghost use Rattle.std.specs.Prelude.{◌≡◌, ◌≤◌, ◌++◌, ◌∷◌, [], length, map, IfOk, OnOk, option_map, Some};
+ghost use Rattle.std.specs.Prelude.{◌≡◌, ◌≤◌, ◌++◌, ◌∷◌, [], if◌then◌else◌, length, map, IfOk, OnOk, option_map, Some};
 ghost use Rattle.serde_json.specs.View.{view};
 ghost use Rattle.cts_def.specs.Most.{most_packets};
+ghost use Rattle.cts_def.specs.Packets.{default_set};
 ghost use Rattle.cts_api.specs.Answers.{all_out_rows, decimal_rows, event_row, event_row_of, event_rows, events_answer, green_rows, known_set, limits_answer, limits_row, limits_set_answer, out_of_limits_answer, out_row, out_rows, set_asked};
 ghost use Rattle.cts_api.specs.Seen.{item_name};
 ghost use Rattle.cts_api.specs.Shown.{color};
@@ -83,11 +84,18 @@ fn push_limits(row: &mut Vec<Value>, alloc: Global, limits: Limits) -> Result<()
     push_green(row, alloc, limits.green)
 }
 
+// The set of which the limits are: DEFAULT where the item has none of its own in this one.
+fn set_used(set: &[u8], own: bool) -> &[u8]
+    ensures { result.now ≡ (if own then set.now else default_set) }
+{
+    if own { set } else { b"DEFAULT" }
+}
+
 fn limits_row(alloc: Global, set: &[u8], used: LimitsUsed) -> Result<Value, Memory>
     ensures { IfOk result (λ v. view v ≡ limits_row set.now used) }
 {
     let mut row = Vec::new(alloc);
-    push_text(&mut row, alloc, if used.own { set } else { b"DEFAULT" })?;
+    push_text(&mut row, alloc, set_used(set, used.own))?;
     row.push(Value::from(used.persistence))?;
     row.push(Value::from(used.enabled))?;
     push_limits(&mut row, alloc, used.limits)?;

@@ -6,7 +6,7 @@ ghost use Rattle.cts_api.specs.Methods.{method_in, method_named};
 use cts_conv::ValueKind;
 
 /// What a method does; of methods that differ in one word, that word.
-#[derive(Clone, Copy, Debug, PartialEq, Eq)]
+#[derive(Clone, Copy)]
 pub(crate) enum Method {
     /// `tlm`, `tlm_raw`, `tlm_formatted` and `tlm_with_units`.
     Value(ValueKind),

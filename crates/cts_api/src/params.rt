@@ -262,42 +262,6 @@ fn persistence_next(params: &[Value]) -> Option<(Option<u32>, &[Value])>
     }
 }
 
-fn natural_next(params: &[Value]) -> Option<(Option<u64>, &[Value])>
-    ensures { option_map (λ f. (f.0, map view f.1.now)) result ≡ maybe_first natural_in (map view params.now) }
-{
-    match params.split_first() {
-        Some((first, rest)) => Some((Some(natural_in(first)?), rest)),
-        None => Some((None, &[])),
-    }
-}
-
-fn switch_next(params: &[Value]) -> Option<(Option<bool>, &[Value])>
-    ensures { option_map (λ f. (f.0, map view f.1.now)) result ≡ maybe_first switch_in (map view params.now) }
-{
-    match params.split_first() {
-        Some((first, rest)) => Some((Some(switch_in(first)?), rest)),
-        None => Some((None, &[])),
-    }
-}
-
-fn kind_next(params: &[Value]) -> Option<(Option<ValueKind>, &[Value])>
-    ensures { option_map (λ f. (f.0, map view f.1.now)) result ≡ maybe_first kind_in (map view params.now) }
-{
-    match params.split_first() {
-        Some((first, rest)) => Some((Some(kind_in(first)?), rest)),
-        None => Some((None, &[])),
-    }
-}
-
-fn object_next(params: &[Value]) -> Option<(Option<&Map<String, Value>>, &[Value])>
-    ensures { option_map (λ f. (option_map (λ m. members_view m.now.entries) f.0, map view f.1.now)) result ≡ maybe_first object_in (map view params.now) }
-{
-    match params.split_first() {
-        Some((first, rest)) => Some((Some(object_in(first)?), rest)),
-        None => Some((None, &[])),
-    }
-}
-
 // ---- all params of a method
 
 /// Two texts.
@@ -367,8 +331,12 @@ pub(crate) fn may_be_text(params: &[Value]) -> Option<Option<&[u8]>>
 pub(crate) fn may_be_natural(params: &[Value]) -> Option<Option<u64>>
     ensures { result ≡ may_be natural_in (map view params.now) }
 {
-    match natural_next(params)? {
-        (number, []) => Some(number),
+    let Some((first, rest)) = params.split_first() else {
+        return Some(None);
+    };
+    let number = natural_in(first)?;
+    match rest {
+        [] => Some(Some(number)),
         _ => None,
     }
 }
@@ -377,8 +345,12 @@ pub(crate) fn may_be_natural(params: &[Value]) -> Option<Option<u64>>
 pub(crate) fn may_be_kind(params: &[Value]) -> Option<Option<ValueKind>>
     ensures { result ≡ may_be kind_in (map view params.now) }
 {
-    match kind_next(params)? {
-        (kind, []) => Some(kind),
+    let Some((first, rest)) = params.split_first() else {
+        return Some(None);
+    };
+    let kind = kind_in(first)?;
+    match rest {
+        [] => Some(Some(kind)),
         _ => None,
     }
 }
@@ -386,8 +358,12 @@ pub(crate) fn may_be_kind(params: &[Value]) -> Option<Option<ValueKind>>
 fn may_be_switch(params: &[Value]) -> Option<Option<bool>>
     ensures { result ≡ may_be switch_in (map view params.now) }
 {
-    match switch_next(params)? {
-        (on, []) => Some(on),
+    let Some((first, rest)) = params.split_first() else {
+        return Some(None);
+    };
+    let on = switch_in(first)?;
+    match rest {
+        [] => Some(Some(on)),
         _ => None,
     }
 }
@@ -396,8 +372,12 @@ fn may_be_switch(params: &[Value]) -> Option<Option<bool>>
 pub(crate) fn may_be_object(params: &[Value]) -> Option<Option<&Map<String, Value>>>
     ensures { option_map (λ o. option_map (λ m. members_view m.now.entries) o) result ≡ may_be object_in (map view params.now) }
 {
-    match object_next(params)? {
-        (members, []) => Some(members),
+    let Some((first, rest)) = params.split_first() else {
+        return Some(None);
+    };
+    let members = object_in(first)?;
+    match rest {
+        [] => Some(Some(members)),
         _ => None,
     }
 }

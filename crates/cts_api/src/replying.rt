@@ -9,13 +9,14 @@ ghost use Rattle.cts_entry.specs.Workers.{is_desk};
 ghost use Rattle.cts_api.specs.Replied.{Answered, Replied};
 ghost use Rattle.cts_api.specs.Replies.{error, respond};
 ghost use Rattle.cts_api.specs.Responding.{code_number, IsTold, RefusesWith};
+ghost use Rattle.cts_api.specs.Settling.{CanEnd, Ends};
 
 use crate::answering::asked;
 use crate::method::method_named;
 use crate::reading::read_asking;
 use crate::refusal::Refusal;
 use crate::response::{Code, error_to, refusal_to};
-use crate::sending::nothing;
+use crate::sending::{Done, nothing};
 use crate::settling::{Answer, settle};
 use cts_base::Memory;
 use cts_def::{Site, Time};
@@ -45,6 +46,24 @@ fn refusal_told(alloc: Global, id: Option<&Value>, refusal: Refusal) -> Result<A
         text: refusal_to(alloc, id, refusal)?,
         appended: 0,
     })
+}
+
+// How a call ends: what is done is settled, and a refusal is told and appends nothing.
+fn ended(
+    alloc: Global,
+    hall: &mut Hall,
+    by: u32,
+    time: Time,
+    id: Option<&Value>,
+    said: Result<Done, Refusal>,
+) -> Result<Answer, Memory>
+    requires may { CanEnd hall.old by time said }
+    ensures { Ends hall.old by time (option_map (λ i. view i.now) id.entry) said result hall.new }
+{
+    match said {
+        Ok(done) => settle(alloc, hall, by, time, id, done),
+        Err(refusal) => refusal_told(alloc, id, refusal),
+    }
 }
 
 // A site's definitions name no more limits sets than a server holds.
@@ -80,10 +99,8 @@ pub fn answer(
     };
     hall.is_kept();
     has_few_sets(hall.site());
-    match asked(alloc, hall, asking) {
-        Ok(done) => settle(alloc, hall, by, time, id, done),
-        Err(refusal) => refusal_told(alloc, id, refusal),
-    }
+    let said = asked(alloc, hall, asking);
+    ended(alloc, hall, by, time, id, said)
 }
 
 /// The reply of a desk to the body of a request (JSON-RPC 2.0): the text of its response, none where the request has no id, and its

@@ -1,6 +1,8 @@
 //! How a call that is done ends: its entry stands behind the history where there is room for it.
 
-ghost use Rattle.std.specs.Prelude.{◌≡◌, false, option_map};
+ghost use Rattle.std.specs.Prelude.{◌≡◌, false, if◌then◌else◌, IfOk, OnErr, option_map};
+ghost use Rattle.cts_entry.specs.Histories.{bytes_for, entries_for};
+ghost use Rattle.cts_table.specs.States.{fits, with_room};
 ghost use Rattle.serde_json.specs.View.{view};
 ghost use Rattle.serde_json.specs.Written.{has_float};
 ghost use Rattle.cts_api.specs.Settling.{CanSayIt, Settled};
@@ -9,7 +11,7 @@ use crate::response::{Code, error_to, result_to};
 use crate::sending::Done;
 use cts_base::{Bytes, Memory};
 use cts_def::Time;
-use cts_entry::{Entry, bytes_for, entries_for};
+use cts_entry::{Entry, What, bytes_for, entries_for};
 use cts_table::{Hall, HallFault};
 use serde_json::Value;
 use std::alloc::Global;
@@ -21,6 +23,19 @@ pub struct Answer {
     pub text: Option<Bytes>,
     /// How many entries it appended: none or one.
     pub appended: u64,
+}
+
+// Whether the history has room for an entry that says this, which is then made.
+fn has_room(hall: &mut Hall, what: &What) -> Result<bool, Memory>
+    ensures fits { IfOk result (λ is. is ≡ fits hall.old (entries_for what.now) (bytes_for what.now)) }
+    ensures room { IfOk result (λ is. hall.new ≡ (if is then with_room hall.old (entries_for what.now) (bytes_for what.now) else hall.old)) }
+    ensures err { OnErr result (hall.new ≡ hall.old) }
+{
+    match hall.room(entries_for(what), bytes_for(what)) {
+        Ok(()) => Ok(true),
+        Err(HallFault::Full { .. }) => Ok(false),
+        Err(HallFault::Memory) => Err(Memory),
+    }
 }
 
 /// Appends what a call that is done says, and tells its result, or that the history is full. The text is made before the entry
@@ -46,13 +61,9 @@ pub(crate) fn settle(
         let text = result_to(alloc, id, value)?;
         return Ok(Answer { text, appended: 0 });
     };
-    match hall.room(entries_for(&what), bytes_for(&what)) {
-        Ok(()) => {}
-        Err(HallFault::Full { .. }) => {
-            let text = error_to(alloc, id, Code::HistoryFull, b"History full")?;
-            return Ok(Answer { text, appended: 0 });
-        }
-        Err(HallFault::Memory) => return Err(Memory),
+    if !has_room(hall, &what)? {
+        let text = error_to(alloc, id, Code::HistoryFull, b"History full")?;
+        return Ok(Answer { text, appended: 0 });
     }
     let text = result_to(alloc, id, value)?;
     hall.append(Entry { by, time, what });

@@ -1,6 +1,6 @@
-use Rattle.std.proofs.Common.{ℕ, ◌≤◌, Some, rules, ◌≡◌, subst, sym}
-use Rattle.std.specs.Prelude.{slice_get, unwrap_or}
-use Rattle.cts_api.proofs.Persisting.{limits_persist, new_persists}
+use Rattle.std.proofs.Common.{ℕ, Some, rules, ◌≡◌, sym}
+use Rattle.std.specs.Prelude.{slice_get}
+use Rattle.cts_api.proofs.Persisting.{limits_persist}
 use Rattle.cts_api.proofs.changing.set_limits.Goals as goal
 
 pub returns-clause-persistent : goal.returns-clause-persistent
@@ -10,5 +10,4 @@ returns-clause-persistent c asked =
     let p : ℕ = c.in_ok-place.place.packet in
     let there : slice_get site.definitions.telemetry p ≡ Some c.in_ok-place.place.of.now = search rules in
     let some = limits_persist site history c.is_kept.ensures.kept.of_site p c.in_ok-place.place.item c.in_ok-place.place.of.now c.in_ok-place.place.it.now c.has_sound_limits.ensures _ c.in-Some.now there c.in_ok-place.ensures.item (sym c.in-Some.ensures.used) in
-    let is : c.unwrap_or.result ≡ unwrap_or c.args.new.persistence c.in-Some.now.persistence = search rules in
-    subst (λ (n : ℕ). 1 ≤ n) (sym is) (new_persists c.args.new.persistence c.in-Some.now.persistence asked some)
+    c.limits_given.ensures.persistent asked some

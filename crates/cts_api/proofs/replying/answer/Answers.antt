@@ -7,12 +7,12 @@ use Rattle.serde_json.specs.View.{view}
 use Rattle.cts_api.specs.declared.response.Code.TheVariants.{MethodNotFound, InvalidParams}
 use Rattle.cts_api.specs.Methods.{method_named, params_of}
 use Rattle.cts_api.specs.Replies.{error, respond}
-use Rattle.cts_api.specs.Responding.{RefusesWith, code_number}
+use Rattle.cts_api.specs.Responding.{code_number}
 use Rattle.cts_api.specs.Seen.{asking_data}
-use Rattle.cts_api.specs.Settling.{IsSoundAsking, Settled}
+use Rattle.cts_api.specs.Settling.{Ends, HasAnswered, IsSoundAsking, LimitsPersist}
 use Rattle.cts_api.specs.Telling.{point}
 use Rattle.cts_api.proofs.MaySay.{may_say, params_persist, some_of}
-use Rattle.cts_api.proofs.Settled.{all_listed, bad_params_of, not_found_of, refused_call, refused_so, settled, whole}
+use Rattle.cts_api.proofs.Settled.{all_listed, bad_params_of, ended, may_end, not_found_of, refused_so}
 use Rattle.cts_api.proofs.replying.answer.Goals as goal
 
 pub returns-in_default : goal.returns-in_default
@@ -36,39 +36,28 @@ returns-in_default-read_asking c =
           c.refused-in_default-read_asking.ensures.none told;
     }
 
-pub settle-requires-clause-may : goal.settle-requires-clause-may
-settle-requires-clause-may c =
+pub ended-requires : goal.ended-requires
+ended-requires c =
+    let s = c.args.hall.now in
     let asking = asking_data c.in-Some-read_asking.asking in
     let params : List Data = map view c.args.call.now.params in
+    let named : method_named c.args.call.now.method ≡ Some c.in-Some.method = search rules in
     let asks : params_of c.in-Some.method params ≡ Some asking = search rules in
     let sound = some_of IsSoundAsking (params_of c.in-Some.method params) asking (params_persist c.in-Some.method params) asks in
-    let few : length c.args.hall.now.basis.site.definitions.set_names ≤ most_sets = search rules in
-    may_say c.args.hall.now c.args.by c.args.time asking c.in-Ok.done c.is_kept.ensures.kept few c.requires.desk c.requires.active sound c.in-Ok.ensures.persistent c.in-Ok.ensures.answered
+    let few : length s.basis.site.definitions.set_names ≤ most_sets = search rules in
+    record {
+      may = may_end s c.args.by c.args.time c.args.call.now c.in-Some.method asking named asks c.asked-said.result
+          (λ d is. may_say s c.args.by c.args.time asking d c.is_kept.ensures.kept few c.requires.desk c.requires.active sound
+          (subst (λ x. LimitsPersist asking x) is c.asked-said.ensures.persistent) (subst (λ x. HasAnswered (point s) asking x) is c.asked-said.ensures.answered))
+          c.asked-said.ensures.answered;
+    }
 
-pub settle-requires-clause-whole : goal.settle-requires-clause-whole
-settle-requires-clause-whole c =
-    let call = c.args.call.now in
-    let asking = asking_data c.in-Some-read_asking.asking in
-    let named : method_named call.method ≡ Some c.in-Some.method = search rules in
-    let asks : params_of c.in-Some.method (map view call.params) ≡ Some asking = search rules in
-    whole c.args.hall.now c.args.by c.args.time call c.in-Some.method asking named asks c.in-Ok.done c.in-Ok.ensures.answered
-
-pub returns-in-Ok : goal.returns-in-Ok
-returns-in-Ok c =
+pub returns : goal.returns
+returns c =
     let call = c.args.call.now in
     let asking = asking_data c.in-Some-read_asking.asking in
     let id : option_map (λ i. view i.now) c.as_ref-id.result ≡ option_map view call.id = search rules in
     let named : method_named call.method ≡ Some c.in-Some.method = search rules in
     let asks : params_of c.in-Some.method (map view call.params) ≡ Some asking = search rules in
-    let ends = subst (λ (i : Option Data). Settled c.args.hall.now c.args.by c.args.time i (view c.in-Ok.done.result) c.in-Ok.done.what c.settle.result c.settle.new.hall) id c.settle.ensures in
-    record { answered = settled c.args.hall.now c.args.by c.args.time call c.in-Some.method asking named asks c.in-Ok.done c.settle.result c.settle.new.hall c.in-Ok.ensures.answered ends }
-
-pub returns-in-Err : goal.returns-in-Err
-returns-in-Err c =
-    let call = c.args.call.now in
-    let asking = asking_data c.in-Some-read_asking.asking in
-    let id : option_map (λ i. view i.now) c.as_ref-id.result ≡ option_map view call.id = search rules in
-    let named : method_named call.method ≡ Some c.in-Some.method = search rules in
-    let asks : params_of c.in-Some.method (map view call.params) ≡ Some asking = search rules in
-    let told = subst (λ (i : Option Data). has_fraction i ≡ false → IfOk c.refusal_told.result (λ a. RefusesWith i c.in-Err.refusal a.text)) id c.refusal_told.ensures.text in
-    record { answered = refused_call c.args.hall.now c.args.by c.args.time call c.in-Some.method asking named asks c.in-Err.refusal c.refusal_told.result c.in-Err.ensures.answered c.refusal_told.ensures.told c.refusal_told.ensures.none told }
+    let ends = subst (λ (i : Option Data). Ends c.args.hall.now c.args.by c.args.time i c.asked-said.result c.ended.result c.ended.new.hall) id c.ended.ensures in
+    record { answered = ended c.args.hall.now c.args.by c.args.time call c.in-Some.method asking named asks c.asked-said.result c.ended.result c.ended.new.hall c.asked-said.ensures.answered ends }
