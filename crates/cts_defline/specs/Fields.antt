@@ -4,6 +4,8 @@ use Rattle.cts_base.specs.Names.{is_name}
 use Rattle.cts_base.specs.Wholes.{whole_of}
 use Rattle.cts_base.specs.Decimals.{decimal_of}
 use Rattle.cts_def.specs.Items.{is_same}
+use Rattle.cts_defline.specs.declared.field.Check.{Check}
+use Rattle.cts_defline.specs.declared.field.Check.TheVariants as check
 use Rattle.cts_defline.specs.declared.keyword.Field.{Field}
 use Rattle.cts_defline.specs.declared.keyword.Field.TheVariants as field
 use Rattle.cts_defline.specs.Numbers.{order_of, kind_of, is_bound, is_bound_of_types, persistence_of}
@@ -48,3 +50,12 @@ is_no_number field.TextId word = not (is_bound_of_types word)
 is_no_number field.Decimal word = not (is_ok (decimal_of word))
 is_no_number field.Persistence word = is_none (persistence_of word)
 is_no_number _ word = false
+
+-- a word fails this check at its field
+abbrev pub fails : Check → Field → List ℕ → Bool
+fails check.Choice = is_other_choice
+fails check.Name = is_bad_name
+fails check.NotFloat = is_type_of (codes "FLOAT")
+fails check.NotDerived = is_type_of (codes "DERIVED")
+fails check.NotArray = is_type_of (codes "ARRAY")
+fails check.Number = is_no_number

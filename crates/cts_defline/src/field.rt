@@ -1,6 +1,6 @@
 // Whether a word is what its field asks for.
 ghost use Rattle.std.specs.Prelude.{◌≡◌, not};
-ghost use Rattle.cts_defline.specs.Fields.{is_type, is_enabling, is_color, is_overflow, is_other_choice, is_bad_name, is_type_of, is_no_number};
+ghost use Rattle.cts_defline.specs.Fields.{is_type, is_enabling, is_color, is_overflow, is_other_choice, is_bad_name, is_type_of, is_no_number, fails};
 
 use crate::Field;
 use crate::fixed::{kind_of, order_of};
@@ -37,7 +37,7 @@ fn is_overflow(word: &[u8]) -> bool
 
 impl Field {
     /// Whether the word is none of the choices of a fixed word.
-    pub(crate) fn is_other_choice(self, word: &[u8]) -> bool
+    fn is_other_choice(self, word: &[u8]) -> bool
         ensures { result ≡ is_other_choice self word.now }
     {
         match self {
@@ -52,7 +52,7 @@ impl Field {
     }
 
     /// Whether the word has to be a name and is none.
-    pub(crate) fn is_bad_name(self, word: &[u8]) -> bool
+    fn is_bad_name(self, word: &[u8]) -> bool
         ensures { result ≡ is_bad_name self word.now }
     {
         match self {
@@ -62,7 +62,7 @@ impl Field {
     }
 
     /// Whether the word is this type.
-    pub(crate) fn is_type_of(self, text: &[u8], word: &[u8]) -> bool
+    fn is_type_of(self, text: &[u8], word: &[u8]) -> bool
         ensures { result ≡ is_type_of text.now self word.now }
     {
         match self {
@@ -72,7 +72,7 @@ impl Field {
     }
 
     /// Whether the word has to be a number and is none.
-    pub(crate) fn is_no_number(self, word: &[u8]) -> bool
+    fn is_no_number(self, word: &[u8]) -> bool
         ensures { result ≡ is_no_number self word.now }
     {
         match self {
@@ -82,6 +82,39 @@ impl Field {
             Field::Decimal => !is_decimal(word),
             Field::Persistence => persistence_of(word).is_none(),
             _ => false,
+        }
+    }
+}
+
+/// What is asked of a word at its field.
+#[derive(Clone, Copy)]
+pub(crate) enum Check {
+    /// A fixed word is one of its choices.
+    Choice,
+    /// A name is a name.
+    Name,
+    /// The type is not FLOAT.
+    NotFloat,
+    /// The type is not DERIVED.
+    NotDerived,
+    /// The type is not ARRAY.
+    NotArray,
+    /// A number is a number of its form.
+    Number,
+}
+
+impl Check {
+    /// Whether a word fails it at this field.
+    pub(crate) fn fails(self, field: Field, word: &[u8]) -> bool
+        ensures { result ≡ fails self field word.now }
+    {
+        match self {
+            Check::Choice => field.is_other_choice(word),
+            Check::Name => field.is_bad_name(word),
+            Check::NotFloat => field.is_type_of(b"FLOAT", word),
+            Check::NotDerived => field.is_type_of(b"DERIVED", word),
+            Check::NotArray => field.is_type_of(b"ARRAY", word),
+            Check::Number => field.is_no_number(word),
         }
     }
 }

@@ -1,9 +1,10 @@
 // The words that follow each keyword.
 ghost use Rattle.std.specs.Prelude.{◌≡◌, ◌+◌, ◌≤◌, ◌++◌, Bool, false, length, true};
-ghost use Rattle.cts_defline.specs.Fields.{is_other_choice, is_bad_name, is_type_of, is_no_number};
+ghost use Rattle.cts_defline.specs.Fields.{fails};
 ghost use Rattle.cts_defline.specs.Forms.{size_at, is_text_type, has_text_type, item_fields, number_fields, text_fields, parameter_fields, last_fields, state_wanted, state_fields, wanted, more, fits_in};
 ghost use Rattle.cts_reader.specs.Words.{any_word};
 
+use crate::field::Check;
 use crate::words::is_same;
 use crate::{Field, Keyword, PacketKind};
 use cts_base::Bytes;
@@ -328,43 +329,13 @@ impl Form {
         fits(keyword, self.least, self.fields.len(), count)
     }
 
-    /// Whether a fixed word is none of its choices.
-    pub(crate) fn has_other_choice(&self, words: &[Bytes]) -> bool
-        ensures { result ≡ any_word is_other_choice self.now.fields.now words.now }
+    /// Whether a word fails this check.
+    pub(crate) fn fails(&self, check: Check, words: &[Bytes]) -> bool
+        ensures { result ≡ any_word (fails check) self.now.fields.now words.now }
     {
         self.fields
             .iter()
             .zip(words)
-            .any(|(field, word)| field.is_other_choice(word.as_slice()))
-    }
-
-    /// Whether a word that has to be a name is none.
-    pub(crate) fn has_bad_name(&self, words: &[Bytes]) -> bool
-        ensures { result ≡ any_word is_bad_name self.now.fields.now words.now }
-    {
-        self.fields
-            .iter()
-            .zip(words)
-            .any(|(field, word)| field.is_bad_name(word.as_slice()))
-    }
-
-    /// Whether the word for a type is this one.
-    pub(crate) fn has_type(&self, text: &[u8], words: &[Bytes]) -> bool
-        ensures { result ≡ any_word (is_type_of text.now) self.now.fields.now words.now }
-    {
-        self.fields
-            .iter()
-            .zip(words)
-            .any(|(field, word)| field.is_type_of(text, word.as_slice()))
-    }
-
-    /// Whether a word that has to be a number is none.
-    pub(crate) fn has_no_number(&self, words: &[Bytes]) -> bool
-        ensures { result ≡ any_word is_no_number self.now.fields.now words.now }
-    {
-        self.fields
-            .iter()
-            .zip(words)
-            .any(|(field, word)| field.is_no_number(word.as_slice()))
+            .any(|(field, word)| check.fails(*field, word.as_slice()))
     }
 }

@@ -19,13 +19,11 @@ pub fn read_line(alloc: Global, line: u32, opened: Open, words: &[Bytes]) -> Res
     ensures read { Judged (at_line line (word_cause opened words.now)) (line_in words.now) result }
     ensures kept { IfOk result (λ l. KeepsRules (open_kind opened) l) }
 {
-    match words {
-        [keyword, rest @ ..] => read_words(alloc, line, opened, keyword.as_slice(), rest),
-        [] => Err(DefFault::Refused {
-            line,
-            cause: DefCause::UnknownKeyword,
-        }),
-    }
+    let Some((keyword, rest)) = words.split_first() else {
+        let cause = DefCause::UnknownKeyword;
+        return Err(DefFault::Refused { line, cause });
+    };
+    read_words(alloc, line, opened, keyword.as_slice(), rest)
 }
 
 fn read_words(

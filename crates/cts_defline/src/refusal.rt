@@ -3,6 +3,7 @@ ghost use Rattle.std.specs.Prelude.{◌≡◌, find, length};
 ghost use Rattle.cts_defline.specs.Forms.{wanted};
 ghost use Rattle.cts_defline.specs.Refusals.{is_outside, fields, holds, word_order};
 
+use crate::field::Check;
 use crate::form::Form;
 use crate::open::is_of_other_kind;
 use crate::{DefCause, Keyword, Open};
@@ -44,14 +45,21 @@ fn holds(cause: DefCause, opened: Open, keyword: Keyword, form: &Form, words: &[
     match cause {
         DefCause::UnknownKeyword => is_of_other_kind(opened.kind(), keyword.kind()),
         DefCause::OutsidePacket => is_outside(opened, keyword),
-        DefCause::WrongCount => !form.fits(keyword, words.len()) || form.has_other_choice(words),
-        DefCause::BadName => form.has_bad_name(words),
-        DefCause::FloatItem => form.has_type(b"FLOAT", words),
-        DefCause::DerivedItem => form.has_type(b"DERIVED", words),
-        DefCause::ArrayItem => form.has_type(b"ARRAY", words),
-        DefCause::NotNumber => form.has_no_number(words),
+        DefCause::WrongCount => !form.fits(keyword, words.len())
+            || form.fails(Check::Choice, words),
+        DefCause::BadName => form.fails(Check::Name, words),
+        DefCause::FloatItem => form.fails(Check::NotFloat, words),
+        DefCause::DerivedItem => form.fails(Check::NotDerived, words),
+        DefCause::ArrayItem => form.fails(Check::NotArray, words),
+        DefCause::NotNumber => form.fails(Check::Number, words),
         _ => false,
     }
+}
+
+fn causes() -> &'static [DefCause]
+    ensures { result.now ≡ word_order }
+{
+    &ORDER
 }
 
 /// The first cause for which the words behind a keyword are refused.
@@ -59,5 +67,8 @@ pub(crate) fn first_cause(opened: Open, keyword: Keyword, words: &[Bytes]) -> Op
     ensures { result ≡ find (λ c. holds c opened keyword words.now) word_order }
 {
     let form = Form::of(opened.form_kind(), keyword, words);
-    first_that_holds(&ORDER, |cause| holds(cause, opened, keyword, &form, words))
+    first_that_holds(
+        causes(),
+        |cause| holds(cause, opened, keyword, &form, words),
+    )
 }

@@ -1,6 +1,7 @@
 pub mod Clean
 pub mod Finished
 pub mod InOrder
+pub mod Judging
 pub mod Keeping
 pub mod Kept
 pub mod KeptItem

@@ -1,6 +1,6 @@
 // The causes that lie in what stands before a statement.
 ghost use Rattle.std.specs.Prelude.{◌≡◌, IfOk};
-ghost use Rattle.cts_defread.specs.Causes.{holds, is_double, place_cause};
+ghost use Rattle.cts_defread.specs.Causes.{holds, is_double, place_cause, place_order};
 ghost use Rattle.cts_defread.specs.Drafts.{IsKept};
 
 use crate::draft::Draft;
@@ -24,6 +24,12 @@ const ORDER: [DefCause; 11] = [
     DefCause::BadFormat,
     DefCause::TooMany,
 ];
+
+fn causes() -> &'static [DefCause]
+    ensures { result.now ≡ place_order }
+{
+    &ORDER
+}
 
 impl Draft {
     // Whether a cause holds for the line, where it is known whether its name stands already.
@@ -54,6 +60,6 @@ impl Draft {
         ensures { IfOk result (λ c. c ≡ place_cause self.now.packets.items self.now.set_names.items line.now) }
     {
         let double = self.is_double(line)?;
-        Ok(first_that_holds(&ORDER, |cause| self.holds(cause, line, double)))
+        Ok(first_that_holds(causes(), |cause| self.holds(cause, line, double)))
     }
 }

@@ -12,7 +12,7 @@ ghost use Rattle.cts_defread.specs.Drafts.{IsKept};
 use crate::draft::Draft;
 use cts_def::Definitions;
 use cts_defline::{DefCause, DefFault, Line, read_line};
-use cts_reader::{Reader, read_statements};
+use cts_reader::{Reader, read_statements, unless_refused};
 use cts_words::Statement;
 use std::alloc::Global;
 
@@ -26,10 +26,8 @@ impl Draft {
     {
         let line = statement.line;
         let said = read_line(alloc, line, self.opened(), statement.words.as_slice())?;
-        match self.first_cause(&said)? {
-            Some(cause) => Err(DefFault::Refused { line, cause }),
-            None => Ok(said),
-        }
+        let cause = self.first_cause(&said)?;
+        unless_refused(line, cause, said)
     }
 }
 

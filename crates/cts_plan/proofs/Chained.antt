@@ -1,11 +1,13 @@
 -- The protocols of interfaces and routers that are without fault.
-use Rattle.std.proofs.Common.{◌≡◌, ℕ, ◌≤◌, ◌+◌, Bool, true, false, not, cond, ◌&&◌, ◌||◌, List, [], ◌∷◌, ◌++◌, length, map, Option, Some, None, refl, ap, ◌∙◌, arith, nat_lt}
-use Rattle.std.specs.Prelude.{IsTrue, nat_le}
+use Rattle.std.proofs.Common.{◌≡◌, ℕ, ◌≤◌, ◌+◌, Bool, true, false, not, cond, ◌&&◌, ◌||◌, List, [], ◌∷◌, ◌++◌, length, map, Option, Some, None, Result, Ok, Err, refl, sym, ap, subst, ◌∙◌, arith, nat_lt}
+use Rattle.std.specs.Prelude.{IsTrue, IfOk, nat_le}
 use Rattle.std.specs.List.{list_any}
 use Rattle.std.proofs.lemmas.List.{length-map}
 use Rattle.cts_def.specs.Packets.{DefinitionsData}
 use Rattle.cts_def.specs.Protocols.{SpecData, UseData, reads, reads_packets, is_packet_kind, is_chain}
 use Rattle.cts_def.specs.Protocols as uses
+use Rattle.cts_reader.specs.declared.fault.Fault.{Fault}
+use Rattle.cts_reader.specs.Reading.{Settles}
 use Rattle.cts_plan.specs.declared.fault.SiteCause.{SiteCause}
 use Rattle.cts_plan.specs.declared.fault.SiteCause.TheVariants.{ChainTooLong}
 use Rattle.cts_plan.specs.Steps.{StepData, step_reads, step_reads_packets, are_packets_last, added, whole_chain}
@@ -115,6 +117,12 @@ long_or_not false o r e = refl
 -- an interface or router without fault has no chain that is too long
 pub not_too_long : (d : DefinitionsData) (targets : List (List ℕ)) (n : ℕ) (ss : List StepData) → fault_of d targets n ss ≡ None → nat_lt 4 (length (whole_chain ss)) ≡ false
 not_too_long d targets n ss none = long_or_not (nat_lt 4 (length (whole_chain ss))) (first_step_fault d targets ss) (n, ChainTooLong) none
+
+-- what a chain is made to is one
+pub sound_uses : (d : DefinitionsData) (targets : List (List ℕ)) (n : ℕ) (ss : List StepData) (r : Result (List UseData) (Fault SiteCause)) → IsTrue (are_packets_last ss) → Settles r (fault_of d targets n ss)
+    → IfOk r (λ us. us ≡ map (use_of d targets) (whole_chain ss)) → IfOk r (λ us. IsTrue (is_chain us))
+sound_uses d targets n ss (Ok us) last none made = subst (λ (xs : List UseData). IsTrue (is_chain xs)) (sym made) (sound_chain d targets ss (not_too_long d targets n ss none) last)
+sound_uses d targets n ss (Err e) last fault made = tt
 
 -- a chain of fewer than four has room for one more
 pub room_for : (n : ℕ) → nat_le 4 n ≡ false → n + 1 ≤ 4

@@ -1,8 +1,8 @@
 -- A site stays sound with an interface or router that is complete and without fault.
-use Rattle.std.proofs.Common.{◌≡◌, ℕ, zero, suc, ◌≤◌, ◌+◌, Bool, true, false, cond, ◌&&◌, ◌||◌, List, [], ◌∷◌, ◌++◌, length, map, Option, Some, None, refl, sym, ap, subst, ◌∙◌, nat_lt, arith}
+use Rattle.std.proofs.Common.{◌≡◌, ℕ, zero, suc, ◌≤◌, Bool, true, false, cond, ◌&&◌, ◌||◌, List, [], ◌∷◌, ◌++◌, length, map, Option, Some, None, refl, sym, ap, subst, ◌∙◌, nat_lt, arith}
 use Rattle.std.specs.Prelude.{nat_le}
-use Rattle.std.specs.List.{filter, list_any, list_all, flat_map, AllByRecursion, IsDistinct}
-use Rattle.std.proofs.lemmas.List.{append-nil, map-append, length-append}
+use Rattle.std.specs.List.{filter, list_any, list_all, AllByRecursion, IsDistinct}
+use Rattle.std.proofs.lemmas.List.{append-nil, map-append}
 use Rattle.std.proofs.lemmas.Bool.Decides.{nat_tests}
 use Rattle.std.proofs.lemmas.Grind.{flat_map-append}
 use Rattle.std.proofs.lemmas.List.Folds.{list_all-append}
@@ -12,7 +12,6 @@ use Rattle.cts_def.specs.Packets.{PacketData, DefinitionsData, is_of}
 use Rattle.cts_def.specs.Protocols as spec
 use Rattle.cts_def.specs.Protocols.{SpecData}
 use Rattle.cts_def.specs.Sites.{InterfaceData, RouterData, SiteData, IsSoundSite, is_known_target, packets_of, targets_at, routed_targets, routes_within, targets_of, IsOfPackets, AreOfPackets}
-use Rattle.cts_plan.specs.declared.draft.Draft.{Draft}
 use Rattle.cts_plan.specs.declared.opened.Current.{Current}
 use Rattle.cts_plan.specs.declared.opened.Current.TheVariants as current
 use Rattle.cts_plan.specs.declared.fault.SiteCause.{SiteCause}
@@ -20,7 +19,6 @@ use Rattle.cts_plan.specs.declared.fault.SiteCause.TheVariants.{ChainTooLong, Mi
 use Rattle.cts_plan.specs.Steps.{StepData, step_reads, added, whole_chain}
 use Rattle.cts_plan.specs.Drafts.{InterfaceDraftData, RouterDraftData}
 use Rattle.cts_plan.specs.Standing.{starts_of, spec_with, use_of, chain_of, interface_of, router_of, completed}
-use Rattle.cts_plan.specs.Causes.{is_router_named}
 use Rattle.cts_reader.specs.Reading.{at_line}
 use Rattle.cts_plan.specs.Completing.{Refused, is_bad_min_id, have_variable, cause_of_spec, step_fault, first_step_fault, fault_of, fault_in}
 use Rattle.cts_plan.specs.Keeping.{IsNewInterface, IsNewRouter, IsNew}

@@ -1,6 +1,6 @@
 -- A statement without a cause keeps what is true of all that stands.
-use Rattle.std.proofs.Common.{◌≡◌, ℕ, zero, suc, pos, negsuc, ◌≤◌, Bool, true, false, cond, not, ◌&&◌, ◌||◌, List, [], ◌∷◌, ◌++◌, length, Option, Some, None, Ok, Err, refl, sym, ap, subst, ◌∙◌, append_assoc, nat_lt, arith, IsTrue}
-use Rattle.std.specs.Prelude.{ℤ, nat_eq, find, int_le, unsigned_abs, unwrap_or, Result}
+use Rattle.std.proofs.Common.{◌≡◌, ℕ, zero, suc, pos, negsuc, ◌≤◌, Bool, true, false, cond, ◌||◌, List, [], ◌∷◌, ◌++◌, length, Option, Some, None, Ok, Err, refl, sym, ap, subst, ◌∙◌, append_assoc, nat_lt, arith, IsTrue}
+use Rattle.std.specs.Prelude.{ℤ, find, int_le, unsigned_abs, unwrap_or, Result}
 use Rattle.std.specs.Int.{is_negative}
 use Rattle.std.specs.List.{list_any, list_all, IsDistinct}
 use Rattle.std.proofs.lemmas.Bool.Decides.{nat_tests}
@@ -22,22 +22,20 @@ use Rattle.cts_plan.specs.declared.opened.Current.TheVariants as current
 use Rattle.cts_plan.specs.declared.keyword.Keyword.{Keyword}
 use Rattle.cts_plan.specs.declared.keyword.Keyword.TheVariants as keyword
 use Rattle.cts_plan.specs.declared.words.Way.TheVariants.{ReadWrite}
-use Rattle.cts_plan.specs.declared.fault.SiteCause.{SiteCause}
 use Rattle.cts_plan.specs.declared.line.Line.{Line}
 use Rattle.cts_plan.specs.declared.line.Line.TheVariants as line
 use Rattle.cts_plan.specs.declared.line.Detail.{Detail}
 use Rattle.cts_plan.specs.declared.line.Detail.TheVariants as detail
 use Rattle.cts_plan.specs.Words.{word, way_of, natural_in, port_of, desks_of, delay_in, delay_of}
-use Rattle.cts_plan.specs.Drafts.{InterfaceDraftData, RouterDraftData}
 use Rattle.cts_plan.specs.Lines.{name_of, step_at, interface_by, router_by, said_or_nothing, line_of}
-use Rattle.cts_plan.specs.Standing.{start, has_name, number_of, completed, closed, change, place}
-use Rattle.cts_plan.specs.Causes.{holds, order, is_file_unknown, is_unrouted, is_unknown_name, is_double, is_unknown_target, maps, is_in, is_target_twice, is_chain_too_long, is_not_last, is_too_many}
+use Rattle.cts_plan.specs.Standing.{start, has_name, number_of, closed, change, place}
+use Rattle.cts_plan.specs.Causes.{holds, order, is_file_unknown, is_unrouted, is_double, is_unknown_target, maps, is_in, is_target_twice, is_chain_too_long, is_not_last, is_too_many}
 use Rattle.cts_reader.specs.Reading.{at_line}
-use Rattle.cts_plan.specs.Completing.{Refused, due}
+use Rattle.cts_plan.specs.Completing.{due}
 use Rattle.cts_plan.specs.SiteFiles.{parts, opening, opens, ready, with_line, step, cause_in, refusal_in}
 use Rattle.cts_plan.specs.Keeping.{IsNewInterface, IsNewRouter, IsNew, KeepsRules, FitsCurrent, Fits}
 use Rattle.cts_reader.proofs.FirstRefused.{no_cause}
-use Rattle.cts_plan.proofs.Lists.{both, neither, not_false, and_true, distinct_snoc}
+use Rattle.cts_plan.proofs.Lists.{neither, not_false, and_true, distinct_snoc}
 use Rattle.cts_plan.proofs.Completed.{sound_completed, none_left, all_joined}
 
 -- ---- lines keep their bounds

@@ -12,6 +12,8 @@ use Rattle.cts_plan.specs.declared.keyword.Role.{Role}
 use Rattle.cts_plan.specs.declared.keyword.Role.TheVariants.{Client, Server}
 use Rattle.cts_plan.specs.declared.keyword.Field.{Field}
 use Rattle.cts_plan.specs.declared.keyword.Field.TheVariants as field
+use Rattle.cts_plan.specs.declared.keyword.Check.{Check}
+use Rattle.cts_plan.specs.declared.keyword.Check.TheVariants as check
 use Rattle.cts_plan.specs.Words.{word, is_nil, flag_of, order_of, way_of, kind_of, port_of, desks_of, size_of, bits_of, per_count_of, max_of, signed_of, is_decimal, delay_of, is_pattern_word, is_empty_pattern}
 
 abbrev pub keywords : List (List ℕ × Keyword)
@@ -137,6 +139,13 @@ abbrev pub is_empty_sync : Field → List ℕ → Bool
 is_empty_sync field.Sync word = is_empty_pattern word
 is_empty_sync field.Termination word = is_empty_pattern word || is_nil word
 is_empty_sync _ word = false
+
+-- a word fails this check at its field
+abbrev pub fails : Check → Field → List ℕ → Bool
+fails check.Choice = is_other_choice
+fails check.Name = is_bad_name
+fails check.Number = is_no_number
+fails check.Bytes = is_empty_sync
 
 -- ---- all words of a statement at their fields
 

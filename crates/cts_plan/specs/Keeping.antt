@@ -1,5 +1,5 @@
 -- What is true of all that stands, and when a line can be placed. Functions of the crate cite this, and the definitions do not.
-use Rattle.std.specs.Prelude.{◌≡◌, ℕ, pos, ◌≤◌, true, false, ◌&&◌, nat_le, nat_lt, nat_eq, int_le, List, [], ◌∷◌, ◌++◌, length, Some, None, Option, IsTrue}
+use Rattle.std.specs.Prelude.{◌≡◌, ℕ, pos, ◌≤◌, true, false, ◌&&◌, nat_le, nat_lt, nat_eq, int_le, List, ◌++◌, length, Some, None, Option, IsTrue}
 use Rattle.std.specs.List.{list_any, list_all, IsDistinct}
 use Rattle.cts_def.specs.Items.{is_same}
 use Rattle.cts_def.specs.Packets.{DefinitionsData}

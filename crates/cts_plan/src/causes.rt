@@ -10,8 +10,8 @@ ghost use Rattle.cts_plan.specs.Causes.{is_nothing, is_interface, is_router, cha
 use crate::draft::{Draft, number_of};
 use crate::fault::SiteCause;
 use crate::keyword::{
-    Keyword, has_bad_name, has_empty_sync, has_no_number, has_other_choice, has_protocol,
-    head_fields, parameter_fields, parameters, protocol_of, required, role_of,
+    Check, Keyword, has_protocol, head_fields, parameter_fields, parameters, protocol_of, required,
+    role_of,
 };
 use crate::line::{Detail, Line, is_bad_length, port_at};
 use crate::opened::Current;
@@ -158,7 +158,7 @@ fn is_wrong_count(keyword: Keyword, words: &[Bytes]) -> bool
     words.len() < head_fields(keyword, words).len()
         || is_protocol_missing(keyword, words)
         || has_wrong_rest(keyword, words)
-        || has_other_choice(keyword, words)
+        || Check::Choice.fails_in(keyword, words)
 }
 
 fn has_interface(interfaces: &[Interface], name: &Name) -> bool
@@ -197,7 +197,7 @@ fn is_length(kind: Option<Kind>) -> bool
 fn is_not_number(keyword: Keyword, words: &[Bytes]) -> bool
     ensures { result ≡ is_not_number keyword words.now }
 {
-    has_no_number(keyword, words)
+    Check::Number.fails_in(keyword, words)
         || (is_length(protocol_of(keyword, words)) && is_bad_length(parameters(keyword, words)))
 }
 
@@ -384,20 +384,26 @@ fn holds(cause: SiteCause, draft: &Draft, keyword: Keyword, words: &[Bytes], lin
         SiteCause::OutsideInterface => is_outside(&draft.current, keyword),
         SiteCause::WrongCount => is_wrong_count(keyword, words),
         SiteCause::UnknownInterface => is_unknown_interface(draft, keyword, words, line),
-        SiteCause::BadName => has_bad_name(keyword, words),
+        SiteCause::BadName => Check::Name.fails_in(keyword, words),
         SiteCause::NotNumber => is_not_number(keyword, words),
         SiteCause::DoubleName => is_double(draft, line),
         SiteCause::TwoPorts => is_two_ports(keyword, words),
         SiteCause::UnknownTarget => is_unknown_target(draft, line),
         SiteCause::TargetTwice => is_target_twice(draft, line),
         SiteCause::ProtocolKind => is_other_kind(keyword, words),
-        SiteCause::EmptySync => has_empty_sync(keyword, words),
+        SiteCause::EmptySync => Check::Bytes.fails_in(keyword, words),
         SiteCause::ChainTooLong => is_chain_too_long(draft, line),
         SiteCause::NotLast => is_not_last(draft, line),
         SiteCause::MinIdSize => false,
         SiteCause::VariableLength => false,
         SiteCause::TooMany => is_too_many(draft, line),
     }
+}
+
+fn causes() -> &'static [SiteCause]
+    ensures { result.now ≡ order }
+{
+    &ORDER
 }
 
 /// The first cause that holds.
@@ -409,5 +415,5 @@ pub fn first_cause(
 ) -> Option<SiteCause>
     ensures { result ≡ find (λ c. holds c draft.now keyword words.now line.now) order }
 {
-    first_that_holds(&ORDER, |cause| holds(cause, draft, keyword, words, line))
+    first_that_holds(causes(), |cause| holds(cause, draft, keyword, words, line))
 }

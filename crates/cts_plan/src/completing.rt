@@ -1,8 +1,8 @@
 // What is judged when an interface or router is complete, and what is made of it.
-ghost use Rattle.std.specs.Prelude.{◌≡◌, ◌≤◌, ◌++◌, ◌||◌, length, map, IfOk, IsTrue, OnOk};
+ghost use Rattle.std.specs.Prelude.{◌≡◌, ◌≤◌, [], ◌∷◌, ◌++◌, ◌||◌, length, map, if◌then◌else◌, IfOk, IsTrue, OnOk};
 ghost use Rattle.std.specs.List.{list_any, list_all};
 ghost use Rattle.cts_def.specs.Protocols as spec;
-ghost use Rattle.cts_def.specs.Protocols.{is_id_within, is_start_within};
+ghost use Rattle.cts_def.specs.Protocols.{is_chain, is_id_within, is_start_within};
 ghost use Rattle.cts_def.specs.Sites.{packets_of, targets_at, routed_targets};
 ghost use Rattle.cts_def.specs.Starts.{has_places, id_field_data, id_fields};
 ghost use Rattle.cts_def.specs.Packets.{is_of};
@@ -220,6 +220,16 @@ fn added(alloc: Global) -> Result<ProtoUse, Memory>
     })
 }
 
+// Adds that BURST, unless one reads already.
+fn add_unless(reads: bool, alloc: Global, uses: &mut List<ProtoUse>) -> Result<(), Memory>
+    ensures { OnOk result (uses.new ≡ (if reads then uses.old else uses.old ++ added.used ∷ [])) }
+{
+    if !reads {
+        uses.push(added(alloc)?)?;
+    }
+    Ok(())
+}
+
 // The protocols of an interface or router of this line, with the one that is added where none reads.
 fn chain_of(
     alloc: Global,
@@ -240,9 +250,7 @@ fn chain_of(
         });
     }
     let mut uses = uses_of(alloc, definitions, targets, steps)?;
-    if !reads {
-        uses.push(added(alloc)?)?;
-    }
+    add_unless(reads, alloc, &mut uses)?;
     Ok(uses)
 }
 
@@ -315,6 +323,23 @@ fn routed_targets(
     Ok(targets)
 }
 
+// The protocols of a router of this line with these routes.
+fn router_chain(
+    alloc: Global,
+    site: &Site,
+    line: u32,
+    chain: Chain,
+    routes: &[u32],
+) -> Result<List<ProtoUse>, SiteFault>
+    ensures settled { Settles result (fault_of site.now.definitions (routed_targets site.now.interfaces routes.now) line chain) }
+    ensures value { IfOk result (λ uses. uses ≡ chain_of site.now.definitions (routed_targets site.now.interfaces routes.now) chain) }
+    ensures sound { IfOk result (λ uses. IsTrue (is_chain uses)) }
+{
+    let names = routed_targets(alloc, site.interfaces.as_slice(), routes)?;
+    let targets = Targets::of(alloc, names)?;
+    chain_of(alloc, &site.definitions, &targets, line, chain)
+}
+
 fn router_of(alloc: Global, site: &Site, draft: RouterDraft) -> Result<Router, SiteFault>
     ensures settled { Settles result (fault_of site.now.definitions (routed_targets site.now.interfaces draft.routes) draft.line draft.chain) }
     ensures value { IfOk result (λ r. r ≡ router_of site.now draft) }
@@ -326,9 +351,7 @@ fn router_of(alloc: Global, site: &Site, draft: RouterDraft) -> Result<Router, S
         chain,
         routes,
     } = draft;
-    let names = routed_targets(alloc, site.interfaces.as_slice(), routes.as_slice())?;
-    let targets = Targets::of(alloc, names)?;
-    let chain = chain_of(alloc, &site.definitions, &targets, line, chain)?;
+    let chain = router_chain(alloc, site, line, chain, routes.as_slice())?;
     Ok(Router {
         name,
         port,

@@ -79,20 +79,14 @@ fn change_router(site: &Site, draft: &mut RouterDraft, detail: Detail) -> Result
     Ok(())
 }
 
-fn change(site: &Site, current: Current, detail: Detail) -> Result<Current, Memory>
-    requires fits { FitsCurrent site.now detail current }
-    ensures { IfOk result (λ new. new ≡ change site.now.interfaces detail current) }
+fn change(site: &Site, current: &mut Current, detail: Detail) -> Result<(), Memory>
+    requires fits { FitsCurrent site.now detail current.old }
+    ensures { OnOk result (current.new ≡ change site.now.interfaces detail current.old) }
 {
     match current {
-        Current::Nothing => Ok(Current::Nothing),
-        Current::Interface(mut draft) => {
-            change_interface(site, &mut draft, detail)?;
-            Ok(Current::Interface(draft))
-        }
-        Current::Router(mut draft) => {
-            change_router(site, &mut draft, detail)?;
-            Ok(Current::Router(draft))
-        }
+        Current::Nothing => Ok(()),
+        Current::Interface(draft) => change_interface(site, draft, detail),
+        Current::Router(draft) => change_router(site, draft, detail),
     }
 }
 
@@ -141,6 +135,13 @@ impl Draft {
         }
     }
 
+    // Reads this from now on, in the place of what was read.
+    fn begin(&mut self, current: Current)
+        ensures { self.new ≡ record self.old { current = current } }
+    {
+        self.current = current;
+    }
+
     /// Adds what a statement without a cause says. After `Memory` the draft is of no use.
     pub fn add(&mut self, line: Line) -> Result<(), Memory>
         requires fits { Fits line self.old }
@@ -150,13 +151,18 @@ impl Draft {
             Line::Nothing => {}
             Line::ApiPort(port) => set_port(&mut self.site, port),
             Line::Desks(desks) => set_desks(&mut self.site, desks),
-            Line::Interface(draft) => self.current = Current::Interface(draft),
-            Line::Router(draft) => self.current = Current::Router(draft),
-            Line::Detail(detail) => {
-                let current = mem::replace(&mut self.current, Current::Nothing);
-                self.current = change(&self.site, current, detail)?;
-            }
+            Line::Interface(draft) => self.begin(Current::Interface(draft)),
+            Line::Router(draft) => self.begin(Current::Router(draft)),
+            Line::Detail(detail) => change(&self.site, &mut self.current, detail)?,
         }
         Ok(())
+    }
+
+    /// The site, with what is complete.
+    pub fn into_site(self) -> Site
+        ensures { result ≡ self.site }
+    {
+        let Draft { site, current: _ } = self;
+        site
     }
 }

@@ -4,7 +4,7 @@ use cts_base::Bytes;
 use std::marker::Model;
 
 /// The parameters of FIXED as its statement gives them: its packets are known when all targets are.
-#[derive(Debug, Drop)]
+#[derive(Drop)]
 pub struct FixedParameters {
     /// How many bytes identify a packet.
     pub min_id: u32,

@@ -3,7 +3,7 @@ ghost use Rattle.std.specs.Prelude.{◌≡◌, ◌+◌, length, drop, map, zip};
 ghost use Rattle.std.specs.List.{list_any};
 ghost use Rattle.cts_plan.specs.Words.{is_nil};
 ghost use Rattle.cts_reader.specs.Words.{keyword_in};
-ghost use Rattle.cts_plan.specs.Forms.{keyword_of, role_of, opening_fields, head_fields, parameter_fields, required, takes_protocol, has_protocol, protocol_of, parameters, fields_of, is_other_choice, is_bad_name, is_no_number, is_empty_sync, any_field};
+ghost use Rattle.cts_plan.specs.Forms.{keyword_of, role_of, opening_fields, head_fields, parameter_fields, required, takes_protocol, has_protocol, protocol_of, parameters, fields_of, is_other_choice, is_bad_name, is_no_number, is_empty_sync, fails, any_field};
 
 use crate::words::{
     bits_of, delay_of, desks_of, flag_of, is_decimal, is_empty_pattern, is_nil, is_pattern_word,
@@ -14,7 +14,7 @@ use cts_def::Kind;
 use cts_reader::{Spelled, keyword_in};
 
 /// The keyword of a statement.
-#[derive(Clone, Copy, Debug, PartialEq, Eq)]
+#[derive(Clone, Copy)]
 pub enum Keyword {
     /// A title, taken without effect.
     Title,
@@ -43,7 +43,7 @@ pub enum Keyword {
 }
 
 /// What the file name of an INTERFACE or ROUTER statement makes of it.
-#[derive(Clone, Copy, Debug, PartialEq, Eq)]
+#[derive(Clone, Copy)]
 pub enum Role {
     /// It connects.
     Client,
@@ -52,7 +52,7 @@ pub enum Role {
 }
 
 /// What a word of a statement has to be.
-#[derive(Clone, Copy, Debug, PartialEq, Eq)]
+#[derive(Clone, Copy)]
 pub enum Field {
     /// Any word.
     Text,
@@ -380,82 +380,50 @@ impl Field {
     }
 }
 
-fn have_other_choice(fields: &[Field], words: &[Bytes]) -> bool
-    ensures { result ≡ list_any (λ p. is_other_choice p.0 p.1) (zip fields.now words.now) }
-{
-    fields
-        .iter()
-        .zip(words)
-        .any(|(field, word)| field.is_other_choice(word.as_slice()))
+/// What is asked of a word at its field.
+#[derive(Clone, Copy)]
+pub enum Check {
+    /// A fixed word is one of its field's choices.
+    Choice,
+    /// A name is a name.
+    Name,
+    /// A number or pattern has its form and is within its bounds.
+    Number,
+    /// A pattern that has to have bytes has some.
+    Bytes,
 }
 
-fn have_bad_name(fields: &[Field], words: &[Bytes]) -> bool
-    ensures { result ≡ list_any (λ p. is_bad_name p.0 p.1) (zip fields.now words.now) }
-{
-    fields
-        .iter()
-        .zip(words)
-        .any(|(field, word)| field.is_bad_name(word.as_slice()))
-}
+impl Check {
+    /// Whether a word fails it at this field.
+    fn fails(self, field: Field, word: &[u8]) -> bool
+        ensures { result ≡ fails self field word.now }
+    {
+        match self {
+            Check::Choice => field.is_other_choice(word),
+            Check::Name => field.is_bad_name(word),
+            Check::Number => field.is_no_number(word),
+            Check::Bytes => field.is_empty_sync(word),
+        }
+    }
 
-fn have_no_number(fields: &[Field], words: &[Bytes]) -> bool
-    ensures { result ≡ list_any (λ p. is_no_number p.0 p.1) (zip fields.now words.now) }
-{
-    fields
-        .iter()
-        .zip(words)
-        .any(|(field, word)| field.is_no_number(word.as_slice()))
-}
+    // Whether one of these words fails it at its field.
+    fn any_fails(self, fields: &[Field], words: &[Bytes]) -> bool
+        ensures { result ≡ list_any (λ p. fails self p.0 p.1) (zip fields.now words.now) }
+    {
+        fields
+            .iter()
+            .zip(words)
+            .any(|(field, word)| self.fails(*field, word.as_slice()))
+    }
 
-fn have_empty_sync(fields: &[Field], words: &[Bytes]) -> bool
-    ensures { result ≡ list_any (λ p. is_empty_sync p.0 p.1) (zip fields.now words.now) }
-{
-    fields
-        .iter()
-        .zip(words)
-        .any(|(field, word)| field.is_empty_sync(word.as_slice()))
-}
-
-/// Whether a statement has a fixed word that is none of its field's choices.
-pub fn has_other_choice(keyword: Keyword, words: &[Bytes]) -> bool
-    ensures { result ≡ any_field is_other_choice keyword words.now }
-{
-    have_other_choice(head_fields(keyword, words), words)
-        || have_other_choice(
-            fields_of(protocol_of(keyword, words)),
-            parameters(keyword, words),
-        )
-}
-
-/// Whether a name of a statement is no name.
-pub fn has_bad_name(keyword: Keyword, words: &[Bytes]) -> bool
-    ensures { result ≡ any_field is_bad_name keyword words.now }
-{
-    have_bad_name(head_fields(keyword, words), words)
-        || have_bad_name(
-            fields_of(protocol_of(keyword, words)),
-            parameters(keyword, words),
-        )
-}
-
-/// Whether a number or pattern of a statement has another form or is out of its bounds.
-pub fn has_no_number(keyword: Keyword, words: &[Bytes]) -> bool
-    ensures { result ≡ any_field is_no_number keyword words.now }
-{
-    have_no_number(head_fields(keyword, words), words)
-        || have_no_number(
-            fields_of(protocol_of(keyword, words)),
-            parameters(keyword, words),
-        )
-}
-
-/// Whether a statement has a sync `0x`, or a read termination of no bytes.
-pub fn has_empty_sync(keyword: Keyword, words: &[Bytes]) -> bool
-    ensures { result ≡ any_field is_empty_sync keyword words.now }
-{
-    have_empty_sync(head_fields(keyword, words), words)
-        || have_empty_sync(
-            fields_of(protocol_of(keyword, words)),
-            parameters(keyword, words),
-        )
+    /// Whether a word of a statement fails it.
+    pub fn fails_in(self, keyword: Keyword, words: &[Bytes]) -> bool
+        ensures { result ≡ any_field (fails self) keyword words.now }
+    {
+        self.any_fails(head_fields(keyword, words), words)
+            || self.any_fails(
+                fields_of(protocol_of(keyword, words)),
+                parameters(keyword, words),
+            )
+    }
 }

@@ -25,7 +25,7 @@ use std::alloc::Global;
 const FIVE_SECONDS: i128 = 5_000_000_000_000;
 
 /// What a statement says. The words of a statement that is refused may say anything.
-#[derive(Debug, Drop)]
+#[derive(Drop)]
 pub enum Line {
     /// Nothing that the site needs.
     Nothing,
@@ -42,7 +42,7 @@ pub enum Line {
 }
 
 /// What belongs to the last interface or router.
-#[derive(Debug, Drop)]
+#[derive(Drop)]
 pub enum Detail {
     /// A target of the interface.
     Target(Name),

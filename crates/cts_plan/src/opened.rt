@@ -9,7 +9,7 @@ use std::alloc::Global;
 use std::marker::Model;
 
 /// At most four protocols, none of which reads behind one that reads packets.
-#[derive(Debug, Drop)]
+#[derive(Drop)]
 pub struct Chain {
     steps: List<Step>,
 }
@@ -63,7 +63,7 @@ impl Chain {
 }
 
 /// An interface that is read.
-#[derive(Debug, Drop)]
+#[derive(Drop)]
 pub struct InterfaceDraft {
     /// The line of the statement that opened it.
     pub line: u32,
@@ -98,7 +98,7 @@ impl Model for InterfaceDraft {
 }
 
 /// A router that is read.
-#[derive(Debug, Drop)]
+#[derive(Drop)]
 pub struct RouterDraft {
     /// The line of the statement that opened it.
     pub line: u32,
@@ -123,7 +123,7 @@ impl Model for RouterDraft {
 }
 
 /// The interface or router to which further lines belong.
-#[derive(Debug, Drop)]
+#[derive(Drop)]
 pub enum Current {
     /// None.
     Nothing,

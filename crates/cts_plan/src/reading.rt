@@ -1,12 +1,13 @@
 //! Statements read to a site.
 
-ghost use Rattle.std.specs.Prelude.{◌≡◌, None, IfOk, OnOk, find, option_map, if◌then◌else◌};
+ghost use Rattle.std.specs.Prelude.{◌≡◌, [], None, IfOk, OnOk, find, option_map, if◌then◌else◌};
+ghost use Rattle.cts_words.specs.Refusals.{first_refusal};
 ghost use Rattle.cts_def.specs.Sites.{IsSoundSite};
 ghost use Rattle.cts_plan.specs.Lines.{line_of};
-ghost use Rattle.cts_plan.specs.Standing.{closed};
+ghost use Rattle.cts_plan.specs.Standing.{start, closed};
 ghost use Rattle.cts_plan.specs.Causes.{holds, order};
 ghost use Rattle.cts_plan.specs.Completing.{due};
-ghost use Rattle.cts_plan.specs.SiteFiles.{parts, opening, step, refusal_in, site_of};
+ghost use Rattle.cts_plan.specs.SiteFiles.{parts, opening, step, refusal_in, refusal, at_end, after, site_in, site_of};
 ghost use Rattle.cts_plan.specs.Keeping.{KeepsRules};
 ghost use Rattle.cts_reader.specs.Reading.{Gives, Settles, at_line};
 
@@ -17,6 +18,7 @@ use crate::keyword::{Keyword, keyword_of};
 use crate::line::{Line, line_of};
 use cts_base::Bytes;
 use cts_def::{Definitions, Site};
+use cts_reader::unless_refused;
 use cts_words::Statement;
 use std::alloc::Global;
 
@@ -65,10 +67,8 @@ impl Draft {
         ensures said { IfOk result (λ l. l ≡ line_of line keyword words.now) }
     {
         let said = line_of(alloc, line, keyword, words)?;
-        match first_cause(self, keyword, words, &said) {
-            Some(cause) => Err(SiteFault::Refused { line, cause }),
-            None => Ok(said),
-        }
+        let cause = first_cause(self, keyword, words, &said);
+        unless_refused(line, cause, said)
     }
 
     // Adds what a statement says, or says why it is refused.
@@ -87,6 +87,19 @@ impl Draft {
         self.make_ready(alloc, keyword)?;
         let said = self.judge(alloc, line, keyword, words)?;
         Ok(self.add(said)?)
+    }
+
+    // Adds what all statements say, and completes what is read then, or says why they are refused.
+    fn read_all(&mut self, alloc: Global, statements: &[Statement]) -> Result<(), SiteFault>
+        requires { self.old ≡ start self.old.site.definitions }
+        ensures settled { Settles result (first_refusal (refusal self.old.site.definitions) (at_end self.old.site.definitions) [] statements.now) }
+        ensures said { OnOk result (self.new.site ≡ site_in (after self.old.site.definitions statements.now)) }
+        ensures sound { OnOk result (IsSoundSite self.new.site) }
+    {
+        for statement in statements {
+            self.read(alloc, statement)?;
+        }
+        self.complete(alloc)
     }
 }
 
@@ -107,10 +120,6 @@ pub fn read_site(
     ensures sound { IfOk result (λ site. IsSoundSite site) }
 {
     let mut draft = Draft::new(alloc, definitions);
-    for statement in statements {
-        draft.read(alloc, statement)?;
-    }
-    draft.complete(alloc)?;
-    let Draft { site, current: _ } = draft;
-    Ok(site)
+    let read = draft.read_all(alloc, statements);
+    read.and(Ok(draft.into_site()))
 }

@@ -5,7 +5,7 @@ use cts_def::ProtoSpec;
 use std::marker::Model;
 
 /// The parameters of a protocol.
-#[derive(Debug, Drop)]
+#[derive(Drop)]
 pub enum Parameters {
     /// Those of a protocol that needs no packets.
     Ready(ProtoSpec),
@@ -14,7 +14,7 @@ pub enum Parameters {
 }
 
 /// A protocol of an interface or router.
-#[derive(Debug, Drop)]
+#[derive(Drop)]
 pub struct Step {
     /// The line of its statement.
     pub line: u32,

@@ -19,7 +19,7 @@ const MOST_BYTES: u64 = 1_048_576;
 const MOST_BITS: u64 = 8_388_608;
 
 /// Which way a protocol is used.
-#[derive(Clone, Copy, Debug, PartialEq, Eq)]
+#[derive(Clone, Copy)]
 pub enum Way {
     /// On what is read.
     Read,

@@ -14,5 +14,5 @@ pub use causes::first_that_holds;
 pub use fault::Fault;
 pub use keyword::{Spelled, keyword_in};
 pub use laws::{first_cause_is_told, first_statement_is_refused};
-pub use reading::{Reader, read_statements};
+pub use reading::{Reader, read_statements, unless_refused};
 pub use words::word_at;

@@ -1,6 +1,6 @@
 // One pass over the statements.
-ghost use Rattle.std.specs.Prelude.{[]};
-ghost use Rattle.cts_reader.specs.Reading.{Takes, Reads};
+ghost use Rattle.std.specs.Prelude.{◌≡◌, [], IfOk};
+ghost use Rattle.cts_reader.specs.Reading.{Settles, Takes, Reads, at_line};
 
 use crate::Fault;
 use cts_words::Statement;
@@ -34,6 +34,17 @@ pub trait Reader {
     ) -> Result<(), Fault<Self::Cause>>
         requires { (before : List Said) × stands given.now self.old before }
         ensures { Takes (refusal given.now) (stands given.now self.old) (stands given.now self.new) statement.now result };
+}
+
+/// What a statement of this line says, unless it is refused for a cause.
+pub fn unless_refused<C: Copy, L: Drop>(line: u32, cause: Option<C>, said: L) -> Result<L, Fault<C>>
+    ensures settled { Settles result (at_line line cause) }
+    ensures said { IfOk result (λ l. l ≡ said) }
+{
+    match cause {
+        Some(cause) => Err(Fault::Refused { line, cause }),
+        None => Ok(said),
+    }
 }
 
 /// Adds what the statements say, one by one, up to the first that is refused.

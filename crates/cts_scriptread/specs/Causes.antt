@@ -38,6 +38,19 @@ abbrev pub is_unknown_why : Field → List ℕ → Bool
 is_unknown_why Why word = is_none (why_of word)
 is_unknown_why _ word = false
 
+abbrev pub no_word : Field → List ℕ → Bool
+no_word field word = false
+
+-- the cause lies in the word
+abbrev pub is_against : SiteData → ScriptCause → Field → List ℕ → Bool
+is_against site UnknownKeyword = no_word
+is_against site WrongCount = no_word
+is_against site UnknownMaker = is_unknown_maker site
+is_against site NotNumber = is_no_number
+is_against site BadHex = is_bad_hex
+is_against site PieceSize = is_wrong_size
+is_against site UnknownWhy = is_unknown_why
+
 -- ---- a line
 
 -- the cause holds of the words behind a keyword

@@ -7,7 +7,7 @@ use cts_base::Bytes;
 use cts_reader::{Spelled, keyword_in};
 
 /// The keyword of a line.
-#[derive(Clone, Copy, Debug, PartialEq, Eq)]
+#[derive(Clone, Copy)]
 pub enum Keyword {
     /// The clock stands at a time.
     Time,
@@ -28,7 +28,7 @@ pub enum Keyword {
 }
 
 /// What a word of a line has to be.
-#[derive(Clone, Copy, Debug, PartialEq, Eq)]
+#[derive(Clone, Copy)]
 pub enum Field {
     /// An interface or a slot.
     Who,

@@ -2,7 +2,7 @@
 
 ghost use Rattle.std.specs.Prelude.{◌≡◌, find};
 ghost use Rattle.cts_reader.specs.Words.{any_word};
-ghost use Rattle.cts_scriptread.specs.Causes.{holds, is_bad_hex, is_no_number, is_unknown_maker, is_unknown_why, is_wrong_size, order};
+ghost use Rattle.cts_scriptread.specs.Causes.{holds, is_against, is_bad_hex, is_no_number, is_unknown_maker, is_unknown_why, is_wrong_size, order};
 
 use crate::ScriptCause;
 use crate::form::{Field, Keyword, fields, has_form};
@@ -70,48 +70,26 @@ impl Field {
             _ => false,
         }
     }
+
+    // Whether this cause lies in the word.
+    fn is_against(self, site: &Site, cause: ScriptCause, word: &[u8]) -> bool
+        ensures { result ≡ is_against site.now cause self word.now }
+    {
+        match cause {
+            ScriptCause::UnknownMaker => self.is_unknown_maker(site, word),
+            ScriptCause::NotNumber => self.is_no_number(word),
+            ScriptCause::BadHex => self.is_bad_hex(word),
+            ScriptCause::PieceSize => self.is_wrong_size(word),
+            ScriptCause::UnknownWhy => self.is_unknown_why(word),
+            _ => false,
+        }
+    }
 }
 
-fn has_unknown_maker(site: &Site, fields: &[Field], words: &[Bytes]) -> bool
-    ensures { result ≡ any_word (is_unknown_maker site.now) fields.now words.now }
+fn has_cause(site: &Site, cause: ScriptCause, fields: &[Field], words: &[Bytes]) -> bool
+    ensures { result ≡ any_word (is_against site.now cause) fields.now words.now }
 {
-    fields.iter().zip(words).any(|(field, word)| field.is_unknown_maker(site, word.as_slice()))
-}
-
-fn has_no_number(fields: &[Field], words: &[Bytes]) -> bool
-    ensures { result ≡ any_word is_no_number fields.now words.now }
-{
-    fields
-        .iter()
-        .zip(words)
-        .any(|(field, word)| field.is_no_number(word.as_slice()))
-}
-
-fn has_bad_hex(fields: &[Field], words: &[Bytes]) -> bool
-    ensures { result ≡ any_word is_bad_hex fields.now words.now }
-{
-    fields
-        .iter()
-        .zip(words)
-        .any(|(field, word)| field.is_bad_hex(word.as_slice()))
-}
-
-fn has_wrong_size(fields: &[Field], words: &[Bytes]) -> bool
-    ensures { result ≡ any_word is_wrong_size fields.now words.now }
-{
-    fields
-        .iter()
-        .zip(words)
-        .any(|(field, word)| field.is_wrong_size(word.as_slice()))
-}
-
-fn has_unknown_why(fields: &[Field], words: &[Bytes]) -> bool
-    ensures { result ≡ any_word is_unknown_why fields.now words.now }
-{
-    fields
-        .iter()
-        .zip(words)
-        .any(|(field, word)| field.is_unknown_why(word.as_slice()))
+    fields.iter().zip(words).any(|(field, word)| field.is_against(site, cause, word.as_slice()))
 }
 
 fn holds(site: &Site, cause: ScriptCause, keyword: Keyword, words: &[Bytes]) -> bool
@@ -120,17 +98,25 @@ fn holds(site: &Site, cause: ScriptCause, keyword: Keyword, words: &[Bytes]) -> 
     match cause {
         ScriptCause::UnknownKeyword => false,
         ScriptCause::WrongCount => !has_form(keyword, words),
-        ScriptCause::UnknownMaker => has_unknown_maker(site, fields(keyword), words),
-        ScriptCause::NotNumber => has_no_number(fields(keyword), words),
-        ScriptCause::BadHex => has_bad_hex(fields(keyword), words),
-        ScriptCause::PieceSize => has_wrong_size(fields(keyword), words),
-        ScriptCause::UnknownWhy => has_unknown_why(fields(keyword), words),
+        ScriptCause::UnknownMaker => {
+            has_cause(site, ScriptCause::UnknownMaker, fields(keyword), words)
+        }
+        ScriptCause::NotNumber => has_cause(site, ScriptCause::NotNumber, fields(keyword), words),
+        ScriptCause::BadHex => has_cause(site, ScriptCause::BadHex, fields(keyword), words),
+        ScriptCause::PieceSize => has_cause(site, ScriptCause::PieceSize, fields(keyword), words),
+        ScriptCause::UnknownWhy => has_cause(site, ScriptCause::UnknownWhy, fields(keyword), words),
     }
+}
+
+fn causes() -> &'static [ScriptCause]
+    ensures { result.now ≡ order }
+{
+    &ORDER
 }
 
 /// The first cause for which the words behind a keyword are refused.
 pub fn first_cause(site: &Site, keyword: Keyword, words: &[Bytes]) -> Option<ScriptCause>
     ensures { result ≡ find (λ c. holds site.now c keyword words.now) order }
 {
-    first_that_holds(&ORDER, |cause| holds(site, cause, keyword, words))
+    first_that_holds(causes(), |cause| holds(site, cause, keyword, words))
 }

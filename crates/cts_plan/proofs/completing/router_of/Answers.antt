@@ -1,18 +1,4 @@
-use Rattle.std.proofs.Common.{◌∙◌, sym, ap, subst, List}
-use Rattle.std.specs.Prelude.{IsTrue}
-use Rattle.cts_def.specs.Protocols.{UseData, is_chain}
-use Rattle.cts_plan.specs.Steps.{are_packets_last}
-use Rattle.cts_plan.proofs.Chained.{sound_chain, not_too_long}
 use Rattle.cts_plan.proofs.completing.router_of.Goals as goal
 
 pub invariant_of-result : goal.invariant_of-result
-invariant_of-result c =
-    let sound = c.draft.invariant in
-    let made = c.in_ok-chain.ensures in
-    record {
-      port = sound.port;
-      chain = subst (λ (us : List UseData). IsTrue (is_chain us)) (sym made.value)
-          (sound_chain c.site.inside.definitions _ c.draft.inside.chain (not_too_long c.site.inside.definitions _ _ c.draft.inside.chain made.settled)
-          (ap are_packets_last (sym c.chain.view_is) ∙ c.chain.invariant.packets_last));
-      routes = sound.routes;
-    }
+invariant_of-result c = record { port = c.draft.invariant.port; chain = c.in_ok-chain.ensures.sound; routes = c.draft.invariant.routes }

@@ -1,6 +1,0 @@
-use Rattle.std.proofs.Common.{take, drop}
-use Rattle.cts_plan.proofs.Runs.{IsReading}
-use Rattle.cts_plan.proofs.reading.read_site.Given as goal
-
-abbrev pub invariant-loop-statement : goal.invariant-loop-statement
-invariant-loop-statement l = IsReading l.fn.definitions l.draft (take l.statement-index l.statements) (drop l.statement-index l.statements) l.statements
