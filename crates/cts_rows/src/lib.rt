@@ -4,8 +4,10 @@
 
 mod parts;
 mod rows;
+mod shown;
 mod texts;
 
-pub use parts::{debug_of, display_of, number, part};
+pub use parts::{field, number, part};
 pub use rows::{Answers, rows_end_so, rows_hold, same};
+pub use shown::{debug_of, display_of, readable_of, refusal_of};
 pub use texts::{as_text, bytes_of, cut, digits_of, lines};
