@@ -1,8 +1,9 @@
 // A hall over a site that is read from text.
 use cts_base::Bytes;
-use cts_def::{Ident, Site, Time};
+use cts_def::{Definitions, Ident, Site, Time};
 use cts_defread::read_definitions;
 use cts_plan::read_site;
+use cts_rows::lines;
 use cts_table::Hall;
 use cts_words::{Statement, statements};
 use std::alloc::Global;
@@ -28,31 +29,22 @@ const NOW: Time = Time {
 };
 
 fn statements_of(alloc: Global, text: &str) -> Result<Vec<Statement>, Fail> {
-    let mut lines = text.as_bytes().to_vec(alloc)?;
-    for byte in lines.iter_mut() {
-        if *byte == b';' {
-            *byte = b'\n';
-        }
-    }
-    if lines.len() > 67_108_864 {
+    let text = lines(alloc, text)?;
+    if text.len() > 67_108_864 {
         return Err(Fail::new("too large"));
     }
-    match statements(alloc, &lines) {
-        Ok(found) => Ok(found),
-        Err(_) => Err(Fail::new("no statements")),
-    }
+    Ok(statements(alloc, &text)?)
+}
+
+fn definitions(alloc: Global) -> Result<Definitions, Fail> {
+    let found = statements_of(alloc, DEFINITIONS)?;
+    Ok(read_definitions(alloc, &found)?)
 }
 
 fn site(alloc: Global) -> Result<Site, Fail> {
-    let found = statements_of(alloc, DEFINITIONS)?;
-    let Ok(definitions) = read_definitions(alloc, &found) else {
-        return Err(Fail::new("definitions are refused"));
-    };
+    let definitions = definitions(alloc)?;
     let found = statements_of(alloc, SITE)?;
-    match read_site(alloc, &found, definitions) {
-        Ok(site) => Ok(site),
-        Err(_) => Err(Fail::new("the site is refused")),
-    }
+    Ok(read_site(alloc, &found, definitions)?)
 }
 
 fn receive(hall: &mut Hall, bytes: Bytes) -> bool {

@@ -2,6 +2,7 @@
 use crate::hall::new_hall;
 use crate::replies::asked;
 use cts_http::{HttpStep, Reader, response};
+use cts_rows::{as_text, cut, same};
 use cts_table::Hall;
 use std::alloc::Global;
 use std::test::Fail;
@@ -31,10 +32,11 @@ fn a_request_over_http_has_its_response(rt: HostRuntime) -> Result<(), Fail> {
     let mut hall = new_hall(rt.alloc())?;
     let mut reader = Reader::new(rt.alloc());
     reader.feed(REQUEST)?;
-    assert_eq!(rt; reader.next(), HttpStep::Request { last: false });
+    let HttpStep::Request { last: false } = reader.next() else {
+        return Err(Fail::new("another step"));
+    };
     let bytes = put(rt.alloc(), &mut hall, reader.body())?;
-    assert_eq!(rt; str::from_utf8(&bytes)?, RESPONSE);
-    Ok(())
+    same(as_text(&bytes)?, RESPONSE, "a request")
 }
 
 #[test]
@@ -42,7 +44,6 @@ fn a_request_without_an_id_has_no_body(rt: HostRuntime) -> Result<(), Fail> {
     let mut hall = new_hall(rt.alloc())?;
     let body = b"{\"jsonrpc\":\"2.0\",\"method\":\"get_limits_set\"}";
     let bytes = put(rt.alloc(), &mut hall, body)?;
-    let text = str::from_utf8(&bytes)?;
-    assert!(rt; text.starts_with("HTTP/1.1 204 No Content"));
-    Ok(())
+    let (status, _) = cut(as_text(&bytes)?, '\r')?;
+    same(status, "HTTP/1.1 204 No Content", "a request without an id")
 }

@@ -7,8 +7,6 @@ mod definitions;
 #[cfg(test)]
 mod read;
 #[cfg(test)]
-mod showing;
-#[cfg(test)]
 mod site_files;
 #[cfg(test)]
 mod starts;

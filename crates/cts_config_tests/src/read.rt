@@ -1,70 +1,72 @@
-// Tables of rows, and the one place that goes through them.
+// What is read of texts whose lines end with `;`.
+use cts_def::{Definitions, Site};
+use cts_defread::{DefFault, read_definitions};
+use cts_plan::{SiteFault, read_site};
+use cts_rows::{display_of, field, lines, number, refusal_of};
 use cts_words::{Statement, statements};
-use std::alloc::{AllocError, Global};
-use std::process::Abort;
+use std::alloc::Global;
 use std::test::Fail;
 
-/// What a table asks in its rows, answered in a text.
-pub trait Answers {
-    /// What is answered to the part of a row behind its first bar.
-    fn answer(alloc: Global, asked: &str) -> Result<String, Fail>;
-}
-
-/// Each row is answered by what stands in front of its first bar. The rows are gone through here alone, each by one call, since a
-/// loop with more in it is slow to prove.
-pub fn rows_hold<A: Answers>(rt: &impl Abort, alloc: Global, rows: &str) -> Result<(), Fail> {
-    for row in rows.lines() {
-        row_holds::<A>(rt, alloc, row)?;
-    }
-    Ok(())
-}
-
-fn row_holds<A: Answers>(rt: &impl Abort, alloc: Global, row: &str) -> Result<(), Fail> {
-    let (wanted, asked) = cut(row, "|")?;
-    let found = A::answer(alloc, asked)?;
-    same(rt, found.as_str(), wanted, row);
-    Ok(())
-}
-
-/// Bytes as a text. It says nothing of it, so that no call has to carry what is said of texts.
-pub fn as_text(bytes: &[u8]) -> Result<&str, Fail> {
-    match str::from_utf8(bytes) {
-        Ok(text) => Ok(text),
-        Err(_) => Err(Fail::new("no text")),
-    }
-}
-
-/// What was found is what was wanted, at this row.
-pub fn same(rt: &impl Abort, found: &str, wanted: &str, row: &str) {
-    assert_eq!(rt; found, wanted, "at {row}");
-}
-
-/// The part of a text in front of the first of these marks, and the part behind it.
-pub fn cut<'t>(text: &'t str, mark: &str) -> Result<(&'t str, &'t str), Fail> {
-    match text.split_once(mark) {
-        Some(parts) => Ok(parts),
-        None => Err(Fail::new("no such mark")),
-    }
-}
-
-/// A text whose lines end with line feeds, of one whose lines end with `;`.
-pub fn lines(alloc: Global, text: &str) -> Result<Vec<u8>, AllocError> {
-    let mut out = Vec::new(alloc);
-    for byte in text.as_bytes() {
-        out.push(with_line_feed(*byte))?;
-    }
-    Ok(out)
-}
-
-fn with_line_feed(byte: u8) -> u8 {
-    if byte == b';' { b'\n' } else { byte }
-}
-
-/// The statements of a text whose lines end with `;`.
-pub fn statements_of(alloc: Global, text: &str) -> Result<Vec<Statement>, Fail> {
+fn statements_of(alloc: Global, text: &str) -> Result<Vec<Statement>, Fail> {
     let text = lines(alloc, text)?;
     if text.len() > 67_108_864 {
         return Err(Fail::new("too large"));
     }
     Ok(statements(alloc, &text)?)
+}
+
+pub fn definitions_of(alloc: Global, text: &str) -> Result<Result<Definitions, DefFault>, Fail> {
+    let found = statements_of(alloc, text)?;
+    Ok(read_definitions(alloc, &found))
+}
+
+fn no_definitions(alloc: Global) -> Result<Definitions, Fail> {
+    match read_definitions(alloc, &[]) {
+        Ok(definitions) => Ok(definitions),
+        Err(_) => Err(Fail::new("no definitions")),
+    }
+}
+
+pub fn site_of(alloc: Global, text: &str) -> Result<Result<Site, SiteFault>, Fail> {
+    let found = statements_of(alloc, text)?;
+    Ok(read_site(alloc, &found, no_definitions(alloc)?))
+}
+
+/// `read`, or the line and the cause for which definitions are refused.
+pub fn definitions_text(alloc: Global, text: &str) -> Result<String, Fail> {
+    refusal_of(alloc, definitions_of(alloc, text)?)
+}
+
+/// The same of a site.
+pub fn site_text(alloc: Global, text: &str) -> Result<String, Fail> {
+    refusal_of(alloc, site_of(alloc, text)?)
+}
+
+/// Two texts as one.
+pub fn joined(alloc: Global, front: &str, rest: &str) -> Result<String, Fail> {
+    display_of(alloc, &format_args!("{front}{rest}"))
+}
+
+/// The text of a row with five parts between bars: first lines, then as many lines as its fourth part says, each of its second part, a
+/// number from 0 on and its third part, and then last lines.
+pub fn crowd(alloc: Global, row: &str) -> Result<String, Fail> {
+    let mut out = field(row, 0).to_string(alloc)?;
+    let count = number(field(row, 3), 0)?;
+    push_lines(alloc, &mut out, field(row, 1), count, field(row, 2))?;
+    out.push_str(field(row, 4))?;
+    Ok(out)
+}
+
+fn push_lines(
+    alloc: Global,
+    out: &mut String,
+    before: &str,
+    count: u32,
+    after: &str,
+) -> Result<(), Fail> {
+    for n in 0..count {
+        let line = format!(in alloc; "{before}{n}{after};")?;
+        out.push_str(line.as_str())?;
+    }
+    Ok(())
 }

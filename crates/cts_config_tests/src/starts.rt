@@ -1,35 +1,9 @@
 // What no clause says: how a packet that was read begins.
-use crate::read::{same, statements_of};
-use cts_def::{Definitions, Item, Packet, Start};
-use cts_defread::read_definitions;
+use crate::read::definitions_of;
+use cts_def::{Definitions, Packet};
+use cts_rows::{Answers, debug_of, rows_hold};
 use std::alloc::Global;
 use std::test::Fail;
-
-fn definitions_of(alloc: Global, text: &str) -> Result<Definitions, Fail> {
-    let found = statements_of(alloc, text)?;
-    match read_definitions(alloc, &found) {
-        Ok(definitions) => Ok(definitions),
-        Err(_) => Err(Fail::new("definitions are refused")),
-    }
-}
-
-/// The offset, bits, order, id and sign of an item's id field.
-fn id_of_item(alloc: Global, item: &Item) -> Result<String, Fail> {
-    let Some((at, id, signed)) = item.id_field() else {
-        return Err(Fail::new("no id field"));
-    };
-    let (offset, bits, order) = (at.offset(), at.bits(), at.order());
-    Ok(format!(in alloc; "{offset} {bits} {order:?} {id} {signed}")?)
-}
-
-/// The length of a start, and the offset, bits, order, id and sign of its only id field.
-fn start_text(alloc: Global, start: &Start) -> Result<String, Fail> {
-    let [(at, id, signed)] = start.ids.as_slice() else {
-        return Err(Fail::new("no id field of the packet"));
-    };
-    let (offset, bits, order) = (at.offset(), at.bits(), at.order());
-    Ok(format!(in alloc; "{} {offset} {bits} {order:?} {id} {signed}", start.length)?)
-}
 
 fn only_packet(definitions: &Definitions) -> Result<&Packet, Fail> {
     match definitions.telemetry.as_slice() {
@@ -38,21 +12,54 @@ fn only_packet(definitions: &Definitions) -> Result<&Packet, Fail> {
     }
 }
 
-fn only_item(packet: &Packet) -> Result<&Item, Fail> {
-    match packet.items.as_slice() {
-        [item] => Ok(item),
+/// The place, id and sign of the only item of a packet.
+fn id_of(alloc: Global, definitions: &Definitions) -> Result<String, Fail> {
+    match only_packet(definitions)?.items.as_slice() {
+        [item] => debug_of(alloc, &item.id_field()),
         _ => Err(Fail::new("another count of items")),
+    }
+}
+
+/// How a packet begins: its id fields, and its length.
+fn start_of(alloc: Global, definitions: &Definitions) -> Result<String, Fail> {
+    let packet = only_packet(definitions)?;
+    debug_of(alloc, &packet.start(alloc)?)
+}
+
+const ITEMS: &str = "\
+Some((Place { offset: 8, bits: 16, order: Little }, -2, true))|TELEMETRY T P BIG_ENDIAN;ID_ITEM ID 8 16 INT -2 '' LITTLE_ENDIAN";
+
+struct Items;
+
+impl Answers for Items {
+    fn answer(alloc: Global, asked: &str) -> Result<String, Fail> {
+        match definitions_of(alloc, asked)? {
+            Ok(definitions) => id_of(alloc, &definitions),
+            Err(_) => Err(Fail::new("refused")),
+        }
+    }
+}
+
+#[test]
+fn an_item_has_its_id_field(rt: HostRuntime) -> Result<(), Fail> {
+    rows_hold::<Items>(rt.alloc(), ITEMS)
+}
+
+const STARTS: &str = "\
+Start { ids: List { items: [(Place { offset: 8, bits: 16, order: Little }, -2, true)] }, length: 3 }|TELEMETRY T P BIG_ENDIAN;ID_ITEM ID 8 16 INT -2 '' LITTLE_ENDIAN";
+
+struct Starts;
+
+impl Answers for Starts {
+    fn answer(alloc: Global, asked: &str) -> Result<String, Fail> {
+        match definitions_of(alloc, asked)? {
+            Ok(definitions) => start_of(alloc, &definitions),
+            Err(_) => Err(Fail::new("refused")),
+        }
     }
 }
 
 #[test]
 fn a_start_has_the_id_fields(rt: HostRuntime) -> Result<(), Fail> {
-    let text = "TELEMETRY T P BIG_ENDIAN;ID_ITEM ID 8 16 INT -2 '' LITTLE_ENDIAN";
-    let definitions = definitions_of(rt.alloc(), text)?;
-    let packet = only_packet(&definitions)?;
-    let item = id_of_item(rt.alloc(), only_item(packet)?)?;
-    same(&rt, item.as_str(), "8 16 Little -2 true", "the item");
-    let start = start_text(rt.alloc(), &packet.start(rt.alloc())?)?;
-    same(&rt, start.as_str(), "3 8 16 Little -2 true", "the packet");
-    Ok(())
+    rows_hold::<Starts>(rt.alloc(), STARTS)
 }

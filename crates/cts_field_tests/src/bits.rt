@@ -4,6 +4,8 @@ use cts_bits::{
     fields_of_other_bytes_are_apart, read_bytes, read_int, read_uint, write_has_one_outcome,
     write_int, write_uint,
 };
+use cts_rows::{Answers, bytes_of, debug_of, display_of, number, part, rows_hold, same};
+use std::alloc::Global;
 use std::test::Fail;
 
 const BYTES: [u8; 12] = [
@@ -13,6 +15,8 @@ const BYTES: [u8; 12] = [
 const OTHERS: [u8; 12] = [
     0xc4, 0x6f, 0x31, 0xfa, 0x10, 0xbd, 0x65, 0x2c, 0x90, 0xe7, 0x5b, 0x83,
 ];
+
+// ---- the walk bit by bit
 
 /// The bit at place k, the most significant of byte 0 first.
 fn bit(bytes: &[u8], k: usize) -> u64 {
@@ -70,163 +74,215 @@ fn put(bytes: &mut [u8], offset: usize, bits: usize, order: Order, value: u64) {
     }
 }
 
+// ---- places and fields in rows
+
+fn order_of(word: &str) -> Order {
+    if word == "Little" {
+        Order::Little
+    } else {
+        Order::Big
+    }
+}
+
+/// The place of an offset, a size in bits and an order, or why there is none.
+fn place_or_fault(row: &str) -> Result<Result<Place, PlaceFault>, Fail> {
+    let offset = number(row, 0)?;
+    let bits = number(row, 1)?;
+    Ok(Place::new(offset, bits, order_of(part(row, 2))))
+}
+
+fn place_of(row: &str) -> Result<Place, Fail> {
+    match place_or_fault(row)? {
+        Ok(place) => Ok(place),
+        Err(_) => Err(Fail::new("no place")),
+    }
+}
+
+/// The number of a field, where the bytes hold it.
+fn read(bytes: &[u8], place: &Place) -> Option<u64> {
+    if place.fits(bytes.len()) {
+        Some(read_uint(bytes, place))
+    } else {
+        None
+    }
+}
+
+/// A place, the bytes that hold it, and the number of the field.
+const READS: &str = "\
+Some(1042)|12 12 Little 1234
+Some(197121)|16 24 Little 010203
+Some(564)|4 12 Big 1234
+Some(22068)|8 16 Little 12345678
+Some(13398)|8 16 Big 12345678
+Some(2018915346)|0 32 Little 12345678
+Some(18446744073709551615)|0 64 Big ffffffffffffffff
+Some(18446744073709551615)|0 64 Little ffffffffffffffff";
+
+struct Reads;
+
+impl Answers for Reads {
+    fn answer(alloc: Global, asked: &str) -> Result<String, Fail> {
+        let place = place_of(asked)?;
+        let bytes = bytes_of(alloc, part(asked, 3))?;
+        debug_of(alloc, &read(&bytes, &place))
+    }
+}
+
 #[test]
 fn reads_the_documented_fields(rt: HostRuntime) -> Result<(), Fail> {
-    let table: [(&[u8], u32, u32, Order, u64); 8] = [
-        (&[0x12, 0x34], 12, 12, Order::Little, 0x412),
-        (&[1, 2, 3], 16, 24, Order::Little, 0x030201),
-        (&[0x12, 0x34], 4, 12, Order::Big, 0x234),
-        (&[0x12, 0x34, 0x56, 0x78], 8, 16, Order::Little, 0x5634),
-        (&[0x12, 0x34, 0x56, 0x78], 8, 16, Order::Big, 0x3456),
-        (&[0x12, 0x34, 0x56, 0x78], 0, 32, Order::Little, 0x78563412),
-        (&[255; 8], 0, 64, Order::Big, u64::MAX),
-        (&[255; 8], 0, 64, Order::Little, u64::MAX),
-    ];
-    for (bytes, offset, bits, order, want) in table {
-        let place = Place::new(offset, bits, order)?;
-        assert!(rt; place.fits(bytes.len()), "{bits} bits at {offset}");
-        assert_eq!(rt; read_uint(bytes, &place), want, "{bits} bits at {offset}");
-    }
-    Ok(())
+    rows_hold::<Reads>(rt.alloc(), READS)
 }
 
-#[test]
-fn reads_every_small_place_as_a_walk_over_its_bits(rt: HostRuntime) {
-    let mut read = 0u32;
-    for order in [Order::Big, Order::Little] {
-        for offset in 0..97u32 {
-            for bits in 1..65u32 {
-                if let Ok(place) = Place::new(offset, bits, order) {
-                    if place.fits(BYTES.len()) {
-                        let want = walk(&BYTES, offset as usize, bits as usize, order);
-                        assert_eq!(rt; read_uint(&BYTES, &place), want, "{bits} bits at {offset}");
-                        read = read.saturating_add(1);
-                    }
-                }
-            }
-        }
-    }
-    // In each order a field of n bits begins at 97 - n places.
-    assert_eq!(rt; read, 2 * (64 * 97 - 32 * 65));
-}
+/// The signed number of a field, and what is read where it was written into eight bytes.
+const SIGNED: &str = "\
+Some((-4, -4))|0 3 Big 80
+Some((3, 3))|0 3 Big 60
+Some((-1, -1))|3 3 Big 1c
+Some((-2, -2))|0 16 Little feff
+Some((-1, -1))|0 64 Little ffffffffffffffff
+Some((-9223372036854775808, -9223372036854775808))|0 64 Big 8000000000000000";
 
-#[test]
-fn writes_every_small_place_as_a_walk_over_its_bits(rt: HostRuntime) {
-    for order in [Order::Big, Order::Little] {
-        for offset in 0..97u32 {
-            for bits in 1..65u32 {
-                if let Ok(place) = Place::new(offset, bits, order) {
-                    if place.fits(BYTES.len()) {
-                        let value = read_uint(&OTHERS, &place);
-                        let mut written = BYTES;
-                        let mut want = BYTES;
-                        write_uint(&mut written, &place, value);
-                        put(&mut want, offset as usize, bits as usize, order, value);
-                        assert_eq!(rt; written, want, "{bits} bits at {offset}");
-                        field_is_its_bits(&written, &place);
-                        write_has_one_outcome(&place, &BYTES, &written, &written);
-                    }
-                }
-            }
-        }
+struct SignedNumbers;
+
+impl Answers for SignedNumbers {
+    fn answer(alloc: Global, asked: &str) -> Result<String, Fail> {
+        let place = place_of(asked)?;
+        let bytes = bytes_of(alloc, part(asked, 3))?;
+        debug_of(alloc, &read_twice(&bytes, &place))
     }
 }
 
-#[test]
-fn writes_all_ones(rt: HostRuntime) -> Result<(), Fail> {
-    for order in [Order::Big, Order::Little] {
-        let place = Place::new(0, 64, order)?;
-        let mut bytes = [0u8; 8];
-        assert!(rt; place.fits(bytes.len()));
-        assert_eq!(rt; place.bits(), 64);
-        write_uint(&mut bytes, &place, u64::MAX);
-        assert_eq!(rt; bytes, [255; 8]);
+fn read_twice(bytes: &[u8], place: &Place) -> Option<(i64, i64)> {
+    if !place.fits(bytes.len()) || !place.fits(8) {
+        return None;
     }
-    Ok(())
+    let number = read_int(bytes, place);
+    let mut written = [0u8; 8];
+    write_int(&mut written, place, number);
+    Some((number, read_int(&written, place)))
 }
 
 #[test]
 fn reads_and_writes_signed_fields(rt: HostRuntime) -> Result<(), Fail> {
-    let table: [(&[u8], u32, u32, Order, i64); 6] = [
-        (&[0b1000_0000], 0, 3, Order::Big, -4),
-        (&[0b0110_0000], 0, 3, Order::Big, 3),
-        (&[0b0001_1100], 3, 3, Order::Big, -1),
-        (&[0xfe, 0xff], 0, 16, Order::Little, -2),
-        (&[255; 8], 0, 64, Order::Little, -1),
-        (&[0x80, 0, 0, 0, 0, 0, 0, 0], 0, 64, Order::Big, i64::MIN),
-    ];
-    for (bytes, offset, bits, order, want) in table {
-        let place = Place::new(offset, bits, order)?;
-        assert!(rt; place.fits(bytes.len()), "{bits} bits at {offset}");
-        let number = read_int(bytes, &place);
-        assert_eq!(rt; number, want, "{bits} bits at {offset}");
-        let mut written = [0u8; 8];
-        if place.fits(written.len()) {
-            write_int(&mut written, &place, number);
-            assert_eq!(rt; read_int(&written, &place), want);
-        }
+    rows_hold::<SignedNumbers>(rt.alloc(), SIGNED)
+}
+
+/// Why there is no such place, and none where there is one.
+const REFUSED: &str = "\
+Some(Size)|0 0 Big
+Some(Size)|0 65 Big
+Some(Size)|8388608 1 Big
+Some(Size)|8388545 64 Big
+None|8388544 64 Big
+Some(Size)|4294967295 64 Little
+Some(BeforeStart)|0 12 Little
+Some(BeforeStart)|0 24 Little
+Some(BeforeStart)|4 64 Little
+Some(BeforeStart)|4 12 Little
+None|4 4 Little
+None|12 12 Little
+None|0 12 Big
+None|0 16 Little";
+
+struct Refused;
+
+impl Answers for Refused {
+    fn answer(alloc: Global, asked: &str) -> Result<String, Fail> {
+        debug_of(alloc, &place_or_fault(asked)?.err())
     }
-    Ok(())
 }
 
 #[test]
-fn refuses_places_by_size_and_start(rt: HostRuntime) {
-    let table = [
-        (0, 0, Order::Big, Some(PlaceFault::Size)),
-        (0, 65, Order::Big, Some(PlaceFault::Size)),
-        (8_388_608, 1, Order::Big, Some(PlaceFault::Size)),
-        (8_388_545, 64, Order::Big, Some(PlaceFault::Size)),
-        (8_388_544, 64, Order::Big, None),
-        (u32::MAX, 64, Order::Little, Some(PlaceFault::Size)),
-        (0, 12, Order::Little, Some(PlaceFault::BeforeStart)),
-        (0, 24, Order::Little, Some(PlaceFault::BeforeStart)),
-        (4, 64, Order::Little, Some(PlaceFault::BeforeStart)),
-        (4, 12, Order::Little, Some(PlaceFault::BeforeStart)),
-        (4, 4, Order::Little, None),
-        (12, 12, Order::Little, None),
-        (0, 12, Order::Big, None),
-        (0, 16, Order::Little, None),
-    ];
-    for (offset, bits, order, want) in table {
-        assert_eq!(rt;
-            Place::new(offset, bits, order).err(),
-            want,
-            "{bits} bits at {offset}"
-        );
+fn refuses_places_by_size_and_start(rt: HostRuntime) -> Result<(), Fail> {
+    rows_hold::<Refused>(rt.alloc(), REFUSED)
+}
+
+/// The offset, size, order and reach of a place, and whether as many bytes hold it.
+const REACHES: &str = "\
+(12, 12, Little, 2, true)|12 12 Little
+(12, 12, Big, 3, true)|12 12 Big
+(16, 32, Little, 6, true)|16 32 Little
+(16, 24, Little, 3, true)|16 24 Little
+(0, 8, Big, 1, true)|0 8 Big";
+
+struct Reaches;
+
+impl Answers for Reaches {
+    fn answer(alloc: Global, asked: &str) -> Result<String, Fail> {
+        debug_of(alloc, &told(&place_of(asked)?))
     }
+}
+
+fn told(place: &Place) -> (u32, u32, Order, u32, bool) {
+    let reach = place.reach();
+    (
+        place.offset(),
+        place.bits(),
+        place.order(),
+        reach,
+        place.fits(reach as usize),
+    )
 }
 
 #[test]
 fn tells_a_place_and_its_reach(rt: HostRuntime) -> Result<(), Fail> {
-    let table = [
-        (12, 12, Order::Little, 2),
-        (12, 12, Order::Big, 3),
-        (16, 32, Order::Little, 6),
-        (16, 24, Order::Little, 3),
-        (0, 8, Order::Big, 1),
-    ];
-    for (offset, bits, order, reach) in table {
-        let place = Place::new(offset, bits, order)?;
-        assert_eq!(rt; place.offset(), offset);
-        assert_eq!(rt; place.bits(), bits);
-        assert_eq!(rt; place.order(), order);
-        assert_eq!(rt; place.reach(), reach, "{bits} bits at {offset}");
-        assert!(rt; place.fits(reach as usize));
+    rows_hold::<Reaches>(rt.alloc(), REACHES)
+}
+
+#[test]
+fn bytes_are_read_as_they_stand(rt: HostRuntime) -> Result<(), Fail> {
+    let found = debug_of(rt.alloc(), &read_bytes(&BYTES, 2, 5))?;
+    same(found.as_str(), "[199, 5, 238]", "bytes 2 to 4")
+}
+
+/// Why there is no such place, as it is printed.
+const PRINTED: &str = "\
+a field has 1 to 64 bits and ends by bit 8388608|0 0 Big
+the field would begin before byte 0|0 12 Little";
+
+struct Printed;
+
+impl Answers for Printed {
+    fn answer(alloc: Global, asked: &str) -> Result<String, Fail> {
+        match place_or_fault(asked)? {
+            Ok(_) => Err(Fail::new("a place")),
+            Err(fault) => display_of(alloc, &fault),
+        }
     }
-    assert_eq!(rt; read_bytes(&BYTES, 2, 5), &BYTES[2..5]);
-    Ok(())
 }
 
 #[test]
 fn prints_why_a_place_is_refused(rt: HostRuntime) -> Result<(), Fail> {
-    let size = PlaceFault::Size.to_string(rt.alloc())?;
-    assert_eq!(rt;
-        size.as_str(),
-        "a field has 1 to 64 bits and ends by bit 8388608"
-    );
-    let start = PlaceFault::BeforeStart.to_string(rt.alloc())?;
-    assert_eq!(rt; start.as_str(), "the field would begin before byte 0");
-    Ok(())
+    rows_hold::<Printed>(rt.alloc(), PRINTED)
+}
+
+// ---- what a write leaves
+
+/// The size of a field of eight bytes, and the bytes where it is written with ones.
+const ONES: &str = "\
+(64, [255, 255, 255, 255, 255, 255, 255, 255])|0 64 Big
+(64, [255, 255, 255, 255, 255, 255, 255, 255])|0 64 Little";
+
+struct Ones;
+
+impl Answers for Ones {
+    fn answer(alloc: Global, asked: &str) -> Result<String, Fail> {
+        let place = place_of(asked)?;
+        debug_of(alloc, &(place.bits(), filled(&place)))
+    }
+}
+
+fn filled(place: &Place) -> [u8; 8] {
+    let mut bytes = [0u8; 8];
+    if place.bits() == 64 && place.fits(bytes.len()) {
+        write_uint(&mut bytes, place, u64::MAX);
+    }
+    bytes
+}
+
+#[test]
+fn writes_all_ones(rt: HostRuntime) -> Result<(), Fail> {
+    rows_hold::<Ones>(rt.alloc(), ONES)
 }
 
 #[test]
@@ -240,6 +296,114 @@ fn a_write_leaves_the_fields_beside_it(rt: HostRuntime) -> Result<(), Fail> {
     write_uint(&mut bytes, &first, 0x123);
     write_uint(&mut bytes, &second, 0x1aa);
     write_uint(&mut bytes, &third, 0xbeef);
-    assert_eq!(rt; bytes, [0x01, 0x23, 0xd5, 0, 0xef, 0xbe]);
-    Ok(())
+    let found = debug_of(rt.alloc(), &bytes)?;
+    same(found.as_str(), "[1, 35, 213, 0, 239, 190]", "three fields")
+}
+
+// ---- every small place
+
+/// What holds of a place that lies in as many bytes as the tests have.
+trait Walked {
+    fn holds(place: &Place) -> Option<bool>;
+}
+
+struct ReadsAsWalk;
+
+impl Walked for ReadsAsWalk {
+    fn holds(place: &Place) -> Option<bool> {
+        let found = read(&BYTES, place)?;
+        let (offset, bits) = (place.offset() as usize, place.bits() as usize);
+        Some(found == walk(&BYTES, offset, bits, place.order()))
+    }
+}
+
+struct WritesAsWalk;
+
+impl Walked for WritesAsWalk {
+    fn holds(place: &Place) -> Option<bool> {
+        if !place.fits(BYTES.len()) {
+            return None;
+        }
+        Some(written(place) == put_in(place))
+    }
+}
+
+/// The bytes with the field of the others written over them.
+fn written(place: &Place) -> [u8; 12] {
+    let mut bytes = BYTES;
+    if place.fits(bytes.len()) {
+        write_uint(&mut bytes, place, read_uint(&OTHERS, place));
+        field_is_its_bits(&bytes, place);
+        write_has_one_outcome(place, &BYTES, &bytes, &bytes);
+    }
+    bytes
+}
+
+/// The same by a walk.
+fn put_in(place: &Place) -> [u8; 12] {
+    let mut bytes = BYTES;
+    if let Some(value) = read(&OTHERS, place) {
+        let (offset, bits) = (place.offset() as usize, place.bits() as usize);
+        put(&mut bytes, offset, bits, place.order(), value);
+    }
+    bytes
+}
+
+/// How many places of an order there are in the bytes, and at how many of them that holds.
+fn counted<W: Walked>(order: Order) -> (u32, u32) {
+    let mut all = (0u32, 0u32);
+    for offset in 0..97u32 {
+        let (places, hold) = counted_at::<W>(offset, order);
+        all = (all.0.saturating_add(places), all.1.saturating_add(hold));
+    }
+    all
+}
+
+fn counted_at<W: Walked>(offset: u32, order: Order) -> (u32, u32) {
+    let mut places = 0u32;
+    let mut hold = 0u32;
+    for bits in 1..65u32 {
+        let found = holds_at::<W>(offset, bits, order);
+        places = places.saturating_add(u32::from(found.is_some()));
+        hold = hold.saturating_add(u32::from(found == Some(true)));
+    }
+    (places, hold)
+}
+
+fn holds_at<W: Walked>(offset: u32, bits: u32, order: Order) -> Option<bool> {
+    match Place::new(offset, bits, order) {
+        Ok(place) => W::holds(&place),
+        Err(_) => None,
+    }
+}
+
+/// In each order a field of n bits begins at 97 - n places, and at each of them the walk agrees.
+const COUNTS: &str = "\
+(4128, 4128)|Big
+(4128, 4128)|Little";
+
+struct ReadCounts;
+
+impl Answers for ReadCounts {
+    fn answer(alloc: Global, asked: &str) -> Result<String, Fail> {
+        debug_of(alloc, &counted::<ReadsAsWalk>(order_of(asked)))
+    }
+}
+
+#[test]
+fn reads_every_small_place_as_a_walk_over_its_bits(rt: HostRuntime) -> Result<(), Fail> {
+    rows_hold::<ReadCounts>(rt.alloc(), COUNTS)
+}
+
+struct WriteCounts;
+
+impl Answers for WriteCounts {
+    fn answer(alloc: Global, asked: &str) -> Result<String, Fail> {
+        debug_of(alloc, &counted::<WritesAsWalk>(order_of(asked)))
+    }
+}
+
+#[test]
+fn writes_every_small_place_as_a_walk_over_its_bits(rt: HostRuntime) -> Result<(), Fail> {
+    rows_hold::<WriteCounts>(rt.alloc(), COUNTS)
 }

@@ -1,8 +1,8 @@
 // Colours of values, and the limits state that samples leave.
-use crate::read::{Answers, rows_hold};
 use cts_base::Decimal;
 use cts_def::{Color, Limits};
 use cts_limits::{Change, RunState, fresh, judge, step};
+use cts_rows::{Answers, debug_of, number, rows_end_so};
 use std::alloc::Global;
 use std::test::Fail;
 
@@ -35,14 +35,13 @@ struct Colors;
 
 impl Answers for Colors {
     fn answer(alloc: Global, asked: &str) -> Result<String, Fail> {
-        let color = color_of(tenths(asked.parse::<i32>()?));
-        Ok(format!(in alloc; "{color:?}")?)
+        debug_of(alloc, &color_of(tenths(number(asked, 0)?)))
     }
 }
 
 #[test]
 fn values_have_colours(rt: HostRuntime) -> Result<(), Fail> {
-    rows_hold::<Colors>(&rt, rt.alloc(), COLORS)
+    rows_end_so::<Colors>(rt.alloc(), COLORS)
 }
 
 /// The state after a sample of persistence 3.
@@ -56,16 +55,22 @@ fn after(state: RunState, color: Color) -> (RunState, Option<Change>) {
 /// A step for each letter, where `R` is red high and any other is green; then the state, the run that may change it, how many
 /// steps changed it, and the change of the last one.
 const STEPS: &str = "\
-GRRGRR|Green 2 1 None
-GRRGRRR|RedHigh 0 2 Some(Change { before: Green, after: RedHigh })";
+GRRGRR|(RunState { color: Green, run: 2 }, 1, None)
+GRRGRRR|(RunState { color: RedHigh, run: 0 }, 2, Some(Change { before: Green, after: RedHigh }))";
 
 struct Steps;
 
 impl Answers for Steps {
     fn answer(alloc: Global, asked: &str) -> Result<String, Fail> {
-        let (state, changes, last) = behind(asked);
-        let (color, run) = (state.color, state.run);
-        Ok(format!(in alloc; "{color:?} {run} {changes} {last:?}")?)
+        debug_of(alloc, &behind(asked))
+    }
+}
+
+fn color_for(letter: u8) -> Color {
+    if letter == b'R' {
+        Color::RedHigh
+    } else {
+        Color::Green
     }
 }
 
@@ -75,12 +80,7 @@ fn behind(letters: &str) -> (RunState, u32, Option<Change>) {
     let mut changes: u32 = 0;
     let mut last = None;
     for letter in letters.as_bytes() {
-        let color = if *letter == b'R' {
-            Color::RedHigh
-        } else {
-            Color::Green
-        };
-        let (next, change) = after(state, color);
+        let (next, change) = after(state, color_for(*letter));
         changes = changes.saturating_add(u32::from(change.is_some()));
         state = next;
         last = change;
@@ -90,5 +90,5 @@ fn behind(letters: &str) -> (RunState, u32, Option<Change>) {
 
 #[test]
 fn the_third_of_a_run_changes_the_state(rt: HostRuntime) -> Result<(), Fail> {
-    rows_hold::<Steps>(&rt, rt.alloc(), STEPS)
+    rows_end_so::<Steps>(rt.alloc(), STEPS)
 }

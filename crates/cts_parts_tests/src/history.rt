@@ -1,12 +1,11 @@
 // What histories say of commands, and what outputs say in their entries: the calls on which the program does not stand yet.
-use crate::read::same;
 use cts_base::Bytes;
 use cts_core::takes_room;
 use cts_def::{Ident, Time};
 use cts_entry::{Entry, Event, What, commands_for, is_command_for, place_behind};
+use cts_rows::{Answers, debug_of, number, part, rows_end_so, same};
 use cts_told::said_of;
 use std::alloc::Global;
-use std::process::Abort;
 use std::test::Fail;
 
 const NOON: Time = Time {
@@ -20,132 +19,129 @@ fn push_command(alloc: Global, history: &mut Vec<Entry>, interface: u32) -> Resu
         command: 0,
         bytes: Bytes::copy(alloc, b"\x07")?,
     };
-    history.push(Entry {
+    Ok(history.push(Entry {
         by: 24,
         time: NOON,
         what,
-    })?;
-    Ok(())
+    })?)
 }
 
 /// An opening, and commands for the interfaces 0, 1 and 0.
 fn history(alloc: Global) -> Result<Vec<Entry>, Fail> {
     let mut history = Vec::new(alloc);
     history.push(Entry::opened(0, NOON))?;
-    for interface in [0, 1, 0] {
-        push_command(alloc, &mut history, interface)?;
+    for interface in b"\x00\x01\x00" {
+        push_command(alloc, &mut history, u32::from(*interface))?;
     }
     Ok(history)
 }
 
-/// Of each entry whether it is a command for interface 0.
-fn which(alloc: Global, history: &[Entry]) -> Result<String, Fail> {
-    let mut out = String::new(alloc);
-    for entry in history {
-        out.push(if is_command_for(entry, 0) { 'y' } else { 'n' })?;
+/// An entry, and whether it is a command for interface 0.
+const EACH: &str = "\
+0|Some(false)
+1|Some(true)
+2|Some(false)
+3|Some(true)
+4|None";
+
+struct Each;
+
+impl Answers for Each {
+    fn answer(alloc: Global, asked: &str) -> Result<String, Fail> {
+        let history = history(alloc)?;
+        debug_of(alloc, &is_for_first(&history, number::<u8>(asked, 0)?))
     }
-    Ok(out)
 }
 
-/// How many commands for interface 0 there are, and the places behind none, one, two and three of them.
-fn places(alloc: Global, history: &[Entry]) -> Result<String, Fail> {
-    let count = commands_for(history, 0);
-    let none = place_behind(history, 0, 0);
-    let one = place_behind(history, 0, 1);
-    let two = place_behind(history, 0, 2);
-    let three = place_behind(history, 0, 3);
-    Ok(format!(in alloc; "{count} {none:?} {one:?} {two:?} {three:?}")?)
+fn is_for_first(history: &[Entry], n: u8) -> Option<bool> {
+    let entry = history.get(n as usize)?;
+    Some(is_command_for(entry, 0))
+}
+
+#[test]
+fn commands_of_an_interface_are_known(rt: HostRuntime) -> Result<(), Fail> {
+    rows_end_so::<Each>(rt.alloc(), EACH)
+}
+
+/// A number of commands for interface 0, the place behind them, and how many there are.
+const PLACES: &str = "\
+0|(2, Some(0))
+1|(2, Some(2))
+2|(2, Some(4))
+3|(2, None)";
+
+struct Places;
+
+impl Answers for Places {
+    fn answer(alloc: Global, asked: &str) -> Result<String, Fail> {
+        let history = history(alloc)?;
+        debug_of(alloc, &place(&history, number(asked, 0)?))
+    }
+}
+
+fn place(history: &[Entry], commands: u64) -> (usize, Option<usize>) {
+    (commands_for(history, 0), place_behind(history, 0, commands))
 }
 
 #[test]
 fn commands_of_an_interface_are_found_in_their_order(rt: HostRuntime) -> Result<(), Fail> {
-    let history = history(rt.alloc())?;
-    same(
-        &rt,
-        which(rt.alloc(), &history)?.as_str(),
-        "nyny",
-        "each entry",
-    );
-    let wanted = "2 Some(0) Some(2) Some(4) None";
-    same(
-        &rt,
-        places(rt.alloc(), &history)?.as_str(),
-        wanted,
-        "all entries",
-    );
-    Ok(())
+    rows_end_so::<Places>(rt.alloc(), PLACES)
 }
 
-/// Whether an output is a packet or a command, or why it is not sent.
-fn shown(alloc: Global, what: &What) -> Result<String, Fail> {
-    match what {
-        What::Packet { .. } => Ok("a packet".to_string(alloc)?),
-        What::Command {
-            interface,
-            command,
-            ..
-        } => Ok(format!(in alloc; "command {command} for {interface}")?),
-        What::Unrouted { why, .. } => Ok(format!(in alloc; "{why:?}")?),
-        _ => Err(Fail::new("no output")),
+/// An output of an interface or not, its packet or command or `?`, for which interface or `-`, and whether that one is connected;
+/// and what it says in its entry.
+const SAID: &str = "\
+true ? - false|Packet { ident: Unknown, bytes: Bytes { held: [7] } }
+false 3 1 true|Command { interface: 1, command: 3, bytes: Bytes { held: [7] } }
+false 3 1 false|Unrouted { why: NotConnected, bytes: Bytes { held: [7] } }
+false ? - true|Unrouted { why: Unknown, bytes: Bytes { held: [7] } }";
+
+struct Said;
+
+impl Answers for Said {
+    fn answer(alloc: Global, asked: &str) -> Result<String, Fail> {
+        let bytes = Bytes::copy(alloc, b"\x07")?;
+        debug_of(alloc, &output(asked, bytes))
     }
 }
 
-/// What an output says in its entry: of an interface or not, its packet or command, for which interface, and whether that one is
-/// connected.
-fn says(
-    rt: &impl Abort,
-    alloc: Global,
-    output: (bool, Ident, Option<u32>, bool),
-    wanted: &str,
-) -> Result<(), Fail> {
-    let (is_interface, ident, to, connected) = output;
-    let what = said_of(
-        is_interface,
-        ident,
-        to,
-        connected,
-        Bytes::copy(alloc, b"\x07")?,
-    );
-    same(rt, shown(alloc, &what)?.as_str(), wanted, "an output");
-    Ok(())
+fn output(row: &str, bytes: Bytes) -> What {
+    said_of(
+        part(row, 0) == "true",
+        ident_of(part(row, 1)),
+        part(row, 2).parse::<u32>().ok(),
+        part(row, 3) == "true",
+        bytes,
+    )
+}
+
+fn ident_of(word: &str) -> Ident {
+    match word.parse::<u32>() {
+        Ok(number) => Ident::Known(number),
+        Err(_) => Ident::Unknown,
+    }
 }
 
 #[test]
 fn an_output_of_a_slot_is_a_command_only_for_a_connected_interface(
     rt: HostRuntime,
 ) -> Result<(), Fail> {
-    let known = Ident::Known(3);
-    says(
-        &rt,
-        rt.alloc(),
-        (true, Ident::Unknown, None, false),
-        "a packet",
-    )?;
-    says(
-        &rt,
-        rt.alloc(),
-        (false, known, Some(1), true),
-        "command 3 for 1",
-    )?;
-    says(
-        &rt,
-        rt.alloc(),
-        (false, known, Some(1), false),
-        "NotConnected",
-    )?;
-    says(
-        &rt,
-        rt.alloc(),
-        (false, Ident::Unknown, None, true),
-        "Unknown",
-    )?;
-    Ok(())
+    rows_end_so::<Said>(rt.alloc(), SAID)
+}
+
+/// Whether an opening, a piece, a stop and a write take room.
+fn room_takers(piece: Bytes) -> (bool, bool, bool, bool) {
+    (
+        takes_room(&Event::Opens(0)),
+        takes_room(&Event::Piece(0, piece)),
+        takes_room(&Event::Stop),
+        takes_room(&Event::Write(0, 1)),
+    )
 }
 
 #[test]
 fn an_opened_and_a_piece_take_room(rt: HostRuntime) -> Result<(), Fail> {
     let piece = Bytes::copy(rt.alloc(), b"\x00")?;
-    assert!(rt; takes_room(&Event::Opens(0)) && takes_room(&Event::Piece(0, piece)));
-    assert!(rt; !takes_room(&Event::Stop) && !takes_room(&Event::Write(0, 1)));
-    Ok(())
+    let found = debug_of(rt.alloc(), &room_takers(piece))?;
+    same(found.as_str(), "(true, true, false, false)", "four events")
 }

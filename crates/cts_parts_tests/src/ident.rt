@@ -2,10 +2,11 @@
 ghost use Rattle.std.specs.Prelude.{◌≡◌};
 ghost use Rattle.cts_ident.specs.Identification.{is_worker};
 
-use crate::read::{Answers, bytes_of, cut, rows_hold, site_of};
+use crate::read::site_of;
 use cts_def::{FIRST_SLOT, Ident, Site};
 use cts_ident::{identify, identify_command, named};
-use std::alloc::{AllocError, Global};
+use cts_rows::{Answers, bytes_of, cut, debug_of, number, rows_end_so};
+use std::alloc::Global;
 use std::test::Fail;
 
 const DEFINITIONS: &str = "\
@@ -28,50 +29,50 @@ ROUTER Q tcpip_server_interface.rb 5 5 nil nil;ROUTE J;ROUTE I";
 
 /// An interface, the bytes of a packet, and which it is.
 const PACKETS: &str = "\
-0 0105|Known(0)
-0 01050607|Known(0)
-0 01|Known(0)
-0 02|Unknown
-0 0201|Unknown
-0 |Unknown
-1 00ff|Known(2)
-1 ffff00|Known(2)
-1 0102|Known(3)
-1 01ff|Known(2)
-1 0105|Unknown
-1 01|Unknown
-1 00|Unknown
-1 |Unknown
-2 |Known(4)
-2 0105|Known(4)";
+0 0105|Some(Known(0))
+0 01050607|Some(Known(0))
+0 01|Some(Known(0))
+0 02|Some(Unknown)
+0 0201|Some(Unknown)
+0 |Some(Unknown)
+1 00ff|Some(Known(2))
+1 ffff00|Some(Known(2))
+1 0102|Some(Known(3))
+1 01ff|Some(Known(2))
+1 0105|Some(Unknown)
+1 01|Some(Unknown)
+1 00|Some(Unknown)
+1 |Some(Unknown)
+2 |Some(Known(4))
+2 0105|Some(Known(4))";
 
 /// A router, the bytes of a command, and which it is.
 const COMMANDS: &str = "\
-0 07|Known(1)
-0 09|Known(2)
-0 0900|Known(2)
-1 07|Known(0)
-1 09|Known(2)
-1 08|Unknown
-1 |Unknown";
+0 07|Some(Known(1))
+0 09|Some(Known(2))
+0 0900|Some(Known(2))
+1 07|Some(Known(0))
+1 09|Some(Known(2))
+1 08|Some(Unknown)
+1 |Some(Unknown)";
 
 /// A worker, a target and a name, and which packet or command it is.
 const NAMES: &str = "\
-0 t b|Known(1)
-0 T A|Known(0)
-0 T AA|Unknown
-0 T |Unknown
-0 U C|Unknown
-1 U c|Known(2)
-1 u D|Known(3)
-2 V E|Known(4)
-0 T X|Unknown
-16 u Y|Known(1)
-17 U z|Known(2)
-16 T X|Unknown
-18 t x|Known(0)
-19 T X|Known(0)
-19 T A|Unknown";
+0 t b|Some(Known(1))
+0 T A|Some(Known(0))
+0 T AA|Some(Unknown)
+0 T |Some(Unknown)
+0 U C|Some(Unknown)
+1 U c|Some(Known(2))
+1 u D|Some(Known(3))
+2 V E|Some(Known(4))
+0 T X|Some(Unknown)
+16 u Y|Some(Known(1))
+17 U z|Some(Known(2))
+16 T X|Some(Unknown)
+18 t x|Some(Known(0))
+19 T X|Some(Known(0))
+19 T A|Some(Unknown)";
 
 fn identified(site: &Site, interface: u32, bytes: &[u8]) -> Option<Ident> {
     if (interface as usize) < site.interfaces.as_slice().len() {
@@ -107,17 +108,10 @@ fn named_of(site: &Site, by: u32, target: &str, packet: &str) -> Option<Ident> {
     }
 }
 
-fn shown(alloc: Global, ident: Option<Ident>) -> Result<String, AllocError> {
-    match ident {
-        Some(ident) => format!(in alloc; "{ident:?}"),
-        None => format!(in alloc; "none of the site's"),
-    }
-}
-
 /// The number and the text behind it of a row.
 fn parts(row: &str) -> Result<(u32, &str), Fail> {
-    let (number, rest) = cut(row, ' ')?;
-    Ok((number.parse::<u32>()?, rest))
+    let (front, rest) = cut(row, ' ')?;
+    Ok((number(front, 0)?, rest))
 }
 
 struct Packets;
@@ -126,14 +120,18 @@ impl Answers for Packets {
     fn answer(alloc: Global, asked: &str) -> Result<String, Fail> {
         let (interface, digits) = parts(asked)?;
         let bytes = bytes_of(alloc, digits)?;
-        let site = site_of(alloc, DEFINITIONS, SITE)?;
-        Ok(shown(alloc, identified(&site, interface, &bytes))?)
+        packet_text(alloc, interface, &bytes)
     }
+}
+
+fn packet_text(alloc: Global, interface: u32, bytes: &[u8]) -> Result<String, Fail> {
+    let site = site_of(alloc, DEFINITIONS, SITE)?;
+    debug_of(alloc, &identified(&site, interface, bytes))
 }
 
 #[test]
 fn a_packet_is_the_first_whose_ids_it_has(rt: HostRuntime) -> Result<(), Fail> {
-    rows_hold::<Packets>(&rt, rt.alloc(), PACKETS)
+    rows_end_so::<Packets>(rt.alloc(), PACKETS)
 }
 
 struct Commands;
@@ -142,14 +140,18 @@ impl Answers for Commands {
     fn answer(alloc: Global, asked: &str) -> Result<String, Fail> {
         let (router, digits) = parts(asked)?;
         let bytes = bytes_of(alloc, digits)?;
-        let site = site_of(alloc, DEFINITIONS, SITE)?;
-        Ok(shown(alloc, identified_command(&site, router, &bytes))?)
+        command_text(alloc, router, &bytes)
     }
+}
+
+fn command_text(alloc: Global, router: u32, bytes: &[u8]) -> Result<String, Fail> {
+    let site = site_of(alloc, DEFINITIONS, SITE)?;
+    debug_of(alloc, &identified_command(&site, router, bytes))
 }
 
 #[test]
 fn a_command_is_of_the_targets_that_a_router_reaches(rt: HostRuntime) -> Result<(), Fail> {
-    rows_hold::<Commands>(&rt, rt.alloc(), COMMANDS)
+    rows_end_so::<Commands>(rt.alloc(), COMMANDS)
 }
 
 struct Names;
@@ -159,11 +161,11 @@ impl Answers for Names {
         let (by, names) = parts(asked)?;
         let (target, packet) = cut(names, ' ')?;
         let site = site_of(alloc, DEFINITIONS, SITE)?;
-        Ok(shown(alloc, named_of(&site, by, target, packet))?)
+        debug_of(alloc, &named_of(&site, by, target, packet))
     }
 }
 
 #[test]
 fn names_are_those_of_a_worker_in_any_case(rt: HostRuntime) -> Result<(), Fail> {
-    rows_hold::<Names>(&rt, rt.alloc(), NAMES)
+    rows_end_so::<Names>(rt.alloc(), NAMES)
 }

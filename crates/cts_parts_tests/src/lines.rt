@@ -1,11 +1,11 @@
 // Each kind of entry on a site that was read, with its line written out by hand.
-use crate::read::{as_text, same, site_of};
+use crate::read::site_of;
 use cts_base::{Bytes, Decimal, Name};
 use cts_def::{BadCause, Color, Ident, Limits, Loss, Time};
 use cts_entry::{Entry, NotSent, What, Why};
+use cts_rows::{Answers, as_text, bytes_of, debug_of, number, part, rows_hold, same};
 use cts_script::{LimitsEvent, entry_lines};
 use std::alloc::Global;
-use std::process::Abort;
 use std::test::Fail;
 
 const DEFINITIONS: &str = "\
@@ -33,7 +33,7 @@ const LIMITS: Limits = Limits {
     red_high: Decimal {
         parts: 80_000_000_000_000,
     },
-    green: None,
+    green: Some(GREEN),
 };
 
 const GREEN: (Decimal, Decimal) = (
@@ -54,132 +54,130 @@ const TIME: Time = Time {
     micros: 5,
 };
 
-/// What the entries of the site say, each as one text.
-fn lines_of(alloc: Global, n: u64, entry: &Entry, events: &[LimitsEvent]) -> Result<Bytes, Fail> {
+/// What an entry of the site says, as one text between quotes, in which `\n` is a line end.
+fn text_of(alloc: Global, n: u64, entry: &Entry, events: &[LimitsEvent]) -> Result<String, Fail> {
     let site = site_of(alloc, DEFINITIONS, SITE)?;
-    Ok(entry_lines(alloc, &site, n, entry, events)?)
+    let lines = entry_lines(alloc, &site, n, entry, events)?;
+    debug_of(alloc, &as_text(lines.as_slice())?)
 }
 
-/// Entry 9 of this maker says this by its line, at second 7 and 5 micros.
-fn prints(rt: &impl Abort, alloc: Global, by: u32, what: What, line: &str) -> Result<(), Fail> {
+/// What entry 9 of this maker says, at second 7 and 5 micros.
+fn line_of(alloc: Global, by: u32, what: What) -> Result<String, Fail> {
     let entry = Entry {
         by,
         time: TIME,
         what,
     };
-    let text = lines_of(alloc, 9, &entry, &[])?;
-    let line = format!(in alloc; "9 7.000005 {line}\n")?;
-    same(rt, as_text(text.as_slice())?, line.as_str(), "an entry");
-    Ok(())
+    text_of(alloc, 9, &entry, &[])
 }
 
-fn packet(
-    rt: &impl Abort,
-    alloc: Global,
-    from: (u32, Ident),
-    held: &[u8],
-    line: &str,
-) -> Result<(), Fail> {
-    let (by, ident) = from;
-    let bytes = Bytes::copy(alloc, held)?;
-    prints(rt, alloc, by, What::Packet { ident, bytes }, line)
+/// The line of entry 9, its maker, what it is, a number or `-`, and bytes.
+const HELD: &str = r#""9 7.000005 I PACKET UNKNOWN UNKNOWN 0004aabb\n"|0 packet - 0004aabb
+"9 7.000005 INST_INT PACKET AUX LINE -\n"|1 packet 1
+"9 7.000005 DESK/0 INJECTED INST HS 4849\n"|24 injected 0 4849
+"9 7.000005 DESK/3 COMMAND AUX CLEAR 07000a\n"|27 command 1 07000a
+"9 7.000005 OUT/0 UNROUTED NOTCONNECTED ff\n"|16 unrouted - ff"#;
+
+struct Held;
+
+impl Answers for Held {
+    fn answer(alloc: Global, asked: &str) -> Result<String, Fail> {
+        let bytes = Bytes::of(bytes_of(alloc, part(asked, 3))?);
+        let what = kept(part(asked, 1), ident_of(part(asked, 2)), bytes);
+        line_of(alloc, number(asked, 0)?, what)
+    }
 }
 
-#[test]
-fn packets_have_their_lines(rt: HostRuntime) -> Result<(), Fail> {
-    let (unknown, known) = ((0, Ident::Unknown), (1, Ident::Known(1)));
-    packet(
-        &rt,
-        rt.alloc(),
-        unknown,
-        b"\x00\x04\xaa\xbb",
-        "I PACKET UNKNOWN UNKNOWN 0004aabb",
-    )?;
-    packet(&rt, rt.alloc(), known, b"", "INST_INT PACKET AUX LINE -")
+fn ident_of(word: &str) -> Ident {
+    match word.parse::<u32>() {
+        Ok(number) => Ident::Known(number),
+        Err(_) => Ident::Unknown,
+    }
 }
 
-#[test]
-fn injected_packets_have_their_lines(rt: HostRuntime) -> Result<(), Fail> {
-    let what = What::Injected {
-        packet: 0,
-        bytes: Bytes::copy(rt.alloc(), b"HI")?,
-    };
-    prints(&rt, rt.alloc(), 24, what, "DESK/0 INJECTED INST HS 4849")
-}
-
-#[test]
-fn commands_have_their_lines(rt: HostRuntime) -> Result<(), Fail> {
-    let what = What::Command {
-        interface: 0,
-        command: 1,
-        bytes: Bytes::copy(rt.alloc(), b"\x07\x00\x0a")?,
-    };
-    prints(&rt, rt.alloc(), 27, what, "DESK/3 COMMAND AUX CLEAR 07000a")
-}
-
-#[test]
-fn outputs_that_go_nowhere_have_their_lines(rt: HostRuntime) -> Result<(), Fail> {
-    let what = What::Unrouted {
-        why: NotSent::NotConnected,
-        bytes: Bytes::copy(rt.alloc(), b"\xff")?,
-    };
-    prints(&rt, rt.alloc(), 16, what, "OUT/0 UNROUTED NOTCONNECTED ff")
-}
-
-fn name(alloc: Global, text: &[u8]) -> Result<Name, Fail> {
-    match Name::read(alloc, text) {
-        Ok(name) => Ok(name),
-        Err(_) => Err(Fail::new("no name")),
+/// An entry of these bytes. The injected packet is the first one, and the command the second one, for the first interface.
+fn kept(word: &str, ident: Ident, bytes: Bytes) -> What {
+    match word {
+        "packet" => What::Packet { ident, bytes },
+        "injected" => What::Injected { packet: 0, bytes },
+        "command" => What::Command {
+            interface: 0,
+            command: 1,
+            bytes,
+        },
+        _ => What::Unrouted {
+            why: NotSent::NotConnected,
+            bytes,
+        },
     }
 }
 
 #[test]
-fn new_limits_have_their_line(rt: HostRuntime) -> Result<(), Fail> {
-    let what = What::SetLimits {
-        packet: 0,
-        item: 1,
-        set: name(rt.alloc(), b"tvac")?,
-        limits: Limits {
-            green: Some(GREEN),
-            ..LIMITS
+fn packets_and_commands_have_their_lines(rt: HostRuntime) -> Result<(), Fail> {
+    rows_hold::<Held>(rt.alloc(), HELD)
+}
+
+/// The line of entry 9, its maker, and what happened.
+const BARE: &str = r#""9 7.000005 OUT/1 OPENED\n"|17 opened
+"9 7.000005 SCRIBE ENDED\n"|28 ended
+"9 7.000005 SERVER STOP\n"|31 stop
+"9 7.000005  OPENED\n"|2 opened
+"9 7.000005 DESK/0 ENABLE AUX LINE TEXT\n"|24 enable"#;
+
+struct Bare;
+
+impl Answers for Bare {
+    fn answer(alloc: Global, asked: &str) -> Result<String, Fail> {
+        line_of(alloc, number(asked, 0)?, plain(part(asked, 1)))
+    }
+}
+
+fn plain(word: &str) -> What {
+    match word {
+        "opened" => What::Opened,
+        "ended" => What::Ended,
+        "stop" => What::Stop,
+        _ => What::Enable {
+            packet: 1,
+            item: 0,
+            enabled: true,
         },
-        persistence: 12,
-        enabled: false,
-    };
-    let line =
-        "DESK/0 LIMITS INST HS TEMP1 TVAC 12 DISABLED -80.0 -70.0 0.5 80.0 -0.1 0.000000000001";
-    prints(&rt, rt.alloc(), 24, what, line)
+    }
 }
 
 #[test]
-fn sampling_that_is_turned_on_has_its_line(rt: HostRuntime) -> Result<(), Fail> {
-    let what = What::Enable {
-        packet: 1,
-        item: 0,
-        enabled: true,
-    };
-    prints(&rt, rt.alloc(), 24, what, "DESK/0 ENABLE AUX LINE TEXT")
+fn makers_have_their_names(rt: HostRuntime) -> Result<(), Fail> {
+    rows_hold::<Bare>(rt.alloc(), BARE)
 }
 
-#[test]
-fn a_set_that_is_chosen_has_its_line(rt: HostRuntime) -> Result<(), Fail> {
-    let what = What::LimitsSetIs {
-        set: name(rt.alloc(), b"TVAC")?,
-    };
-    prints(&rt, rt.alloc(), 24, what, "DESK/0 LIMITSSET TVAC")
+/// The line of entry 9 by maker 19, and why a connection was closed.
+const CLOSES: &str =
+    r#""9 7.000005 BACK/1 CLOSED MEMORY held 3 40 500 6000 skipped 7 empty 8 unposted 9 unsent 10\n"|memory
+"9 7.000005 BACK/1 CLOSED BAD 2 SHORT -32768 held 3 40 500 6000 skipped 7 empty 8 unposted 9 unsent 10\n"|short
+"9 7.000005 BACK/1 CLOSED BAD 3 OVERMAX 1048577 held 3 40 500 6000 skipped 7 empty 8 unposted 9 unsent 10\n"|over
+"9 7.000005 BACK/1 CLOSED BAD 4 UNKNOWN held 3 40 500 6000 skipped 7 empty 8 unposted 9 unsent 10\n"|unknown"#;
+
+struct Closes;
+
+impl Answers for Closes {
+    fn answer(alloc: Global, asked: &str) -> Result<String, Fail> {
+        let what = What::Closed {
+            why: why_of(asked),
+            loss: LOSS,
+            unposted: 9,
+            unsent: 10,
+        };
+        line_of(alloc, 19, what)
+    }
 }
 
-/// A close for this reason is printed with this text.
-fn closes(rt: &impl Abort, alloc: Global, why: Why, text: &str) -> Result<(), Fail> {
-    let what = What::Closed {
-        why,
-        loss: LOSS,
-        unposted: 9,
-        unsent: 10,
-    };
-    let lost = "held 3 40 500 6000 skipped 7 empty 8 unposted 9 unsent 10";
-    let line = format!(in alloc; "BACK/1 CLOSED {text} {lost}")?;
-    prints(rt, alloc, 19, what, line.as_str())
+fn why_of(word: &str) -> Why {
+    match word {
+        "short" => bad(2, BadCause::Short(-32768)),
+        "over" => bad(3, BadCause::OverMax(1048577)),
+        "unknown" => bad(4, BadCause::UnknownStart),
+        _ => Why::NoMemory,
+    }
 }
 
 fn bad(stage: u32, cause: BadCause) -> Why {
@@ -188,21 +186,40 @@ fn bad(stage: u32, cause: BadCause) -> Why {
 
 #[test]
 fn a_close_says_why_and_what_was_lost(rt: HostRuntime) -> Result<(), Fail> {
-    let short = bad(2, BadCause::Short(-32768));
-    let over = bad(3, BadCause::OverMax(1048577));
-    let unknown = bad(4, BadCause::UnknownStart);
-    closes(&rt, rt.alloc(), Why::NoMemory, "MEMORY")?;
-    closes(&rt, rt.alloc(), short, "BAD 2 SHORT -32768")?;
-    closes(&rt, rt.alloc(), over, "BAD 3 OVERMAX 1048577")?;
-    closes(&rt, rt.alloc(), unknown, "BAD 4 UNKNOWN")
+    rows_hold::<Closes>(rt.alloc(), CLOSES)
+}
+
+/// The line of entry 9 by a desk, whether it gives limits in a set or chooses it, and the set.
+const SETS: &str =
+    r#""9 7.000005 DESK/0 LIMITS INST HS TEMP1 TVAC 12 DISABLED -80.0 -70.0 0.5 80.0 -0.1 0.000000000001\n"|gives tvac
+"9 7.000005 DESK/0 LIMITSSET TVAC\n"|chooses TVAC"#;
+
+struct Sets;
+
+impl Answers for Sets {
+    fn answer(alloc: Global, asked: &str) -> Result<String, Fail> {
+        let set = Name::read(alloc, part(asked, 1).as_bytes())?;
+        line_of(alloc, 24, of_set(part(asked, 0), set))
+    }
+}
+
+fn of_set(word: &str, set: Name) -> What {
+    match word {
+        "chooses" => What::LimitsSetIs { set },
+        _ => What::SetLimits {
+            packet: 0,
+            item: 1,
+            set,
+            limits: LIMITS,
+            persistence: 12,
+            enabled: false,
+        },
+    }
 }
 
 #[test]
-fn makers_have_their_names(rt: HostRuntime) -> Result<(), Fail> {
-    prints(&rt, rt.alloc(), 17, What::Opened, "OUT/1 OPENED")?;
-    prints(&rt, rt.alloc(), 28, What::Ended, "SCRIBE ENDED")?;
-    prints(&rt, rt.alloc(), 31, What::Stop, "SERVER STOP")?;
-    prints(&rt, rt.alloc(), 2, What::Opened, " OPENED")
+fn new_limits_and_a_set_that_is_chosen_have_their_lines(rt: HostRuntime) -> Result<(), Fail> {
+    rows_hold::<Sets>(rt.alloc(), SETS)
 }
 
 const FIRST: LimitsEvent = LimitsEvent {
@@ -221,9 +238,9 @@ const SECOND: LimitsEvent = LimitsEvent {
     after: Color::StateRed,
 };
 
-#[test]
-fn events_stand_behind_their_entry(rt: HostRuntime) -> Result<(), Fail> {
-    let entry = Entry {
+/// A packet of the first definition.
+fn sampled(alloc: Global) -> Result<Entry, Fail> {
+    Ok(Entry {
         by: 0,
         time: Time {
             seconds: 1,
@@ -231,12 +248,18 @@ fn events_stand_behind_their_entry(rt: HostRuntime) -> Result<(), Fail> {
         },
         what: What::Packet {
             ident: Ident::Known(0),
-            bytes: Bytes::copy(rt.alloc(), b"\x01\x02\x03")?,
+            bytes: Bytes::copy(alloc, b"\x01\x02\x03")?,
         },
-    };
-    let text = lines_of(rt.alloc(), 4, &entry, &[FIRST, SECOND])?;
-    let lines = "4 1.250000 I PACKET INST HS 010203\n\
-        EVENT INST HS TEMP1 STALE YELLOW_HIGH\nEVENT INST HS PKTID GREEN RED\n";
-    same(&rt, as_text(text.as_slice())?, lines, "an entry");
-    Ok(())
+    })
+}
+
+/// The line of that packet, and those of the events behind it.
+const SAMPLED: &str =
+    r#""4 1.250000 I PACKET INST HS 010203\nEVENT INST HS TEMP1 STALE YELLOW_HIGH\nEVENT INST HS PKTID GREEN RED\n""#;
+
+#[test]
+fn events_stand_behind_their_entry(rt: HostRuntime) -> Result<(), Fail> {
+    let entry = sampled(rt.alloc())?;
+    let text = text_of(rt.alloc(), 4, &entry, &[FIRST, SECOND])?;
+    same(text.as_str(), SAMPLED, "an entry")
 }

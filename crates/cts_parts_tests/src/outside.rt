@@ -1,58 +1,65 @@
 // The parts in memory, called as any program calls them: through the bounds, at these types.
-use crate::read::{Answers, as_text, cut, rows_hold};
 use cts_base::Bytes;
 use cts_outside::{FileGot, Files, MemFiles, MemSink, PutFailed, Sink};
+use cts_rows::{Answers, cut, debug_of, number, part, rows_end_so};
 use std::alloc::Global;
 use std::test::Fail;
+
+/// The numbers between blanks.
+fn numbers(alloc: Global, text: &str) -> Result<Vec<u64>, Fail> {
+    let mut numbers = Vec::new(alloc);
+    for word in text.split_ascii_whitespace() {
+        numbers.push(number(word, 0)?)?;
+    }
+    Ok(numbers)
+}
+
+/// Appends what is told, with `;` behind it.
+fn tell(out: &mut String, told: &str) -> Result<(), Fail> {
+    out.push_str(told)?;
+    Ok(out.push(';')?)
+}
 
 /// The numbers of the calls that fail, reads of three bytes by the name of a file and a place, and of each what it gives, the
 /// three bytes, and how many reads have failed; then how many found no file. A file `a` has `hello`, `b` nothing, and a second
 /// `a` counts for nothing.
 const READS: &str = "\
-|a 0;a 3;a 4;a 5;a 18446744073709551615;b 0|Got(3) hel 0;Got(2) lo- 0;Got(1) o-- 0;End --- 0;End --- 0;End --- 0;0
-|c 0; 0;ab 0;A 0|Absent --- 0;Absent --- 0;Absent --- 0;Absent --- 0;4
-3 1 3|a 0;a 0;c 0;c 0;a 0|Got(3) hel 0;Failed --- 1;Absent --- 1;Failed --- 2;Got(3) hel 2;1";
+|a 0;a 3;a 4;a 5;a 18446744073709551615;b 0|(Got(3), [104, 101, 108], 0);(Got(2), [108, 111, 45], 0);(Got(1), [111, 45, 45], 0);(End, [45, 45, 45], 0);(End, [45, 45, 45], 0);(End, [45, 45, 45], 0);0;
+|c 0; 0;ab 0;A 0|(Absent, [45, 45, 45], 0);(Absent, [45, 45, 45], 0);(Absent, [45, 45, 45], 0);(Absent, [45, 45, 45], 0);4;
+3 1 3|a 0;a 0;c 0;c 0;a 0|(Got(3), [104, 101, 108], 0);(Failed, [45, 45, 45], 1);(Absent, [45, 45, 45], 1);(Failed, [45, 45, 45], 2);(Got(3), [104, 101, 108], 2);1;";
 
 struct Reads;
 
 impl Answers for Reads {
     fn answer(alloc: Global, asked: &str) -> Result<String, Fail> {
         let (failing, reads) = cut(asked, '|')?;
-        let mut files = MemFiles::new(files(alloc)?, numbers(alloc, failing)?);
-        let mut out = String::new(alloc);
-        for asked in reads.split(';') {
-            tell_read(alloc, &mut files, asked, &mut out)?;
-        }
-        Ok(format!(in alloc; "{out}{}", files.absences())?)
+        let mut files = mem_files(alloc, failing)?;
+        told_of_reads(alloc, &mut files, reads)
     }
 }
 
 #[test]
 fn files_are_read_or_absent_or_fail_where_that_is_listed(rt: HostRuntime) -> Result<(), Fail> {
-    rows_hold::<Reads>(&rt, rt.alloc(), READS)
+    rows_end_so::<Reads>(rt.alloc(), READS)
 }
 
-fn files(alloc: Global) -> Result<Vec<(Bytes, Bytes)>, Fail> {
+fn mem_files(alloc: Global, failing: &str) -> Result<MemFiles, Fail> {
+    let failing = numbers(alloc, failing)?;
+    Ok(MemFiles::new(files(alloc, "a hello;b ;a other")?, failing))
+}
+
+/// Files of these names and texts.
+fn files(alloc: Global, text: &str) -> Result<Vec<(Bytes, Bytes)>, Fail> {
     let mut files = Vec::new(alloc);
-    for (name, text) in [("a", "hello"), ("b", ""), ("a", "other")] {
-        files.push(file(alloc, name, text)?)?;
+    for words in text.split(';') {
+        files.push(file(alloc, part(words, 0), part(words, 1))?)?;
     }
     Ok(files)
 }
 
 fn file(alloc: Global, name: &str, text: &str) -> Result<(Bytes, Bytes), Fail> {
     let name = Bytes::copy(alloc, name.as_bytes())?;
-    let text = Bytes::copy(alloc, text.as_bytes())?;
-    Ok((name, text))
-}
-
-/// The numbers between blanks.
-fn numbers(alloc: Global, text: &str) -> Result<Vec<u64>, Fail> {
-    let mut numbers = Vec::new(alloc);
-    for word in text.split_ascii_whitespace() {
-        numbers.push(word.parse::<u64>()?)?;
-    }
-    Ok(numbers)
+    Ok((name, Bytes::copy(alloc, text.as_bytes())?))
 }
 
 /// One read of three bytes.
@@ -62,45 +69,52 @@ fn read<F: Files>(files: &mut F, name: &str, from: u64) -> (FileGot, [u8; 3]) {
     (got, buffer)
 }
 
-fn tell_read(
-    alloc: Global,
-    files: &mut MemFiles,
-    asked: &str,
-    out: &mut String,
-) -> Result<(), Fail> {
-    let (name, from) = cut(asked, ' ')?;
-    let (got, buffer) = read(files, name, from.parse::<u64>()?);
-    let held = as_text(&buffer)?;
-    let told = format!(in alloc; "{got:?} {held} {};", files.faults())?;
-    Ok(out.push_str(told.as_str())?)
+fn told_of_read(files: &mut MemFiles, name: &str, from: u64) -> (FileGot, [u8; 3], u64) {
+    let (got, buffer) = read(files, name, from);
+    (got, buffer, files.faults())
+}
+
+fn read_text(alloc: Global, files: &mut MemFiles, asked: &str) -> Result<String, Fail> {
+    let from = number(asked, 1)?;
+    debug_of(alloc, &told_of_read(files, part(asked, 0), from))
+}
+
+fn told_of_reads(alloc: Global, files: &mut MemFiles, reads: &str) -> Result<String, Fail> {
+    let mut out = String::new(alloc);
+    for asked in reads.split(';') {
+        tell(&mut out, read_text(alloc, files, asked)?.as_str())?;
+    }
+    tell(&mut out, debug_of(alloc, &files.absences())?.as_str())?;
+    Ok(out)
 }
 
 /// The numbers of the puts that fail, pieces, and of each what its put answers, what the sink then holds, and how many puts have
 /// failed.
 const PUTS: &str = "\
-|ab;;cde|Ok(()) ab 0;Ok(()) ab 0;Ok(()) abcde 0;
-0 2|a;b;c;d|Err(PutFailed)  1;Ok(()) b 1;Err(PutFailed) b 2;Ok(()) bd 2;";
+|ab;;cde|(Ok(()), [97, 98], 0);(Ok(()), [97, 98], 0);(Ok(()), [97, 98, 99, 100, 101], 0);
+0 2|a;b;c;d|(Err(PutFailed), [], 1);(Ok(()), [98], 1);(Err(PutFailed), [98], 2);(Ok(()), [98, 100], 2);";
 
 struct Puts;
 
 impl Answers for Puts {
     fn answer(alloc: Global, asked: &str) -> Result<String, Fail> {
         let (failing, pieces) = cut(asked, '|')?;
-        let mut sink = MemSink::new(alloc, numbers(alloc, failing)?);
-        if !sink.bytes().is_empty() {
-            return Err(Fail::new("a sink that holds bytes from the start"));
-        }
-        let mut out = String::new(alloc);
-        for piece in pieces.split(';') {
-            tell_put(alloc, &mut sink, piece, &mut out)?;
-        }
-        Ok(out)
+        let mut sink = empty_sink(alloc, failing)?;
+        told_of_puts(alloc, &mut sink, pieces)
     }
 }
 
 #[test]
 fn a_sink_keeps_what_is_put_and_the_listed_puts_put_nothing(rt: HostRuntime) -> Result<(), Fail> {
-    rows_hold::<Puts>(&rt, rt.alloc(), PUTS)
+    rows_end_so::<Puts>(rt.alloc(), PUTS)
+}
+
+fn empty_sink(alloc: Global, failing: &str) -> Result<MemSink, Fail> {
+    let sink = MemSink::new(alloc, numbers(alloc, failing)?);
+    if !sink.bytes().is_empty() {
+        return Err(Fail::new("a sink that holds bytes from the start"));
+    }
+    Ok(sink)
 }
 
 /// A put, which says whether it went well.
@@ -108,9 +122,15 @@ fn put<S: Sink>(sink: &mut S, bytes: &[u8]) -> Result<(), PutFailed> {
     sink.put(bytes)
 }
 
-fn tell_put(alloc: Global, sink: &mut MemSink, piece: &str, out: &mut String) -> Result<(), Fail> {
+fn put_text(alloc: Global, sink: &mut MemSink, piece: &str) -> Result<String, Fail> {
     let answer = put(sink, piece.as_bytes());
-    let held = as_text(sink.bytes())?;
-    let told = format!(in alloc; "{answer:?} {held} {};", sink.faults())?;
-    Ok(out.push_str(told.as_str())?)
+    debug_of(alloc, &(answer, sink.bytes(), sink.faults()))
+}
+
+fn told_of_puts(alloc: Global, sink: &mut MemSink, pieces: &str) -> Result<String, Fail> {
+    let mut out = String::new(alloc);
+    for piece in pieces.split(';') {
+        tell(&mut out, put_text(alloc, sink, piece)?.as_str())?;
+    }
+    Ok(out)
 }

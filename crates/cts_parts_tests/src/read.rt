@@ -1,101 +1,31 @@
-// Sites that are read from rows of text.
-use cts_def::Site;
+// Sites that are read from texts whose lines end with `;`.
+use cts_def::{Definitions, Site};
 use cts_defread::read_definitions;
 use cts_plan::read_site;
+use cts_rows::lines;
 use cts_words::{Statement, statements};
-use std::alloc::{AllocError, Global};
-use std::process::Abort;
+use std::alloc::Global;
 use std::test::Fail;
-
-/// What a table asks in its rows, answered in a text.
-pub trait Answers {
-    /// What is answered to the part of a row in front of its last bar.
-    fn answer(alloc: Global, asked: &str) -> Result<String, Fail>;
-}
-
-/// Each row is answered by what stands behind its last bar. The rows are gone through here alone, each by one call, since a loop
-/// with more in it is slow to prove.
-pub fn rows_hold<A: Answers>(rt: &impl Abort, alloc: Global, rows: &str) -> Result<(), Fail> {
-    for row in rows.lines() {
-        row_holds::<A>(rt, alloc, row)?;
-    }
-    Ok(())
-}
-
-fn row_holds<A: Answers>(rt: &impl Abort, alloc: Global, row: &str) -> Result<(), Fail> {
-    let Some((asked, wanted)) = row.rsplit_once('|') else {
-        return Err(Fail::new("no bar"));
-    };
-    let found = A::answer(alloc, asked)?;
-    same(rt, found.as_str(), wanted, row);
-    Ok(())
-}
-
-/// Bytes as a text. It says nothing of it, so that no call has to carry what is said of texts.
-pub fn as_text(bytes: &[u8]) -> Result<&str, Fail> {
-    match str::from_utf8(bytes) {
-        Ok(text) => Ok(text),
-        Err(_) => Err(Fail::new("no text")),
-    }
-}
-
-/// What was found is what was wanted, at this row.
-pub fn same(rt: &impl Abort, found: &str, wanted: &str, row: &str) {
-    assert_eq!(rt; found, wanted, "at {row}");
-}
-
-/// The part of a text in front of the first of these characters, and the part behind it.
-pub fn cut(text: &str, at: char) -> Result<(&str, &str), Fail> {
-    match text.split_once(at) {
-        Some(parts) => Ok(parts),
-        None => Err(Fail::new("no such character")),
-    }
-}
 
 /// The site of the tests that need one.
 pub const SITE: &str = "INTERFACE I tcpip_client_interface.rb h 8080 8080 10.0 nil LENGTH 0 16 0 1";
-
-/// A text whose lines end with line feeds, of one whose lines end with `;`.
-pub fn lines(alloc: Global, text: &str) -> Result<Vec<u8>, AllocError> {
-    let mut out = Vec::new(alloc);
-    for byte in text.as_bytes() {
-        out.push(with_line_feed(*byte))?;
-    }
-    Ok(out)
-}
-
-fn with_line_feed(byte: u8) -> u8 {
-    if byte == b';' { b'\n' } else { byte }
-}
 
 fn statements_of(alloc: Global, text: &str) -> Result<Vec<Statement>, Fail> {
     let text = lines(alloc, text)?;
     if text.len() > 67_108_864 {
         return Err(Fail::new("too large"));
     }
-    match statements(alloc, &text) {
-        Ok(found) => Ok(found),
-        Err(_) => Err(Fail::new("no statements")),
-    }
+    Ok(statements(alloc, &text)?)
 }
 
-/// The site of two texts whose lines end with `;`.
+fn definitions_of(alloc: Global, text: &str) -> Result<Definitions, Fail> {
+    let found = statements_of(alloc, text)?;
+    Ok(read_definitions(alloc, &found)?)
+}
+
+/// The site of two texts.
 pub fn site_of(alloc: Global, definitions: &str, site: &str) -> Result<Site, Fail> {
-    let found = statements_of(alloc, definitions)?;
-    let Ok(definitions) = read_definitions(alloc, &found) else {
-        return Err(Fail::new("definitions are refused"));
-    };
+    let definitions = definitions_of(alloc, definitions)?;
     let found = statements_of(alloc, site)?;
-    match read_site(alloc, &found, definitions) {
-        Ok(site) => Ok(site),
-        Err(_) => Err(Fail::new("the site is refused")),
-    }
-}
-
-/// The bytes of pairs of hexadecimal digits.
-pub fn bytes_of(alloc: Global, digits: &str) -> Result<Vec<u8>, Fail> {
-    match hex::decode(alloc, digits.as_bytes()) {
-        Ok(bytes) => Ok(bytes),
-        Err(_) => Err(Fail::new("no bytes")),
-    }
+    Ok(read_site(alloc, &found, definitions)?)
 }

@@ -1,7 +1,8 @@
 // Commands built from texts, over definitions that were read.
-use crate::read::{Answers, as_text, cut, rows_hold, site_of};
-use cts_cmd::{Checks, Refused, Request, TextFault, build, parse};
+use crate::read::definitions_of;
+use cts_cmd::{Built, Checks, Refused, build, parse};
 use cts_def::Definitions;
+use cts_rows::{Answers, cut, debug_of, readable_of, rows_hold};
 use std::alloc::Global;
 use std::test::Fail;
 
@@ -25,105 +26,71 @@ APPEND_PARAMETER W 16 UINT 0 65535 258";
 
 /// What is answered, `all` or `none` of the checks, and the text.
 const COLLECTS: &str = "\
-0 07000a|all|INST COLLECT with DURATION 10
-0 07000a|all|inst collect WITH duration 0x0A
-0 070005|all|INST COLLECT
-0 090001|none|INST COLLECT with OPCODE 9, DURATION 1
-OutOfRange DURATION 11 0 10|all|INST COLLECT with DURATION 11
-0 07000b|none|INST COLLECT with DURATION 11
-Overflow DURATION|none|INST COLLECT with DURATION 70000
-Overflow DURATION|none|INST COLLECT with DURATION -1
-OutOfRange DURATION 70000 0 10|all|INST COLLECT with DURATION 70000
-Twice DURATION|all|INST COLLECT with DURATION 1, DURATION 2
-WrongType DURATION|all|INST COLLECT with DURATION x
-WrongType DURATION|all|INST COLLECT with DURATION '5'
-UnknownParameter x|all|INST COLLECT with DURATION 1, x 2, y 3, DURATION 4
+Built { command: 0, bytes: Bytes { held: [7, 0, 10] } }|all|INST COLLECT with DURATION 10
+Built { command: 0, bytes: Bytes { held: [7, 0, 10] } }|all|inst collect WITH duration 0x0A
+Built { command: 0, bytes: Bytes { held: [7, 0, 5] } }|all|INST COLLECT
+Built { command: 0, bytes: Bytes { held: [9, 0, 1] } }|none|INST COLLECT with OPCODE 9, DURATION 1
+OutOfRange { name: 'DURATION', value: 11, min: 0, max: 10 }|all|INST COLLECT with DURATION 11
+Built { command: 0, bytes: Bytes { held: [7, 0, 11] } }|none|INST COLLECT with DURATION 11
+Overflow('DURATION')|none|INST COLLECT with DURATION 70000
+Overflow('DURATION')|none|INST COLLECT with DURATION -1
+OutOfRange { name: 'DURATION', value: 70000, min: 0, max: 10 }|all|INST COLLECT with DURATION 70000
+Twice('DURATION')|all|INST COLLECT with DURATION 1, DURATION 2
+WrongType('DURATION')|all|INST COLLECT with DURATION x
+WrongType('DURATION')|all|INST COLLECT with DURATION '5'
+UnknownParameter('x')|all|INST COLLECT with DURATION 1, x 2, y 3, DURATION 4
 UnknownCommand|all|INST OTHER with x 2
 UnknownTarget|all|AUX COLLECT
-26 NoValue|all|INST COLLECT with DURATION";
+Refused { place: 26, cause: NoValue }|all|INST COLLECT with DURATION";
 
 const FIELD_ROWS: &str = "\
-0 1f006162000102|all|T A with M OFF
-0 27006162000102|none|T A with M off, N 18, S 100
-0 f8006162000102|none|T A with M 0, N -1, S -100
-0 1f016162000102|none|T A with M ARM
+Built { command: 0, bytes: Bytes { held: [31, 0, 97, 98, 0, 1, 2] } }|all|T A with M OFF
+Built { command: 0, bytes: Bytes { held: [39, 0, 97, 98, 0, 1, 2] } }|none|T A with M off, N 18, S 100
+Built { command: 0, bytes: Bytes { held: [248, 0, 97, 98, 0, 1, 2] } }|none|T A with M 0, N -1, S -100
+Built { command: 0, bytes: Bytes { held: [31, 1, 97, 98, 0, 1, 2] } }|none|T A with M ARM
 Hazardous|all|T A with M ARM
 Hazardous|all|T A with M 1
-0 1f026162000102|all|T A with M 2
-UnknownState M|all|T A with M ON
-WrongType S|all|T A with M ON, S x
-Missing M|all|T A with N 1
-0 1f006162630102|all|T A with M 0, NAME abcd
-0 1f000000000102|all|T A with M 0, NAME ''
-WrongType NAME|all|T A with M 0, NAME 5
-0 1f00616200ff00|all|T A with M 0, RAW '0xff'
-WrongType RAW|all|T A with M 0, RAW 0xff
-Overflow RAW|all|T A with M 0, RAW '0xfff'
-0 1f006162007800|all|T A with M 0, RAW 'x'
-0 1f0061620001020a0b0c|all|T A with M 0, REST '0x0a0b0c'
+Built { command: 0, bytes: Bytes { held: [31, 2, 97, 98, 0, 1, 2] } }|all|T A with M 2
+UnknownState('M')|all|T A with M ON
+WrongType('S')|all|T A with M ON, S x
+Missing('M')|all|T A with N 1
+Built { command: 0, bytes: Bytes { held: [31, 0, 97, 98, 99, 1, 2] } }|all|T A with M 0, NAME abcd
+Built { command: 0, bytes: Bytes { held: [31, 0, 0, 0, 0, 1, 2] } }|all|T A with M 0, NAME ''
+WrongType('NAME')|all|T A with M 0, NAME 5
+Built { command: 0, bytes: Bytes { held: [31, 0, 97, 98, 0, 255, 0] } }|all|T A with M 0, RAW '0xff'
+WrongType('RAW')|all|T A with M 0, RAW 0xff
+Overflow('RAW')|all|T A with M 0, RAW '0xfff'
+Built { command: 0, bytes: Bytes { held: [31, 0, 97, 98, 0, 120, 0] } }|all|T A with M 0, RAW 'x'
+Built { command: 0, bytes: Bytes { held: [31, 0, 97, 98, 0, 1, 2, 10, 11, 12] } }|all|T A with M 0, REST '0x0a0b0c'
 Hazardous|all|T B
-1 0201|none|T B
-1 0100|none|T B with W 1";
+Built { command: 1, bytes: Bytes { held: [2, 1] } }|none|T B
+Built { command: 1, bytes: Bytes { held: [1, 0] } }|none|T B with W 1";
 
-fn with_name(alloc: Global, what: &str, name: &[u8]) -> Result<String, Fail> {
-    Ok(format!(in alloc; "{what} {}", as_text(name)?)?)
-}
-
-/// The name of a refusal, with what it says.
-pub fn refusal_text(alloc: Global, refused: &Refused) -> Result<String, Fail> {
-    match refused {
-        Refused::UnknownParameter(name) => with_name(alloc, "UnknownParameter", name.as_slice()),
-        Refused::Twice(name) => with_name(alloc, "Twice", name.as_slice()),
-        Refused::Missing(name) => with_name(alloc, "Missing", name.as_slice()),
-        Refused::WrongType(name) => with_name(alloc, "WrongType", name.as_slice()),
-        Refused::UnknownState(name) => with_name(alloc, "UnknownState", name.as_slice()),
-        Refused::Overflow(name) => with_name(alloc, "Overflow", name.as_slice()),
-        Refused::OutOfRange {
-            name,
-            value,
-            min,
-            max,
-        } => {
-            let name = with_name(alloc, "OutOfRange", name.as_slice())?;
-            Ok(format!(in alloc; "{name} {value} {min} {max}")?)
-        }
-        other => Ok(format!(in alloc; "{other:?}")?),
+/// The number and the bytes of the command that is built, or why it is not.
+fn told(alloc: Global, answer: Result<Built, Refused>) -> Result<String, Fail> {
+    match answer {
+        Ok(built) => debug_of(alloc, &built),
+        Err(refused) => readable_of(alloc, &refused),
     }
 }
 
-/// The number and the bytes of the command that a text builds, or why it does not.
+/// What is answered to a text over these definitions, with all checks or none.
 fn answer(alloc: Global, definitions: &Definitions, text: &str, all: bool) -> Result<String, Fail> {
-    match parse(alloc, text.as_bytes()) {
-        Ok(request) => built(alloc, definitions, &request, all),
-        Err(TextFault::Refused { place, cause }) => Ok(format!(in alloc; "{place} {cause:?}")?),
-        Err(TextFault::Memory) => Err(Fail::new("no memory")),
-    }
-}
-
-fn built(
-    alloc: Global,
-    definitions: &Definitions,
-    request: &Request,
-    all: bool,
-) -> Result<String, Fail> {
     let checks = Checks {
         range: all,
         hazardous: all,
     };
-    match build(alloc, definitions, request, checks) {
-        Ok(built) => {
-            let digits = hex::encode(alloc, built.bytes.as_slice())?;
-            Ok(format!(in alloc; "{} {digits}", built.command)?)
-        }
-        Err(refused) => refusal_text(alloc, &refused),
+    match parse(alloc, text.as_bytes()) {
+        Ok(request) => told(alloc, build(alloc, definitions, &request, checks)),
+        Err(fault) => debug_of(alloc, &fault),
     }
 }
 
-/// What is answered to a text over these definitions, behind `all` or `none` of the checks.
+/// The same, where `all` or `none` of the checks stands in front of the text.
 fn answer_of(alloc: Global, definitions: &str, asked: &str) -> Result<String, Fail> {
-    let (checks, text) = cut(asked)?;
-    let site = site_of(alloc, definitions, "")?;
-    answer(alloc, &site.definitions, text, checks == "all")
+    let (checks, text) = cut(asked, '|')?;
+    let definitions = definitions_of(alloc, definitions)?;
+    answer(alloc, &definitions, text, checks == "all")
 }
 
 struct Collects;
@@ -136,7 +103,7 @@ impl Answers for Collects {
 
 #[test]
 fn commands_of_the_demo_are_built(rt: HostRuntime) -> Result<(), Fail> {
-    rows_hold::<Collects>(&rt, rt.alloc(), COLLECTS)
+    rows_hold::<Collects>(rt.alloc(), COLLECTS)
 }
 
 struct Fields;
@@ -149,5 +116,5 @@ impl Answers for Fields {
 
 #[test]
 fn fields_hold_what_is_given_for_them(rt: HostRuntime) -> Result<(), Fail> {
-    rows_hold::<Fields>(&rt, rt.alloc(), FIELD_ROWS)
+    rows_hold::<Fields>(rt.alloc(), FIELD_ROWS)
 }

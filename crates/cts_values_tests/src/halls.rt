@@ -1,12 +1,11 @@
 // A hall over a site that was read: what is appended to it, looked up in it, and when it is full.
-ghost use Rattle.std.specs.Prelude.{◌≡◌, false, true};
-
-use crate::read::{Answers, as_text, bytes_of, cut, rows_hold, same, site_of};
+use crate::read::site_of;
 use cts_base::Bytes;
-use cts_conv::{Value, ValueKind, plain};
+use cts_conv::ValueKind;
 use cts_def::{Ident, Loss, SERVER, Site, Time};
 use cts_entry::Why;
-use cts_table::{Hall, HallFault, Lookup};
+use cts_rows::{Answers, bytes_of, debug_of, field, number, rows_hold, same};
+use cts_table::{Hall, HallFault};
 use std::alloc::Global;
 use std::sync::Arc;
 use std::test::Fail;
@@ -30,16 +29,16 @@ pub const LOSS: Loss = Loss {
 
 /// Names of a target, a packet and an item, and what is answered for them behind packets A of two and of four bytes.
 const LOOKUPS: &str = "\
-1286|T|A|V
-1286|t|a|v
-1|T|A|K
-2|T|A|received_count
-0|T|B|RECEIVED_COUNT
-NeverReceived|T|B|K
-UnknownTarget|X|B|K
-UnknownPacket|T|X|K
-UnknownItem|T|A|X
-UnknownItem|T|B|X";
+Ok(Whole(1286))|T|A|V
+Ok(Whole(1286))|t|a|v
+Ok(Whole(1))|T|A|K
+Ok(Whole(2))|T|A|received_count
+Ok(Whole(0))|T|B|RECEIVED_COUNT
+Err(NeverReceived)|T|B|K
+Err(UnknownTarget)|X|B|K
+Err(UnknownPacket)|T|X|K
+Err(UnknownItem)|T|A|X
+Err(UnknownItem)|T|B|X";
 
 /// A hall of these limits in which the one interface is connected.
 fn connected(alloc: Global, entries: u64, bytes: u64) -> Result<Hall, Fail> {
@@ -85,30 +84,6 @@ pub fn receives(alloc: Global, hall: &mut Hall, ident: Ident, digits: &str) -> R
     }
 }
 
-/// The plain text of a raw value, or why there is none.
-fn looked_up(
-    alloc: Global,
-    hall: &Hall,
-    target: &str,
-    packet: &str,
-    item: &str,
-) -> Result<String, Fail> {
-    let found = hall.value(
-        alloc,
-        target.as_bytes(),
-        packet.as_bytes(),
-        item.as_bytes(),
-        ValueKind::Raw,
-    );
-    match found {
-        Ok(value) => {
-            let text = plain(alloc, &value)?;
-            Ok(as_text(text.as_slice())?.to_string(alloc)?)
-        }
-        Err(refusal) => Ok(format!(in alloc; "{refusal:?}")?),
-    }
-}
-
 /// A hall of these limits, in which the one interface received the packets between blanks: each is the number of its definition,
 /// or `?`, in front of `:`, and digits behind it.
 fn hall_behind(alloc: Global, entries: u64, bytes: u64, packets: &str) -> Result<Hall, Fail> {
@@ -140,46 +115,47 @@ struct Lookups;
 
 impl Answers for Lookups {
     fn answer(alloc: Global, asked: &str) -> Result<String, Fail> {
-        let (target, rest) = cut(asked)?;
-        let (packet, item) = cut(rest)?;
         let hall = hall_behind(alloc, 100, 100, RECEIVED)?;
-        looked_up(alloc, &hall, target, packet, item)
+        let found = hall.value(
+            alloc,
+            field(asked, 0).as_bytes(),
+            field(asked, 1).as_bytes(),
+            field(asked, 2).as_bytes(),
+            ValueKind::Raw,
+        );
+        debug_of(alloc, &found)
     }
 }
 
 #[test]
 fn values_are_looked_up(rt: HostRuntime) -> Result<(), Fail> {
-    rows_hold::<Lookups>(&rt, rt.alloc(), LOOKUPS)
+    rows_hold::<Lookups>(rt.alloc(), LOOKUPS)
 }
 
-/// How many bytes the last packet of each definition has that was received.
+/// The last packet of each definition that was received.
 const CURRENT: &str = "\
-4|0
-none|1";
+Some([1, 5, 6, 7])|0
+None|1";
 
 struct Current;
 
 impl Answers for Current {
     fn answer(alloc: Global, asked: &str) -> Result<String, Fail> {
         let hall = hall_behind(alloc, 100, 100, RECEIVED)?;
-        match hall.current(asked.parse::<u32>()?) {
-            Some(bytes) => Ok(format!(in alloc; "{}", bytes.len())?),
-            None => Ok("none".to_string(alloc)?),
-        }
+        debug_of(alloc, &hall.current(number(asked, 0)?))
     }
 }
 
 #[test]
 fn the_last_packet_is_the_current_one(rt: HostRuntime) -> Result<(), Fail> {
-    rows_hold::<Current>(&rt, rt.alloc(), CURRENT)
+    rows_hold::<Current>(rt.alloc(), CURRENT)
 }
 
 /// How many packets A and how many that nothing defines came, were short and were long, and how many commands.
 fn counts_of(alloc: Global, hall: &Hall) -> Result<String, Fail> {
     let a = hall.counts(Ident::Known(0));
     let unknown = hall.counts(Ident::Unknown);
-    let commands = hall.command_count(0);
-    Ok(format!(in alloc; "{a:?} {unknown:?} {commands}")?)
+    debug_of(alloc, &(a, unknown, hall.command_count(0)))
 }
 
 #[test]
@@ -187,9 +163,8 @@ fn short_and_long_packets_are_counted(rt: HostRuntime) -> Result<(), Fail> {
     let hall = hall_behind(rt.alloc(), 100, 100, "0:0105 0:01050607 0:010506 ?:")?;
     let found = counts_of(rt.alloc(), &hall)?;
     let wanted =
-        "Counts { received: 3, short: 1, long: 1 } Counts { received: 1, short: 0, long: 0 } 0";
-    same(&rt, found.as_str(), wanted, "the counts");
-    Ok(())
+        "(Counts { received: 3, short: 1, long: 1 }, Counts { received: 1, short: 0, long: 0 }, 0)";
+    same(found.as_str(), wanted, "the counts")
 }
 
 /// The connection ends behind a Stop, where there is none and the interface is connected.
@@ -205,29 +180,25 @@ pub fn ends(hall: &mut Hall) {
 
 /// Whether there is room for an entry of no bytes, and what a stop and the end of the connection then leave: how many entries,
 /// whether all is stopped and the interface connected, and how many entries its history has.
-fn told_of_end(alloc: Global, mut hall: Hall) -> Result<String, Fail> {
+fn told_of_end(mut hall: Hall) -> (Result<(), HallFault>, u64, bool, bool, u64) {
     let room = hall.room(1, 0);
     ends(&mut hall);
     let (count, stopped, connected) = (hall.count(), hall.stopped(), hall.connected(0));
-    let kept = hall.into_history().count();
-    Ok(format!(in alloc; "{room:?} {count} {stopped} {connected} {kept}")?)
+    (room, count, stopped, connected, hall.into_history().count())
 }
 
 #[test]
 fn a_full_hall_takes_what_is_owed(rt: HostRuntime) -> Result<(), Fail> {
     let hall = hall_behind(rt.alloc(), 8, 100, "?: ?: ?: ?: ?: ?: ?:")?;
-    let found = told_of_end(rt.alloc(), hall)?;
-    let wanted = "Err(Full { entries: 8, bytes: 0 }) 10 true false 10";
-    same(&rt, found.as_str(), wanted, "a full hall");
-    Ok(())
+    let found = debug_of(rt.alloc(), &told_of_end(hall))?;
+    let wanted = "(Err(Full { entries: 8, bytes: 0 }), 10, true, false, 10)";
+    same(found.as_str(), wanted, "a full hall")
 }
 
 #[test]
 fn bytes_are_counted_against_their_limit(rt: HostRuntime) -> Result<(), Fail> {
     let mut hall = hall_behind(rt.alloc(), 8, 3, "0:0105")?;
-    let (one, two) = (hall.room(1, 1), hall.room(1, 2));
-    let found = format!(in rt.alloc(); "{one:?} {two:?}")?;
-    let wanted = "Ok(()) Err(Full { entries: 2, bytes: 2 })";
-    same(&rt, found.as_str(), wanted, "room for a byte, and for two");
-    Ok(())
+    let found = debug_of(rt.alloc(), &(hall.room(1, 1), hall.room(1, 2)))?;
+    let wanted = "(Ok(()), Err(Full { entries: 2, bytes: 2 }))";
+    same(found.as_str(), wanted, "room for a byte, and for two")
 }

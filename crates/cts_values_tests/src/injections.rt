@@ -1,9 +1,9 @@
 // Raw values that are written over the bytes of a packet that was read.
-use crate::commands::refusal_text;
-use crate::read::{Answers, bytes_of, cut, rows_hold, site_of};
+use crate::read::{definitions_of, only_packet};
 use cts_base::Bytes;
 use cts_cmd::{Given, Refused, inject, parse};
 use cts_def::Packet;
+use cts_rows::{Answers, bytes_of, cut, digits_of, readable_of, rows_hold};
 use std::alloc::Global;
 use std::test::Fail;
 
@@ -38,20 +38,20 @@ const ROWS: &str = "\
 08ffffffff|ffffffffff|T P with S -100, N 0
 0001000000|-|T P with C 257
 00ff000000|-|T P with C -1
-UnknownParameter x|-|T P with NAME 5, N 16, x 1, y 2
-WrongType NAME|-|T P with N 16, name 5, C ON
-WrongType C|-|T P with C ON
-WrongType N|-|T P with N '5'
-WrongType NAME|-|T P with NAME '€'
-WrongType REST|-|T P with REST '0x01'
-Overflow N|-|T P with LAST 65535, n 16, TAIL '0x0102'
-Overflow N|-|T P with N -1
-Overflow TAIL|-|T P with TAIL '0x0102'";
+UnknownParameter('x')|-|T P with NAME 5, N 16, x 1, y 2
+WrongType('NAME')|-|T P with N 16, name 5, C ON
+WrongType('C')|-|T P with C ON
+WrongType('N')|-|T P with N '5'
+WrongType('NAME')|-|T P with NAME '€'
+WrongType('REST')|-|T P with REST '0x01'
+Overflow('N')|-|T P with LAST 65535, n 16, TAIL '0x0102'
+Overflow('N')|-|T P with N -1
+Overflow('TAIL')|-|T P with TAIL '0x0102'";
 
 fn told(alloc: Global, answer: Result<Bytes, Refused>) -> Result<String, Fail> {
     match answer {
-        Ok(bytes) => Ok(hex::encode(alloc, bytes.as_slice())?),
-        Err(refused) => refusal_text(alloc, &refused),
+        Ok(bytes) => digits_of(alloc, bytes.as_slice()),
+        Err(refused) => readable_of(alloc, &refused),
     }
 }
 
@@ -73,19 +73,15 @@ struct Injections;
 
 impl Answers for Injections {
     fn answer(alloc: Global, asked: &str) -> Result<String, Fail> {
-        let (digits, text) = cut(asked)?;
-        let site = site_of(alloc, PACKET, "")?;
-        let [packet] = site.definitions.telemetry.as_slice() else {
-            return Err(Fail::new("no packet"));
-        };
-        let Ok(request) = parse(alloc, text.as_bytes()) else {
-            return Err(Fail::new("no members"));
-        };
+        let (digits, text) = cut(asked, '|')?;
+        let definitions = definitions_of(alloc, PACKET)?;
+        let request = parse(alloc, text.as_bytes())?;
+        let packet = only_packet(&definitions)?;
         injected(alloc, packet, digits, request.params.as_slice())
     }
 }
 
 #[test]
 fn raw_values_are_written_over_packets(rt: HostRuntime) -> Result<(), Fail> {
-    rows_hold::<Injections>(&rt, rt.alloc(), ROWS)
+    rows_hold::<Injections>(rt.alloc(), ROWS)
 }

@@ -1,13 +1,13 @@
 // Limits over a hall: events, states, sets and settings behind packets and what a desk says.
-ghost use Rattle.std.specs.Prelude.{◌≡◌, ◌==◌, ◌&&◌};
-ghost use Rattle.cts_entry.specs.Legal.{has_ended, is_ended};
+ghost use Rattle.std.specs.Prelude.{◌≡◌};
+ghost use Rattle.cts_entry.specs.Legal.{has_ended};
 
 use crate::halls::{NOW, ends, hall_of, receives};
-use crate::read::{Answers, as_text, bytes_of, cut, rows_hold, same};
-use cts_base::{Bytes, Decimal, Name, print_decimal};
-use cts_def::{FIRST_DESK, Ident, Limits};
+use cts_base::{Bytes, Decimal, Name};
+use cts_def::{Color, FIRST_DESK, Ident, Limits};
 use cts_entry::{Entry, What};
-use cts_table::{Hall, LimitsEvent, LimitsUsed};
+use cts_rows::{Answers, as_text, bytes_of, cut, debug_of, number, part, rows_hold, same};
+use cts_table::{Hall, NoRoute};
 use std::alloc::Global;
 use std::test::Fail;
 
@@ -22,15 +22,15 @@ STATE ON 1 RED;STATE OFF 0";
 /// Events at the entries from this one on, and what happened: a packet P or one put in its place I, a set chosen S, sampling
 /// turned on or off E, the limits of the set NIGHT given in a set with persistence 2 L.
 const EVENTS: &str = "\
-1:0.1 Stale RedHigh;3:0.1 RedHigh Green;|0|P 0 010500;S NIGHT;P 0 010500
-3:0.1 RedHigh Green;|2|P 0 010500;S NIGHT;P 0 010500
-1:1.1 Stale Green;7:1.1 Green RedHigh;|0|P 1 0200;P 1 025a;P 1 025a;P 1 0200;P 1 025a;P 1 025a;P 1 025a
-1:1.1 Stale Green;|0|P 1 0200;P 1 025a;P 1 025a;P 1 0200;P 1 025a;P 1 025a
-1:0.1 Stale RedHigh;6:0.1 RedHigh Green;|0|P 0 010500;S NIGHT;E 0 off;P 0 010500;E 0 on;I 0 010500
-1:0.1 Stale RedHigh;5:0.1 RedHigh Green;|0|P 0 010500;S DAWN;L 0 DAWN;P 0 010500;P 0 010500
-1:0.1 Stale RedHigh;|0|P 0 010500;S DAWN;P 0 010500
-1:2.1 Stale StateRed;|0|P 2 0301;P 2 0300;P 2 0302
-|0|P 2 0300";
+[LimitsEvent { at: 1, packet: 0, item: 1, before: Stale, after: RedHigh }, LimitsEvent { at: 3, packet: 0, item: 1, before: RedHigh, after: Green }]|0|P 0 010500;S NIGHT;P 0 010500
+[LimitsEvent { at: 3, packet: 0, item: 1, before: RedHigh, after: Green }]|2|P 0 010500;S NIGHT;P 0 010500
+[LimitsEvent { at: 1, packet: 1, item: 1, before: Stale, after: Green }, LimitsEvent { at: 7, packet: 1, item: 1, before: Green, after: RedHigh }]|0|P 1 0200;P 1 025a;P 1 025a;P 1 0200;P 1 025a;P 1 025a;P 1 025a
+[LimitsEvent { at: 1, packet: 1, item: 1, before: Stale, after: Green }]|0|P 1 0200;P 1 025a;P 1 025a;P 1 0200;P 1 025a;P 1 025a
+[LimitsEvent { at: 1, packet: 0, item: 1, before: Stale, after: RedHigh }, LimitsEvent { at: 6, packet: 0, item: 1, before: RedHigh, after: Green }]|0|P 0 010500;S NIGHT;E 0 off;P 0 010500;E 0 on;I 0 010500
+[LimitsEvent { at: 1, packet: 0, item: 1, before: Stale, after: RedHigh }, LimitsEvent { at: 5, packet: 0, item: 1, before: RedHigh, after: Green }]|0|P 0 010500;S DAWN;L 0 DAWN;P 0 010500;P 0 010500
+[LimitsEvent { at: 1, packet: 0, item: 1, before: Stale, after: RedHigh }]|0|P 0 010500;S DAWN;P 0 010500
+[LimitsEvent { at: 1, packet: 2, item: 1, before: Stale, after: StateRed }]|0|P 2 0301;P 2 0300;P 2 0302
+[]|0|P 2 0300";
 
 /// Two commands, of which the interface takes one.
 const COMMANDS: &str = "\
@@ -54,27 +54,16 @@ fn night() -> Limits {
     }
 }
 
-/// Whether the entry is the end of the worker.
-fn is_end(entry: &Entry, by: u32) -> bool
-    ensures { result ≡ (entry.now.by == by && is_ended entry.now.what) }
+/// Whether a worker has ended.
+fn is_over(entries: &[Entry], by: u32) -> bool
+    ensures { result ≡ has_ended by entries.now }
 {
-    entry.by == by && matches!(entry.what, What::Ended)
-}
-
-/// Whether the worker has ended.
-fn has_ended(hall: &Hall, by: u32) -> bool
-    ensures { result ≡ has_ended by hall.now.entries }
-{
-    let mut ended = false;
-    for n in 0..hall.count() {
-        ended |= is_end(hall.entry(n), by);
-    }
-    ended
+    entries.iter().any(|entry| entry.by == by && matches!(entry.what, What::Ended))
 }
 
 /// Desk 0 chooses a set.
 fn choose(hall: &mut Hall, set: Name) {
-    if hall.room(1, 0).is_ok() && hall.site().desks > 0 && !has_ended(hall, FIRST_DESK) {
+    if hall.room(1, 0).is_ok() && hall.site().desks > 0 && !is_over(hall.entries(), FIRST_DESK) {
         hall.set_limits_set(FIRST_DESK, NOW, set);
     }
 }
@@ -83,7 +72,7 @@ fn choose(hall: &mut Hall, set: Name) {
 fn turn(hall: &mut Hall, packet: u32, enabled: bool) {
     if hall.room(1, 0).is_ok()
         && hall.site().desks > 0
-        && !has_ended(hall, FIRST_DESK)
+        && !is_over(hall.entries(), FIRST_DESK)
         && hall.limits_of(packet, 1, b"DEFAULT").is_some()
     {
         hall.enable(FIRST_DESK, NOW, packet, 1, enabled);
@@ -94,7 +83,7 @@ fn turn(hall: &mut Hall, packet: u32, enabled: bool) {
 fn give(hall: &mut Hall, packet: u32, set: Name) {
     if hall.room(1, 0).is_ok()
         && hall.site().desks > 0
-        && !has_ended(hall, FIRST_DESK)
+        && !is_over(hall.entries(), FIRST_DESK)
         && hall.limits_of(packet, 1, b"DEFAULT").is_some()
         && hall.sets_known() < 64
     {
@@ -106,25 +95,10 @@ fn give(hall: &mut Hall, packet: u32, set: Name) {
 fn inject(hall: &mut Hall, packet: u32, bytes: Bytes) {
     if hall.room(1, bytes.as_slice().len() as u64).is_ok()
         && hall.site().desks > 0
-        && !has_ended(hall, FIRST_DESK)
+        && !is_over(hall.entries(), FIRST_DESK)
         && (packet as usize) < hall.site().definitions.telemetry.as_slice().len()
     {
         hall.inject(FIRST_DESK, NOW, packet, bytes);
-    }
-}
-
-/// The word in front of the first blank, and the rest.
-fn word(text: &str) -> Result<(&str, &str), Fail> {
-    match text.split_once(' ') {
-        Some(parts) => Ok(parts),
-        None => Err(Fail::new("no blank")),
-    }
-}
-
-fn name(alloc: Global, text: &str) -> Result<Name, Fail> {
-    match Name::read(alloc, text.as_bytes()) {
-        Ok(name) => Ok(name),
-        Err(_) => Err(Fail::new("no name")),
     }
 }
 
@@ -136,30 +110,21 @@ fn step_of(
     packet: u32,
     rest: &str,
 ) -> Result<(), Fail> {
-    if what == "P" {
-        return receives(alloc, hall, Ident::Known(packet), rest);
-    }
-    if what == "I" {
-        inject(hall, packet, Bytes::of(bytes_of(alloc, rest)?));
-    } else if what == "E" {
-        turn(hall, packet, rest == "on");
-    } else {
-        give(hall, packet, name(alloc, rest)?);
+    match what {
+        "P" => return receives(alloc, hall, Ident::Known(packet), rest),
+        "I" => inject(hall, packet, Bytes::of(bytes_of(alloc, rest)?)),
+        "E" => turn(hall, packet, rest == "on"),
+        _ => give(hall, packet, Name::read(alloc, rest.as_bytes())?),
     }
     Ok(())
 }
 
 fn step(alloc: Global, hall: &mut Hall, text: &str) -> Result<(), Fail> {
-    let (what, rest) = word(text)?;
-    if what == "S" {
-        choose(hall, name(alloc, rest)?);
+    if let Some(set) = text.strip_prefix("S ") {
+        choose(hall, Name::read(alloc, set.as_bytes())?);
         return Ok(());
     }
-    let (packet, rest) = word(rest)?;
-    match packet.parse::<u32>() {
-        Ok(packet) => step_of(alloc, hall, what, packet, rest),
-        Err(_) => Err(Fail::new("no number")),
-    }
+    step_of(alloc, hall, part(text, 0), number(text, 1)?, part(text, 2))
 }
 
 /// A hall behind these steps, of which the first entry is that the interface was opened.
@@ -171,124 +136,91 @@ fn hall_behind(alloc: Global, steps: &str) -> Result<Hall, Fail> {
     Ok(hall)
 }
 
-/// Appends an event.
-fn tell(alloc: Global, e: &LimitsEvent, out: &mut String) -> Result<(), Fail> {
-    let (at, packet, item) = (e.at, e.packet, e.item);
-    let text = format!(in alloc; "{at}:{packet}.{item} {:?} {:?};", e.before, e.after)?;
-    Ok(out.push_str(&text)?)
-}
-
-fn texts_of(alloc: Global, events: &[LimitsEvent]) -> Result<String, Fail> {
-    let mut out = String::new(alloc);
-    for event in events {
-        tell(alloc, event, &mut out)?;
-    }
-    Ok(out)
-}
-
 struct Events;
 
 impl Answers for Events {
     fn answer(alloc: Global, asked: &str) -> Result<String, Fail> {
-        let (from, steps) = cut(asked)?;
+        let (from, steps) = cut(asked, '|')?;
         let from = if from == "2" { 2 } else { 0 };
         let hall = hall_behind(alloc, steps)?;
-        texts_of(alloc, &hall.events(alloc, from)?)
+        debug_of(alloc, &hall.events(alloc, from)?)
     }
 }
 
 #[test]
 fn states_change_at_their_entries(rt: HostRuntime) -> Result<(), Fail> {
-    rows_hold::<Events>(&rt, rt.alloc(), EVENTS)
+    rows_hold::<Events>(rt.alloc(), EVENTS)
 }
 
-/// How many sets are known, which of three are, which one is chosen, and the states of two items.
-fn told_of_sets(alloc: Global, hall: &Hall) -> Result<String, Fail> {
-    let known = hall.sets_known();
-    let (default, dawn, dusk) = (
+/// How many sets are known, which of three are, and the states of two items.
+fn told_of_sets(hall: &Hall) -> (u32, bool, bool, bool, Color, Color) {
+    (
+        hall.sets_known(),
         hall.set_known(b"default"),
         hall.set_known(b"Dawn"),
         hall.set_known(b"DUSK"),
-    );
-    let chosen = as_text(hall.limits_set().as_slice())?;
-    let (first, other) = (hall.state_of(0, 1), hall.state_of(7, 0));
-    Ok(format!(in alloc; "{known} {default} {dawn} {dusk} {chosen} {first:?} {other:?}")?)
+        hall.state_of(0, 1),
+        hall.state_of(7, 0),
+    )
 }
+
+const STEPS: &str = "P 0 010500;L 0 DAWN;S NIGHT;P 0 010500";
 
 #[test]
 fn sets_are_known_by_the_site_and_by_entries(rt: HostRuntime) -> Result<(), Fail> {
-    let steps = "P 0 010500;L 0 DAWN;S NIGHT;P 0 010500";
-    let hall = hall_behind(rt.alloc(), steps)?;
-    let found = told_of_sets(rt.alloc(), &hall)?;
+    let hall = hall_behind(rt.alloc(), STEPS)?;
+    let found = debug_of(rt.alloc(), &told_of_sets(&hall))?;
     same(
-        &rt,
         found.as_str(),
-        "3 true true false NIGHT RedHigh Stale",
-        steps,
-    );
-    Ok(())
+        "(3, true, true, false, RedHigh, Stale)",
+        STEPS,
+    )
 }
 
-/// Limits of an item of a packet in a set: whether they are its own, red and yellow below, yellow and red above, green, the
-/// persistence, and whether it is sampled.
+#[test]
+fn the_set_that_was_chosen_is_the_current_one(rt: HostRuntime) -> Result<(), Fail> {
+    let hall = hall_behind(rt.alloc(), STEPS)?;
+    same(as_text(hall.limits_set().as_slice())?, "NIGHT", STEPS)
+}
+
+/// The limits of an item of a packet in a set.
 const USED: &str = "\
-true 0.0 10.0 2000.0 3000.0 None 2 false|1.1 dawn
-false -80.0 -70.0 60.0 80.0 None 2 false|1.1 NIGHT
-none|1.0 DAWN
-none|2.1 DEFAULT";
+Some(LimitsUsed { own: true, limits: Limits { red_low: Decimal { parts: 0 }, yellow_low: Decimal { parts: 10000000000000 }, yellow_high: Decimal { parts: 2000000000000000 }, red_high: Decimal { parts: 3000000000000000 }, green: None }, persistence: 2, enabled: false })|1 1 dawn
+Some(LimitsUsed { own: false, limits: Limits { red_low: Decimal { parts: -80000000000000 }, yellow_low: Decimal { parts: -70000000000000 }, yellow_high: Decimal { parts: 60000000000000 }, red_high: Decimal { parts: 80000000000000 }, green: None }, persistence: 2, enabled: false })|1 1 NIGHT
+None|1 0 DAWN
+None|2 1 DEFAULT";
 
 struct Used;
 
 impl Answers for Used {
     fn answer(alloc: Global, asked: &str) -> Result<String, Fail> {
-        let (item, set) = word(asked)?;
-        let Some((packet, item)) = item.split_once('.') else {
-            return Err(Fail::new("no item"));
-        };
         let hall = hall_behind(alloc, "L 1 DAWN;E 1 off")?;
-        match hall.limits_of(packet.parse::<u32>()?, item.parse::<u32>()?, set.as_bytes()) {
-            Some(used) => used_text(alloc, &used),
-            None => Ok("none".to_string(alloc)?),
-        }
+        let (packet, item) = (number(asked, 0)?, number(asked, 1)?);
+        debug_of(
+            alloc,
+            &hall.limits_of(packet, item, part(asked, 2).as_bytes()),
+        )
     }
-}
-
-fn used_text(alloc: Global, used: &LimitsUsed) -> Result<String, Fail> {
-    let limits = limits_text(alloc, &used.limits)?;
-    let (own, persistence, enabled) = (used.own, used.persistence, used.enabled);
-    Ok(format!(in alloc; "{own} {limits} {persistence} {enabled}")?)
-}
-
-fn limits_text(alloc: Global, limits: &Limits) -> Result<String, Fail> {
-    let low = red_and_yellow(alloc, limits.red_low, limits.yellow_low)?;
-    let high = red_and_yellow(alloc, limits.yellow_high, limits.red_high)?;
-    Ok(format!(in alloc; "{low} {high} {:?}", limits.green)?)
-}
-
-fn red_and_yellow(alloc: Global, first: Decimal, second: Decimal) -> Result<String, Fail> {
-    let first = print_decimal(alloc, first)?;
-    let second = print_decimal(alloc, second)?;
-    let (first, second) = (as_text(first.as_slice())?, as_text(second.as_slice())?);
-    Ok(format!(in alloc; "{first} {second}")?)
 }
 
 #[test]
 fn the_limits_of_a_set_or_of_default_are_used(rt: HostRuntime) -> Result<(), Fail> {
-    rows_hold::<Used>(&rt, rt.alloc(), USED)
+    rows_hold::<Used>(rt.alloc(), USED)
 }
 
+type Route = Result<u32, NoRoute>;
+
 /// Where each command goes, and where the first one goes behind the end of the connection.
-fn told_of_routes(alloc: Global, mut hall: Hall) -> Result<String, Fail> {
+fn told_of_routes(mut hall: Hall) -> (Route, Route, Route, Route) {
     let (first, second, third) = (hall.route(0), hall.route(1), hall.route(2));
     ends(&mut hall);
-    Ok(format!(in alloc; "{first:?} {second:?} {third:?} {:?}", hall.route(0))?)
+    (first, second, third, hall.route(0))
 }
 
 #[test]
 fn commands_go_to_connected_interfaces(rt: HostRuntime) -> Result<(), Fail> {
     let hall = hall_of(rt.alloc(), COMMANDS, 100, 100)?;
-    let found = told_of_routes(rt.alloc(), hall)?;
-    let wanted = "Ok(0) Err(NoInterface) Err(NoInterface) Err(NotConnected(0))";
-    same(&rt, found.as_str(), wanted, "the commands");
-    Ok(())
+    let found = debug_of(rt.alloc(), &told_of_routes(hall))?;
+    let wanted = "(Ok(0), Err(NoInterface), Err(NoInterface), Err(NotConnected(0)))";
+    same(found.as_str(), wanted, "the commands")
 }

@@ -1,10 +1,10 @@
 // The values of items of definitions that were read: raw, converted, formatted and with units.
-use crate::read::{Answers, as_text, bytes_of, cut, rows_hold, same, site_of};
+use crate::read::{definitions_of, only_packet};
 use cts_base::{Bytes, Decimal};
 use cts_conv::{Value, ValueKind, plain, value_of};
-use cts_def::Packet;
+use cts_def::{Definitions, Packet};
+use cts_rows::{Answers, as_text, bytes_of, field, part, rows_hold};
 use std::alloc::Global;
-use std::process::Abort;
 use std::test::Fail;
 
 /// The text of a value, the lines of the one item of a packet, the kind of value, and the packet's bytes.
@@ -51,26 +51,12 @@ fn kind_named(name: &str) -> Result<ValueKind, Fail> {
     }
 }
 
-/// The text of the value of the one item of a packet with these lines, in these bytes.
-fn shown(alloc: Global, lines: &str, kind: ValueKind, bytes: &[u8]) -> Result<String, Fail> {
-    let definitions = format!(in alloc; "TELEMETRY T P BIG_ENDIAN;{lines}")?;
-    let site = site_of(alloc, definitions.as_str(), "")?;
-    let [packet] = site.definitions.telemetry.as_slice() else {
-        return Err(Fail::new("no packet"));
-    };
-    value_text(alloc, packet, kind, bytes)
-}
-
-fn value_text(
-    alloc: Global,
-    packet: &Packet,
-    kind: ValueKind,
-    bytes: &[u8],
-) -> Result<String, Fail> {
-    let [item] = packet.items.as_slice() else {
-        return Err(Fail::new("no item"));
-    };
-    plain_text(alloc, &value_of(alloc, packet, item, bytes, kind)?)
+/// The text of the value of the one item of a packet, in these bytes.
+fn shown(alloc: Global, packet: &Packet, kind: ValueKind, bytes: &[u8]) -> Result<String, Fail> {
+    match packet.items.as_slice() {
+        [item] => plain_text(alloc, &value_of(alloc, packet, item, bytes, kind)?),
+        _ => Err(Fail::new("another count of items")),
+    }
 }
 
 fn plain_text(alloc: Global, value: &Value) -> Result<String, Fail> {
@@ -78,41 +64,56 @@ fn plain_text(alloc: Global, value: &Value) -> Result<String, Fail> {
     Ok(as_text(text.as_slice())?.to_string(alloc)?)
 }
 
+/// A packet of an item with these lines.
+fn packet_with(alloc: Global, lines: &str) -> Result<Definitions, Fail> {
+    let text = format!(in alloc; "TELEMETRY T P BIG_ENDIAN;{lines}")?;
+    definitions_of(alloc, text.as_str())
+}
+
 struct Values;
 
 impl Answers for Values {
     fn answer(alloc: Global, asked: &str) -> Result<String, Fail> {
-        let (lines, rest) = cut(asked)?;
-        let (kind, bytes) = cut(rest)?;
-        let bytes = bytes_of(alloc, bytes)?;
-        shown(alloc, lines, kind_named(kind)?, &bytes)
+        let kind = kind_named(field(asked, 1))?;
+        let bytes = bytes_of(alloc, field(asked, 2))?;
+        let definitions = packet_with(alloc, field(asked, 0))?;
+        shown(alloc, only_packet(&definitions)?, kind, &bytes)
     }
 }
 
 #[test]
 fn items_have_their_values(rt: HostRuntime) -> Result<(), Fail> {
-    rows_hold::<Values>(&rt, rt.alloc(), ROWS)
+    rows_hold::<Values>(rt.alloc(), ROWS)
 }
 
-fn has_text(rt: &impl Abort, alloc: Global, value: &Value, wanted: &str) -> Result<(), Fail> {
-    let text = plain_text(alloc, value)?;
-    same(rt, text.as_str(), wanted, "a value");
-    Ok(())
+/// The plain text of a value: a whole number, one with parts, and a text and a block of these bytes.
+const PLAIN: &str = "\
+-1280|whole
+-0.0576|parts
+LOW|text 4c4f57
+0x01ab|block 01ab";
+
+struct Plain;
+
+impl Answers for Plain {
+    fn answer(alloc: Global, asked: &str) -> Result<String, Fail> {
+        let bytes = Bytes::of(bytes_of(alloc, part(asked, 1))?);
+        plain_text(alloc, &value_named(part(asked, 0), bytes))
+    }
+}
+
+fn value_named(word: &str, bytes: Bytes) -> Value {
+    match word {
+        "whole" => Value::Whole(-1280),
+        "parts" => Value::Parts(Decimal {
+            parts: -57_600_000_000,
+        }),
+        "text" => Value::Text(bytes),
+        _ => Value::Raw(bytes),
+    }
 }
 
 #[test]
 fn values_have_plain_texts(rt: HostRuntime) -> Result<(), Fail> {
-    let parts = Value::Parts(Decimal {
-        parts: -57_600_000_000,
-    });
-    has_text(&rt, rt.alloc(), &Value::Whole(-1280), "-1280")?;
-    has_text(&rt, rt.alloc(), &parts, "-0.0576")
-}
-
-#[test]
-fn texts_and_blocks_have_plain_texts(rt: HostRuntime) -> Result<(), Fail> {
-    let text = Value::Text(Bytes::copy(rt.alloc(), b"LOW")?);
-    has_text(&rt, rt.alloc(), &text, "LOW")?;
-    let block = Value::Raw(Bytes::copy(rt.alloc(), &[1, 0xab])?);
-    has_text(&rt, rt.alloc(), &block, "0x01ab")
+    rows_hold::<Plain>(rt.alloc(), PLAIN)
 }
