@@ -93,6 +93,7 @@ fn do_request<C: Framer, B: Supplier<C>, F: Files, O: Sink>(
         Ok(site) => match request.script {
             None => {
                 let checked = put_counts(alloc, &site, out);
+                drop(site);
                 end_check(checked, out)
             }
             Some(script) => replay_site::<C, B, F, O>(
@@ -149,8 +150,12 @@ fn replay_script<C: Framer, F: Files, O: Sink>(
     match load_script(alloc, files, script, world.hall().site()) {
         Ok(events) => {
             let replayed = replay(alloc, events.as_slice(), world, out);
+            drop(events);
             end_replay(alloc, script, replayed, out)
         }
-        Err(why) => end_unloaded(alloc, script, FileKind::Script, why, out),
+        Err(why) => {
+            drop(world);
+            end_unloaded(alloc, script, FileKind::Script, why, out)
+        }
     }
 }

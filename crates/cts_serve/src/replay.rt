@@ -5,6 +5,7 @@ ghost use Rattle.cts_serve.specs.Load.Scripts.{are_built_events};
 ghost use Rattle.cts_serve.specs.Replay.Steps.{Replays};
 ghost use Rattle.cts_core.specs.Endings.{GoesOn, held_in};
 ghost use Rattle.cts_core.specs.Worlds.{Represents};
+ghost use Rattle.cts_watch.specs.Following.{Follows};
 
 pub mod halt;
 pub mod printing;
@@ -34,11 +35,31 @@ pub fn replay<C: Framer, O: Sink>(
     ensures { Replays (held_in world).basis.site events.now result (O.seen out.old) (O.seen out.new) }
 {
     let Ok(mut follower) = Follower::begin(alloc, world.hall().site()) else {
+        drop(world);
         return Err(Halt::Memory);
     };
+    let done = do_all(alloc, events, &mut world, &mut follower, out);
+    drop((world, follower));
+    done
+}
+
+// Does the events in the world, which the follower follows, and puts what is put.
+fn do_all<C: Framer, O: Sink>(
+    alloc: Global,
+    events: &[(u32, Event)],
+    world: &mut World<C>,
+    follower: &mut Follower,
+    out: &mut O,
+) -> Result<(), Halt>
+    requires events { are_built_events events.now ≡ true }
+    requires world { Represents (held_in world.old).basis.site (held_in world.old) opening }
+    requires going { GoesOn world.old }
+    requires follows { Follows (held_in world.old).basis.site (held_in world.old).history follower.old }
+    ensures { Replays (held_in world.old).basis.site events.now result (O.seen out.old) (O.seen out.new) }
+{
     let mut left = events;
     'events: while let Some((next, after)) = left.split_first() {
-        match do_event(alloc, &mut world, &mut follower, next.0, &next.1, out) {
+        match do_event(alloc, world, follower, next.0, &next.1, out) {
             Ok(()) => left = after,
             Err(halt) => return Err(halt),
         }

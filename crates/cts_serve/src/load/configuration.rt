@@ -55,6 +55,7 @@ pub fn load_plan<F: Files>(
             if takes_site(request, &site) {
                 return Ok(site);
             }
+            drop(site);
             Err(Unloaded::NotBuilt)
         }
         Err(SiteFault::Refused { line, cause }) => Err(Unloaded::Refused {

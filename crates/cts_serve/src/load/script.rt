@@ -32,6 +32,7 @@ pub fn load_script<F: Files>(
             if are_built_events(&events) {
                 return Ok(events);
             }
+            drop(events);
             Err(Unloaded::NotBuilt)
         }
         Err(ScriptFault::Refused { line, cause }) => Err(Unloaded::Refused {
