@@ -8,7 +8,7 @@ use cts_base::spells;
 use cts_reader::{Spelled, keyword_in};
 
 /// The first word of a statement.
-#[derive(Clone, Copy)]
+#[derive(Clone, Copy, Debug)]
 pub enum Keyword {
     /// `COMMAND`
     Command,
@@ -53,7 +53,7 @@ pub enum Keyword {
 }
 
 /// What a word behind a keyword has to be.
-#[derive(Clone, Copy)]
+#[derive(Clone, Copy, Debug)]
 pub enum Field {
     /// Any text.
     Text,

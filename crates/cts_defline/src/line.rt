@@ -6,7 +6,7 @@ use cts_bits::Order;
 use cts_def::{ItemKind, Preset};
 
 /// A statement that opens a definition.
-#[derive(Drop)]
+#[derive(Debug, Drop)]
 pub struct PacketLine {
     /// What is defined.
     pub kind: PacketKind,
@@ -19,7 +19,7 @@ pub struct PacketLine {
 }
 
 /// A statement that adds an item or a parameter.
-#[derive(Drop)]
+#[derive(Debug, Drop)]
 pub struct ItemLine {
     /// Its name.
     pub name: Name,
@@ -40,7 +40,7 @@ pub struct ItemLine {
 }
 
 /// What a statement says.
-#[derive(Drop)]
+#[derive(Debug, Drop)]
 pub enum Line {
     /// It opens a definition.
     Packet(PacketLine),

@@ -3,7 +3,7 @@ ghost use Rattle.std.specs.Prelude.{◌≡◌};
 ghost use Rattle.cts_defline.specs.Refusals.{open_kind, has_item, form_kind, is_of_other_kind};
 
 /// What a definition defines.
-#[derive(Clone, Copy)]
+#[derive(Clone, Copy, Debug)]
 pub enum PacketKind {
     /// A packet that a target sends.
     Telemetry,
@@ -12,7 +12,7 @@ pub enum PacketKind {
 }
 
 /// What is open before a statement: the last definition, and whether it has an item.
-#[derive(Clone, Copy)]
+#[derive(Clone, Copy, Debug)]
 pub enum Open {
     /// No definition stands before it.
     Nothing,
