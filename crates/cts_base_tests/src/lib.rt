@@ -7,6 +7,8 @@ mod bytes;
 #[cfg(test)]
 mod decimal;
 #[cfg(test)]
+mod keys;
+#[cfg(test)]
 mod letters;
 #[cfg(test)]
 mod list;
@@ -16,8 +18,6 @@ mod name;
 mod print;
 #[cfg(test)]
 mod reader;
-#[cfg(test)]
-mod rows;
 #[cfg(test)]
 mod whole;
 #[cfg(test)]
