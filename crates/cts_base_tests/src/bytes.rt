@@ -1,36 +1,38 @@
-use crate::rows::{as_text, same};
+use crate::keys::{Key, differs, set_answers};
 use cts_base::Bytes;
+use cts_rows::{debug_of, same};
 use std::alloc::Global;
-use std::collections::BTreeSet;
 use std::test::Fail;
 
-fn bytes(alloc: Global, text: &str) -> Result<Bytes, Fail> {
-    Ok(Bytes::copy(alloc, text.as_bytes())?)
+impl Key for Bytes {
+    fn read(alloc: Global, word: &str) -> Result<Bytes, Fail> {
+        Ok(Bytes::copy(alloc, word.as_bytes())?)
+    }
 }
 
 #[test]
-fn bytes_are_copied_and_compared(rt: HostRuntime) -> Result<(), Fail> {
-    let beam = bytes(rt.alloc(), "beam")?;
-    assert!(rt; beam.clone()? == beam);
-    let other = Bytes::of(b"beat".to_vec(rt.alloc())?);
-    assert!(rt; other != beam);
-    same(&rt, as_text(beam.as_slice())?, "beam", "bytes");
-    let held = beam.into_vec();
-    same(&rt, as_text(&held)?, "beam", "what they held");
-    Ok(())
+fn bytes_are_compared(rt: HostRuntime) -> Result<(), Fail> {
+    let beat = Bytes::of(b"beat".to_vec(rt.alloc())?);
+    differs(rt.alloc(), "beam", &beat)
+}
+
+fn shows(alloc: Global, bytes: &[u8]) -> Result<(), Fail> {
+    let found = debug_of(alloc, &bytes)?;
+    same(found.as_str(), "[98, 101, 97, 109]", "beam")
+}
+
+#[test]
+fn bytes_are_copied_and_given_back(rt: HostRuntime) -> Result<(), Fail> {
+    let beam = Bytes::copy(rt.alloc(), b"beam")?;
+    shows(rt.alloc(), beam.as_slice())?;
+    shows(rt.alloc(), &beam.into_vec())
 }
 
 #[test]
 fn a_set_finds_its_bytes(rt: HostRuntime) -> Result<(), Fail> {
-    let mut set = BTreeSet::new(rt.alloc());
-    assert!(rt; set.insert(Bytes::copy(rt.alloc(), b"beam")?)?);
-    assert!(rt; set.insert(Bytes::copy(rt.alloc(), b"bea")?)?);
-    assert!(rt; !set.insert(Bytes::copy(rt.alloc(), b"beam")?)?);
-    let longer = Bytes::copy(rt.alloc(), b"beams")?;
-    assert!(rt; !set.contains(&longer));
-    assert!(rt; set.insert(longer)?);
-    let shorter = Bytes::copy(rt.alloc(), b"bea")?;
-    assert!(rt; set.contains(&shorter));
-    assert_eq!(rt; set.len(), 3);
-    Ok(())
+    set_answers::<Bytes>(
+        rt.alloc(),
+        "beam bea beam ?beams beams ?bea",
+        "([true, true, false, false, true, true], 3)",
+    )
 }

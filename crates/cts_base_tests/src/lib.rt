@@ -1,11 +1,17 @@
-//! Tests of bytes, lists, names and numbers, and of the words and statements of configuration texts. They stand above these
-//! crates, so that none of them is proved a second time for them.
+//! Tests of bytes, lists, names and numbers, of the words and statements of configuration texts, of bit fields, and of the plain
+//! types of definitions. They stand above these crates, so that none of them is proved a second time for them.
 #![tactic(auto)]
 
+#[cfg(test)]
+mod bits;
 #[cfg(test)]
 mod bytes;
 #[cfg(test)]
 mod decimal;
+#[cfg(test)]
+mod definitions;
+#[cfg(test)]
+mod keys;
 #[cfg(test)]
 mod letters;
 #[cfg(test)]
@@ -16,8 +22,6 @@ mod name;
 mod print;
 #[cfg(test)]
 mod reader;
-#[cfg(test)]
-mod rows;
 #[cfg(test)]
 mod whole;
 #[cfg(test)]

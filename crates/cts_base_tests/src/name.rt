@@ -1,15 +1,19 @@
-use crate::rows::{Answers, as_text, rows_hold, same};
+use crate::keys::{Key, differs, set_answers};
 use cts_base::Name;
+use cts_rows::{Answers, as_text, debug_of, rows_hold, same};
 use std::alloc::Global;
-use std::collections::BTreeSet;
 use std::test::Fail;
 
 /// The name of a text, or why it is none.
 fn told(alloc: Global, text: &str) -> Result<String, Fail> {
     match Name::read(alloc, text.as_bytes()) {
-        Ok(name) => Ok(as_text(name.as_slice())?.to_string(alloc)?),
-        Err(fault) => Ok(format!(in alloc; "{fault:?}")?),
+        Ok(name) => shown(alloc, name.as_slice()),
+        Err(fault) => debug_of(alloc, &fault),
     }
+}
+
+fn shown(alloc: Global, name: &[u8]) -> Result<String, Fail> {
+    Ok(as_text(name)?.to_string(alloc)?)
 }
 
 struct Names;
@@ -33,84 +37,56 @@ BadName|\u{c9}";
 
 #[test]
 fn a_name_has_letters_digits_and_underscores_in_upper_case(rt: HostRuntime) -> Result<(), Fail> {
-    rows_hold::<Names>(&rt, rt.alloc(), NAMES)
+    rows_hold::<Names>(rt.alloc(), NAMES)
+}
+
+fn is_told(alloc: Global, text: &str, wanted: &str) -> Result<(), Fail> {
+    let found = told(alloc, text)?;
+    same(found.as_str(), wanted, text)
+}
+
+/// What is told of so many letters `a`.
+fn is_told_of(alloc: Global, letters: usize, wanted: &str) -> Result<(), Fail> {
+    let text = "a".repeat(alloc, letters)?;
+    is_told(alloc, text.as_str(), wanted)
 }
 
 #[test]
 fn a_name_has_at_most_255_letters(rt: HostRuntime) -> Result<(), Fail> {
-    let longest = "a".repeat(rt.alloc(), 255)?;
     let upper = "A".repeat(rt.alloc(), 255)?;
-    same(
-        &rt,
-        told(rt.alloc(), longest.as_str())?.as_str(),
-        upper.as_str(),
-        "255 letters",
-    );
-    let longer = "a".repeat(rt.alloc(), 256)?;
-    same(
-        &rt,
-        told(rt.alloc(), longer.as_str())?.as_str(),
-        "BadName",
-        "256 letters",
-    );
-    Ok(())
+    is_told_of(rt.alloc(), 255, upper.as_str())?;
+    is_told_of(rt.alloc(), 256, "BadName")
 }
 
-fn name(alloc: Global, text: &str) -> Result<Name, Fail> {
-    match Name::read(alloc, text.as_bytes()) {
-        Ok(name) => Ok(name),
-        Err(_) => Err(Fail::new("no name")),
+impl Key for Name {
+    fn read(alloc: Global, word: &str) -> Result<Name, Fail> {
+        match Name::read(alloc, word.as_bytes()) {
+            Ok(name) => Ok(name),
+            Err(_) => Err(Fail::new("no name")),
+        }
     }
 }
 
 #[test]
 fn names_are_compared_and_cloned(rt: HostRuntime) -> Result<(), Fail> {
-    let name_z = name(rt.alloc(), "Temp_9z")?;
-    assert!(rt; name_z.clone()? == name_z);
-    assert!(rt; name(rt.alloc(), "TEMP_9")? != name_z);
-    Ok(())
-}
-
-/// A set of these names, and whether each of them was new.
-fn set_of(alloc: Global, names: &str, news: &mut String) -> Result<BTreeSet<Name>, Fail> {
-    let mut set = BTreeSet::new(alloc);
-    for text in names.split(' ') {
-        tell_new(insert(&mut set, name(alloc, text)?)?, news)?;
-    }
-    Ok(set)
-}
-
-fn insert(set: &mut BTreeSet<Name>, name: Name) -> Result<bool, Fail> {
-    Ok(set.insert(name)?)
-}
-
-fn tell_new(is_new: bool, news: &mut String) -> Result<(), Fail> {
-    Ok(news.push(if is_new { 'y' } else { 'n' })?)
+    let other = <Name as Key>::read(rt.alloc(), "TEMP_9")?;
+    differs(rt.alloc(), "Temp_9z", &other)
 }
 
 #[test]
 fn a_set_finds_a_name_in_any_case(rt: HostRuntime) -> Result<(), Fail> {
-    let mut news = String::new(rt.alloc());
-    let set = set_of(rt.alloc(), "temp1 TEMP1", &mut news)?;
-    same(&rt, news.as_str(), "yn", "whether each was new");
-    assert!(rt; set.contains(&name(rt.alloc(), "Temp1")?));
-    assert!(rt; !set.contains(&name(rt.alloc(), "TEMP")?));
-    Ok(())
-}
-
-fn pair(alloc: Global, first: &str, second: &str) -> Result<(Name, Name), Fail> {
-    Ok((name(alloc, first)?, name(alloc, second)?))
+    set_answers::<Name>(
+        rt.alloc(),
+        "temp1 TEMP1 ?Temp1 ?TEMP",
+        "([true, false, true, false], 1)",
+    )
 }
 
 #[test]
 fn a_set_finds_a_pair_of_names(rt: HostRuntime) -> Result<(), Fail> {
-    let mut set = BTreeSet::new(rt.alloc());
-    assert!(rt; set.insert(pair(rt.alloc(), "inst", "temp")?)?);
-    assert!(rt; set.insert(pair(rt.alloc(), "inst", "volt")?)?);
-    assert!(rt; !set.insert(pair(rt.alloc(), "INST", "TEMP")?)?);
-    let same = pair(rt.alloc(), "Inst", "Volt")?;
-    assert!(rt; set.contains(&same));
-    let turned = pair(rt.alloc(), "volt", "inst")?;
-    assert!(rt; !set.contains(&turned));
-    Ok(())
+    set_answers::<(Name, Name)>(
+        rt.alloc(),
+        "inst.temp inst.volt INST.TEMP ?Inst.Volt ?volt.inst",
+        "([true, true, false, true, false], 2)",
+    )
 }

@@ -1,17 +1,10 @@
-use crate::rows::{as_text, same};
 use cts_reader::{Fault, Reader, Spelled, first_that_holds, keyword_in, read_statements, word_at};
+use cts_rows::{Answers, debug_of, display_of, number, rows_hold, same};
 use cts_words::{Statement, statements};
 use std::alloc::Global;
 use std::test::Fail;
 
-#[derive(Clone, Copy, Debug, PartialEq, Eq)]
-enum Bad {
-    First,
-    Second,
-    Third,
-}
-
-// Counts statements, and refuses those of the line that is given.
+// Counts statements, and refuses those of the line that is given, for cause 2.
 #[derive(Drop)]
 struct Count {
     taken: u64,
@@ -19,38 +12,46 @@ struct Count {
 
 impl Reader for Count {
     ghost use Rattle.std.specs.Prelude.{Some, None, ◌==◌, if◌then◌else◌};
-    ghost use Rattle.cts_base_tests.specs.declared.reader.Bad.TheVariants.{Second};
 
-    type Cause = Bad;
+    type Cause = u8;
 
     type Given = u32;
 
-    ghost refusal = { λ given before s. if s.line == given then Some (s.line, Second) else None };
+    ghost refusal = { λ given before s. if s.line == given then Some (s.line, 2) else None };
 
     ghost stands = { λ given count before. Unit {0} };
 
-    fn take(&mut self, _: Global, given: &u32, statement: &Statement) -> Result<(), Fault<Bad>> {
+    fn take(&mut self, _: Global, given: &u32, statement: &Statement) -> Result<(), Fault<u8>> {
         let line = statement.line;
         if line == *given {
-            return Err(Fault::Refused {
-                line,
-                cause: Bad::Second,
-            });
+            return Err(Fault::Refused { line, cause: 2 });
         }
         self.taken = self.taken.saturating_add(1);
         Ok(())
     }
 }
 
+/// The first of the causes 1, 2 and 3 that holds, where those from this one on hold.
+const FIRST: &str = "\
+Some(2)|2
+Some(1)|1
+None|4";
+
+struct First;
+
+impl Answers for First {
+    fn answer(alloc: Global, asked: &str) -> Result<String, Fail> {
+        debug_of(alloc, &first_from(number(asked, 0)?))
+    }
+}
+
+fn first_from(least: u8) -> Option<u8> {
+    first_that_holds(&[1, 2, 3], |cause| cause >= least)
+}
+
 #[test]
-fn first_cause_that_holds_is_told(rt: HostRuntime) {
-    let order = [Bad::First, Bad::Second, Bad::Third];
-    assert_eq!(rt;
-        first_that_holds(&order, |c| c != Bad::First),
-        Some(Bad::Second)
-    );
-    assert_eq!(rt; first_that_holds(&order, |_| true), Some(Bad::First));
-    assert_eq!(rt; first_that_holds(&order, |_| false), None);
+fn first_cause_that_holds_is_told(rt: HostRuntime) -> Result<(), Fail> {
+    rows_hold::<First>(rt.alloc(), FIRST)
 }
 
 const KEYWORDS: [Spelled<u8>; 2] = [
@@ -64,15 +65,23 @@ const KEYWORDS: [Spelled<u8>; 2] = [
     },
 ];
 
-fn keyword(word: &[u8]) -> Option<u8> {
-    keyword_in(&KEYWORDS, word)
+/// The keyword that a word is.
+const WORDS: &str = "\
+Some(2)|Id_iTem
+Some(1)|item
+None|items";
+
+struct Keywords;
+
+impl Answers for Keywords {
+    fn answer(alloc: Global, asked: &str) -> Result<String, Fail> {
+        debug_of(alloc, &keyword_in(&KEYWORDS, asked.as_bytes()))
+    }
 }
 
 #[test]
-fn keywords_are_read_in_any_case(rt: HostRuntime) {
-    assert_eq!(rt; keyword(b"Id_iTem"), Some(2));
-    assert_eq!(rt; keyword(b"item"), Some(1));
-    assert_eq!(rt; keyword(b"items"), None);
+fn keywords_are_read_in_any_case(rt: HostRuntime) -> Result<(), Fail> {
+    rows_hold::<Keywords>(rt.alloc(), WORDS)
 }
 
 fn statements_of(alloc: Global, text: &str) -> Result<Vec<Statement>, Fail> {
@@ -82,55 +91,51 @@ fn statements_of(alloc: Global, text: &str) -> Result<Vec<Statement>, Fail> {
     Ok(statements(alloc, text.as_bytes())?)
 }
 
-/// What a pass that refuses this line comes to, and how many statements are then counted.
-fn pass(alloc: Global, count: &mut Count, line: u32) -> Result<String, Fail> {
-    let all = statements_of(alloc, "A x\n\nB\nC\n")?;
-    let answer = read_statements(alloc, count, &line, all.as_slice());
-    Ok(format!(in alloc; "{answer:?} {}", count.taken)?)
+/// What a pass over three statements that refuses this line comes to, and how many it takes.
+const PASSES: &str = "\
+(Err(Refused { line: 3, cause: 2 }), 1)|3
+(Ok(()), 3)|2";
+
+struct Passes;
+
+impl Answers for Passes {
+    fn answer(alloc: Global, asked: &str) -> Result<String, Fail> {
+        let line = number(asked, 0)?;
+        let all = statements_of(alloc, "A x\n\nB\nC\n")?;
+        debug_of(alloc, &passed(alloc, line, &all))
+    }
+}
+
+fn passed(alloc: Global, line: u32, all: &[Statement]) -> (Result<(), Fault<u8>>, u64) {
+    let mut count = Count { taken: 0 };
+    let answer = read_statements(alloc, &mut count, &line, all);
+    (answer, count.taken)
 }
 
 #[test]
 fn first_statement_that_is_refused_ends_the_pass(rt: HostRuntime) -> Result<(), Fail> {
-    let mut count = Count { taken: 0 };
-    let second = pass(rt.alloc(), &mut count, 3)?;
-    let wanted = "Err(Refused { line: 3, cause: Second }) 1";
-    same(
-        &rt,
-        second.as_str(),
-        wanted,
-        "the second statement is refused",
-    );
-    let whole = pass(rt.alloc(), &mut count, 2)?;
-    same(&rt, whole.as_str(), "Ok(()) 4", "none is refused");
-    Ok(())
+    rows_hold::<Passes>(rt.alloc(), PASSES)
 }
 
-/// The second and the third word of a statement of two.
-fn words_at(alloc: Global, statement: &Statement) -> Result<String, Fail> {
-    let second = as_text(word_at(statement.words.as_slice(), 1))?;
-    let third = as_text(word_at(statement.words.as_slice(), 2))?;
-    Ok(format!(in alloc; "{second},{third}")?)
+/// The second and the third word of one statement.
+fn words_at(alloc: Global, all: &[Statement]) -> Result<String, Fail> {
+    let [statement] = all else {
+        return Err(Fail::new("not one statement"));
+    };
+    let words = statement.words.as_slice();
+    debug_of(alloc, &(word_at(words, 1), word_at(words, 2)))
 }
 
 #[test]
 fn words_are_found_by_their_places(rt: HostRuntime) -> Result<(), Fail> {
     let all = statements_of(rt.alloc(), "A x\n")?;
-    let [statement] = all.as_slice() else {
-        return Err(Fail::new("not one statement"));
-    };
-    same(
-        &rt,
-        words_at(rt.alloc(), statement)?.as_str(),
-        "x,",
-        "two words",
-    );
-    Ok(())
+    let found = words_at(rt.alloc(), &all)?;
+    same(found.as_str(), "([120], [])", "two words")
 }
 
 #[test]
 fn faults_say_their_line_and_cause(rt: HostRuntime) -> Result<(), Fail> {
     let refused: Fault<u8> = Fault::Refused { line: 7, cause: 3 };
-    let text = format!(in rt.alloc(); "{refused}")?;
-    same(&rt, text.as_str(), "line 7: 3", "a fault");
-    Ok(())
+    let text = display_of(rt.alloc(), &refused)?;
+    same(text.as_str(), "line 7: 3", "a fault")
 }

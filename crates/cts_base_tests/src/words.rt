@@ -1,107 +1,93 @@
-use crate::rows::{Answers, bytes_of, rows_hold, text_of};
-use cts_base::Bytes;
-use cts_words::{Statement, WordFault, last, statements};
+use cts_rows::{Answers, bytes_by_number, debug_of, readable_of, rows_hold};
+use cts_words::{Statement, last, statements};
 use std::alloc::Global;
 use std::test::Fail;
 
-/// The statements of a row's bytes as a test writes them: `1[A][b c]` is the words A and `b c` from line 1 on; or the fault. Each
-/// character of a row is the byte of its number, and `;` a line feed.
+/// The statements of a row's bytes, each with its line and its words, or the fault. Each character of a row is the byte of its
+/// number, and `;` a line feed.
 struct Texts;
 
 impl Answers for Texts {
     fn answer(alloc: Global, asked: &str) -> Result<String, Fail> {
-        let bytes = bytes_of(alloc, asked)?;
-        match read(alloc, &bytes)? {
-            Ok(found) => shown(alloc, &found),
-            Err(fault) => Ok(format!(in alloc; "{fault:?}")?),
-        }
+        let bytes = bytes_by_number(alloc, asked)?;
+        told(alloc, &bytes)
     }
 }
 
-fn read(alloc: Global, text: &[u8]) -> Result<Result<Vec<Statement>, WordFault>, Fail> {
+fn told(alloc: Global, text: &[u8]) -> Result<String, Fail> {
     if text.len() > 1000 {
         return Err(Fail::new("too large"));
     }
-    Ok(statements(alloc, text))
+    match statements(alloc, text) {
+        Ok(found) => shown(alloc, &found),
+        Err(fault) => debug_of(alloc, &fault),
+    }
 }
 
 fn shown(alloc: Global, found: &[Statement]) -> Result<String, Fail> {
     let mut out = String::new(alloc);
     for statement in found {
-        show_statement(alloc, &mut out, statement)?;
+        show(alloc, &mut out, statement)?;
     }
     Ok(out)
 }
 
-fn show_statement(alloc: Global, out: &mut String, statement: &Statement) -> Result<(), Fail> {
-    let line = format!(in alloc; "{}", statement.line)?;
-    out.push_str(line.as_str())?;
-    show_words(alloc, out, statement.words.as_slice())
-}
-
-fn show_words(alloc: Global, out: &mut String, words: &[Bytes]) -> Result<(), Fail> {
-    for word in words {
-        show_word(alloc, out, word.as_slice())?;
-    }
-    Ok(())
-}
-
-fn show_word(alloc: Global, out: &mut String, word: &[u8]) -> Result<(), Fail> {
-    let word = text_of(alloc, word)?;
-    Ok(out.push_str(format!(in alloc; "[{word}]")?.as_str())?)
+fn show(alloc: Global, out: &mut String, statement: &Statement) -> Result<(), Fail> {
+    let text = readable_of(alloc, &(statement.line, statement.words.as_slice()))?;
+    Ok(out.push_str(text.as_str())?)
 }
 
 const WORDS: &str = "\
-1[A][b c]|A 'b c' #d
+(1, ['A', 'b c'])|A 'b c' #d
 |
 | \t\r
-1[A][b][c]|\tA  b\r\rc 
-1[A\x0bB\x0c\u{c2}\u{a0}]|A\x0bB\x0c\u{c2}\u{a0}
-1[A\x00B][\x00]|A\x00B \x00
-1[A][][]|A '' \"\"
-1[]|''
-1[a][b][c][d]|'a''b'\"c\"d
-1[a][b'c'][d'e][f']|'a'b'c' d'e f'
-1[it\"s][it's]|'it\"s' \"it's\"
-1[ a\tb\r ]|' a\tb\r '
-1[\u{c3}\u{a9}][\u{e2}\u{82}\u{ac}]|\u{c3}\u{a9} '\u{e2}\u{82}\u{ac}'
+(1, ['A', 'b', 'c'])|\tA  b\r\rc 
+(1, ['A\x0bB\x0c\u{c2}\u{a0}'])|A\x0bB\x0c\u{c2}\u{a0}
+(1, ['A\x00B', '\x00'])|A\x00B \x00
+(1, ['A', '', ''])|A '' \"\"
+(1, [''])|''
+(1, ['a', 'b', 'c', 'd'])|'a''b'\"c\"d
+(1, ['a', 'b'c'', 'd'e', 'f''])|'a'b'c' d'e f'
+(1, ['it\"s', 'it's'])|'it\"s' \"it's\"
+(1, [' a\tb\r '])|' a\tb\r '
+(1, ['\u{c3}\u{a9}', '\u{e2}\u{82}\u{ac}'])|\u{c3}\u{a9} '\u{e2}\u{82}\u{ac}'
 |# A
-1[A]|A # it's
-1[A#b][c#]|A#b c#
-1[A][#b][c#]|A '#b' \"c#\"
-1[a]|'a'#b
-1[A][\\'b]|A \\'b
-1[A][\\][b]|A '\\' b";
+(1, ['A'])|A # it's
+(1, ['A#b', 'c#'])|A#b c#
+(1, ['A', '#b', 'c#'])|A '#b' \"c#\"
+(1, ['a'])|'a'#b
+(1, ['A', '\\'b'])|A \\'b
+(1, ['A', '\\', 'b'])|A '\\' b";
 
 #[test]
 fn words_stand_between_white_space_and_quotes(rt: HostRuntime) -> Result<(), Fail> {
-    rows_hold::<Texts>(&rt, rt.alloc(), WORDS)
+    rows_hold::<Texts>(rt.alloc(), WORDS)
 }
 
 const LINES: &str = "\
 |;;
-1[A]4[B][c]|A;; # c;B c;
-1[A]2[B]|A\r;B\r;
-1[A][B]|A &;B
-1[A][B][C]4[D]|A &\r;B &; C;D
-1[A][B]3[C]|A & # x;B;C
-2[A]4[B]|;&;A;B
-1[A]|&;&;A
-1[A]3[B]|A &;;B
-1[A]|A &; 
-3[B]|&;;B
+(1, ['A'])(4, ['B', 'c'])|A;; # c;B c;
+(1, ['A'])(2, ['B'])|A\r;B\r;
+(1, ['A', 'B'])|A &;B
+(1, ['A', 'B', 'C'])(4, ['D'])|A &\r;B &; C;D
+(1, ['A', 'B'])(3, ['C'])|A & # x;B;C
+(2, ['A'])(4, ['B'])|;&;A;B
+(1, ['A'])|&;&;A
+(1, ['A'])(3, ['B'])|A &;;B
+(1, ['A'])|A &; 
+(3, ['B'])|&;;B
 |&;;
-1[A][&][B]|A & &;B
-1[A][&][b]2[C]|A & b;C
-1[A][&]2[B]|A \"&\";B
-1[A][&]|A '&'
-1[A][&b]2[c&]3[&&]4[D]|A &b;c&;&&;D
-1[A][b][C]|A 'b'&;C
-1[A][&#]2[B]|A &#;B";
+(1, ['A', '&', 'B'])|A & &;B
+(1, ['A', '&', 'b'])(2, ['C'])|A & b;C
+(1, ['A', '&'])(2, ['B'])|A \"&\";B
+(1, ['A', '&'])|A '&'
+(1, ['A', '&b'])(2, ['c&'])(3, ['&&'])(4, ['D'])|A &b;c&;&&;D
+(1, ['A', 'b', 'C'])|A 'b'&;C
+(1, ['A', '&#'])(2, ['B'])|A &#;B";
 
 #[test]
 fn lines_are_counted_and_joined(rt: HostRuntime) -> Result<(), Fail> {
-    rows_hold::<Texts>(&rt, rt.alloc(), LINES)
+    rows_hold::<Texts>(rt.alloc(), LINES)
 }
 
 const FAULTS: &str = "\
@@ -128,7 +114,7 @@ DanglingJoin(4)|A;;B &;C &";
 
 #[test]
 fn each_fault_has_its_place(rt: HostRuntime) -> Result<(), Fail> {
-    rows_hold::<Texts>(&rt, rt.alloc(), FAULTS)
+    rows_hold::<Texts>(rt.alloc(), FAULTS)
 }
 
 const EARLIER: &str = "\
@@ -139,12 +125,24 @@ OpenQuote(2)|A &;B 'c";
 
 #[test]
 fn an_earlier_kind_of_fault_hides_a_later_one(rt: HostRuntime) -> Result<(), Fail> {
-    rows_hold::<Texts>(&rt, rt.alloc(), EARLIER)
+    rows_hold::<Texts>(rt.alloc(), EARLIER)
+}
+
+/// The last byte of a text.
+const LAST: &str = "\
+Some(51)|123
+Some(49)|1
+None|";
+
+struct Last;
+
+impl Answers for Last {
+    fn answer(alloc: Global, asked: &str) -> Result<String, Fail> {
+        debug_of(alloc, &last(asked.as_bytes()))
+    }
 }
 
 #[test]
-fn the_last_one_is_found(rt: HostRuntime) {
-    assert_eq!(rt; last(&[1u8, 2, 3]), Some(&3));
-    assert_eq!(rt; last(&[1u8]), Some(&1));
-    assert_eq!(rt; last::<u8>(&[]), None);
+fn the_last_one_is_found(rt: HostRuntime) -> Result<(), Fail> {
+    rows_hold::<Last>(rt.alloc(), LAST)
 }
