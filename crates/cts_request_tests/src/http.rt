@@ -3,8 +3,9 @@
 ghost use Rattle.std.specs.Prelude.{IsTrue, false, ◌≡◌};
 ghost use Rattle.cts_http.specs.Texts.{is_refusal};
 
+use crate::parts::answer_to_parts;
 use cts_http::{HttpStep, Reader, refusal, response};
-use cts_rows::{Answers, as_text, bytes_by_number, cut, debug_of, field, number, rows_hold, same};
+use cts_rows::{Answers, as_text, bytes_by_number, debug_of, rows_hold, same};
 use std::alloc::Global;
 use std::test::Fail;
 
@@ -43,26 +44,42 @@ fn told_of_two(
     }
 }
 
-/// The bytes of a row have its answer where they are cut here.
-fn cut_holds(alloc: Global, row: &str, bytes: &[u8], at: usize) -> Result<(), Fail> {
+/// The bytes have this answer where they are cut here.
+fn cut_holds(alloc: Global, bytes: &[u8], at: usize, wanted: &str) -> Result<(), Fail> {
     let (first, second) = bytes.split_at(at.min(bytes.len()));
+    let piece = as_text(first)?;
     let mut reader = Reader::new(alloc);
     let found = told_of_two(alloc, &mut reader, first, second)?;
-    same(found.as_str(), field(row, 0), row)
+    same(found.as_str(), wanted, piece)
 }
 
-fn cuts_hold(alloc: Global, row: &str, bytes: &[u8]) -> Result<(), Fail> {
+fn cuts_hold(alloc: Global, bytes: &[u8], wanted: &str) -> Result<(), Fail> {
     for at in 0..bytes.len() {
-        cut_holds(alloc, row, bytes, at)?;
+        cut_holds(alloc, bytes, at, wanted)?;
     }
     Ok(())
 }
 
-/// A row's request has its answer wherever it is cut in two.
-fn all_cuts_hold(alloc: Global, row: &str) -> Result<(), Fail> {
-    let (_, text) = cut(row, '|')?;
-    let bytes = bytes_by_number(alloc, text)?;
-    cuts_hold(alloc, row, &bytes)
+fn told_of_whole(alloc: Global, bytes: &[u8]) -> Result<String, Fail> {
+    let mut reader = Reader::new(alloc);
+    reader.feed(bytes)?;
+    told(alloc, &mut reader)
+}
+
+fn told_of_cuts(alloc: Global, bytes: &[u8]) -> Result<String, Fail> {
+    let told = told_of_whole(alloc, bytes)?;
+    cuts_hold(alloc, bytes, told.as_str())?;
+    Ok(told)
+}
+
+/// What is answered to a text, which is the same wherever it is cut in two.
+struct Cuts;
+
+impl Answers for Cuts {
+    fn answer(alloc: Global, asked: &str) -> Result<String, Fail> {
+        let bytes = bytes_by_number(alloc, asked)?;
+        told_of_cuts(alloc, &bytes)
+    }
 }
 
 /// A request, and what is answered to it.
@@ -71,7 +88,7 @@ const FOUND: &str =
 
 #[test]
 fn requests_are_found_however_they_are_cut(rt: HostRuntime) -> Result<(), Fail> {
-    all_cuts_hold(rt.alloc(), FOUND)
+    rows_hold::<Cuts>(rt.alloc(), FOUND)
 }
 
 const CALL: &[u8] =
@@ -79,25 +96,27 @@ const CALL: &[u8] =
 
 const LAST: &[u8] = b"POST / HTTP/1.1\r\nContent-Length: 1\r\nConnection: a, CLOSE\r\n\r\n{";
 
-/// What is answered to two requests in one piece: of the first, how many bytes its body has and how many are held.
+/// How many bytes the body of the first request has, how many are held then, and the body of the second one, which is the last.
 fn told_of_both(alloc: Global, reader: &mut Reader) -> Result<String, Fail>
     requires { reader.old.closed ≡ false }
 {
+    reader.feed(CALL)?;
+    reader.feed(LAST)?;
     let HttpStep::Request { last: false } = reader.next() else {
         return Err(Fail::new("the first request is another step"));
     };
     let (body, held) = (reader.body().len(), reader.held());
-    let second = told(alloc, reader)?;
-    Ok(format!(in alloc; "{body} {held} {second}")?)
+    let HttpStep::Request { last: true } = reader.next() else {
+        return Err(Fail::new("the second request is another step"));
+    };
+    debug_of(alloc, &(body, held, reader.body()))
 }
 
 #[test]
 fn several_requests_come_on_one_connection(rt: HostRuntime) -> Result<(), Fail> {
     let mut reader = Reader::new(rt.alloc());
-    reader.feed(CALL)?;
-    reader.feed(LAST)?;
     let found = told_of_both(rt.alloc(), &mut reader)?;
-    same(found.as_str(), "50 150 last:{", "two requests")
+    same(found.as_str(), "(50, 150, [123])", "two requests")
 }
 
 /// A bad piece is refused, and a call behind it too.
@@ -151,10 +170,7 @@ Refuse(405)|post / HTTP/1.1\r;Content-Length: 0\r;\r;";
 
 #[test]
 fn each_request_has_its_answer_however_it_is_cut(rt: HostRuntime) -> Result<(), Fail> {
-    for row in HEADS.split('\n') {
-        all_cuts_hold(rt.alloc(), row)?;
-    }
-    Ok(())
+    rows_hold::<Cuts>(rt.alloc(), HEADS)
 }
 
 /// A target with a byte ff.
@@ -170,41 +186,27 @@ impl Answers for Whole {
     }
 }
 
-fn told_of_whole(alloc: Global, bytes: &[u8]) -> Result<String, Fail> {
-    let mut reader = Reader::new(alloc);
-    reader.feed(bytes)?;
-    told(alloc, &mut reader)
-}
-
 #[test]
 fn a_target_is_text(rt: HostRuntime) -> Result<(), Fail> {
     rows_hold::<Whole>(rt.alloc(), TARGET)
 }
 
-/// Answers to heads of 16,384 bytes and of 16,385, with their end and without it, and to heads of 64 fields and of 65: the
-/// text in front, how often which text follows, and the text behind.
+/// Answers to heads of 16,384 bytes and of 16,385, with their end and without it, and to heads of 64 fields and of 65.
 const BOUNDS: &str = "\
-again:|POST / HTTP/1.1\r;Content-Length: 0\r;X: |16341|a|\r;\r;
-Refuse(431)|POST / HTTP/1.1\r;Content-Length: 0\r;X: |16342|a|\r;\r;
-More|POST / HTTP/1.1\r;Content-Length: 0\r;X: |16345|a|
-Refuse(431)|POST / HTTP/1.1\r;Content-Length: 0\r;X: |16346|a|
-again:|POST / HTTP/1.1\r;Content-Length: 0\r;|63|A: b\r;|\r;
-Refuse(431)|POST / HTTP/1.1\r;Content-Length: 0\r;|64|A: b\r;|\r;";
+again:|1*POST / HTTP/1.1\r;Content-Length: 0\r;X: |16341*a|1*\r;\r;
+Refuse(431)|1*POST / HTTP/1.1\r;Content-Length: 0\r;X: |16342*a|1*\r;\r;
+More|1*POST / HTTP/1.1\r;Content-Length: 0\r;X: |16345*a
+Refuse(431)|1*POST / HTTP/1.1\r;Content-Length: 0\r;X: |16346*a
+again:|1*POST / HTTP/1.1\r;Content-Length: 0\r;|63*A: b\r;|1*\r;
+Refuse(431)|1*POST / HTTP/1.1\r;Content-Length: 0\r;|64*A: b\r;|1*\r;";
 
-/// What is answered to the text of a row that is so often repeated.
+/// What is answered to a text of repeated parts.
 struct Bounds;
 
 impl Answers for Bounds {
     fn answer(alloc: Global, asked: &str) -> Result<String, Fail> {
-        let text = repeated(alloc, asked)?;
-        Whole::answer(alloc, text.as_str())
+        answer_to_parts::<Whole>(alloc, asked)
     }
-}
-
-fn repeated(alloc: Global, row: &str) -> Result<String, Fail> {
-    let times = number::<usize>(field(row, 1), 0)?;
-    let middle = field(row, 2).repeat(alloc, times)?;
-    Ok(format!(in alloc; "{}{middle}{}", field(row, 0), field(row, 3))?)
 }
 
 #[test]

@@ -1,5 +1,6 @@
 // What no clause says: bodies from outside with what they ask, and that texts are made where there is memory.
-use cts_rows::{Answers, bytes_by_number, cut, field, number, readable_of, rows_hold, same};
+use crate::parts::answer_to_parts;
+use cts_rows::{Answers, bytes_by_number, display_of, field, number, readable_of, rows_hold, same};
 use cts_rpc::{Call, RpcFault, error_text, read, result_text};
 use serde_json::Value;
 use std::alloc::Global;
@@ -18,112 +19,93 @@ fn letter(asked: &Result<Call, RpcFault>) -> &'static str {
     }
 }
 
-fn letter_of(alloc: Global, body: &[u8]) -> Result<String, Fail> {
-    let asked = read(alloc, body);
-    Ok(letter(&asked).to_string(alloc)?)
+fn letter_of(alloc: Global, body: &[u8]) -> &'static str {
+    letter(&read(alloc, body))
 }
-
-/// Each row has the letter that is wanted, a bar, and a body with `'` for each `"`.
-const BODIES: &str = "\
-C|{'jsonrpc':'2.0','method':'get_limits_set','id':1}
-C| {'id':null,'method':'','jsonrpc':'2.0','params':[]} \t
-c|{'jsonrpc':'2.0','method':'cmd','params':['INST COLLECT with DURATION 10']}
-C|{'jsonrpc':'2.0','method':'m','params':[[{'a':-9223372036854775808}]],'id':'x'}
-C|{'jsonrpc':'2.0','method':'m','id':18446744073709551615,'more':1.5}
-c|{'jsonrpc':'1.0','jsonrpc':'2.0','method':7,'method':'m'}
-c|{'jsonrpc':'2.0','method':'m','params':[{'a':1.5,'a':2}]}
-C|{'jsonrpc': '2.0', 'method': 'subtract', 'params': [42, 23], 'id': 1}
-c|{'jsonrpc': '2.0', 'method': 'update', 'params': [1,2,3,4,5]}
-C|{'jsonrpc': '2.0', 'method': 'foobar', 'id': '1'}
-p|{
-p|
-p|{'jsonrpc': '2.0', 'method': 'foobar, 'params': 'bar', 'baz]
-p|{'jsonrpc':'2.0','method':'m'}x
-p|{'jsonrpc':'2.0','method':'\\ud800'}
-p|{'jsonrpc':'2.0','method':'m','params':[1e400]}
-p|{'jsonrpc':'2.0','method':'m','params':[01]}
-r|1
-r|null
-r|[]
-r|[1]
-r|{'jsonrpc': '2.0', 'method': 1, 'params': 'bar'}
-r|[{'jsonrpc':'2.0','method':'m'}]
-r|{}
-r|{'method':'m'}
-r|{'jsonrpc':2.0,'method':'m'}
-r|{'jsonrpc':'2','method':'m','id':1}
-r|{'jsonrpc':'2.0'}
-r|{'jsonrpc':'2.0','method':null}
-r|{'jsonrpc':'2.0','method':'m','params':null,'id':1}
-r|{'jsonrpc':'2.0','method':'m','params':'a'}
-r|{'jsonrpc':'2.0','method':'m','id':1.0}
-r|{'jsonrpc':'2.0','method':'m','id':-0}
-r|{'jsonrpc':'2.0','method':'m','id':true}
-r|{'jsonrpc':'2.0','method':'m','id':[]}
-r|{'jsonrpc':'2.0','method':'m','params':{},'id':{}}
-A|{'jsonrpc':'2.0','method':'m','params':{},'id':1}
-a|{'jsonrpc':'2.0','method':'no such','params':{'a':1}}
-A|{'jsonrpc': '2.0', 'method': 'subtract', 'params': {'subtrahend': 23, 'minuend': 42}, 'id': 3}
-A|{'jsonrpc':'2.0','method':'m','params':[1.5],'id':null}
-A|{'jsonrpc':'2.0','method':'m','params':[[],{'a':[1e2]}],'id':1}
-a|{'jsonrpc':'2.0','method':'m','params':[-0]}
-a|{'jsonrpc':'2.0','method':'m','params':[1.0]}
-a|{'jsonrpc':'2.0','method':'m','params':[-9223372036854775809]}
-a|{'jsonrpc':'2.0','method':'m','params':[18446744073709551616]}";
 
 struct Bodies;
 
 impl Answers for Bodies {
     fn answer(alloc: Global, asked: &str) -> Result<String, Fail> {
-        let body = asked.replace(alloc, '\'', "\"")?;
-        letter_of(alloc, body.as_bytes())
+        let body = bytes_by_number(alloc, asked)?;
+        display_of(alloc, &letter_of(alloc, &body))
     }
 }
+
+/// The letter that is wanted, and a body.
+const BODIES: &str = r#"C|{"jsonrpc":"2.0","method":"get_limits_set","id":1}
+c|{"jsonrpc":"2.0","method":"cmd","params":["INST COLLECT with DURATION 10"]}
+C|{"jsonrpc":"2.0","method":"m","params":[[{"a":-9223372036854775808}]],"id":"x"}
+C|{"jsonrpc":"2.0","method":"m","id":18446744073709551615,"more":1.5}
+c|{"jsonrpc":"1.0","jsonrpc":"2.0","method":7,"method":"m"}
+c|{"jsonrpc":"2.0","method":"m","params":[{"a":1.5,"a":2}]}
+C|{"jsonrpc": "2.0", "method": "subtract", "params": [42, 23], "id": 1}
+c|{"jsonrpc": "2.0", "method": "update", "params": [1,2,3,4,5]}
+C|{"jsonrpc": "2.0", "method": "foobar", "id": "1"}
+p|{
+p|
+p|{"jsonrpc": "2.0", "method": "foobar, "params": "bar", "baz]
+p|{"jsonrpc":"2.0","method":"m"}x
+p|{"jsonrpc":"2.0","method":"\ud800"}
+p|{"jsonrpc":"2.0","method":"m","params":[1e400]}
+p|{"jsonrpc":"2.0","method":"m","params":[01]}
+r|1
+r|null
+r|[]
+r|[1]
+r|{"jsonrpc": "2.0", "method": 1, "params": "bar"}
+r|[{"jsonrpc":"2.0","method":"m"}]
+r|{}
+r|{"method":"m"}
+r|{"jsonrpc":2.0,"method":"m"}
+r|{"jsonrpc":"2","method":"m","id":1}
+r|{"jsonrpc":"2.0"}
+r|{"jsonrpc":"2.0","method":null}
+r|{"jsonrpc":"2.0","method":"m","params":null,"id":1}
+r|{"jsonrpc":"2.0","method":"m","params":"a"}
+r|{"jsonrpc":"2.0","method":"m","id":1.0}
+r|{"jsonrpc":"2.0","method":"m","id":-0}
+r|{"jsonrpc":"2.0","method":"m","id":true}
+r|{"jsonrpc":"2.0","method":"m","id":[]}
+r|{"jsonrpc":"2.0","method":"m","params":{},"id":{}}
+A|{"jsonrpc":"2.0","method":"m","params":{},"id":1}
+a|{"jsonrpc":"2.0","method":"no such","params":{"a":1}}
+A|{"jsonrpc": "2.0", "method": "subtract", "params": {"subtrahend": 23, "minuend": 42}, "id": 3}
+A|{"jsonrpc":"2.0","method":"m","params":[1.5],"id":null}
+A|{"jsonrpc":"2.0","method":"m","params":[[],{"a":[1e2]}],"id":1}
+a|{"jsonrpc":"2.0","method":"m","params":[-0]}
+a|{"jsonrpc":"2.0","method":"m","params":[1.0]}
+a|{"jsonrpc":"2.0","method":"m","params":[-9223372036854775809]}
+a|{"jsonrpc":"2.0","method":"m","params":[18446744073709551616]}"#;
 
 #[test]
 fn bodies_are_calls_or_say_why_not(rt: HostRuntime) -> Result<(), Fail> {
     rows_hold::<Bodies>(rt.alloc(), BODIES)
 }
 
-/// A method with a byte ff, and a call behind a byte order mark. Each character is the byte of its number.
-const NO_TEXTS: &str = "\
+/// The same of bodies whose bytes are the numbers of characters: blanks and a tab around a call, a method with a byte ff, and a call
+/// behind a byte order mark.
+const BYTES: &str = "\
+C| {\"id\":null,\"method\":\"\",\"jsonrpc\":\"2.0\",\"params\":[]} \t
 p|{\"jsonrpc\":\"2.0\",\"method\":\"\u{ff}\"}
 p|\u{ef}\u{bb}\u{bf}{\"jsonrpc\":\"2.0\",\"method\":\"m\"}";
 
-struct NoTexts;
-
-impl Answers for NoTexts {
-    fn answer(alloc: Global, asked: &str) -> Result<String, Fail> {
-        let body = bytes_by_number(alloc, asked)?;
-        letter_of(alloc, &body)
-    }
-}
-
 #[test]
 fn a_body_is_text(rt: HostRuntime) -> Result<(), Fail> {
-    rows_hold::<NoTexts>(rt.alloc(), NO_TEXTS)
+    rows_hold::<Bodies>(rt.alloc(), BYTES)
 }
 
-/// Bodies whose params are so many arrays in one another.
-const DEPTHS: &str = "\
-c|126
-p|127";
+/// Bodies whose params are 126 arrays in one another, and 127.
+const DEPTHS: &str = r#"c|1*{"jsonrpc":"2.0","method":"m","params":|126*[|126*]|1*}
+p|1*{"jsonrpc":"2.0","method":"m","params":|127*[|127*]|1*}"#;
 
+/// What a body of repeated parts asks.
 struct Depths;
 
 impl Answers for Depths {
     fn answer(alloc: Global, asked: &str) -> Result<String, Fail> {
-        let body = nested(alloc, number(asked, 0)?)?;
-        letter_of(alloc, body.as_bytes())
+        answer_to_parts::<Bodies>(alloc, asked)
     }
-}
-
-fn nested(alloc: Global, depth: usize) -> Result<String, Fail> {
-    let arrays = "[".repeat(alloc, depth)?;
-    let ends = "]".repeat(alloc, depth)?;
-    Ok(format!(in alloc;
-        "{{\"jsonrpc\":\"2.0\",\"method\":\"m\",\"params\":{arrays}{ends}}}"
-    )?)
 }
 
 #[test]
@@ -154,22 +136,42 @@ fn a_call_has_its_parts(rt: HostRuntime) -> Result<(), Fail> {
 }
 
 /// The text of a response, its id, and its result.
-const RESULTS: &str = r#"Ok('{"id":1,"jsonrpc":"2.0","result":"DEFAULT"}')|1|"DEFAULT"
-Ok('{"id":null,"jsonrpc":"2.0","result":["INST","COLLECT",{"DURATION":10}]}')|null|["INST","COLLECT",{"DURATION":10}]"#;
+const RESULTS: &str = r#"Ok('{"id":1,"jsonrpc":"2.0","result":"DEFAULT"}')|1|result|"DEFAULT"
+Ok('{"id":null,"jsonrpc":"2.0","result":["INST","COLLECT",{"DURATION":10}]}')|null|result|["INST","COLLECT",{"DURATION":10}]"#;
 
-struct Results;
+/// The text of a response, its id, and the code and the message of its error. In both texts each character is the byte of its
+/// number, and in the message `;` is a line feed.
+const ERRORS: &str = "\
+Ok('{\"error\":{\"code\":-32700,\"message\":\"Parse error\"},\"id\":null,\"jsonrpc\":\"2.0\"}')|null|-32700|Parse error
+Ok('{\"error\":{\"code\":-32002,\"message\":\"Unknown parameter: \\\"\\u0001\x7f\u{c3}\u{a9}\\\\\\n\"},\"id\":1,\"jsonrpc\":\"2.0\"}')|1|-32002|Unknown parameter: \"\x01\x7f\u{c3}\u{a9}\\;
+Ok('{\"error\":{\"code\":-9223372036854775808,\"message\":\"\"},\"id\":1,\"jsonrpc\":\"2.0\"}')|1|-9223372036854775808|";
 
-impl Answers for Results {
+/// The response to an id.
+struct Replies;
+
+impl Answers for Replies {
     fn answer(alloc: Global, asked: &str) -> Result<String, Fail> {
-        let (id, value) = cut(asked, '|')?;
-        let id = json_of(alloc, id)?;
-        result_of(alloc, &id, value)
+        let id = json_of(alloc, field(asked, 0))?;
+        reply_of(alloc, &id, field(asked, 1), field(asked, 2))
     }
+}
+
+/// The response with this result, or with an error of this code and message.
+fn reply_of(alloc: Global, id: &Value, code: &str, text: &str) -> Result<String, Fail> {
+    if code == "result" {
+        return result_of(alloc, id, text);
+    }
+    error_of(alloc, id, number(code, 0)?, text)
 }
 
 fn result_of(alloc: Global, id: &Value, value: &str) -> Result<String, Fail> {
     let value = json_of(alloc, value)?;
     readable_of(alloc, &result_text(alloc, id, value))
+}
+
+fn error_of(alloc: Global, id: &Value, code: i64, message: &str) -> Result<String, Fail> {
+    let message = bytes_by_number(alloc, message)?;
+    readable_of(alloc, &error_text(alloc, id, code, &message))
 }
 
 fn json_of(alloc: Global, text: &str) -> Result<Value, Fail> {
@@ -179,31 +181,8 @@ fn json_of(alloc: Global, text: &str) -> Result<Value, Fail> {
     }
 }
 
-/// The text of a response, its id, and the code and the message of its error. In both texts each character is the byte of its
-/// number, and in the message `;` is a line feed.
-const ERRORS: &str = "\
-Ok('{\"error\":{\"code\":-32700,\"message\":\"Parse error\"},\"id\":null,\"jsonrpc\":\"2.0\"}')|null|-32700|Parse error
-Ok('{\"error\":{\"code\":-32002,\"message\":\"Unknown parameter: \\\"\\u0001\x7f\u{c3}\u{a9}\\\\\\n\"},\"id\":1,\"jsonrpc\":\"2.0\"}')|1|-32002|Unknown parameter: \"\x01\x7f\u{c3}\u{a9}\\;
-Ok('{\"error\":{\"code\":-9223372036854775808,\"message\":\"\"},\"id\":1,\"jsonrpc\":\"2.0\"}')|1|-9223372036854775808|";
-
-struct Errors;
-
-impl Answers for Errors {
-    fn answer(alloc: Global, asked: &str) -> Result<String, Fail> {
-        let (id, error) = cut(asked, '|')?;
-        let id = json_of(alloc, id)?;
-        error_of(alloc, &id, error)
-    }
-}
-
-fn error_of(alloc: Global, id: &Value, error: &str) -> Result<String, Fail> {
-    let code = number(field(error, 0), 0)?;
-    let message = bytes_by_number(alloc, field(error, 1))?;
-    readable_of(alloc, &error_text(alloc, id, code, &message))
-}
-
 #[test]
 fn texts_of_responses(rt: HostRuntime) -> Result<(), Fail> {
-    rows_hold::<Results>(rt.alloc(), RESULTS)?;
-    rows_hold::<Errors>(rt.alloc(), ERRORS)
+    rows_hold::<Replies>(rt.alloc(), RESULTS)?;
+    rows_hold::<Replies>(rt.alloc(), ERRORS)
 }
