@@ -1,209 +1,249 @@
 // What no clause says: requests from outside however they are cut, heads with their answers, whole texts, and that a reader
 // takes what there is memory for.
+ghost use Rattle.std.specs.Prelude.{IsTrue, false, ◌≡◌};
+ghost use Rattle.cts_http.specs.Texts.{is_refusal};
+
+use crate::parts::answer_to_parts;
 use cts_http::{HttpStep, Reader, refusal, response};
+use cts_rows::{Answers, as_text, bytes_by_number, debug_of, rows_hold, same};
 use std::alloc::Global;
 use std::test::Fail;
 
-const CALL: &[u8] =
-    b"POST / HTTP/1.1\r\nContent-Length: 50\r\n\r\n{\"jsonrpc\":\"2.0\",\"method\":\"get_limits_set\",\"id\":1}";
+/// What is answered next: `again`, or `last` where the connection ends, and the body of a request; else the step.
+fn told(alloc: Global, reader: &mut Reader) -> Result<String, Fail>
+    requires { reader.old.closed ≡ false }
+{
+    match reader.next() {
+        HttpStep::Request { last } => request_text(alloc, last, reader.body()),
+        step => debug_of(alloc, &step),
+    }
+}
 
-/// Each row has what is wanted, a bar, and a request with `;` for each line end, `^` for a line feed alone, and `~` for a byte 0.
-const HEADS: &str = "\
-501|POST / HTTP/1.1;Transfer-Encoding: chunked;;
-405|GET / HTTP/1.1;;
-411|POST / HTTP/1.1;;
-400|POST / HTTP/1.1;Content-Length: x;;
-400|POST / HTTP/1.1;Content-Length:;;
-400|GET / HTTP/1.1;Content-Length: -1;;
-400|POST / HTTP/1.1;Content-Length: +1;;
-400|POST / HTTP/1.1;X: a~b;Content-Length: 0;;
-again|POST / HTTP/1.1^Content-Length: 2^^{}
-more|POST / HTTP/1.1^Content-Length: 2^^{
-413|POST / HTTP/1.1;Content-Length: 999999999999999999999999999999;;
-413|POST / HTTP/1.1;Content-Length: 1048577;;
-more|POST / HTTP/1.1;Content-Length: 1048576;;
-more|POST / HTTP/1.1;Content-Length: 0;
-again|POST / HTTP/1.1;Content-Length: 0;content-length:  00 ;;
-again|;;POST any HTTP/1.1;Content-Length: 0;;
-400|POST / HTTP/1.1;Content-Length: 0;Content-Length: 1;;
-400|POST / HTTP/2.0
-last|POST / HTTP/1.0;Content-Length: 0;;
-last|POST / HTTP/1.1;Connection: keep-alive,\tclose;Content-Length: 0;;
-again|POST / HTTP/1.1;Connection: closed;Content-Length: 0;;
-405|post / HTTP/1.1;Content-Length: 0;;";
-
-fn answer_to(alloc: Global, bytes: &[u8]) -> Result<HttpStep, Fail> {
-    let mut reader = Reader::new(alloc);
-    reader.feed(bytes)?;
-    Ok(reader.next())
+fn request_text(alloc: Global, last: bool, body: &[u8]) -> Result<String, Fail> {
+    let word = if last { "last" } else { "again" };
+    let body = as_text(body)?;
+    Ok(format!(in alloc; "{word}:{body}")?)
 }
 
 /// What is answered to two pieces, where the first one is asked of too.
-fn answer_in_two(alloc: Global, first: &[u8], second: &[u8]) -> Result<HttpStep, Fail> {
-    let mut reader = Reader::new(alloc);
+fn told_of_two(
+    alloc: Global,
+    reader: &mut Reader,
+    first: &[u8],
+    second: &[u8],
+) -> Result<String, Fail>
+    requires { reader.old.closed ≡ false }
+{
     reader.feed(first)?;
     match reader.next() {
         HttpStep::More => {
             reader.feed(second)?;
-            Ok(reader.next())
+            told(alloc, reader)
         }
-        step => Ok(step),
+        step => debug_of(alloc, &step),
     }
 }
 
-/// What is answered, in a word.
-fn word_of(alloc: Global, step: HttpStep) -> Result<String, Fail> {
-    match step {
-        HttpStep::Request { last: true } => Ok(format!(in alloc; "last")?),
-        HttpStep::Request { last: false } => Ok(format!(in alloc; "again")?),
-        HttpStep::More => Ok(format!(in alloc; "more")?),
-        HttpStep::Refuse(status) => Ok(format!(in alloc; "{status}")?),
+/// The bytes have this answer where they are cut here.
+fn cut_holds(alloc: Global, bytes: &[u8], at: usize, wanted: &str) -> Result<(), Fail> {
+    let (first, second) = bytes.split_at(at.min(bytes.len()));
+    let piece = as_text(first)?;
+    let mut reader = Reader::new(alloc);
+    let found = told_of_two(alloc, &mut reader, first, second)?;
+    same(found.as_str(), wanted, piece)
+}
+
+fn cuts_hold(alloc: Global, bytes: &[u8], wanted: &str) -> Result<(), Fail> {
+    for at in 0..bytes.len() {
+        cut_holds(alloc, bytes, at, wanted)?;
+    }
+    Ok(())
+}
+
+fn told_of_whole(alloc: Global, bytes: &[u8]) -> Result<String, Fail> {
+    let mut reader = Reader::new(alloc);
+    reader.feed(bytes)?;
+    told(alloc, &mut reader)
+}
+
+fn told_of_cuts(alloc: Global, bytes: &[u8]) -> Result<String, Fail> {
+    let told = told_of_whole(alloc, bytes)?;
+    cuts_hold(alloc, bytes, told.as_str())?;
+    Ok(told)
+}
+
+/// What is answered to a text, which is the same wherever it is cut in two.
+struct Cuts;
+
+impl Answers for Cuts {
+    fn answer(alloc: Global, asked: &str) -> Result<String, Fail> {
+        let bytes = bytes_by_number(alloc, asked)?;
+        told_of_cuts(alloc, &bytes)
     }
 }
 
-/// The bytes of a row.
-fn bytes_of(alloc: Global, row: &str) -> Result<Vec<u8>, Fail> {
-    let mut bytes = Vec::new(alloc);
-    for c in row.as_bytes() {
-        match *c {
-            b';' => bytes.extend_from_slice(b"\r\n")?,
-            b'^' => bytes.push(b'\n')?,
-            b'~' => bytes.push(0)?,
-            other => bytes.push(other)?,
-        }
-    }
-    Ok(bytes)
-}
-
-/// A head of so many bytes with its end, or without it.
-fn head_of(alloc: Global, bytes: usize, whole: bool) -> Result<Vec<u8>, Fail> {
-    let mut text = Vec::from_slice(alloc, b"POST / HTTP/1.1\r\nContent-Length: 0\r\nX: ")?;
-    let end: &[u8] = if whole { b"\r\n\r\n" } else { b"" };
-    let first = text.len().saturating_add(end.len());
-    for _ in first..bytes {
-        text.push(b'a')?;
-    }
-    text.extend_from_slice(end)?;
-    Ok(text)
-}
-
-/// A request with so many fields.
-fn fields_of(alloc: Global, count: u32) -> Result<Vec<u8>, Fail> {
-    let mut text = Vec::from_slice(alloc, b"POST / HTTP/1.1\r\nContent-Length: 0\r\n")?;
-    for _ in 1..count {
-        text.extend_from_slice(b"A: b\r\n")?;
-    }
-    text.extend_from_slice(b"\r\n")?;
-    Ok(text)
-}
+/// A request, and what is answered to it.
+const FOUND: &str =
+    "again:{\"jsonrpc\":\"2.0\",\"method\":\"get_limits_set\",\"id\":1}|POST / HTTP/1.1\r;Content-Length: 50\r;\r;{\"jsonrpc\":\"2.0\",\"method\":\"get_limits_set\",\"id\":1}";
 
 #[test]
 fn requests_are_found_however_they_are_cut(rt: HostRuntime) -> Result<(), Fail> {
-    for cut in 0..CALL.len() {
-        let mut reader = Reader::new(rt.alloc());
-        reader.feed(&CALL[..cut])?;
-        assert_eq!(rt; reader.next(), HttpStep::More, "at {cut}");
-        reader.feed(&CALL[cut..])?;
-        assert_eq!(rt;
-            reader.next(),
-            HttpStep::Request { last: false },
-            "at {cut}"
-        );
-        assert_eq!(rt; reader.body(), &CALL[39..], "at {cut}");
-    }
-    Ok(())
+    rows_hold::<Cuts>(rt.alloc(), FOUND)
+}
+
+const CALL: &[u8] =
+    b"POST / HTTP/1.1\r\nContent-Length: 50\r\n\r\n{\"jsonrpc\":\"2.0\",\"method\":\"get_limits_set\",\"id\":1}";
+
+const LAST: &[u8] = b"POST / HTTP/1.1\r\nContent-Length: 1\r\nConnection: a, CLOSE\r\n\r\n{";
+
+/// How many bytes the body of the first request has, how many are held then, and the body of the second one, which is the last.
+fn told_of_both(alloc: Global, reader: &mut Reader) -> Result<String, Fail>
+    requires { reader.old.closed ≡ false }
+{
+    reader.feed(CALL)?;
+    reader.feed(LAST)?;
+    let HttpStep::Request { last: false } = reader.next() else {
+        return Err(Fail::new("the first request is another step"));
+    };
+    let (body, held) = (reader.body().len(), reader.held());
+    let HttpStep::Request { last: true } = reader.next() else {
+        return Err(Fail::new("the second request is another step"));
+    };
+    debug_of(alloc, &(body, held, reader.body()))
 }
 
 #[test]
 fn several_requests_come_on_one_connection(rt: HostRuntime) -> Result<(), Fail> {
     let mut reader = Reader::new(rt.alloc());
+    let found = told_of_both(rt.alloc(), &mut reader)?;
+    same(found.as_str(), "(50, 150, [123])", "two requests")
+}
+
+/// A bad piece is refused, and a call behind it too.
+fn refuses_for_good(reader: &mut Reader) -> Result<(), Fail>
+    requires { reader.old.closed ≡ false }
+{
+    let HttpStep::More = reader.next() else {
+        return Err(Fail::new("an answer to nothing"));
+    };
+    reader.feed(b"POST / HTTP/2.0")?;
+    let HttpStep::Refuse(400) = reader.next() else {
+        return Err(Fail::new("a bad piece is not refused"));
+    };
     reader.feed(CALL)?;
-    reader.feed(b"POST / HTTP/1.1\r\nContent-Length: 1\r\nConnection: a, CLOSE\r\n\r\n{")?;
-    assert_eq!(rt; reader.next(), HttpStep::Request { last: false });
-    assert_eq!(rt; reader.body().len(), 50);
-    assert_eq!(rt; reader.held(), 150);
-    assert_eq!(rt; reader.next(), HttpStep::Request { last: true });
-    assert_eq!(rt; reader.body(), b"{".as_slice());
-    Ok(())
+    match reader.next() {
+        HttpStep::Refuse(400) => Ok(()),
+        _ => Err(Fail::new("a call behind it is not refused")),
+    }
 }
 
 #[test]
 fn a_refusal_stays(rt: HostRuntime) -> Result<(), Fail> {
     let mut reader = Reader::new(rt.alloc());
-    assert_eq!(rt; reader.next(), HttpStep::More);
-    reader.feed(b"POST / HTTP/2.0")?;
-    assert_eq!(rt; reader.next(), HttpStep::Refuse(400));
-    reader.feed(CALL)?;
-    assert_eq!(rt; reader.next(), HttpStep::Refuse(400));
-    Ok(())
+    refuses_for_good(&mut reader)
 }
+
+/// Answers to requests, whose line feeds are `;`.
+const HEADS: &str = "\
+Refuse(501)|POST / HTTP/1.1\r;Transfer-Encoding: chunked\r;\r;
+Refuse(405)|GET / HTTP/1.1\r;\r;
+Refuse(411)|POST / HTTP/1.1\r;\r;
+Refuse(400)|POST / HTTP/1.1\r;Content-Length: x\r;\r;
+Refuse(400)|POST / HTTP/1.1\r;Content-Length:\r;\r;
+Refuse(400)|GET / HTTP/1.1\r;Content-Length: -1\r;\r;
+Refuse(400)|POST / HTTP/1.1\r;Content-Length: +1\r;\r;
+Refuse(400)|POST / HTTP/1.1\r;X: a\0b\r;Content-Length: 0\r;\r;
+again:{}|POST / HTTP/1.1;Content-Length: 2;;{}
+More|POST / HTTP/1.1;Content-Length: 2;;{
+Refuse(413)|POST / HTTP/1.1\r;Content-Length: 999999999999999999999999999999\r;\r;
+Refuse(413)|POST / HTTP/1.1\r;Content-Length: 1048577\r;\r;
+More|POST / HTTP/1.1\r;Content-Length: 1048576\r;\r;
+More|POST / HTTP/1.1\r;Content-Length: 0\r;
+again:|POST / HTTP/1.1\r;Content-Length: 0\r;content-length:  00 \r;\r;
+again:|\r;\r;POST any HTTP/1.1\r;Content-Length: 0\r;\r;
+Refuse(400)|POST / HTTP/1.1\r;Content-Length: 0\r;Content-Length: 1\r;\r;
+Refuse(400)|POST / HTTP/2.0
+last:|POST / HTTP/1.0\r;Content-Length: 0\r;\r;
+last:|POST / HTTP/1.1\r;Connection: keep-alive,\tclose\r;Content-Length: 0\r;\r;
+again:|POST / HTTP/1.1\r;Connection: closed\r;Content-Length: 0\r;\r;
+Refuse(405)|post / HTTP/1.1\r;Content-Length: 0\r;\r;";
 
 #[test]
 fn each_request_has_its_answer_however_it_is_cut(rt: HostRuntime) -> Result<(), Fail> {
-    for row in HEADS.lines() {
-        let Some((want, text)) = row.split_once('|') else {
-            return Err(Fail::new("no row"));
-        };
-        let bytes = bytes_of(rt.alloc(), text)?;
-        for cut in 0..bytes.len() {
-            let step = answer_in_two(rt.alloc(), &bytes[..cut], &bytes[cut..])?;
-            assert_eq!(rt; word_of(rt.alloc(), step)?.as_str(), want, "at {row}");
-        }
+    rows_hold::<Cuts>(rt.alloc(), HEADS)
+}
+
+/// A target with a byte ff.
+const TARGET: &str = "Refuse(400)|POST /\u{ff} HTTP/1.1\r;Content-Length: 0\r;\r;";
+
+/// What is answered to a whole text.
+struct Whole;
+
+impl Answers for Whole {
+    fn answer(alloc: Global, asked: &str) -> Result<String, Fail> {
+        let bytes = bytes_by_number(alloc, asked)?;
+        told_of_whole(alloc, &bytes)
     }
-    Ok(())
 }
 
 #[test]
 fn a_target_is_text(rt: HostRuntime) -> Result<(), Fail> {
-    let step = answer_to(
-        rt.alloc(),
-        b"POST /\xff HTTP/1.1\r\nContent-Length: 0\r\n\r\n",
-    )?;
-    assert_eq!(rt; step, HttpStep::Refuse(400));
-    Ok(())
+    rows_hold::<Whole>(rt.alloc(), TARGET)
+}
+
+/// Answers to heads of 16,384 bytes and of 16,385, with their end and without it, and to heads of 64 fields and of 65.
+const BOUNDS: &str = "\
+again:|1*POST / HTTP/1.1\r;Content-Length: 0\r;X: |16341*a|1*\r;\r;
+Refuse(431)|1*POST / HTTP/1.1\r;Content-Length: 0\r;X: |16342*a|1*\r;\r;
+More|1*POST / HTTP/1.1\r;Content-Length: 0\r;X: |16345*a
+Refuse(431)|1*POST / HTTP/1.1\r;Content-Length: 0\r;X: |16346*a
+again:|1*POST / HTTP/1.1\r;Content-Length: 0\r;|63*A: b\r;|1*\r;
+Refuse(431)|1*POST / HTTP/1.1\r;Content-Length: 0\r;|64*A: b\r;|1*\r;";
+
+/// What is answered to a text of repeated parts.
+struct Bounds;
+
+impl Answers for Bounds {
+    fn answer(alloc: Global, asked: &str) -> Result<String, Fail> {
+        answer_to_parts::<Whole>(alloc, asked)
+    }
 }
 
 #[test]
 fn heads_are_bounded(rt: HostRuntime) -> Result<(), Fail> {
-    let alloc = rt.alloc();
-    let again = HttpStep::Request { last: false };
-    assert_eq!(rt; answer_to(alloc, &head_of(alloc, 16384, true)?)?, again);
-    assert_eq!(rt;
-        answer_to(alloc, &head_of(alloc, 16385, true)?)?,
-        HttpStep::Refuse(431)
-    );
-    assert_eq!(rt;
-        answer_to(alloc, &head_of(alloc, 16384, false)?)?,
-        HttpStep::More
-    );
-    assert_eq!(rt;
-        answer_to(alloc, &head_of(alloc, 16385, false)?)?,
-        HttpStep::Refuse(431)
-    );
-    assert_eq!(rt; answer_to(alloc, &fields_of(alloc, 64)?)?, again);
-    assert_eq!(rt;
-        answer_to(alloc, &fields_of(alloc, 65)?)?,
-        HttpStep::Refuse(431)
-    );
-    Ok(())
+    rows_hold::<Bounds>(rt.alloc(), BOUNDS)
 }
 
+/// A response is written over what stood there.
+fn response_is(front: u64, length: Option<u64>, wanted: &str) -> Result<(), Fail> {
+    let mut out = [b'-'; 160];
+    let count = response(front, length, &mut out);
+    same(as_text(&out[..count])?, wanted, "a response")
+}
+
+fn refusal_is(status: u16, wanted: &str) -> Result<(), Fail>
+    requires { IsTrue (is_refusal status) }
+{
+    let mut out = [b'-'; 160];
+    let count = refusal(status, &mut out);
+    same(as_text(&out[..count])?, wanted, "a refusal")
+}
+
+const OK: &str =
+    "HTTP/1.1 200 OK\r\nContent-Type: application/json-rpc\r\nContent-Length: 43\r\nX-Cts-Front: 0\r\n\r\n";
+
+const NO_CONTENT: &str = "HTTP/1.1 204 No Content\r\nX-Cts-Front: 18446744073709551615\r\n\r\n";
+
+const NOT_ALLOWED: &str =
+    "HTTP/1.1 405 Method Not Allowed\r\nAllow: POST\r\nContent-Length: 0\r\nConnection: close\r\n\r\n";
+
+const TOO_LARGE: &str =
+    "HTTP/1.1 431 Request Header Fields Too Large\r\nContent-Length: 0\r\nConnection: close\r\n\r\n";
+
 #[test]
-fn heads_and_refusals_have_their_bytes(rt: HostRuntime) {
-    let mut out = [0; 160];
-    let count = response(0, Some(43), &mut out);
-    let text =
-        b"HTTP/1.1 200 OK\r\nContent-Type: application/json-rpc\r\nContent-Length: 43\r\nX-Cts-Front: 0\r\n\r\n";
-    assert_eq!(rt; &out[..count], text.as_slice());
-    let count = response(u64::MAX, None, &mut out);
-    let text = b"HTTP/1.1 204 No Content\r\nX-Cts-Front: 18446744073709551615\r\n\r\n";
-    assert_eq!(rt; &out[..count], text.as_slice());
-    let count = refusal(405, &mut out);
-    let text =
-        b"HTTP/1.1 405 Method Not Allowed\r\nAllow: POST\r\nContent-Length: 0\r\nConnection: close\r\n\r\n";
-    assert_eq!(rt; &out[..count], text.as_slice());
-    let count = refusal(431, &mut out);
-    let text =
-        b"HTTP/1.1 431 Request Header Fields Too Large\r\nContent-Length: 0\r\nConnection: close\r\n\r\n";
-    assert_eq!(rt; &out[..count], text.as_slice());
+fn heads_and_refusals_have_their_bytes(rt: HostRuntime) -> Result<(), Fail> {
+    response_is(0, Some(43), OK)?;
+    response_is(u64::MAX, None, NO_CONTENT)?;
+    refusal_is(405, NOT_ALLOWED)?;
+    refusal_is(431, TOO_LARGE)
 }

@@ -5,4 +5,6 @@
 #[cfg(test)]
 mod http;
 #[cfg(test)]
+mod parts;
+#[cfg(test)]
 mod rpc;

@@ -1,179 +1,188 @@
 // What no clause says: bodies from outside with what they ask, and that texts are made where there is memory.
+use crate::parts::answer_to_parts;
+use cts_rows::{Answers, bytes_by_number, display_of, field, number, readable_of, rows_hold, same};
 use cts_rpc::{Call, RpcFault, error_text, read, result_text};
-use serde_json::{Value, json};
-use std::alloc::{AllocError, Global};
+use serde_json::Value;
+use std::alloc::Global;
 use std::test::Fail;
 
 /// What a body asks, in one letter: a call with or without an id, or why it is none.
-fn letter(asked: &Result<Call, RpcFault>) -> u8 {
+fn letter(asked: &Result<Call, RpcFault>) -> &'static str {
     match asked {
-        Ok(call) => match call.id {
-            Some(_) => b'C',
-            None => b'c',
-        },
-        Err(RpcFault::ParseError) => b'p',
-        Err(RpcFault::InvalidRequest) => b'r',
-        Err(RpcFault::InvalidParams { id: Some(_) }) => b'A',
-        Err(RpcFault::InvalidParams { id: None }) => b'a',
-        Err(RpcFault::Memory) => b'm',
+        Ok(Call { id: Some(_), .. }) => "C",
+        Ok(Call { id: None, .. }) => "c",
+        Err(RpcFault::ParseError) => "p",
+        Err(RpcFault::InvalidRequest) => "r",
+        Err(RpcFault::InvalidParams { id: Some(_) }) => "A",
+        Err(RpcFault::InvalidParams { id: None }) => "a",
+        Err(RpcFault::Memory) => "m",
     }
 }
 
-/// Each row has the letter that is wanted, a bar, and a body with `'` for each `"`.
-const BODIES: &str = "\
-C|{'jsonrpc':'2.0','method':'get_limits_set','id':1}
-C| {'id':null,'method':'','jsonrpc':'2.0','params':[]} \t
-c|{'jsonrpc':'2.0','method':'cmd','params':['INST COLLECT with DURATION 10']}
-C|{'jsonrpc':'2.0','method':'m','params':[[{'a':-9223372036854775808}]],'id':'x'}
-C|{'jsonrpc':'2.0','method':'m','id':18446744073709551615,'more':1.5}
-c|{'jsonrpc':'1.0','jsonrpc':'2.0','method':7,'method':'m'}
-c|{'jsonrpc':'2.0','method':'m','params':[{'a':1.5,'a':2}]}
-C|{'jsonrpc': '2.0', 'method': 'subtract', 'params': [42, 23], 'id': 1}
-c|{'jsonrpc': '2.0', 'method': 'update', 'params': [1,2,3,4,5]}
-C|{'jsonrpc': '2.0', 'method': 'foobar', 'id': '1'}
+fn letter_of(alloc: Global, body: &[u8]) -> &'static str {
+    letter(&read(alloc, body))
+}
+
+struct Bodies;
+
+impl Answers for Bodies {
+    fn answer(alloc: Global, asked: &str) -> Result<String, Fail> {
+        let body = bytes_by_number(alloc, asked)?;
+        display_of(alloc, &letter_of(alloc, &body))
+    }
+}
+
+/// The letter that is wanted, and a body.
+const BODIES: &str = r#"C|{"jsonrpc":"2.0","method":"get_limits_set","id":1}
+c|{"jsonrpc":"2.0","method":"cmd","params":["INST COLLECT with DURATION 10"]}
+C|{"jsonrpc":"2.0","method":"m","params":[[{"a":-9223372036854775808}]],"id":"x"}
+C|{"jsonrpc":"2.0","method":"m","id":18446744073709551615,"more":1.5}
+c|{"jsonrpc":"1.0","jsonrpc":"2.0","method":7,"method":"m"}
+c|{"jsonrpc":"2.0","method":"m","params":[{"a":1.5,"a":2}]}
+C|{"jsonrpc": "2.0", "method": "subtract", "params": [42, 23], "id": 1}
+c|{"jsonrpc": "2.0", "method": "update", "params": [1,2,3,4,5]}
+C|{"jsonrpc": "2.0", "method": "foobar", "id": "1"}
 p|{
 p|
-p|{'jsonrpc': '2.0', 'method': 'foobar, 'params': 'bar', 'baz]
-p|{'jsonrpc':'2.0','method':'m'}x
-p|{'jsonrpc':'2.0','method':'\\ud800'}
-p|{'jsonrpc':'2.0','method':'m','params':[1e400]}
-p|{'jsonrpc':'2.0','method':'m','params':[01]}
+p|{"jsonrpc": "2.0", "method": "foobar, "params": "bar", "baz]
+p|{"jsonrpc":"2.0","method":"m"}x
+p|{"jsonrpc":"2.0","method":"\ud800"}
+p|{"jsonrpc":"2.0","method":"m","params":[1e400]}
+p|{"jsonrpc":"2.0","method":"m","params":[01]}
 r|1
 r|null
 r|[]
 r|[1]
-r|{'jsonrpc': '2.0', 'method': 1, 'params': 'bar'}
-r|[{'jsonrpc':'2.0','method':'m'}]
+r|{"jsonrpc": "2.0", "method": 1, "params": "bar"}
+r|[{"jsonrpc":"2.0","method":"m"}]
 r|{}
-r|{'method':'m'}
-r|{'jsonrpc':2.0,'method':'m'}
-r|{'jsonrpc':'2','method':'m','id':1}
-r|{'jsonrpc':'2.0'}
-r|{'jsonrpc':'2.0','method':null}
-r|{'jsonrpc':'2.0','method':'m','params':null,'id':1}
-r|{'jsonrpc':'2.0','method':'m','params':'a'}
-r|{'jsonrpc':'2.0','method':'m','id':1.0}
-r|{'jsonrpc':'2.0','method':'m','id':-0}
-r|{'jsonrpc':'2.0','method':'m','id':true}
-r|{'jsonrpc':'2.0','method':'m','id':[]}
-r|{'jsonrpc':'2.0','method':'m','params':{},'id':{}}
-A|{'jsonrpc':'2.0','method':'m','params':{},'id':1}
-a|{'jsonrpc':'2.0','method':'no such','params':{'a':1}}
-A|{'jsonrpc': '2.0', 'method': 'subtract', 'params': {'subtrahend': 23, 'minuend': 42}, 'id': 3}
-A|{'jsonrpc':'2.0','method':'m','params':[1.5],'id':null}
-A|{'jsonrpc':'2.0','method':'m','params':[[],{'a':[1e2]}],'id':1}
-a|{'jsonrpc':'2.0','method':'m','params':[-0]}
-a|{'jsonrpc':'2.0','method':'m','params':[1.0]}
-a|{'jsonrpc':'2.0','method':'m','params':[-9223372036854775809]}
-a|{'jsonrpc':'2.0','method':'m','params':[18446744073709551616]}";
-
-/// The body of a row.
-fn body_of(alloc: Global, row: &str) -> Result<Vec<u8>, AllocError> {
-    let mut body = Vec::new(alloc);
-    for c in row.as_bytes() {
-        body.push(if *c == b'\'' { b'"' } else { *c })?;
-    }
-    Ok(body)
-}
+r|{"method":"m"}
+r|{"jsonrpc":2.0,"method":"m"}
+r|{"jsonrpc":"2","method":"m","id":1}
+r|{"jsonrpc":"2.0"}
+r|{"jsonrpc":"2.0","method":null}
+r|{"jsonrpc":"2.0","method":"m","params":null,"id":1}
+r|{"jsonrpc":"2.0","method":"m","params":"a"}
+r|{"jsonrpc":"2.0","method":"m","id":1.0}
+r|{"jsonrpc":"2.0","method":"m","id":-0}
+r|{"jsonrpc":"2.0","method":"m","id":true}
+r|{"jsonrpc":"2.0","method":"m","id":[]}
+r|{"jsonrpc":"2.0","method":"m","params":{},"id":{}}
+A|{"jsonrpc":"2.0","method":"m","params":{},"id":1}
+a|{"jsonrpc":"2.0","method":"no such","params":{"a":1}}
+A|{"jsonrpc": "2.0", "method": "subtract", "params": {"subtrahend": 23, "minuend": 42}, "id": 3}
+A|{"jsonrpc":"2.0","method":"m","params":[1.5],"id":null}
+A|{"jsonrpc":"2.0","method":"m","params":[[],{"a":[1e2]}],"id":1}
+a|{"jsonrpc":"2.0","method":"m","params":[-0]}
+a|{"jsonrpc":"2.0","method":"m","params":[1.0]}
+a|{"jsonrpc":"2.0","method":"m","params":[-9223372036854775809]}
+a|{"jsonrpc":"2.0","method":"m","params":[18446744073709551616]}"#;
 
 #[test]
 fn bodies_are_calls_or_say_why_not(rt: HostRuntime) -> Result<(), Fail> {
-    for row in BODIES.lines() {
-        let Some((want, text)) = row.split_once('|') else {
-            return Err(Fail::new("no row"));
-        };
-        let found = letter(&read(rt.alloc(), &body_of(rt.alloc(), text)?));
-        assert_eq!(rt; want.as_bytes(), [found].as_slice(), "at {row}");
-    }
-    Ok(())
+    rows_hold::<Bodies>(rt.alloc(), BODIES)
 }
+
+/// The same of bodies whose bytes are the numbers of characters: blanks and a tab around a call, a method with a byte ff, and a call
+/// behind a byte order mark.
+const BYTES: &str = "\
+C| {\"id\":null,\"method\":\"\",\"jsonrpc\":\"2.0\",\"params\":[]} \t
+p|{\"jsonrpc\":\"2.0\",\"method\":\"\u{ff}\"}
+p|\u{ef}\u{bb}\u{bf}{\"jsonrpc\":\"2.0\",\"method\":\"m\"}";
 
 #[test]
 fn a_body_is_text(rt: HostRuntime) -> Result<(), Fail> {
-    let body = b"{\"jsonrpc\":\"2.0\",\"method\":\"\xff\"}";
-    assert_eq!(rt; letter(&read(rt.alloc(), body)), b'p');
-    let marked = b"\xef\xbb\xbf{\"jsonrpc\":\"2.0\",\"method\":\"m\"}";
-    assert_eq!(rt; letter(&read(rt.alloc(), marked)), b'p');
-    Ok(())
+    rows_hold::<Bodies>(rt.alloc(), BYTES)
 }
 
-/// A body whose params are so many arrays in one another.
-fn nested(alloc: Global, depth: usize) -> Result<Vec<u8>, AllocError> {
-    let mut body = Vec::new(alloc);
-    body.extend_from_slice(b"{\"jsonrpc\":\"2.0\",\"method\":\"m\",\"params\":")?;
-    for _ in 0..depth {
-        body.push(b'[')?;
+/// Bodies whose params are 126 arrays in one another, and 127.
+const DEPTHS: &str = r#"c|1*{"jsonrpc":"2.0","method":"m","params":|126*[|126*]|1*}
+p|1*{"jsonrpc":"2.0","method":"m","params":|127*[|127*]|1*}"#;
+
+/// What a body of repeated parts asks.
+struct Depths;
+
+impl Answers for Depths {
+    fn answer(alloc: Global, asked: &str) -> Result<String, Fail> {
+        answer_to_parts::<Bodies>(alloc, asked)
     }
-    for _ in 0..depth {
-        body.push(b']')?;
-    }
-    body.push(b'}')?;
-    Ok(body)
 }
 
 #[test]
 fn arrays_and_objects_nest_at_most_127_deep(rt: HostRuntime) -> Result<(), Fail> {
-    assert_eq!(rt; letter(&read(rt.alloc(), &nested(rt.alloc(), 126)?)), b'c');
-    assert_eq!(rt; letter(&read(rt.alloc(), &nested(rt.alloc(), 127)?)), b'p');
-    Ok(())
+    rows_hold::<Depths>(rt.alloc(), DEPTHS)
+}
+
+const TLM: &[u8] =
+    b"{\"jsonrpc\":\"2.0\",\"method\":\"tlm\",\"params\":[\"a\",1,{\"x\":-2}],\"id\":\"7\"}";
+
+/// A call's method, how many params it has, and the response that gives them back.
+fn told_of_call(alloc: Global, call: Call) -> Result<String, Fail> {
+    let Call { method, params, id } = call;
+    let count = params.len();
+    let params = Value::Array(params.into_vec());
+    let text = result_text(alloc, &id.unwrap_or(Value::Null), params);
+    readable_of(alloc, &(method, count, text))
 }
 
 #[test]
 fn a_call_has_its_parts(rt: HostRuntime) -> Result<(), Fail> {
-    let body =
-        b"{\"jsonrpc\":\"2.0\",\"method\":\"tlm\",\"params\":[\"a\",1,{\"x\":-2}],\"id\":\"7\"}";
-    let Ok(call) = read(rt.alloc(), body) else {
-        panic!(rt; "refused");
+    let Ok(call) = read(rt.alloc(), TLM) else {
+        return Err(Fail::new("refused"));
     };
-    assert_eq!(rt; call.method.as_slice(), b"tlm".as_slice());
-    assert_eq!(rt; call.params.len(), 3);
-    let id = call.id.unwrap_or(Value::Null);
-    let mut params = Vec::new(rt.alloc());
-    for value in call.params.as_slice() {
-        params.push(value.clone()?)?;
+    let found = told_of_call(rt.alloc(), call)?;
+    let wanted = r#"('tlm', 3, Ok('{"id":"7","jsonrpc":"2.0","result":["a",1,{"x":-2}]}'))"#;
+    same(found.as_str(), wanted, "a call")
+}
+
+/// The text of a response, its id, and its result.
+const RESULTS: &str = r#"Ok('{"id":1,"jsonrpc":"2.0","result":"DEFAULT"}')|1|result|"DEFAULT"
+Ok('{"id":null,"jsonrpc":"2.0","result":["INST","COLLECT",{"DURATION":10}]}')|null|result|["INST","COLLECT",{"DURATION":10}]"#;
+
+/// The text of a response, its id, and the code and the message of its error. In both texts each character is the byte of its
+/// number, and in the message `;` is a line feed.
+const ERRORS: &str = "\
+Ok('{\"error\":{\"code\":-32700,\"message\":\"Parse error\"},\"id\":null,\"jsonrpc\":\"2.0\"}')|null|-32700|Parse error
+Ok('{\"error\":{\"code\":-32002,\"message\":\"Unknown parameter: \\\"\\u0001\x7f\u{c3}\u{a9}\\\\\\n\"},\"id\":1,\"jsonrpc\":\"2.0\"}')|1|-32002|Unknown parameter: \"\x01\x7f\u{c3}\u{a9}\\;
+Ok('{\"error\":{\"code\":-9223372036854775808,\"message\":\"\"},\"id\":1,\"jsonrpc\":\"2.0\"}')|1|-9223372036854775808|";
+
+/// The response to an id.
+struct Replies;
+
+impl Answers for Replies {
+    fn answer(alloc: Global, asked: &str) -> Result<String, Fail> {
+        let id = json_of(alloc, field(asked, 0))?;
+        reply_of(alloc, &id, field(asked, 1), field(asked, 2))
     }
-    let text = result_text(rt.alloc(), &id, Value::Array(params))?;
-    assert_eq!(rt;
-        text.as_slice(),
-        b"{\"id\":\"7\",\"jsonrpc\":\"2.0\",\"result\":[\"a\",1,{\"x\":-2}]}".as_slice()
-    );
-    Ok(())
+}
+
+/// The response with this result, or with an error of this code and message.
+fn reply_of(alloc: Global, id: &Value, code: &str, text: &str) -> Result<String, Fail> {
+    if code == "result" {
+        return result_of(alloc, id, text);
+    }
+    error_of(alloc, id, number(code, 0)?, text)
+}
+
+fn result_of(alloc: Global, id: &Value, value: &str) -> Result<String, Fail> {
+    let value = json_of(alloc, value)?;
+    readable_of(alloc, &result_text(alloc, id, value))
+}
+
+fn error_of(alloc: Global, id: &Value, code: i64, message: &str) -> Result<String, Fail> {
+    let message = bytes_by_number(alloc, message)?;
+    readable_of(alloc, &error_text(alloc, id, code, &message))
+}
+
+fn json_of(alloc: Global, text: &str) -> Result<Value, Fail> {
+    match Value::from_str(alloc, text) {
+        Ok(value) => Ok(value),
+        Err(_) => Err(Fail::new("no JSON")),
+    }
 }
 
 #[test]
 fn texts_of_responses(rt: HostRuntime) -> Result<(), Fail> {
-    let one = json!(in rt.alloc(); 1)?;
-    let set = json!(in rt.alloc(); "DEFAULT")?;
-    let text = result_text(rt.alloc(), &one, set)?;
-    assert_eq!(rt;
-        text.as_slice(),
-        b"{\"id\":1,\"jsonrpc\":\"2.0\",\"result\":\"DEFAULT\"}".as_slice()
-    );
-    let sent = json!(in rt.alloc(); ["INST", "COLLECT", {"DURATION": 10}])?;
-    let text = result_text(rt.alloc(), &Value::Null, sent)?;
-    assert_eq!(rt;
-        text.as_slice(),
-        b"{\"id\":null,\"jsonrpc\":\"2.0\",\"result\":[\"INST\",\"COLLECT\",{\"DURATION\":10}]}".as_slice()
-    );
-    let text = error_text(rt.alloc(), &Value::Null, -32700, b"Parse error")?;
-    assert_eq!(rt;
-        text.as_slice(),
-        b"{\"error\":{\"code\":-32700,\"message\":\"Parse error\"},\"id\":null,\"jsonrpc\":\"2.0\"}".as_slice()
-    );
-    let text = error_text(
-        rt.alloc(),
-        &one,
-        -32002,
-        b"Unknown parameter: \"\x01\x7f\xc3\xa9\\\n",
-    )?;
-    assert_eq!(rt;
-        text.as_slice(),
-        b"{\"error\":{\"code\":-32002,\"message\":\"Unknown parameter: \\\"\\u0001\x7f\xc3\xa9\\\\\\n\"},\"id\":1,\"jsonrpc\":\"2.0\"}".as_slice()
-    );
-    let text = error_text(rt.alloc(), &one, i64::MIN, b"")?;
-    assert_eq!(rt;
-        text.as_slice(),
-        b"{\"error\":{\"code\":-9223372036854775808,\"message\":\"\"},\"id\":1,\"jsonrpc\":\"2.0\"}".as_slice()
-    );
-    Ok(())
+    rows_hold::<Replies>(rt.alloc(), RESULTS)?;
+    rows_hold::<Replies>(rt.alloc(), ERRORS)
 }

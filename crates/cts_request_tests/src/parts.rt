@@ -1,0 +1,26 @@
+// Texts in rows of which parts are repeated.
+use cts_rows::{Answers, cut, number};
+use std::alloc::Global;
+use std::test::Fail;
+
+/// What is answered to the text of these parts, which have bars between. Each stands behind how often it comes, and a `*`.
+pub fn answer_to_parts<A: Answers>(alloc: Global, parts: &str) -> Result<String, Fail> {
+    let text = repeated(alloc, parts)?;
+    A::answer(alloc, text.as_str())
+}
+
+fn repeated(alloc: Global, parts: &str) -> Result<String, Fail> {
+    let mut out = String::new(alloc);
+    for part in parts.split('|') {
+        push_part(&mut out, part)?;
+    }
+    Ok(out)
+}
+
+fn push_part(out: &mut String, part: &str) -> Result<(), Fail> {
+    let (times, text) = cut(part, '*')?;
+    for _ in 0..number::<u32>(times, 0)? {
+        out.push_str(text)?;
+    }
+    Ok(())
+}
