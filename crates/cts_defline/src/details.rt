@@ -4,7 +4,7 @@ use cts_base::{Bytes, Decimal, List, Name};
 use cts_def::{Limits, Overflow, Segment, StateDef};
 
 /// The limits of an item in one limits set.
-#[derive(Drop)]
+#[derive(Debug, Drop)]
 pub struct LimitsLine {
     /// The limits set.
     pub set: Name,
@@ -17,7 +17,7 @@ pub struct LimitsLine {
 }
 
 /// A statement that belongs to the last item.
-#[derive(Drop)]
+#[derive(Debug, Drop)]
 pub enum Detail {
     /// A named value.
     State(StateDef),
