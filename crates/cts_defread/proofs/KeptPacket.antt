@@ -186,6 +186,5 @@ command_kept old new head own h clean same opened placed updates counted telemet
     (few_more Command old.packets.items old.set_names.items head old.command_count new.command_count own clean h.command_count counted)
 
 -- A pair of clones is the pair of names.
-pub named : (known after : BTreeSet (List ℕ × List ℕ)) (a b target name : List ℕ) → a ≡ target → b ≡ name → Updates pair_cmp known after (a, b) true → Updates pair_cmp known after (target, name) true
-named known after a b target name first second updates =
-    subst (λ (t : List ℕ). Updates pair_cmp known after (t, name) true) first (subst (λ (n : List ℕ). Updates pair_cmp known after (a, n) true) second updates)
+pub named : (known after : BTreeSet (List ℕ × List ℕ)) (names told : List ℕ × List ℕ) → names ≡ told → Updates pair_cmp known after names true → Updates pair_cmp known after told true
+named known after names told same updates = subst (λ (p : List ℕ × List ℕ). Updates pair_cmp known after p true) same updates

@@ -1,6 +1,7 @@
 -- One more item, and details of the last one, keep the rules of a packet.
-use Rattle.std.proofs.Common.{◌≡◌, ℕ, ◌≤◌, max, Bool, true, false, ◌||◌, List, [], ◌∷◌, ◌++◌, map, length, Option, refl, sym, ap, ◌∙◌, subst, arith}
-use Rattle.std.specs.Prelude.{is_some, nat_le}
+use Rattle.std.proofs.Common.{◌≡◌, ℕ, ◌≤◌, max, Bool, true, false, ◌||◌, List, [], ◌∷◌, ◌++◌, map, length, Option, Result, Ok, Err, OnOk, refl, sym, ap, ◌∙◌, subst, arith}
+use Rattle.std.specs.Prelude.{nat_le}
+use Rattle.std.specs.Result.{result_and}
 use Rattle.std.specs.List.{list_any, IsDistinct}
 use Rattle.std.proofs.lemmas.Bool.{or_from, leb-false}
 use Rattle.std.proofs.lemmas.Cmp.{nat_list_eq_equiv}
@@ -85,13 +86,21 @@ detail_sound d p items h changed =
 pub last_fits : (old front : List ItemData) (i : ItemData) (d : Detail) → old ≡ front ++ i ∷ [] → FitsLast (last_of old) d → Fits i d
 last_fits old front i d popped h = subst (λ (o : Option ItemData). FitsLast o d) (ap last_of popped ∙ last_snoc front i) h
 
-pub has_last : {X : Type 0} (old front : List X) (x : X) → old ≡ front ++ x ∷ [] → true ≡ is_some (last_of old)
-has_last old front x popped = sym (ap (λ o. is_some o) (ap last_of popped ∙ last_snoc front x))
-
-pub last_changed : (old front new : List ItemData) (i changed : ItemData) (d : Detail) → old ≡ front ++ i ∷ [] → new ≡ front ++ changed ∷ [] → changed ≡ change_item d i
+last_changed : (old front new : List ItemData) (i changed : ItemData) (d : Detail) → old ≡ front ++ i ∷ [] → new ≡ front ++ changed ∷ [] → changed ≡ change_item d i
     → new ≡ on_last (change_item d) old
 last_changed old front new i changed d popped pushed same =
     put_back (change_item d) old front new i popped (pushed ∙ ap (λ (j : ItemData). front ++ j ∷ []) same)
+
+-- the same where it is put back also after a change that found no memory
+pub last_put_back : {X Y E : Type 0} (old front new : List ItemData) (i changed : ItemData) (d : Detail) (pushed : Result X E) (r both : Result Y E) → both ≡ result_and pushed r → old ≡ front ++ i ∷ []
+    → OnOk pushed (new ≡ front ++ changed ∷ []) → OnOk r (changed ≡ change_item d i) → OnOk both (new ≡ on_last (change_item d) old)
+last_put_back {X} {Y} {E} old front new i changed d pushed r both is popped put made =
+    subst (λ (b : Result Y E). OnOk b (new ≡ on_last (change_item d) old)) (sym is) (of_both pushed r put made)
+  where
+    of_both : (p : Result X E) (q : Result Y E) → OnOk p (new ≡ front ++ changed ∷ []) → OnOk q (changed ≡ change_item d i) → OnOk (result_and p q) (new ≡ on_last (change_item d) old)
+    of_both (Ok x) (Ok y) put made = last_changed old front new i changed d popped put made
+    of_both (Ok x) (Err e) put made = tt
+    of_both (Err e) q put made = tt
 
 pub open_last : (old front : List Drafted) (drafted : Drafted) → old ≡ front ++ drafted ∷ [] → open_item old ≡ last_of drafted.packet.items
 open_last old front drafted popped = ap (λ (o : Option Drafted). last_of (drafted_items o)) (ap last_of popped ∙ last_snoc front drafted)

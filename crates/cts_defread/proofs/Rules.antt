@@ -1,6 +1,6 @@
 -- Details that fit an item keep its rules.
-use Rattle.std.proofs.Common.{◌≡◌, ℕ, ℤ, ◌≤◌, Bool, true, false, not, ◌||◌, ◌&&◌, ◌==◌, List, [], ◌∷◌, ◌++◌, map, length, Option, Some, None, refl, sym, ◌∙◌, subst, arith}
-use Rattle.std.specs.Prelude.{codes, is_some, unsigned_abs}
+use Rattle.std.proofs.Common.{◌≡◌, ℕ, ℤ, ◌≤◌, Bool, true, false, not, ◌||◌, ◌&&◌, ◌==◌, List, [], ◌∷◌, ◌++◌, map, length, Option, Some, None, Result, Ok, Err, OnOk, refl, sym, ◌∙◌, subst, arith}
+use Rattle.std.specs.Prelude.{codes, is_some, unsigned_abs, OnErr}
 use Rattle.std.specs.List.{list_any, list_all, IsDistinct}
 use Rattle.std.specs.Ordering.{int_eq}
 use Rattle.std.proofs.lemmas.Bool.{and_from, or_parts, or_from, or_left, not_from_false, not-true, leb-false}
@@ -281,17 +281,25 @@ keeps_rules detail.Required i h fits = record {
 fits_inside : (d : Detail) (inside i : ItemData) → inside ≡ i → Fits i d → Fits inside d
 fits_inside d inside i same fits = subst (λ (j : ItemData). Fits j d) (sym same) fits
 
-pub state_kept : (s : StateDef) (inside i : ItemData) (states : List StateDef) → inside ≡ i → IsSoundItem inside → Fits i (detail.State s) → states ≡ inside.states ++ s ∷ []
-    → IsSoundItem (record inside { states = states })
-state_kept s inside i states same h fits pushed =
-    subst (λ (ss : List StateDef). IsSoundItem (record inside { states = ss })) (sym pushed) (keeps_rules (detail.State s) inside h (fits_inside (detail.State s) inside i same fits))
+-- what was changed, or left as it was where no memory was found
+either : {X E A B C : Type 0} (r : Result X E) → (A → C) → (B → C) → OnOk r A → OnErr r B → C
+either (Ok x) f g a b = f a
+either (Err e) f g a b = g b
 
-pub limits_kept : (l : LimitsLine) (inside i : ItemData) (limits : Option LimitsSetup) → inside ≡ i → IsSoundItem inside → Fits i (detail.Limits l) → limits ≡ add_limits l inside.limits
-    → IsSoundItem (record inside { limits = limits })
-limits_kept l inside i limits same h fits added =
-    subst (λ (o : Option LimitsSetup). IsSoundItem (record inside { limits = o })) (sym added) (keeps_rules (detail.Limits l) inside h (fits_inside (detail.Limits l) inside i same fits))
+pub state_kept : {X E : Type 0} (s : StateDef) (inside i : ItemData) (states : List StateDef) (r : Result X E) → inside ≡ i → IsSoundItem inside → Fits i (detail.State s)
+    → OnOk r (states ≡ inside.states ++ s ∷ []) → OnErr r (states ≡ inside.states) → IsSoundItem (record inside { states = states })
+state_kept s inside i states r same h fits pushed unchanged =
+    let kept : List StateDef → Type 0 = λ ss. IsSoundItem (record inside { states = ss }) in
+    either r (λ e. subst kept (sym e) (keeps_rules (detail.State s) inside h (fits_inside (detail.State s) inside i same fits))) (λ e. subst kept (sym e) h) pushed unchanged
 
-pub segment_kept : (s : Segment) (inside i : ItemData) (conversion : Conversion) → inside ≡ i → IsSoundItem inside → Fits i (detail.Segment s) → conversion ≡ add_segment s inside.conversion
-    → IsSoundItem (record inside { conversion = conversion })
-segment_kept s inside i conversion same h fits added =
-    subst (λ (c : Conversion). IsSoundItem (record inside { conversion = c })) (sym added) (keeps_rules (detail.Segment s) inside h (fits_inside (detail.Segment s) inside i same fits))
+pub limits_kept : {X E : Type 0} (l : LimitsLine) (inside i : ItemData) (limits : Option LimitsSetup) (r : Result X E) → inside ≡ i → IsSoundItem inside → Fits i (detail.Limits l)
+    → OnOk r (limits ≡ add_limits l inside.limits) → OnErr r (limits ≡ inside.limits) → IsSoundItem (record inside { limits = limits })
+limits_kept l inside i limits r same h fits added unchanged =
+    let kept : Option LimitsSetup → Type 0 = λ o. IsSoundItem (record inside { limits = o }) in
+    either r (λ e. subst kept (sym e) (keeps_rules (detail.Limits l) inside h (fits_inside (detail.Limits l) inside i same fits))) (λ e. subst kept (sym e) h) added unchanged
+
+pub segment_kept : {X E : Type 0} (s : Segment) (inside i : ItemData) (conversion : Conversion) (r : Result X E) → inside ≡ i → IsSoundItem inside → Fits i (detail.Segment s)
+    → OnOk r (conversion ≡ add_segment s inside.conversion) → OnErr r (conversion ≡ inside.conversion) → IsSoundItem (record inside { conversion = conversion })
+segment_kept s inside i conversion r same h fits added unchanged =
+    let kept : Conversion → Type 0 = λ c. IsSoundItem (record inside { conversion = c }) in
+    either r (λ e. subst kept (sym e) (keeps_rules (detail.Segment s) inside h (fits_inside (detail.Segment s) inside i same fits))) (λ e. subst kept (sym e) h) added unchanged

@@ -19,7 +19,6 @@ use Rattle.cts_defread.specs.Causes.{open_items, open_item, open_end, is_open_en
 use Rattle.cts_defread.specs.Sound.{AreSound}
 use Rattle.cts_defread.specs.Definitions.{lines_of}
 use Rattle.cts_defread.specs.Standing.{packets_of, set_names_of, standing}
-use Rattle.cts_defread.specs.Steps.{add_set}
 use Rattle.cts_words.specs.declared.statement.Statement.{Statement}
 
 -- the target and the name of each packet, or of each command
@@ -39,18 +38,10 @@ abbrev pub state_name : Detail → Option (List ℕ)
 state_name (detail.State s) = Some s.name
 state_name _ = None
 
-abbrev pub set_name : Detail → Option (List ℕ)
-set_name (detail.Limits l) = Some l.set
-set_name _ = None
-
 -- the name, if it was taken
 abbrev pub taken_name : Bool → Option (List ℕ) → List (List ℕ)
 taken_name true (Some name) = name ∷ []
 taken_name _ _ = []
-
-abbrev pub add_name : Option (List ℕ) → List (List ℕ) → List (List ℕ)
-add_name None sets = sets
-add_name (Some set) sets = add_set set sets
 
 -- ---- all that is kept
 

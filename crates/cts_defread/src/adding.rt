@@ -1,5 +1,5 @@
 // What one more statement adds to the draft.
-ghost use Rattle.std.specs.Prelude.{◌≡◌, ◌+◌, ◌≤◌, ◌++◌, ℕ, true, IsTrue, List as Items, None as NoCause, IfOk, OnOk};
+ghost use Rattle.std.specs.Prelude.{◌≡◌, ◌+◌, ◌≤◌, ◌++◌, ℕ, true, IsTrue, List as Items, Some, None as NoCause, IfOk, OnOk};
 ghost use Rattle.std.specs.BTreeSet.{Updates};
 ghost use Rattle.std.specs.Cmp.Lexicographic.{slice_cmp};
 ghost use Rattle.std.specs.Ordering.{nat_cmp};
@@ -9,12 +9,12 @@ ghost use Rattle.cts_def.specs.Most.{most_packets};
 ghost use Rattle.cts_defline.specs.Refusals.{open_kind};
 ghost use Rattle.cts_defline.specs.Rules.{KeepsRules, suits};
 ghost use Rattle.cts_defread.specs.Causes.{opened, place_cause};
-ghost use Rattle.cts_defread.specs.Drafts.{IsKept, state_name, set_name, taken_name, add_name};
-ghost use Rattle.cts_defread.specs.Steps.{place, place_set};
+ghost use Rattle.cts_defread.specs.Drafts.{IsKept, state_name, taken_name};
+ghost use Rattle.cts_defread.specs.Steps.{add_set, place, place_set};
 
 use crate::draft::Draft;
 use crate::items::{is_open_ended, is_to_the_end, new_item};
-use crate::packets::{change_last_item, made_hazardous, new_packet, with_item};
+use crate::packets::{change_last_item, made_hazardous, names_of, new_packet, with_item};
 use cts_base::{Bytes, Memory, Name};
 use cts_defline::{Detail, ItemLine, Line, PacketKind, PacketLine};
 use std::alloc::Global;
@@ -36,55 +36,46 @@ fn know_packet(
     Ok(())
 }
 
-fn state_name(detail: &Detail) -> Result<Option<Bytes>, Memory>
-    ensures { IfOk result (λ name. name ≡ state_name detail.now) }
+// Knows the name of a state that an item takes.
+fn know_state(states: &mut BTreeSet<Bytes>, taken: bool, name: &Bytes) -> Result<(), Memory>
+    ensures { OnOk result ((names : Items (Items ℕ)) → Knows (slice_cmp nat_cmp) states.old names → Knows (slice_cmp nat_cmp) states.new (names ++ taken_name taken (Some name.now))) }
 {
-    match detail {
-        Detail::State(state) => Ok(Some(state.name.clone()?)),
-        _ => Ok(None),
-    }
-}
-
-fn set_name(detail: &Detail) -> Result<Option<Name>, Memory>
-    ensures { IfOk result (λ name. name ≡ set_name detail.now) }
-{
-    match detail {
-        Detail::Limits(line) => Ok(Some(line.set.clone()?)),
-        _ => Ok(None),
-    }
-}
-
-// Knows the name of a state that an item has taken.
-fn know_state(states: &mut BTreeSet<Bytes>, taken: bool, name: Option<Bytes>) -> Result<(), Memory>
-    ensures { OnOk result ((names : Items (Items ℕ)) → Knows (slice_cmp nat_cmp) states.old names → Knows (slice_cmp nat_cmp) states.new (names ++ taken_name taken name)) }
-{
-    let Some(name) = name else {
-        return Ok(());
-    };
     if taken {
-        states.insert(name)?;
+        states.insert(name.clone()?)?;
     }
     Ok(())
 }
 
 // Puts a limits set behind the others, unless it is one of them.
-fn know_set(
-    sets: &mut BTreeSet<Name>,
-    names: &mut Vec<Name>,
-    name: Option<Name>,
-) -> Result<(), Memory>
+fn know_set(sets: &mut BTreeSet<Name>, names: &mut Vec<Name>, name: &Name) -> Result<(), Memory>
     requires { Knows (slice_cmp nat_cmp) sets.old names.old.items }
     ensures known { OnOk result (Knows (slice_cmp nat_cmp) sets.new names.new.items) }
-    ensures added { OnOk result (names.new.items ≡ add_name name names.old.items) }
+    ensures added { OnOk result (names.new.items ≡ add_set name.now names.old.items) }
 {
-    let Some(name) = name else {
-        return Ok(());
-    };
-    let again = name.clone()?;
-    if sets.insert(name)? {
-        names.push(again)?;
+    if sets.insert(name.clone()?)? {
+        names.push(name.clone()?)?;
     }
     Ok(())
+}
+
+// Knows the state or limits set that a detail names; a state is known where an item takes it.
+fn know_names(
+    states: &mut BTreeSet<Bytes>,
+    sets: &mut BTreeSet<Name>,
+    set_names: &mut Vec<Name>,
+    taken: bool,
+    detail: &Detail,
+) -> Result<(), Memory>
+    requires { Knows (slice_cmp nat_cmp) sets.old set_names.old.items }
+    ensures states { OnOk result ((names : Items (Items ℕ)) → Knows (slice_cmp nat_cmp) states.old names → Knows (slice_cmp nat_cmp) states.new (names ++ taken_name taken (state_name detail.now))) }
+    ensures sets { OnOk result (Knows (slice_cmp nat_cmp) sets.new set_names.new.items) }
+    ensures set_names { OnOk result (set_names.new.items ≡ place_set (line_.Detail detail.now) set_names.old.items) }
+{
+    match detail {
+        Detail::State(state) => know_state(states, taken, &state.name),
+        Detail::Limits(line) => know_set(sets, set_names, &line.set),
+        _ => Ok(()),
+    }
 }
 
 // ---- the draft
@@ -98,7 +89,7 @@ impl Draft {
         ensures kept { OnOk result (IsKept self.new) }
     {
         let kind = head.kind;
-        let names = (head.target.clone()?, head.name.clone()?);
+        let names = names_of(&head)?;
         self.packets.push(new_packet(alloc, head))?;
         self.items.clear();
         self.states.clear();
@@ -123,10 +114,10 @@ impl Draft {
         ensures set_names { OnOk result (self.new.set_names.items ≡ self.old.set_names.items) }
         ensures kept { OnOk result (IsKept self.new) }
     {
+        let name = head.name.clone()?;
         let Some(drafted) = self.packets.pop() else {
             return Ok(());
         };
-        let name = head.name.clone()?;
         let item = new_item(alloc, drafted.order, self.end, head);
         let end = item.span().end();
         let is_open_ended = is_open_ended(&item);
@@ -149,11 +140,9 @@ impl Draft {
         ensures set_names { OnOk result (self.new.set_names.items ≡ place_set (line_.Detail detail) self.old.set_names.items) }
         ensures kept { OnOk result (IsKept self.new) }
     {
-        let state = state_name(&detail)?;
-        let set = set_name(&detail)?;
-        let taken = change_last_item(alloc, &mut self.packets, detail)?;
-        know_state(&mut self.states, taken, state)?;
-        know_set(&mut self.sets, &mut self.set_names, set)
+        let taken = self.open_item().is_some();
+        know_names(&mut self.states, &mut self.sets, &mut self.set_names, taken, &detail)?;
+        change_last_item(alloc, &mut self.packets, detail)
     }
 
     fn make_hazardous(&mut self) -> Result<(), Memory>

@@ -9,6 +9,7 @@ ghost use Rattle.cts_defread.specs.Causes.{passes, open_items, open_item, has_na
 ghost use Rattle.cts_defread.specs.Drafts.{IsKept};
 
 use crate::draft::Draft;
+use crate::packets::names_of;
 use cts_base::{Bytes, Decimal, List, Memory, Name};
 use cts_def::{Conversion, Item, Limits, LimitsSetup, Segment};
 use cts_defline::{Detail, Line, PacketKind, PacketLine};
@@ -92,8 +93,7 @@ impl Draft {
         requires { IsKept self.now }
         ensures { IfOk result (λ b. b ≡ list_any (has_names head.now.kind head.now.target head.now.name) self.now.packets.items) }
     {
-        let names = (head.target.clone()?, head.name.clone()?);
-        Ok(self.knows(head.kind, &names))
+        Ok(self.knows(head.kind, &names_of(head)?))
     }
 
     fn knows(&self, kind: PacketKind, names: &(Name, Name)) -> bool

@@ -1,5 +1,6 @@
 // Items as their statements give them: a new one, and what details change of one.
-ghost use Rattle.std.specs.Prelude.{◌≡◌, ◌≤◌, [], unsigned_abs, IfOk, Some as SomeOf};
+ghost use Rattle.std.specs.Prelude.{◌≡◌, ◌≤◌, [], unsigned_abs, IfOk, OnErr, OnOk, Some as SomeOf, None as NoneOf};
+ghost use Rattle.cts_def.specs.declared.conversion.Conversion.TheVariants.{Plain};
 ghost use Rattle.cts_def.specs.Items.{IsSoundItem, is_to_the_end};
 ghost use Rattle.cts_defline.specs.declared.details.Detail.TheVariants as detail_;
 ghost use Rattle.cts_defread.specs.Causes.{is_open_ended};
@@ -80,125 +81,132 @@ pub(crate) fn is_to_the_end(item: &Item) -> bool
     item.size == 0
 }
 
-fn with_state(mut item: Item, state: StateDef) -> Result<Item, Memory>
-    requires { Fits item (detail_.State state) }
-    ensures { IfOk result (λ i. i ≡ change_item (detail_.State state) item) }
+fn add_state(item: &mut Item, state: StateDef) -> Result<(), Memory>
+    requires { Fits item.old (detail_.State state) }
+    ensures { OnOk result (item.new ≡ change_item (detail_.State state) item.old) }
 {
-    item.states.push(state)?;
-    Ok(item)
+    item.states.push(state)
 }
 
-fn add_limits(
+// What an item has of the first limits that are given it.
+fn first_limits(alloc: Global, line: LimitsLine) -> Result<LimitsSetup, Memory>
+    ensures { IfOk result (λ setup. SomeOf setup ≡ add_limits line NoneOf) }
+{
+    let mut sets = List::new(alloc);
+    sets.push((line.set, line.limits))?;
+    Ok(LimitsSetup {
+        sets,
+        persistence: line.persistence,
+        enabled: line.enabled,
+    })
+}
+
+// Adds limits to those that an item has, which stay as they are where no memory was found.
+fn put_limits(
     alloc: Global,
-    limits: Option<LimitsSetup>,
+    limits: &mut Option<LimitsSetup>,
     line: LimitsLine,
-) -> Result<LimitsSetup, Memory>
-    ensures { IfOk result (λ setup. SomeOf setup ≡ add_limits line limits) }
+) -> Result<(), Memory>
+    ensures added { OnOk result (limits.new ≡ add_limits line limits.old) }
+    ensures unchanged { OnErr result (limits.new ≡ limits.old) }
 {
     match limits {
+        Some(setup) => setup.sets.push((line.set, line.limits)),
         None => {
-            let mut sets = List::new(alloc);
-            sets.push((line.set, line.limits))?;
-            Ok(LimitsSetup {
-                sets,
-                persistence: line.persistence,
-                enabled: line.enabled,
-            })
-        }
-        Some(mut setup) => {
-            setup.sets.push((line.set, line.limits))?;
-            Ok(setup)
+            *limits = Some(first_limits(alloc, line)?);
+            Ok(())
         }
     }
 }
 
-fn with_limits(alloc: Global, mut item: Item, line: LimitsLine) -> Result<Item, Memory>
-    requires { Fits item (detail_.Limits line) }
-    ensures { IfOk result (λ i. i ≡ change_item (detail_.Limits line) item) }
+fn add_limits(alloc: Global, item: &mut Item, line: LimitsLine) -> Result<(), Memory>
+    requires { Fits item.old (detail_.Limits line) }
+    ensures { OnOk result (item.new ≡ change_item (detail_.Limits line) item.old) }
 {
-    item.limits = Some(add_limits(alloc, item.limits, line)?);
-    Ok(item)
+    put_limits(alloc, &mut item.limits, line)
 }
 
-fn with_poly(mut item: Item, coefficients: List<Decimal>) -> Item
-    requires { Fits item (detail_.Poly coefficients) }
-    ensures { result ≡ change_item (detail_.Poly coefficients) item }
+fn set_poly(item: &mut Item, coefficients: List<Decimal>)
+    requires { Fits item.old (detail_.Poly coefficients) }
+    ensures { item.new ≡ change_item (detail_.Poly coefficients) item.old }
 {
     item.conversion = Conversion::Poly(coefficients);
-    item
 }
 
-fn add_segment(
+// A conversion of one segment.
+fn first_segment(alloc: Global, segment: Segment) -> Result<Conversion, Memory>
+    ensures { IfOk result (λ c. c ≡ add_segment segment Plain) }
+{
+    let mut segments = List::new(alloc);
+    segments.push(segment)?;
+    Ok(Conversion::Segments(segments))
+}
+
+// Adds a segment to a conversion, which stays as it is where no memory was found.
+fn put_segment(
     alloc: Global,
-    conversion: Conversion,
+    conversion: &mut Conversion,
     segment: Segment,
-) -> Result<Conversion, Memory>
-    ensures { IfOk result (λ c. c ≡ add_segment segment conversion) }
+) -> Result<(), Memory>
+    ensures added { OnOk result (conversion.new ≡ add_segment segment conversion.old) }
+    ensures unchanged { OnErr result (conversion.new ≡ conversion.old) }
 {
     match conversion {
         Conversion::Plain => {
-            let mut segments = List::new(alloc);
-            segments.push(segment)?;
-            Ok(Conversion::Segments(segments))
+            *conversion = first_segment(alloc, segment)?;
+            Ok(())
         }
-        Conversion::Poly(coefficients) => Ok(Conversion::Poly(coefficients)),
-        Conversion::Segments(mut segments) => {
-            segments.push(segment)?;
-            Ok(Conversion::Segments(segments))
-        }
+        Conversion::Poly(_) => Ok(()),
+        Conversion::Segments(segments) => segments.push(segment),
     }
 }
 
-fn with_segment(alloc: Global, mut item: Item, segment: Segment) -> Result<Item, Memory>
-    requires { Fits item (detail_.Segment segment) }
-    ensures { IfOk result (λ i. i ≡ change_item (detail_.Segment segment) item) }
+fn add_segment(alloc: Global, item: &mut Item, segment: Segment) -> Result<(), Memory>
+    requires { Fits item.old (detail_.Segment segment) }
+    ensures { OnOk result (item.new ≡ change_item (detail_.Segment segment) item.old) }
 {
-    item.conversion = add_segment(alloc, item.conversion, segment)?;
-    Ok(item)
+    put_segment(alloc, &mut item.conversion, segment)
 }
 
-fn with_units(mut item: Item, full: Bytes, short: Bytes) -> Item
-    ensures { result ≡ change_item (detail_.Units full short) item }
+fn set_units(item: &mut Item, full: Bytes, short: Bytes)
+    ensures { item.new ≡ change_item (detail_.Units full short) item.old }
 {
     item.units = Some((full, short));
-    item
 }
 
-fn with_format(mut item: Item, text: Bytes) -> Item
-    requires { Fits item (detail_.Format text) }
-    ensures { result ≡ change_item (detail_.Format text) item }
+fn set_format(item: &mut Item, text: Bytes)
+    requires { Fits item.old (detail_.Format text) }
+    ensures { item.new ≡ change_item (detail_.Format text) item.old }
 {
     item.format = Some(text);
-    item
 }
 
-fn with_overflow(mut item: Item, overflow: Overflow) -> Item
-    ensures { result ≡ change_item (detail_.Overflow overflow) item }
+fn set_overflow(item: &mut Item, overflow: Overflow)
+    ensures { item.new ≡ change_item (detail_.Overflow overflow) item.old }
 {
     item.overflow = overflow;
-    item
 }
 
-fn made_required(mut item: Item) -> Item
-    ensures { result ≡ change_item detail_.Required item }
+fn require(item: &mut Item)
+    ensures { item.new ≡ change_item detail_.Required item.old }
 {
     item.required = true;
-    item
 }
 
-/// The item with what a statement says of it.
-pub(crate) fn change_item(alloc: Global, item: Item, detail: Detail) -> Result<Item, Memory>
-    requires { Fits item detail }
-    ensures { IfOk result (λ i. i ≡ change_item detail item) }
+/// Changes an item by what a statement says of it.
+pub(crate) fn change_item(alloc: Global, item: &mut Item, detail: Detail) -> Result<(), Memory>
+    requires { Fits item.old detail }
+    ensures { OnOk result (item.new ≡ change_item detail item.old) }
 {
     match detail {
-        Detail::State(state) => with_state(item, state),
-        Detail::Limits(line) => with_limits(alloc, item, line),
-        Detail::Poly(coefficients) => Ok(with_poly(item, coefficients)),
-        Detail::Segment(segment) => with_segment(alloc, item, segment),
-        Detail::Units(full, short) => Ok(with_units(item, full, short)),
-        Detail::Format(text) => Ok(with_format(item, text)),
-        Detail::Overflow(overflow) => Ok(with_overflow(item, overflow)),
-        Detail::Required => Ok(made_required(item)),
+        Detail::State(state) => add_state(item, state)?,
+        Detail::Limits(line) => add_limits(alloc, item, line)?,
+        Detail::Poly(coefficients) => set_poly(item, coefficients),
+        Detail::Segment(segment) => add_segment(alloc, item, segment)?,
+        Detail::Units(full, short) => set_units(item, full, short),
+        Detail::Format(text) => set_format(item, text),
+        Detail::Overflow(overflow) => set_overflow(item, overflow),
+        Detail::Required => require(item),
     }
+    Ok(())
 }

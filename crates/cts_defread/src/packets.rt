@@ -1,5 +1,5 @@
 // Definitions as their statements give them: a new one, and what further statements change of one.
-ghost use Rattle.std.specs.Prelude.{◌≡◌, ◌||◌, ◌++◌, ◌∷◌, [], max, length, nat_le, false, is_some, IfOk, OnOk};
+ghost use Rattle.std.specs.Prelude.{◌≡◌, ◌||◌, ◌++◌, ◌∷◌, [], max, length, nat_le, false, IfOk, OnOk};
 ghost use Rattle.cts_def.specs.Items.{is_same, span_of};
 ghost use Rattle.cts_def.specs.Most.{most_items};
 ghost use Rattle.cts_def.specs.Packets.{received_count, unknown};
@@ -11,10 +11,17 @@ ghost use Rattle.cts_words.specs.Blocks.{last_of, on_last};
 
 use crate::drafted::Drafted;
 use crate::items::change_item;
-use cts_base::{List, Memory};
+use cts_base::{List, Memory, Name};
 use cts_def::{Item, Packet};
 use cts_defline::{Detail, PacketLine};
 use std::alloc::Global;
+
+/// The names of a definition: its target's and its own.
+pub(crate) fn names_of(head: &PacketLine) -> Result<(Name, Name), Memory>
+    ensures { IfOk result (λ names. names ≡ (head.now.target, head.now.name)) }
+{
+    Ok((head.target.clone()?, head.name.clone()?))
+}
 
 /// The definition that a statement opens.
 pub(crate) fn new_packet(alloc: Global, head: PacketLine) -> Drafted
@@ -64,53 +71,45 @@ pub(crate) fn with_item(drafted: Drafted, item: Item) -> Result<Drafted, Memory>
     })
 }
 
-// Changes the last item, and answers whether there is one.
-fn change_last(alloc: Global, items: &mut List<Item>, detail: Detail) -> Result<bool, Memory>
+// Changes the last item, if there is one, and puts it back also where no memory was found for the change.
+fn change_last(alloc: Global, items: &mut List<Item>, detail: Detail) -> Result<(), Memory>
     requires { FitsLast (last_of items.old) detail }
-    ensures changed { OnOk result (items.new ≡ on_last (change_item detail) items.old) }
-    ensures taken { IfOk result (λ taken. taken ≡ is_some (last_of items.old)) }
+    ensures { OnOk result (items.new ≡ on_last (change_item detail) items.old) }
 {
-    let Some(item) = items.pop() else {
-        return Ok(false);
+    let Some(mut item) = items.pop() else {
+        return Ok(());
     };
-    items.push(change_item(alloc, item, detail)?)?;
-    Ok(true)
+    let changed = change_item(alloc, &mut item, detail);
+    items.push(item).and(changed)
 }
 
-// Changes the last item of a packet, and answers whether there is one.
-fn change_packet(
-    alloc: Global,
-    mut packet: Packet,
-    detail: Detail,
-) -> Result<(Packet, bool), Memory>
+// The packet with its last item changed, if it has one.
+fn with_change(alloc: Global, mut packet: Packet, detail: Detail) -> Result<Packet, Memory>
     requires { FitsLast (last_of packet.items) detail }
-    ensures changed { IfOk result (λ r. r.0 ≡ record packet { items = on_last (change_item detail) packet.items }) }
-    ensures taken { IfOk result (λ r. r.1 ≡ is_some (last_of packet.items)) }
+    ensures { IfOk result (λ p. p ≡ record packet { items = on_last (change_item detail) packet.items }) }
 {
-    let taken = change_last(alloc, &mut packet.items, detail)?;
-    Ok((packet, taken))
+    change_last(alloc, &mut packet.items, detail)?;
+    Ok(packet)
 }
 
-/// Changes the last item of the last definition, and answers whether there is one.
+/// Changes the last item of the last definition, if there is one.
 pub(crate) fn change_last_item(
     alloc: Global,
     packets: &mut Vec<Drafted>,
     detail: Detail,
-) -> Result<bool, Memory>
+) -> Result<(), Memory>
     requires { FitsLast (open_item packets.old.items) detail }
-    ensures changed { OnOk result (packets.new.items ≡ on_last (add_detail detail) packets.old.items) }
-    ensures taken { IfOk result (λ taken. taken ≡ is_some (open_item packets.old.items)) }
+    ensures { OnOk result (packets.new.items ≡ on_last (add_detail detail) packets.old.items) }
 {
     let Some(drafted) = packets.pop() else {
-        return Ok(false);
+        return Ok(());
     };
-    let (packet, taken) = change_packet(alloc, drafted.packet, detail)?;
     packets.push(Drafted {
         kind: drafted.kind,
         order: drafted.order,
-        packet,
+        packet: with_change(alloc, drafted.packet, detail)?,
     })?;
-    Ok(taken)
+    Ok(())
 }
 
 /// The definition, hazardous as a whole.

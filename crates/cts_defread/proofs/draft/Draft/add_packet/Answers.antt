@@ -18,7 +18,7 @@ returns-in-Telemetry-clause-kept c =
     (clean c.args.self.now.packets.items c.args.self.now.set_names.items (line.Packet c.args.head) c.requires.clean)
     (record { sets = refl; set_names = refl; item_count = refl }) (record { items = c.clear.ensures.empty; states = c.clear-2.ensures.empty; ends = refl; ended = refl; filled = refl })
     (c.in_ok-push.ensures.items ∙ ap (λ (d : Drafted). c.args.self.now.packets.items ++ d ∷ []) c.new_packet.ensures)
-    (named c.args.self.now.telemetry c.know_packet.new.known _ _ _ _ c.in_ok-clone.ensures.cases c.in_ok-clone-2.ensures.cases known) counted refl refl)
+    (named c.args.self.now.telemetry c.know_packet.new.known _ _ c.in_ok-names.ensures known) counted refl refl)
     c.know_packet.ensures.known c.know_packet.ensures.counted
 
 pub returns-in-Command-clause-kept : goal.returns-in-Command-clause-kept
@@ -29,5 +29,5 @@ returns-in-Command-clause-kept c =
     (clean c.args.self.now.packets.items c.args.self.now.set_names.items (line.Packet c.args.head) c.requires.clean)
     (record { sets = refl; set_names = refl; item_count = refl }) (record { items = c.clear.ensures.empty; states = c.clear-2.ensures.empty; ends = refl; ended = refl; filled = refl })
     (c.in_ok-push.ensures.items ∙ ap (λ (d : Drafted). c.args.self.now.packets.items ++ d ∷ []) c.new_packet.ensures)
-    (named c.args.self.now.commands c.know_packet-in-Command.new.known _ _ _ _ c.in_ok-clone.ensures.cases c.in_ok-clone-2.ensures.cases known) counted refl refl)
+    (named c.args.self.now.commands c.know_packet-in-Command.new.known _ _ c.in_ok-names.ensures known) counted refl refl)
     c.know_packet-in-Command.ensures.known c.know_packet-in-Command.ensures.counted

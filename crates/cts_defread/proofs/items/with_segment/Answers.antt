@@ -1,5 +1,0 @@
-use Rattle.cts_defread.proofs.Rules.{segment_kept}
-use Rattle.cts_defread.proofs.items.with_segment.Goals as goal
-
-pub invariant_of-item : goal.invariant_of-item
-invariant_of-item c = segment_kept c.args.segment _ _ _ c.item.view_is c.item.invariant c.requires c.in_ok-item-inside.ensures

@@ -1,5 +1,0 @@
-use Rattle.cts_defread.proofs.Rules.{state_kept}
-use Rattle.cts_defread.proofs.items.with_state.Goals as goal
-
-pub invariant_of-item : goal.invariant_of-item
-invariant_of-item c = state_kept c.args.state _ _ _ c.item.view_is c.item.invariant c.requires c.in_ok-push.ensures.pushed
