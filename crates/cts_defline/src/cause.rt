@@ -79,7 +79,7 @@ impl DefCause {
 
 impl fmt::Display for DefCause {
     fn fmt<W: fmt::Write>(&self, f: &mut fmt::Formatter<W>) -> fmt::Result {
-        write!(f, "{}", self.name())
+        f.write_str(self.name())
     }
 }
 

@@ -239,7 +239,7 @@ fn has_router(routers: &[Router], name: &Name) -> bool
 fn has_number(routes: &[u32], number: u32) -> bool
     ensures { result ≡ list_any (λ route. nat_eq route number) routes.now }
 {
-    routes.iter().any(|route| *route == number)
+    routes.contains(&number)
 }
 
 fn has_route(draft: &Draft, name: &Name) -> bool
@@ -286,7 +286,7 @@ fn is_unknown_target(draft: &Draft, line: &Line) -> bool
 fn is_in(names: &[Name], name: &Name) -> bool
     ensures { result ≡ is_in names.now name.now }
 {
-    names.iter().any(|other| *other == *name)
+    names.contains(name)
 }
 
 fn maps(name: &Name, interface: &Interface) -> bool
