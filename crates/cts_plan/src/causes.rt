@@ -1,11 +1,11 @@
 // The causes for which a statement is refused.
-ghost use Rattle.std.specs.Prelude.{◌≡◌, ◌≤◌, Some, find, length, nat_eq};
+ghost use Rattle.std.specs.Prelude.{◌≡◌, ◌≤◌, Some, find, length};
 ghost use Rattle.std.specs.List.{list_any};
 ghost use Rattle.cts_def.specs.Sites.{has_target, is_known_target};
 ghost use Rattle.cts_def.specs.Protocols.{is_packet_kind, spec_data};
 ghost use Rattle.cts_plan.specs.Steps.{spec_in, step_reads_packets};
 ghost use Rattle.cts_plan.specs.Standing.{has_name};
-ghost use Rattle.cts_plan.specs.Causes.{is_nothing, is_interface, is_router, chain_in, targets_in, routes_in, is_outside, is_wrong_protocol_count, is_file_unknown, is_protocol_missing, has_wrong_rest, is_wrong_count, is_unrouted, is_unknown_interface, is_length, is_not_number, are_two, are_two_at, is_two_ports, is_other_kind, is_router_named, has_route, is_double, is_unknown_target, is_in, maps, is_target_twice, is_chain_too_long, is_not_last, is_too_many, holds, order};
+ghost use Rattle.cts_plan.specs.Causes.{is_nothing, is_interface, is_router, chain_in, targets_in, routes_in, is_outside, is_wrong_protocol_count, is_file_unknown, is_protocol_missing, has_wrong_rest, is_wrong_count, is_unrouted, is_unknown_interface, is_length, is_not_number, are_two, are_two_at, is_two_ports, is_other_kind, is_router_named, has_route, is_double, is_unknown_target, maps, is_target_twice, is_chain_too_long, is_not_last, is_too_many, holds, order};
 
 use crate::draft::{Draft, number_of};
 use crate::fault::SiteCause;
@@ -236,17 +236,11 @@ fn has_router(routers: &[Router], name: &Name) -> bool
     routers.iter().any(|router| router.name == *name)
 }
 
-fn has_number(routes: &[u32], number: u32) -> bool
-    ensures { result ≡ list_any (λ route. nat_eq route number) routes.now }
-{
-    routes.contains(&number)
-}
-
 fn has_route(draft: &Draft, name: &Name) -> bool
     ensures { result ≡ has_route draft.now.site.interfaces (routes_in draft.now.current) (Some name.now) }
 {
     let number = number_of(draft.site.interfaces.as_slice(), name);
-    has_number(routes_in(&draft.current), number)
+    routes_in(&draft.current).contains(&number)
 }
 
 fn is_double(draft: &Draft, line: &Line) -> bool
@@ -283,22 +277,12 @@ fn is_unknown_target(draft: &Draft, line: &Line) -> bool
     }
 }
 
-fn is_in(names: &[Name], name: &Name) -> bool
-    ensures { result ≡ is_in names.now name.now }
-{
-    names.contains(name)
-}
-
-fn maps(name: &Name, interface: &Interface) -> bool
-    ensures { result ≡ maps name.now interface.now }
-{
-    is_in(interface.targets.as_slice(), name)
-}
-
 fn is_mapped(interfaces: &[Interface], name: &Name) -> bool
     ensures { result ≡ list_any (maps name.now) interfaces.now }
 {
-    interfaces.iter().any(|interface| maps(name, interface))
+    interfaces
+        .iter()
+        .any(|interface| interface.targets.as_slice().contains(name))
 }
 
 fn is_target_twice(draft: &Draft, line: &Line) -> bool
@@ -307,7 +291,7 @@ fn is_target_twice(draft: &Draft, line: &Line) -> bool
     match line {
         Line::Detail(Detail::Target(name)) => {
             is_mapped(draft.site.interfaces.as_slice(), name)
-                || is_in(targets_in(&draft.current), name)
+                || targets_in(&draft.current).contains(name)
         }
         _ => false,
     }

@@ -21,6 +21,7 @@ use crate::targets::Targets;
 use cts_base::{Bytes, List, Memory, Name};
 use cts_bits::Place;
 use cts_def::{Definitions, Interface, Packet, ProtoSpec, ProtoUse, Router, Site, Start};
+use cts_reader::unless_refused;
 use std::alloc::Global;
 
 // The packets among which FIXED looks: telemetry packets or commands.
@@ -41,11 +42,11 @@ fn is_of(targets: &Targets, packet: &Packet) -> bool
 }
 
 // How the packets of these targets begin.
-fn starts_of(alloc: Global, targets: &Targets, packets: &[Packet]) -> Result<Vec<Start>, Memory>
-    ensures value { IfOk result (λ starts. starts.items ≡ starts_of targets.now packets.now) }
-    ensures placed { IfOk result (λ starts. IsTrue (list_all has_places starts.items)) }
+fn starts_of(alloc: Global, targets: &Targets, packets: &[Packet]) -> Result<List<Start>, Memory>
+    ensures value { IfOk result (λ starts. starts ≡ starts_of targets.now packets.now) }
+    ensures placed { IfOk result (λ starts. IsTrue (list_all has_places starts)) }
 {
-    let mut starts = Vec::new(alloc);
+    let mut starts = List::new(alloc);
     for packet in packets {
         if is_of(targets, packet) {
             starts.push(packet.start(alloc)?)?;
@@ -128,9 +129,8 @@ fn fixed_use(
 {
     let packets = packets_of(definitions, fixed.telemetry);
     let starts = starts_of(alloc, targets, packets)?;
-    if let Some(cause) = cause_of_fixed(targets, packets, &fixed, &starts) {
-        return Err(SiteFault::Refused { line, cause });
-    }
+    let cause = cause_of_fixed(targets, packets, &fixed, starts.as_slice());
+    let (fixed, starts) = unless_refused(line, cause, (fixed, starts))?;
     let FixedParameters {
         min_id,
         discard,
@@ -147,7 +147,7 @@ fn fixed_use(
             telemetry,
             fill,
             raise,
-            starts: List::of(starts),
+            starts,
         },
         reads,
         writes,

@@ -84,7 +84,10 @@ fn change(site: &Site, current: &mut Current, detail: Detail) -> Result<(), Memo
     ensures { OnOk result (current.new ≡ change site.now.interfaces detail current.old) }
 {
     match current {
-        Current::Nothing => Ok(()),
+        Current::Nothing => {
+            drop(detail);
+            Ok(())
+        }
         Current::Interface(draft) => change_interface(site, draft, detail),
         Current::Router(draft) => change_router(site, draft, detail),
     }

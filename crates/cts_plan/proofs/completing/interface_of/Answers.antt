@@ -1,4 +1,5 @@
-use Rattle.std.proofs.Common.{◌∙◌, sym, ap, subst, List}
+use Rattle.std.proofs.Common.{◌∙◌, sym, ap, subst, List, arith}
+use Rattle.std.proofs.lemmas.Grind.{common_steps}
 use Rattle.std.specs.Prelude.{IsTrue}
 use Rattle.cts_def.specs.Protocols.{UseData, is_chain}
 use Rattle.cts_plan.specs.Steps.{are_packets_last}
@@ -17,3 +18,9 @@ invariant_of-result c =
           (ap are_packets_last (sym c.chain.view_is) ∙ c.chain.invariant.packets_last));
       delay = sound.delay;
     }
+
+pub returns-clause-settled : goal.returns-clause-settled
+returns-clause-settled c = grind (arith, common_steps)
+
+pub returns-clause-value : goal.returns-clause-value
+returns-clause-value c = grind (arith, common_steps)

@@ -6,6 +6,6 @@ use Rattle.cts_plan.proofs.completing.starts_of.Given as goal
 
 abbrev pub invariant-loop-packet : goal.invariant-loop-packet
 invariant-loop-packet l = record {
-  value : l.starts.items ≡ starts_of l.targets (take l.packet-index l.packets);
-  placed : IsTrue (list_all has_places l.starts.items);
+  value : l.starts ≡ starts_of l.targets (take l.packet-index l.packets);
+  placed : IsTrue (list_all has_places l.starts);
 }

@@ -1,4 +1,5 @@
 use Rattle.std.proofs.Common.{◌≡◌, ◌∷◌, ◌++◌, ◌∙◌, sym, ap, length, map, [], arith}
+use Rattle.std.proofs.lemmas.Grind.{common_steps}
 use Rattle.std.specs.Vec.Iter.{into_iter_items}
 use Rattle.cts_words.specs.Refusals.{or_else}
 use Rattle.cts_plan.specs.Completing.{first_step_fault}
@@ -22,3 +23,15 @@ loop-step-preserved c =
           let short = ap length steps in
           omega arith,
     )
+
+pub returns-in_err-use_of-clause-settled : goal.returns-in_err-use_of-clause-settled
+returns-in_err-use_of-clause-settled c = grind (arith, common_steps)
+
+pub returns-in_err-push-clause-settled : goal.returns-in_err-push-clause-settled
+returns-in_err-push-clause-settled c = grind (arith, common_steps)
+
+pub returns-clause-settled : goal.returns-clause-settled
+returns-clause-settled c = grind (arith, common_steps)
+
+pub returns-clause-value : goal.returns-clause-value
+returns-clause-value c = grind (arith, common_steps)

@@ -1,4 +1,5 @@
-use Rattle.std.proofs.Common.{sym, subst}
+use Rattle.std.proofs.Common.{sym, subst, arith}
+use Rattle.std.proofs.lemmas.Grind.{common_steps}
 use Rattle.cts_plan.specs.SiteFiles.{opening}
 use Rattle.cts_plan.specs.Keeping.{KeepsRules, Fits}
 use Rattle.cts_plan.specs.declared.line.Line.{Line}
@@ -15,3 +16,9 @@ add-requires c =
       fits = subst (λ (l : Line). Fits l stands) (sym c.in_ok-said.ensures.said)
           (line_fits stands c.args.statement.now.line c.in-Some.keyword c.in-Some.words.now kept (no_cause c.args.statement.now.line _ c.in_ok-said.ensures.settled));
     }
+
+pub returns-clause-settled : goal.returns-clause-settled
+returns-clause-settled c = grind (arith, common_steps)
+
+pub returns-clause-stands : goal.returns-clause-stands
+returns-clause-stands c = grind (arith, common_steps)
