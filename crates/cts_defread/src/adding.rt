@@ -141,7 +141,13 @@ impl Draft {
         ensures kept { OnOk result (IsKept self.new) }
     {
         let taken = self.open_item().is_some();
-        know_names(&mut self.states, &mut self.sets, &mut self.set_names, taken, &detail)?;
+        know_names(
+            &mut self.states,
+            &mut self.sets,
+            &mut self.set_names,
+            taken,
+            &detail,
+        )?;
         change_last_item(alloc, &mut self.packets, detail)
     }
 

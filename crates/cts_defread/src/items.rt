@@ -143,11 +143,7 @@ fn first_segment(alloc: Global, segment: Segment) -> Result<Conversion, Memory>
 }
 
 // Adds a segment to a conversion, which stays as it is where no memory was found.
-fn put_segment(
-    alloc: Global,
-    conversion: &mut Conversion,
-    segment: Segment,
-) -> Result<(), Memory>
+fn put_segment(alloc: Global, conversion: &mut Conversion, segment: Segment) -> Result<(), Memory>
     ensures added { OnOk result (conversion.new ≡ add_segment segment conversion.old) }
     ensures unchanged { OnErr result (conversion.new ≡ conversion.old) }
 {
