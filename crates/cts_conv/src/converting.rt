@@ -23,10 +23,9 @@ pub fn converted(alloc: Global, item: &Item, raw: &Value) -> Result<Value, Memor
     requires { IsTrue (is_raw_of item.now raw.now) }
     ensures { IfOk result (λ v. v ≡ converted_value item.now raw.now) }
 {
-    let value = before_states(alloc, item, raw)?;
-    match state_of(item, &value) {
+    match state_seen(item, raw) {
         Some(state) => Ok(Value::Text(Bytes::copy(alloc, state.name.as_slice())?)),
-        None => Ok(value),
+        None => before_states(alloc, item, raw),
     }
 }
 

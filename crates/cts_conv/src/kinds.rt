@@ -31,7 +31,7 @@ pub fn value_of(
     match kind {
         ValueKind::Raw => Ok(value),
         ValueKind::Converted => converted(alloc, item, &value),
-        ValueKind::Formatted => Ok(Value::Text(formatted(alloc, item, &value)?)),
-        ValueKind::WithUnits => Ok(Value::Text(with_units(alloc, item, &value)?)),
+        ValueKind::Formatted => formatted(alloc, item, &value).map(Value::Text),
+        ValueKind::WithUnits => with_units(alloc, item, &value).map(Value::Text),
     }
 }

@@ -8,7 +8,7 @@ ghost use Rattle.cts_conv.specs.Raws.{bytes_in, characters_of, filled, is_raw_of
 use crate::Value;
 use crate::numbers::number;
 use crate::pieces::{bytes_len, held_bytes};
-use crate::texts::{put_character, put_times};
+use crate::texts::put_character;
 use cts_base::{Bytes, Memory};
 use cts_def::{Item, ItemKind, Packet};
 use std::alloc::Global;
@@ -78,8 +78,7 @@ fn block(alloc: Global, item: &Item, bytes: &[u8], len: usize) -> Result<Bytes, 
     requires needed { bytes_needed (span_of item.now) ≤ len }
     ensures { IfOk result (λ t. t ≡ bytes_in item.now (filled bytes.now len)) }
 {
-    let held = held_bytes(item, bytes, len);
-    let mut out = Vec::from_slice(alloc, held)?;
-    put_times(&mut out, 0, bytes_len(item, bytes, len) - held.len())?;
+    let mut out = Vec::from_slice(alloc, held_bytes(item, bytes, len))?;
+    out.resize(bytes_len(item, bytes, len), 0)?;
     Ok(Bytes::of(out))
 }

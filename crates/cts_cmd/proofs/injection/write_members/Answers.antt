@@ -1,4 +1,5 @@
 use Rattle.std.proofs.Common.{length, arith}
+use Rattle.std.proofs.lemmas.Grind.{common_steps}
 use Rattle.cts_cmd.proofs.Injected.{all_more, one_more}
 use Rattle.cts_cmd.proofs.injection.write_members.Goals as goal
 
@@ -13,3 +14,6 @@ loop-member-preserved c =
       one_more c.args.items.now c.args.members.now c.loop-member.member-index c.member-item.result c.args.buffer.now.items c.loop-member.buffer.items c.write_member.new.buffer.items
           c.loop-member-test.true c.member-item.is c.in_ok-write_member.ensures.written c.loop-member.invariant.1,
     )
+
+pub returns : goal.returns
+returns c = grind (arith, common_steps)
