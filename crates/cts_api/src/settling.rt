@@ -62,11 +62,16 @@ pub(crate) fn settle(
         return Ok(Answer { text, appended: 0 });
     };
     match has_room(hall, &what) {
-        Ok(true) => {
-            let text = result_to(alloc, id, value)?;
-            hall.append(Entry { by, time, what });
-            Ok(Answer { text, appended: 1 })
-        }
+        Ok(true) => match result_to(alloc, id, value) {
+            Ok(text) => {
+                hall.append(Entry { by, time, what });
+                Ok(Answer { text, appended: 1 })
+            }
+            Err(Memory) => {
+                drop(what);
+                Err(Memory)
+            }
+        },
         Ok(false) => {
             drop((value, what));
             let text = error_to(alloc, id, Code::HistoryFull, b"History full")?;

@@ -21,7 +21,7 @@ use cts_watch::is_watched;
 use serde_json::Value;
 use std::alloc::Global;
 
-// A value as JSON, which is needed no more.
+// A value that is needed no more, as JSON.
 fn shown_once(alloc: Global, value: Held) -> Result<Value, Memory>
     ensures { IfOk result (λ v. view v ≡ shown value) }
 {
