@@ -1,14 +1,16 @@
 -- What is answered and settled is the reply.
-use Rattle.std.proofs.Common.{◌≡◌, ℕ, ℤ, false, List, [], ◌∷◌, map, Option, Some, None, Result, Ok, Err, refl, sym, ◌∙◌, ap, subst, append-nil, codes}
-use Rattle.std.specs.Prelude.{IfOk, option_map}
+use Rattle.std.proofs.Common.{◌≡◌, ℕ, ℤ, pos, false, List, [], ◌∷◌, map, Option, Some, None, Result, Ok, Err, refl, sym, ◌∙◌, ap, subst, append-nil, codes}
+use Rattle.std.specs.Prelude.{IfOk, neg_ℤ, option_map}
 use Rattle.cts_base.specs.declared.memory.Memory.{Memory}
 use Rattle.cts_cmd.specs.declared.request.Request.{Request}
 use Rattle.cts_def.specs.declared.time.Time.{Time}
 use Rattle.cts_entry.specs.declared.what.What.{What}
-use Rattle.cts_rpc.specs.Requests.{IsOutcome, Outcome, calls, has_fraction}
+use Rattle.cts_rpc.specs.Requests.{IsOutcome, IsTrueOf, Outcome, RefusedIdsAreWhole, bad_params, calls, has_fraction, not_json, not_request}
 use Rattle.cts_rpc.specs.declared.call.Call.{Call}
+use Rattle.cts_rpc.specs.declared.call.RpcFault.{RpcFault}
+use Rattle.cts_rpc.specs.declared.call.RpcFault.TheVariants as fault
 use Rattle.cts_table.specs.States.{Shown}
-use Rattle.serde_json.specs.Data.{Data}
+use Rattle.serde_json.specs.Data.{Data, null}
 use Rattle.serde_json.specs.View.{items_of, items_view, view}
 use Rattle.serde_json.specs.Written.{has_float}
 use Rattle.cts_api.specs.declared.method.Method.{Method}
@@ -23,7 +25,7 @@ use Rattle.cts_api.specs.Methods.{method_named, params_of}
 use Rattle.cts_api.specs.Points.{Point}
 use Rattle.cts_api.specs.Replied.{Answered, Replied}
 use Rattle.cts_api.specs.Replies.{HasRequest, IsReplyFor, IsReplyOf, IsReplyTo, Reply, invalid_params, made, not_found, posted, refusal_to, reply_with, said_to}
-use Rattle.cts_api.specs.Responding.{IsTold, RefusesWith}
+use Rattle.cts_api.specs.Responding.{IsTold, RefusesWith, TellsFault, id_in}
 use Rattle.cts_api.specs.Settling.{CanEnd, CanSayIt, Ends, HasAnswered, Settled}
 use Rattle.cts_api.specs.Telling.{listed as whats_of, point}
 use Rattle.cts_api.proofs.WholeAnswers.{answers_whole}
@@ -116,3 +118,13 @@ pub replied_refusal : (s : Shown) (by : ℕ) (time : Time) (body : List ℕ) (o 
     → IfOk x (λ a. a.appended ≡ 0) → IfOk x (λ a. a.text ≡ (refusal_to to n message).text) → Replied s by time body x s
 replied_refusal s by time body o to n message (Err e) out is none text = (refl, refl)
 replied_refusal s by time body o to n message (Ok x) out is none text = (refusal_to to n message, (o, out, is), (text, record { count = none; entries = sym (append-nil s.entries); basis = refl }))
+
+pub replied_no_call : (s : Shown) (by : ℕ) (time : Time) (body : List ℕ) (f : RpcFault) (x : Result reply.Answer Memory) → IsTrueOf body (Err f) → RefusedIdsAreWhole
+    → IfOk x (λ a. a.appended ≡ 0) → (has_fraction (id_in f) ≡ false → IfOk x (λ a. TellsFault f a.text)) → Replied s by time body x s
+replied_no_call s by time body f (Err e) so whole none text = (refl, refl)
+replied_no_call s by time body fault.ParseError (Ok x) so whole none text = replied_refusal s by time body not_json (Some null) (neg_ℤ (pos 32700)) (codes "Parse error") (Ok x) so refl none (text refl)
+replied_no_call s by time body fault.InvalidRequest (Ok x) so whole none text = replied_refusal s by time body not_request (Some null) (neg_ℤ (pos 32600)) (codes "Invalid Request") (Ok x) so refl none (text refl)
+replied_no_call s by time body (fault.InvalidParams id) (Ok x) so whole none text =
+    let to = option_map view id in
+    replied_refusal s by time body (bad_params to) to (neg_ℤ (pos 32602)) (codes "Invalid params") (Ok x) so refl none (text (whole body to so))
+replied_no_call s by time body fault.Memory (Ok x) so whole none text = absurd (text refl)

@@ -1,11 +1,14 @@
 -- The codes of errors, and how a refusal is told.
-use Rattle.std.specs.Prelude.{◌≡◌, ℕ, ℤ, pos, neg_ℤ, List, Option, codes}
+use Rattle.std.specs.Prelude.{◌≡◌, ℕ, ℤ, pos, neg_ℤ, List, None, Option, codes, option_map}
+use Rattle.cts_rpc.specs.declared.call.RpcFault.{RpcFault}
+use Rattle.cts_rpc.specs.declared.call.RpcFault.TheVariants as fault
 use Rattle.serde_json.specs.Data.{Data}
+use Rattle.serde_json.specs.View.{view}
 use Rattle.cts_api.specs.declared.response.Code.{Code}
 use Rattle.cts_api.specs.declared.response.Code.TheVariants.{ParseError, InvalidRequest, MethodNotFound, InvalidParams, NoSuch, NotDone, HistoryFull}
 use Rattle.cts_api.specs.declared.refusal.Refusal.{Refusal}
 use Rattle.cts_api.specs.declared.refusal.Refusal.TheVariants as why
-use Rattle.cts_api.specs.Replies.{error, respond}
+use Rattle.cts_api.specs.Replies.{error, invalid_params, invalid_request, parse_error, respond}
 
 abbrev pub code_number : Code → ℤ
 code_number ParseError = neg_ℤ (pos 32700)
@@ -29,3 +32,17 @@ IsTold (why.NoSuch message) = Unit {0}
 IsTold (why.NotDone message) = Unit {0}
 IsTold why.BadParams = Unit {0}
 IsTold why.Memory = ⊥
+
+-- the id that a body has which is no call, where it is known
+abbrev pub id_in : RpcFault → Option Data
+id_in fault.ParseError = None
+id_in fault.InvalidRequest = None
+id_in (fault.InvalidParams id) = option_map view id
+id_in fault.Memory = None
+
+-- the response to a body that is no call; want of memory has none
+abbrev pub TellsFault : RpcFault → Option (List ℕ) → Type 0
+TellsFault fault.ParseError text = text ≡ parse_error.text
+TellsFault fault.InvalidRequest text = text ≡ invalid_request.text
+TellsFault (fault.InvalidParams id) text = text ≡ (invalid_params (option_map view id)).text
+TellsFault fault.Memory text = ⊥

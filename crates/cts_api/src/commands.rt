@@ -1,7 +1,9 @@
 //! Commands: what is asked for, and the entry that sends it.
 
-ghost use Rattle.std.specs.Prelude.{◌≡◌, IfOk, option_map};
-ghost use Rattle.serde_json.specs.Data.{no_members};
+ghost use Rattle.std.specs.Prelude.{◌≡◌, IfOk, OnOk, option_map};
+ghost use Rattle.std.specs.Str.Lossy.{utf8_lossy};
+ghost use Rattle.cts_base.specs.Names.{in_upper_case};
+ghost use Rattle.serde_json.specs.Data.{no_members, put};
 ghost use Rattle.serde_json.specs.View.{members_view, view};
 ghost use Rattle.cts_api.specs.Answers.{command_row};
 ghost use Rattle.cts_api.specs.Kinds.{given_in, members_given, or_else};
@@ -87,14 +89,27 @@ fn given(alloc: Global, held: &Given) -> Result<Value, Memory>
     }
 }
 
+// Puts what is given under this name, in upper case, with the members.
+fn put_given(
+    members: &mut Map<String, Value>,
+    alloc: Global,
+    name: &[u8],
+    value: &Given,
+) -> Result<(), Memory>
+    ensures { OnOk result (members_view members.new.entries ≡ put (utf8_lossy (in_upper_case name.now)) (given value.now) (members_view members.old.entries)) }
+{
+    let name = in_upper_case(alloc, name)?;
+    let name = String::from_utf8_lossy(alloc, name.as_slice())?;
+    put(members, alloc, name.as_str(), given(alloc, value)?)?;
+    Ok(())
+}
+
 fn object_of(alloc: Global, params: &[(Bytes, Given)]) -> Result<Map<String, Value>, Memory>
     ensures { IfOk result (λ members. members_view members.entries ≡ object_of params.now) }
 {
     let mut members = Map::new(alloc);
     for (name, value) in params {
-        let name = in_upper_case(alloc, name.as_slice())?;
-        let name = String::from_utf8_lossy(alloc, name.as_slice())?;
-        put(&mut members, alloc, name.as_str(), given(alloc, value)?)?;
+        put_given(&mut members, alloc, name.as_slice(), value)?;
     }
     Ok(members)
 }

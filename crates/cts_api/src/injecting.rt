@@ -22,13 +22,13 @@ use serde_json::{Map, Value};
 use std::alloc::Global;
 
 // How the refusal of an injection is told: an unknown item is named as such.
-fn refused(alloc: Global, refused: Refused) -> Refusal
-    ensures { IsInjectionRefused refused result }
+fn refused(alloc: Global, refused: &Refused) -> Refusal
+    ensures { IsInjectionRefused refused.now result }
 {
     if let Refused::UnknownParameter(_) = refused {
         return Refusal::NoSuch(b"Unknown item");
     }
-    match refusal_text(alloc, &refused) {
+    match refusal_text(alloc, refused) {
         Ok(message) => Refusal::NotDone(message),
         Err(_) => Refusal::Memory,
     }
@@ -77,6 +77,10 @@ pub(crate) fn inject(
                 bytes,
             }),
         }),
-        Err(why) => Err(refused(alloc, why)),
+        Err(why) => {
+            let refusal = refused(alloc, &why);
+            drop(why);
+            Err(refusal)
+        }
     }
 }

@@ -2,7 +2,7 @@
 
 ghost use Rattle.std.specs.Prelude.{◌≡◌, IfOk, map};
 ghost use Rattle.serde_json.specs.View.{view};
-ghost use Rattle.cts_api.specs.Answers.{interface_answer, interfaces_answer, names_of};
+ghost use Rattle.cts_api.specs.Answers.{connection_text, interface_answer, interfaces_answer, names_of};
 ghost use Rattle.cts_api.specs.Telling.{point, Tells};
 
 use crate::naming::interface_place;
@@ -36,6 +36,16 @@ pub(crate) fn interface_names(alloc: Global, hall: &Hall) -> Result<Value, Refus
     Ok(Value::Array(names_of(alloc, interfaces)?))
 }
 
+fn connection_text(connected: bool) -> &'static [u8]
+    ensures { result.now ≡ connection_text connected }
+{
+    if connected {
+        b"CONNECTED"
+    } else {
+        b"DISCONNECTED"
+    }
+}
+
 /// Whether an interface is connected: `CONNECTED` or `DISCONNECTED`.
 ///
 /// # Errors
@@ -47,9 +57,5 @@ pub(crate) fn interface_state(alloc: Global, hall: &Hall, name: &[u8]) -> Result
     let Some(place) = interface_place(hall.site().interfaces.as_slice(), name) else {
         return Err(Refusal::NoSuch(b"Unknown interface"));
     };
-    if hall.connected(place as u32) {
-        Ok(text(alloc, b"CONNECTED")?)
-    } else {
-        Ok(text(alloc, b"DISCONNECTED")?)
-    }
+    Ok(text(alloc, connection_text(hall.connected(place as u32)))?)
 }

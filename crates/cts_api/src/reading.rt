@@ -125,8 +125,8 @@ pub(crate) fn read_asking(method: Method, params: &[Value]) -> Option<Asking<'_>
     match method {
         Method::Value(kind) => Some(Asking::Value(kind, item_in(params)?)),
         Method::Packet => packet(params),
-        Method::Received => Some(Asking::Received(packet_in(params)?)),
-        Method::Sent => Some(Asking::Sent(packet_in(params)?)),
+        Method::Received => packet_in(params).map(Asking::Received),
+        Method::Sent => packet_in(params).map(Asking::Sent),
         Method::Command { range, hazardous } => Some(Asking::Command(
             Checks { range, hazardous },
             order_in(params)?,
@@ -135,11 +135,11 @@ pub(crate) fn read_asking(method: Method, params: &[Value]) -> Option<Asking<'_>
         Method::SetLimits => set_limits(params),
         Method::Enable(on) => Some(Asking::Enable(on, names_in(params)?)),
         Method::Set => nothing(Asking::Set, params),
-        Method::ChooseSet => Some(Asking::ChooseSet(single_text(params)?)),
+        Method::ChooseSet => single_text(params).map(Asking::ChooseSet),
         Method::OutOfLimits => nothing(Asking::OutOfLimits, params),
         Method::Events => Some(Asking::Events(may_be_natural(params)?.unwrap_or(0))),
         Method::Interfaces => nothing(Asking::Interfaces, params),
-        Method::Interface => Some(Asking::Interface(single_text(params)?)),
+        Method::Interface => single_text(params).map(Asking::Interface),
         Method::Inject => injected(params),
         Method::Stop => nothing(Asking::Stop, params),
     }

@@ -1,14 +1,15 @@
 //! Replies: what a desk answers to a body, and what it appends.
 
-ghost use Rattle.std.specs.Prelude.{◌≡◌, ◌≤◌, false, IfOk, length, option_map, true};
+ghost use Rattle.std.specs.Prelude.{◌≡◌, ◌≤◌, false, IfOk, length, option_map, Some, true};
 ghost use Rattle.cts_rpc.specs.Requests.{has_fraction};
+ghost use Rattle.serde_json.specs.Data.{null};
 ghost use Rattle.serde_json.specs.View.{view};
 ghost use Rattle.cts_def.specs.Most.{most_sets};
 ghost use Rattle.cts_entry.specs.Legal.{has_ended};
 ghost use Rattle.cts_entry.specs.Workers.{is_desk};
 ghost use Rattle.cts_api.specs.Replied.{Answered, Replied};
 ghost use Rattle.cts_api.specs.Replies.{error, respond};
-ghost use Rattle.cts_api.specs.Responding.{code_number, IsTold, RefusesWith};
+ghost use Rattle.cts_api.specs.Responding.{code_number, id_in, IsTold, RefusesWith, TellsFault};
 ghost use Rattle.cts_api.specs.Settling.{CanEnd, Ends};
 
 use crate::answering::asked;
@@ -34,6 +35,29 @@ fn refused(alloc: Global, id: Option<&Value>, code: Code, message: &[u8]) -> Res
         text: error_to(alloc, id, code, message)?,
         appended: 0,
     })
+}
+
+// A response to a body whose id is not known: null stands for it.
+fn refused_body(alloc: Global, code: Code, message: &[u8]) -> Result<Answer, Memory>
+    ensures none { IfOk result (λ a. a.appended ≡ 0) }
+    ensures text { IfOk result (λ a. a.text ≡ respond (Some null) (error (code_number code) message.now)) }
+{
+    refused(alloc, Some(&nothing()), code, message)
+}
+
+// The response to a body that is no call, which appends nothing.
+fn no_call(alloc: Global, fault: &RpcFault) -> Result<Answer, Memory>
+    ensures none { IfOk result (λ a. a.appended ≡ 0) }
+    ensures text { has_fraction (id_in fault.now) ≡ false → IfOk result (λ a. TellsFault fault.now a.text) }
+{
+    match fault {
+        RpcFault::ParseError => refused_body(alloc, Code::ParseError, b"Parse error"),
+        RpcFault::InvalidRequest => refused_body(alloc, Code::InvalidRequest, b"Invalid Request"),
+        RpcFault::InvalidParams { id } => {
+            refused(alloc, id.as_ref(), Code::InvalidParams, b"Invalid params")
+        }
+        RpcFault::Memory => Err(Memory),
+    }
 }
 
 // A response to a call that is refused, which appends nothing.
@@ -123,21 +147,15 @@ pub fn reply(
 {
     calls_are_whole();
     match read(alloc, body) {
-        Ok(call) => answer(alloc, hall, by, time, &call),
-        Err(RpcFault::ParseError) => {
-            refused(alloc, Some(&nothing()), Code::ParseError, b"Parse error")
+        Ok(call) => {
+            let answered = answer(alloc, hall, by, time, &call);
+            drop(call);
+            answered
         }
-        Err(RpcFault::InvalidRequest) => {
-            refused(
-                alloc,
-                Some(&nothing()),
-                Code::InvalidRequest,
-                b"Invalid Request",
-            )
+        Err(fault) => {
+            let told = no_call(alloc, &fault);
+            drop(fault);
+            told
         }
-        Err(RpcFault::InvalidParams { id }) => {
-            refused(alloc, id.as_ref(), Code::InvalidParams, b"Invalid params")
-        }
-        Err(RpcFault::Memory) => Err(Memory),
     }
 }

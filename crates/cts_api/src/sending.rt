@@ -31,10 +31,14 @@ fn checked(alloc: Global, hall: &Hall, checks: Checks, request: &Request) -> Res
 {
     match build(alloc, &hall.site().definitions, request, checks) {
         Ok(built) => Ok(built),
-        Err(refused) => match refusal_text(alloc, &refused) {
-            Ok(message) => Err(Refusal::NotDone(message)),
-            Err(_) => Err(Refusal::Memory),
-        },
+        Err(refused) => {
+            let text = refusal_text(alloc, &refused);
+            drop(refused);
+            match text {
+                Ok(message) => Err(Refusal::NotDone(message)),
+                Err(_) => Err(Refusal::Memory),
+            }
+        }
     }
 }
 

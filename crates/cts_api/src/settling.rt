@@ -61,11 +61,25 @@ pub(crate) fn settle(
         let text = result_to(alloc, id, value)?;
         return Ok(Answer { text, appended: 0 });
     };
-    if !has_room(hall, &what)? {
-        let text = error_to(alloc, id, Code::HistoryFull, b"History full")?;
-        return Ok(Answer { text, appended: 0 });
+    match has_room(hall, &what) {
+        Ok(true) => match result_to(alloc, id, value) {
+            Ok(text) => {
+                hall.append(Entry { by, time, what });
+                Ok(Answer { text, appended: 1 })
+            }
+            Err(Memory) => {
+                drop(what);
+                Err(Memory)
+            }
+        },
+        Ok(false) => {
+            drop((value, what));
+            let text = error_to(alloc, id, Code::HistoryFull, b"History full")?;
+            Ok(Answer { text, appended: 0 })
+        }
+        Err(Memory) => {
+            drop((value, what));
+            Err(Memory)
+        }
     }
-    let text = result_to(alloc, id, value)?;
-    hall.append(Entry { by, time, what });
-    Ok(Answer { text, appended: 1 })
 }

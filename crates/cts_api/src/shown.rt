@@ -4,6 +4,7 @@ ghost use Rattle.std.specs.Prelude.{◌≡◌, [], ◌∷◌, ◌++◌, map, IfO
 ghost use Rattle.serde_json.specs.Data.{number};
 ghost use Rattle.serde_json.specs.Find.{of_integer};
 ghost use Rattle.serde_json.specs.View.{view};
+ghost use Rattle.cts_conv.specs.Plains.{plain_text};
 ghost use Rattle.cts_api.specs.Shown.{color, color_name, decimal, is_held, is_out, shown, text, whole_shown};
 
 use cts_base::{Decimal, Memory, print_decimal};
@@ -39,13 +40,21 @@ fn number(whole: i128) -> Option<Value>
     }
 }
 
+// The plain text of a value.
+fn plain_shown(alloc: Global, value: &Held) -> Result<Value, Memory>
+    ensures { IfOk result (λ v. view v ≡ text (plain_text value.now)) }
+{
+    let plain = plain(alloc, value)?;
+    text(alloc, plain.as_slice())
+}
+
 /// A whole number.
 pub(crate) fn whole(alloc: Global, whole: i128) -> Result<Value, Memory>
     ensures { IfOk result (λ v. view v ≡ whole_shown whole) }
 {
     match number(whole) {
         Some(value) => Ok(value),
-        None => text(alloc, plain(alloc, &Held::Whole(whole))?.as_slice()),
+        None => plain_shown(alloc, &Held::Whole(whole)),
     }
 }
 
@@ -55,9 +64,7 @@ pub(crate) fn shown(alloc: Global, value: &Held) -> Result<Value, Memory>
 {
     match value {
         Held::Whole(number) => whole(alloc, *number),
-        Held::Parts(_) | Held::Text(_) | Held::Raw(_) => {
-            text(alloc, plain(alloc, value)?.as_slice())
-        }
+        Held::Parts(_) | Held::Text(_) | Held::Raw(_) => plain_shown(alloc, value),
     }
 }
 

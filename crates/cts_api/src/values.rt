@@ -1,11 +1,12 @@
 //! Values, packets and counts.
 
-ghost use Rattle.std.specs.Prelude.{◌≡◌, ◌<◌, IfOk, length, map, slice_get, Some};
+ghost use Rattle.std.specs.Prelude.{◌≡◌, ◌<◌, ◌++◌, ◌∷◌, [], IfOk, OnOk, length, map, slice_get, Some};
 ghost use Rattle.std.specs.List.{Contains};
 ghost use Rattle.cts_conv.specs.Kinds.{value_of};
 ghost use Rattle.serde_json.specs.View.{view};
 ghost use Rattle.cts_api.specs.Answers.{item_color, item_row, lookup_text, packet_answer, packet_rows, received_answer, rows_from, sent_answer, value_answer};
 ghost use Rattle.cts_api.specs.Seen.{item_name, packet_name};
+ghost use Rattle.cts_api.specs.Shown.{shown, text};
 ghost use Rattle.cts_api.specs.Telling.{Tells, point};
 
 use crate::naming::packet_at;
@@ -13,12 +14,21 @@ use crate::params::{ItemWords, PacketWords};
 use crate::refusal::Refusal;
 use crate::shown::{color, push_text, shown};
 use cts_base::{Memory, spells};
-use cts_conv::{ValueKind, value_of};
+use cts_conv::{Value as Held, ValueKind, value_of};
 use cts_def::{Ident, Item, Packet};
 use cts_table::{Hall, Lookup};
 use cts_watch::is_watched;
 use serde_json::Value;
 use std::alloc::Global;
+
+// A value that is needed no more, as JSON.
+fn shown_once(alloc: Global, value: Held) -> Result<Value, Memory>
+    ensures { IfOk result (λ v. view v ≡ shown value) }
+{
+    let shown = shown(alloc, &value);
+    drop(value);
+    shown
+}
 
 fn lookup_text(refusal: Lookup) -> &'static [u8]
     ensures { result.now ≡ lookup_text refusal }
@@ -46,7 +56,7 @@ pub(crate) fn item_value(
     ensures { Tells view result (value_answer (point hall.now) kind (item_name names.entry)) }
 {
     match hall.value(alloc, names.target, names.packet, names.item, kind) {
-        Ok(value) => Ok(shown(alloc, &value)?),
+        Ok(value) => Ok(shown_once(alloc, value)?),
         Err(Lookup::Memory) => Err(Refusal::Memory),
         Err(refusal) => Err(Refusal::NoSuch(lookup_text(refusal))),
     }
@@ -76,6 +86,39 @@ struct Reading<'a> {
     bytes: &'a [u8],
 }
 
+// The value of an item as JSON.
+fn shown_of(
+    alloc: Global,
+    reading: Reading<'_>,
+    packet: &Packet,
+    item: &Item,
+) -> Result<Value, Memory>
+    requires { Contains packet.now.items item.now }
+    ensures { IfOk result (λ v. view v ≡ shown (value_of reading.entry.kind packet.now item.now reading.entry.bytes.now)) }
+{
+    let value = value_of(alloc, packet, item, reading.bytes, reading.kind)?;
+    shown_once(alloc, value)
+}
+
+// Puts the name of an item, its value and its colour at the end of a row.
+fn push_item(
+    row: &mut Vec<Value>,
+    alloc: Global,
+    hall: &Hall,
+    reading: Reading<'_>,
+    packet: &Packet,
+    number: u32,
+    item: &Item,
+) -> Result<(), Memory>
+    requires { Contains packet.now.items item.now }
+    ensures { OnOk result (map view row.new.items ≡ map view row.old.items ++ text item.now.name ∷ shown (value_of reading.entry.kind packet.now item.now reading.entry.bytes.now) ∷ item_color (point hall.now) reading.entry.number number item.now ∷ []) }
+{
+    push_text(row, alloc, item.name.as_slice())?;
+    row.push(shown_of(alloc, reading, packet, item)?)?;
+    row.push(item_color(alloc, hall, reading.number, number, item)?)?;
+    Ok(())
+}
+
 fn item_row(
     alloc: Global,
     hall: &Hall,
@@ -87,12 +130,9 @@ fn item_row(
     requires { Contains packet.now.items item.now }
     ensures { IfOk result (λ v. view v ≡ item_row (point hall.now) reading.entry.kind reading.entry.number packet.now reading.entry.bytes.now number item.now) }
 {
-    let value = value_of(alloc, packet, item, reading.bytes, reading.kind)?;
     let mut row = Vec::new(alloc);
-    push_text(&mut row, alloc, item.name.as_slice())?;
-    row.push(shown(alloc, &value)?)?;
-    row.push(item_color(alloc, hall, reading.number, number, item)?)?;
-    Ok(Value::Array(row))
+    let pushed = push_item(&mut row, alloc, hall, reading, packet, number, item);
+    pushed.and(Ok(Value::Array(row)))
 }
 
 fn rows(

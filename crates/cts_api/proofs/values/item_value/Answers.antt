@@ -7,8 +7,8 @@ returns-in-Err c = search rules
 pub returns-in-Err-Memory : goal.returns-in-Err-Memory
 returns-in-Err-Memory c = search rules
 
-pub returns-in_ok-shown-in-Ok : goal.returns-in_ok-shown-in-Ok
-returns-in_ok-shown-in-Ok c = search rules
+pub returns-in_ok-shown_once-in-Ok : goal.returns-in_ok-shown_once-in-Ok
+returns-in_ok-shown_once-in-Ok c = search rules
 
-pub returns-in_err-shown-in-Ok : goal.returns-in_err-shown-in-Ok
-returns-in_err-shown-in-Ok c = search rules
+pub returns-in_err-shown_once-in-Ok : goal.returns-in_err-shown_once-in-Ok
+returns-in_err-shown_once-in-Ok c = search rules

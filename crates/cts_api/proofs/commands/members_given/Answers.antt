@@ -1,0 +1,15 @@
+use Rattle.std.proofs.Common.{arith}
+use Rattle.std.proofs.lemmas.Grind.{common_steps}
+use Rattle.cts_api.proofs.commands.members_given.Goals as goal
+
+pub loop-name-preserved : goal.loop-name-preserved
+loop-name-preserved c = grind (arith, common_steps)
+
+pub loop-name-preserved-in_ok-push : goal.loop-name-preserved-in_ok-push
+loop-name-preserved-in_ok-push c = grind (arith, common_steps)
+
+pub returns : goal.returns
+returns c = grind (arith, common_steps)
+
+pub loop-name-init : goal.loop-name-init
+loop-name-init c = grind (arith, common_steps)
