@@ -95,7 +95,9 @@ fn put_command<C: Framer>(
     ensures few { IfOk result (λ count. count ≤ 1) }
 {
     let label = label(alloc, site, time, command)?;
-    match chain.encode(&label, bytes, out) {
+    let encoded = chain.encode(&label, bytes, out);
+    drop(label);
+    match encoded {
         Ok(()) => Ok(0),
         Err(EncodeFault::Memory) => Err(Memory),
         Err(_) => Ok(1),

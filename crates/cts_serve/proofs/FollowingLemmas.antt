@@ -1,5 +1,5 @@
 -- What an event's entries put, and what a replay's follower stands for.
-use Rattle.std.proofs.Common.{◌≡◌, ℕ, ◌≤◌, ◌++◌, List, length, take, drop, sym, ◌∙◌, ap, subst, arith, length-append}
+use Rattle.std.proofs.Common.{◌≡◌, ℕ, ◌≤◌, ◌++◌, List, length, take, drop, Result, Ok, Err, sym, ◌∙◌, ap, subst, arith, length-append}
 use Rattle.std.proofs.Math.Seq.{drop-append_seam, take-append_seam}
 use Rattle.cts_core.specs.Runs.{Did, after}
 use Rattle.cts_core.specs.States.{State}
@@ -9,9 +9,21 @@ use Rattle.cts_entry.specs.declared.entry.Entry.{Entry}
 use Rattle.cts_entry.specs.declared.event.Effect.{Effect}
 use Rattle.cts_entry.specs.declared.event.Event.{Event}
 use Rattle.cts_script.specs.Effects.{effect_line}
+use Rattle.cts_outside.specs.Seen.{SinkSeen}
+use Rattle.cts_serve.specs.Putting.{FailsWithin, IsPut, PutsText}
 use Rattle.cts_serve.specs.Replay.Transcript.{event_text, lines_of}
+use Rattle.cts_serve.specs.declared.putting.Unput.{Unput}
+use Rattle.cts_serve.specs.declared.putting.Unput.TheVariants.{WriteFault}
 use Rattle.cts_table.specs.declared.basis.Basis.{Basis}
 use Rattle.cts_watch.specs.Following.{FollowerData, Follows}
+
+-- a text that was put
+pub put_is : (text : List ℕ) (put : Result (Unit {0}) Unput) (done : Unit {0}) (old new : SinkSeen) → put ≡ Ok done → PutsText text put old new → IsPut text old new
+put_is text put done old new e h = subst (λ (r : Result (Unit {0}) Unput). PutsText text r old new) e h
+
+-- a text that was not put since a put failed
+pub fails_is : (text : List ℕ) (put : Result (Unit {0}) Unput) (why : Unput) (old new : SinkSeen) → put ≡ Err why → why ≡ WriteFault → PutsText text put old new → FailsWithin text old new
+fails_is text put why old new e f h = subst (λ (w : Unput). PutsText text (Err w) old new) f (subst (λ (r : Result (Unit {0}) Unput). PutsText text r old new) e h)
 
 -- the lines of the entries behind the history before an event, and of its effect, are the event's
 pub text_is : (site : SiteData) (s : State) (event : Event) (did : Did) (old new : Held) → Represents site old s → Represents site new (after s event did)

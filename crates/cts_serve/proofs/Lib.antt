@@ -2,6 +2,7 @@ pub mod Undefining
 pub mod ScriptLemmas
 pub mod LoadLemmas
 pub mod EndingLemmas
+pub mod CauseLemmas
 pub mod ReplayLemmas
 pub mod CommandLemmas
 pub mod LawLemmas

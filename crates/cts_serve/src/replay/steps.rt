@@ -38,11 +38,15 @@ pub fn do_event<C: Framer, O: Sink>(
 {
     let before = world.hall().entries().len();
     match world.step(event) {
-        Ok(effect) => match put_event(alloc, world.hall(), follower, before, &effect, out) {
-            Ok(()) => Ok(()),
-            Err(Unput::WriteFault) => Err(Halt::WriteFault),
-            Err(Unput::Memory) => Err(Halt::Memory),
-        },
+        Ok(effect) => {
+            let put = put_event(alloc, world.hall(), follower, before, &effect, out);
+            drop(effect);
+            match put {
+                Ok(()) => Ok(()),
+                Err(Unput::WriteFault) => Err(Halt::WriteFault),
+                Err(Unput::Memory) => Err(Halt::Memory),
+            }
+        }
         Err(WorldFault::NotEnabled) => Err(Halt::NotEnabled { line }),
         Err(WorldFault::Full { entries, bytes }) => Err(Halt::HistoryFull { entries, bytes }),
         Err(WorldFault::Memory) => Err(Halt::Memory),

@@ -1,4 +1,5 @@
-use Rattle.std.proofs.Common.{rules}
+use Rattle.std.proofs.Common.{rules, arith}
+use Rattle.std.proofs.lemmas.Grind.{common_steps}
 use Rattle.cts_serve.proofs.load.fetch.fetch_by.Goals as goal
 
 pub returns-clause-stays : goal.returns-clause-stays
@@ -12,3 +13,6 @@ returns-clause-small c = search rules
 
 pub returns-clause-counts : goal.returns-clause-counts
 returns-clause-counts c = search rules
+
+pub returns-in-End-clause-content : goal.returns-in-End-clause-content
+returns-in-End-clause-content g c = grind (arith, common_steps)

@@ -1,4 +1,5 @@
 use Rattle.std.proofs.Common.{◌≡◌, ℕ, ◌+◌, ◌-◌, ◌<◌, ◌≤◌, List, ◌∷◌, ◌++◌, map, sym, append_assoc, length-append, length, min, take, drop, arith, get_or, ap, subst, ◌∙◌, length-drop, length-take}
+use Rattle.std.proofs.lemmas.Grind.{common_steps}
 use Rattle.std.proofs.lemmas.List.{drop_min, drop_more, take-append-drop}
 use Rattle.std.specs.List.{filter}
 use Rattle.cts_def.specs.Sites.{SiteData}
@@ -60,3 +61,6 @@ entries-preserved c =
       c.in_ok-extend_from_slice.ensures.items
           ∙ (ap (λ (l : List ℕ). l ++ c.as_slice.result.now) c.entries.invariant.1 ∙ (ap (λ (l : List ℕ). so_far ++ l) (text ∙ sym line) ∙ sym more)),
     )
+
+pub returns : goal.returns
+returns c = grind (arith, common_steps)
