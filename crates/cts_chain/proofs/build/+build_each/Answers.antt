@@ -1,4 +1,5 @@
 use Rattle.std.proofs.Common.{rules, ◌≡◌, [], ◌∷◌, ◌∙◌, ap, arith, map, length, Result, Ok, Err, OnErr}
+use Rattle.std.proofs.lemmas.Grind.{common_steps}
 use Rattle.std.proofs.lemmas.List.{map-append}
 use Rattle.std.proofs.lemmas.Result.{on_ok_weaker, on_err_weaker}
 use Rattle.cts_chain.proofs.Counting.{enough_first, enough_rest, fresh_first, taken_first, gone_behind, gone_later}
@@ -41,3 +42,9 @@ pub returns-clause-gone : goal.returns-clause-gone
 returns-clause-gone g t c =
     let parts : c.args.interfaces.now ≡ c.in-Some.next.now ∷ c.in-Some.rest.now = search rules in
     on_err_weaker c.build_each.result (λ h. gone_later c.args.interfaces.now c.in-Some.rest.now c.in-Some.next.now _ _ _ parts c.in_ok-chain.ensures.taken h) c.build_each.ensures.gone
+
+pub returns-in_default-clause-fresh : goal.returns-in_default-clause-fresh
+returns-in_default-clause-fresh g t c = grind (arith, common_steps)
+
+pub returns-in_default-clause-taken : goal.returns-in_default-clause-taken
+returns-in_default-clause-taken g t c = grind (arith, common_steps)

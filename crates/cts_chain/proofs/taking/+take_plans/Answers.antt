@@ -1,4 +1,5 @@
 use Rattle.std.proofs.Common.{arith}
+use Rattle.std.proofs.lemmas.Grind.{common_steps}
 use Rattle.cts_def.specs.Protocols.{kind_of, spec_data}
 use Rattle.cts_chain.specs.Plans.{read_by, beside_by}
 use Rattle.cts_chain.proofs.Planning.{needed_split, reading_split, beside_split, one_less, then_more}
@@ -33,3 +34,6 @@ returns-clause-beside g t c =
 pub returns-clause-taken : goal.returns-clause-taken
 returns-clause-taken g t c k =
     omega (arith, c.take_box-protocol.ensures.taken k, c.take_plans.ensures.taken k, needed_split k c.args.plans.now.items c.pop.new.self.items c.in-Some.plan c.in-Some.ensures.items)
+
+pub returns-clause-parts : goal.returns-clause-parts
+returns-clause-parts g t c = grind (arith, common_steps)
