@@ -1,4 +1,4 @@
-use Rattle.std.proofs.Common.{rules, sym, ◌∙◌, ap, subst, arith}
+use Rattle.std.proofs.Common.{sym, ◌∙◌, ap, subst, arith}
 use Rattle.std.proofs.lemmas.Grind.{common_steps}
 use Rattle.cts_chain.specs.Chains.{packet_at}
 use Rattle.cts_def.specs.declared.time.Time.{Time}
@@ -19,6 +19,3 @@ loop-own-preserved g c =
 
 pub loop-own-smaller : goal.loop-own-smaller
 loop-own-smaller g c = grind (arith, common_steps)
-
-pub returns-in-More-clause-ok : goal.returns-in-More-clause-ok
-returns-in-More-clause-ok c = search rules
