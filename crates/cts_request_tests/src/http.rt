@@ -3,7 +3,7 @@
 ghost use Rattle.std.specs.Prelude.{IsTrue, false, ◌≡◌};
 ghost use Rattle.cts_http.specs.Texts.{is_refusal};
 
-use crate::parts::answer_to_parts;
+use crate::parts::bytes_of_parts;
 use cts_http::{HttpStep, Reader, refusal, response};
 use cts_rows::{Answers, as_text, bytes_by_number, debug_of, rows_hold, same};
 use std::alloc::Global;
@@ -174,14 +174,14 @@ fn each_request_has_its_answer_however_it_is_cut(rt: HostRuntime) -> Result<(), 
 }
 
 /// A target with a byte ff.
-const TARGET: &str = "Refuse(400)|POST /\u{ff} HTTP/1.1\r;Content-Length: 0\r;\r;";
+const TARGET: &str = "Refuse(400)|1*POST /\u{ff} HTTP/1.1\r;Content-Length: 0\r;\r;";
 
-/// What is answered to a whole text.
+/// What is answered to a text of repeated parts at once.
 struct Whole;
 
 impl Answers for Whole {
     fn answer(alloc: Global, asked: &str) -> Result<String, Fail> {
-        let bytes = bytes_by_number(alloc, asked)?;
+        let bytes = bytes_of_parts(alloc, asked)?;
         told_of_whole(alloc, &bytes)
     }
 }
@@ -200,18 +200,9 @@ Refuse(431)|1*POST / HTTP/1.1\r;Content-Length: 0\r;X: |16346*a
 again:|1*POST / HTTP/1.1\r;Content-Length: 0\r;|63*A: b\r;|1*\r;
 Refuse(431)|1*POST / HTTP/1.1\r;Content-Length: 0\r;|64*A: b\r;|1*\r;";
 
-/// What is answered to a text of repeated parts.
-struct Bounds;
-
-impl Answers for Bounds {
-    fn answer(alloc: Global, asked: &str) -> Result<String, Fail> {
-        answer_to_parts::<Whole>(alloc, asked)
-    }
-}
-
 #[test]
 fn heads_are_bounded(rt: HostRuntime) -> Result<(), Fail> {
-    rows_hold::<Bounds>(rt.alloc(), BOUNDS)
+    rows_hold::<Whole>(rt.alloc(), BOUNDS)
 }
 
 /// A response is written over what stood there.

@@ -1,12 +1,12 @@
 // Texts in rows of which parts are repeated.
-use cts_rows::{Answers, cut, number};
+use cts_rows::{bytes_by_number, cut, number};
 use std::alloc::Global;
 use std::test::Fail;
 
-/// What is answered to the text of these parts, which have bars between. Each stands behind how often it comes, and a `*`.
-pub fn answer_to_parts<A: Answers>(alloc: Global, parts: &str) -> Result<String, Fail> {
+/// The bytes of these parts, which have bars between. Each stands behind how often it comes, and a `*`.
+pub fn bytes_of_parts(alloc: Global, parts: &str) -> Result<Vec<u8>, Fail> {
     let text = repeated(alloc, parts)?;
-    A::answer(alloc, text.as_str())
+    bytes_by_number(alloc, text.as_str())
 }
 
 fn repeated(alloc: Global, parts: &str) -> Result<String, Fail> {

@@ -1,5 +1,5 @@
 // What no clause says: bodies from outside with what they ask, and that texts are made where there is memory.
-use crate::parts::answer_to_parts;
+use crate::parts::bytes_of_parts;
 use cts_rows::{Answers, bytes_by_number, display_of, field, number, readable_of, rows_hold, same};
 use cts_rpc::{Call, RpcFault, error_text, read, result_text};
 use serde_json::Value;
@@ -104,7 +104,8 @@ struct Depths;
 
 impl Answers for Depths {
     fn answer(alloc: Global, asked: &str) -> Result<String, Fail> {
-        answer_to_parts::<Bodies>(alloc, asked)
+        let body = bytes_of_parts(alloc, asked)?;
+        display_of(alloc, &letter_of(alloc, &body))
     }
 }
 
@@ -117,7 +118,10 @@ const TLM: &[u8] =
     b"{\"jsonrpc\":\"2.0\",\"method\":\"tlm\",\"params\":[\"a\",1,{\"x\":-2}],\"id\":\"7\"}";
 
 /// A call's method, how many params it has, and the response that gives them back.
-fn told_of_call(alloc: Global, call: Call) -> Result<String, Fail> {
+fn told_of_call(alloc: Global, asked: Result<Call, RpcFault>) -> Result<String, Fail> {
+    let Ok(call) = asked else {
+        return Err(Fail::new("no call"));
+    };
     let Call { method, params, id } = call;
     let count = params.len();
     let params = Value::Array(params.into_vec());
@@ -127,10 +131,7 @@ fn told_of_call(alloc: Global, call: Call) -> Result<String, Fail> {
 
 #[test]
 fn a_call_has_its_parts(rt: HostRuntime) -> Result<(), Fail> {
-    let Ok(call) = read(rt.alloc(), TLM) else {
-        return Err(Fail::new("refused"));
-    };
-    let found = told_of_call(rt.alloc(), call)?;
+    let found = told_of_call(rt.alloc(), read(rt.alloc(), TLM))?;
     let wanted = r#"('tlm', 3, Ok('{"id":"7","jsonrpc":"2.0","result":["a",1,{"x":-2}]}'))"#;
     same(found.as_str(), wanted, "a call")
 }
