@@ -1,0 +1,4 @@
+mod Numerals
+mod Texts
+mod Fractions
+mod Uses
