@@ -1,0 +1,6 @@
+mod Bytes
+mod Spelled
+mod Fields
+mod Contents
+mod Existing
+mod Standing

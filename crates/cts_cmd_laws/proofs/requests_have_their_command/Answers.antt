@@ -1,0 +1,5 @@
+use Rattle.cts_cmd_laws.proofs.Existing.{requests_have_their_command}
+use Rattle.cts_cmd_laws.proofs.requests_have_their_command.Goals as goal
+
+pub returns : goal.returns
+returns c = requests_have_their_command
