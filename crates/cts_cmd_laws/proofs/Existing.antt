@@ -19,14 +19,14 @@ use Rattle.cts_cmd.specs.declared.request.Checks.{Checks}
 use Rattle.cts_cmd.specs.declared.request.Given.{Given}
 use Rattle.cts_cmd.specs.declared.request.Request.{Request}
 use Rattle.cts_cmd.specs.Builds.{AreBytes, IsBuilt, IsNamedAt, WritesAll, lies_within}
-use Rattle.cts_cmd.specs.Checks.{has_target, item_named, refusal_among, refusal_at}
+use Rattle.cts_cmd.specs.Checks.{has_target, item_named, refusal, refusal_among, refusal_at}
 use Rattle.cts_cmd.specs.Contents.{content, content_given}
-use Rattle.cts_cmd.specs.Injects.{Injects, WritesFrom, base, from_base, stood, with_item}
+use Rattle.cts_cmd.specs.Injects.{Injects, WritesFrom, base, from_base, injection_refusal, stood, with_item}
 use Rattle.cts_cmd.proofs.Behind.{base_within, kind_behind, placed_behind, room_behind, same_start, size_behind, start_behind}
 use Rattle.cts_cmd.proofs.Injected.{all_found, all_more, within_of}
 use Rattle.cts_cmd.proofs.Written.{all_within, command_starts, found_nowhere}
-use Rattle.cts_cmd_laws.specs.Existing.{HasCommand, MembersLeaveBytes, RequestsHaveTheirCommand, StandAsBytes}
-use Rattle.cts_cmd_laws.specs.Sound.{AreCommands, IsCommand, IsItem}
+use Rattle.cts_cmd_laws.specs.Existing.{HasCommand, LeavesBytes, StandAsBytes}
+use Rattle.cts_cmd_laws.specs.Sound.{AreCommands, IsCommand, IsItem, IsPacket}
 use Rattle.cts_cmd_laws.proofs.Bytes.{bytes_both, bytes_drop, bytes_take, bytes_zeros}
 use Rattle.cts_cmd_laws.proofs.Contents.{can_hold, content_suits, from_the_start, given_suits}
 use Rattle.cts_cmd_laws.proofs.Fields.{CanHold, has_place, item_written}
@@ -91,7 +91,7 @@ has_by (c ∷ commands) d r k (Some n) same e sound fine =
     let built : IsBuilt d r b = record { command = named_in; bytes = w.writes } in
     (b, built)
 
-pub requests_have_their_command : RequestsHaveTheirCommand
+pub requests_have_their_command : (d : DefinitionsData) (r : Request) (k : Checks) → AreCommands d.commands → refusal d r k ≡ None → HasCommand d r
 requests_have_their_command d r k sound fine = has_by d.commands d r k (position (is_named r.target r.command) d.commands) refl refl sound fine
 
 -- ---- injected values
@@ -180,7 +180,7 @@ stood_long : (current : Option (List ℕ)) (count : ℕ) → count ≤ length (s
 stood_long None count = let e = length-replicate {A = ℕ} count 0 in omega (arith, e)
 stood_long (Some bytes) count = let e = length-append bytes (replicate (count - length bytes) 0) in let f = length-replicate {A = ℕ} (count - length bytes) 0 in omega (arith, e, f)
 
-pub members_leave_bytes : MembersLeaveBytes
+pub members_leave_bytes : (p : PacketData) (current : Option (List ℕ)) (members : List (List ℕ × Given)) → IsPacket p → StandAsBytes current → injection_refusal p.items members ≡ None → LeavesBytes p current members
 members_leave_bytes p current members it all fine =
     let least = it.sound.least in
     let long = stood_long current p.length in

@@ -4,3 +4,4 @@ mod Fields
 mod Contents
 mod Existing
 mod Standing
+mod Kept

@@ -11,14 +11,15 @@ use Rattle.cts_bits.proofs.BitLists.{get_or-bits_of}
 use Rattle.cts_def.specs.declared.item_kind.Preset.{Preset}
 use Rattle.cts_def.specs.declared.item_kind.Preset.TheVariants.{Whole, Raw}
 use Rattle.cts_def.specs.Items.{ItemData, is_from_start, is_parameter, is_to_the_end}
-use Rattle.cts_def.specs.Packets.{PacketData, are_before_the_end}
+use Rattle.cts_def.specs.Packets.{DefinitionsData, PacketData, are_before_the_end}
 use Rattle.cts_cmd.specs.declared.request.Given.{Given}
+use Rattle.cts_cmd.specs.declared.request.Request.{Request}
 use Rattle.cts_cmd.specs.Builds.{AreBytes, Writes, WritesAll, WritesBytes, lies_within}
 use Rattle.cts_cmd.specs.Contents.{content}
 use Rattle.cts_cmd.specs.Laws.{IsLeftBy, IsWrittenBit}
 use Rattle.cts_cmd.proofs.Stays.{bits_stay, numbers_stand}
 use Rattle.cts_cmd.proofs.Written.{all_within, command_starts}
-use Rattle.cts_cmd_laws.specs.Sound.{IsCommand, IsItem}
+use Rattle.cts_cmd_laws.specs.Sound.{AreCommands, IsCommand, IsItem}
 use Rattle.cts_cmd_laws.specs.Standing.{CommandsHoldTheirParameters, Holds, HoldsItsParameters, added, all_added}
 use Rattle.cts_cmd_laws.proofs.Contents.{HasRoom, content_suits, from_the_start, has_its_room}
 use Rattle.cts_cmd_laws.proofs.Existing.{at_place}
@@ -223,6 +224,6 @@ command_holds c params bytes it w =
 at_number : (P : PacketData → Type 0) (xs : List PacketData) (n : ℕ) (x : PacketData) → AllByRecursion P xs → slice_get xs n ≡ Some x → P x
 at_number P xs n x all e = subst P (get_or_from_slice_get xs n x x e) (at_place P xs n x all (slice_get_within xs n x e))
 
-pub commands_hold_their_parameters : CommandsHoldTheirParameters
-commands_hold_their_parameters d r b sound built =
+pub commands_hold_their_parameters : (d : DefinitionsData) (r : Request) → AreCommands d.commands → CommandsHoldTheirParameters d r
+commands_hold_their_parameters d r sound b built =
     command_holds built.command.it r.params b.bytes (at_number IsCommand d.commands b.command built.command.it sound built.command.number) built.bytes

@@ -12,7 +12,6 @@ use Rattle.cts_cmd.specs.declared.request.Request.{Request}
 use Rattle.cts_cmd.specs.Builds.{IsBuilt, place_of}
 use Rattle.cts_cmd.specs.Contents.{content}
 use Rattle.cts_cmd.specs.Laws.{IsLeftBy, IsWrittenBit}
-use Rattle.cts_cmd_laws.specs.Sound.{AreCommands}
 
 -- the bytes of the item's field in a command of this length: those from where it begins, so many, or all behind the command's
 -- length where it goes to the end
@@ -43,6 +42,6 @@ pub record HoldsItsParameters (c : PacketData) (params : List (List ℕ × Given
   pub fields : (before : List ItemData) (i : ItemData) (later : List ItemData) → c.items ≡ before ++ i ∷ later
       → ((k : ℕ) → IsWrittenBit i (content params i) k → IsLeftBy (content params) later k) → Holds c.length i (content params i) bytes
 
--- A command that is built holds its parameters.
-abbrev pub CommandsHoldTheirParameters : Type 0
-CommandsHoldTheirParameters = (d : DefinitionsData) (r : Request) (b : Built) → AreCommands d.commands → (built : IsBuilt d r b) → HoldsItsParameters built.command.it r.params b.bytes
+-- Each command that the request is built to holds its parameters.
+abbrev pub CommandsHoldTheirParameters : DefinitionsData → Request → Type 0
+CommandsHoldTheirParameters d r = (b : Built) (built : IsBuilt d r b) → HoldsItsParameters built.command.it r.params b.bytes
