@@ -1,5 +1,5 @@
 -- The digits behind a point.
-use Rattle.std.proofs.Common.{◌≡◌, ℕ, zero, suc, ◌+◌, ◌-◌, ◌*◌, ◌/◌, ◌%◌, ◌^◌, ◌≤◌, ◌<◌, Bool, true, false, not, ◌&&◌, List, [], ◌∷◌, ◌++◌, length, refl, sym, ap, ◌∙◌, arith, unsigned_abs, append_assoc}
+use Rattle.std.proofs.Common.{◌≡◌, ℕ, zero, suc, ◌+◌, ◌-◌, ◌*◌, ◌/◌, ◌%◌, ◌^◌, ◌≤◌, ◌<◌, Bool, true, false, not, ◌&&◌, List, [], ◌∷◌, ◌++◌, length, refl, sym, ap, ◌∙◌, arith, unsigned_abs, append_assoc, ℤ, subst}
 use Rattle.std.specs.Prelude.{◌==◌}
 use Rattle.std.specs.Char.{digit_value}
 use Rattle.std.specs.Fmt.{decimal}
@@ -15,9 +15,11 @@ use Rattle.std.proofs.lemmas.List.{append-nil}
 use Rattle.std.proofs.lemmas.List.Folds.{list_all-append}
 use Rattle.cts_base.specs.Prints.{last_digits}
 use Rattle.cts_base.proofs.PrintLemmas.{length-last_digits}
-use Rattle.cts_conv.specs.Formatting.{fixed_digits, fraction_of, rounded}
+use Rattle.cts_def.specs.FormatParts.{FormatParts}
+use Rattle.cts_conv.specs.declared.value.Value.{Value}
+use Rattle.cts_conv.specs.Formatting.{directive_text, fixed_text, parts_in, precision_of, fixed_digits, fraction_of, rounded}
 use Rattle.cts_conv.proofs.Digiting.{ten_pos}
-use Rattle.cts_conv_laws.specs.Numerals.{DecimalTextsMeanTheirNumber, FixedDigitsMeanTheirNumber, IsFixedOf, is_digit_of, with_point}
+use Rattle.cts_conv_laws.specs.Numerals.{DecimalTextsMeanTheirNumber, FixedDigitsMeanTheirNumber, IsDecimalOf, IsFixedOf, is_digit_of, with_point}
 use Rattle.cts_conv_laws.proofs.Numerals.{all_push}
 use Rattle.cts_conv_laws.proofs.Texts.{decimal_means, digits_short, filled_up_so, is_short}
 
@@ -98,8 +100,8 @@ rounded_small count n few small =
     let less = div-le_self (n + unit / 2) unit in
     omega (arith, top, less, small)
 
-pub decimal_texts_mean : DecimalTextsMeanTheirNumber
-decimal_texts_mean p count parts few small =
+fixed_text_means : (p : FormatParts) (count : ℕ) (parts : ℤ) → count ≤ 12 → unsigned_abs parts ≤ 2 ^ 127 → IsDecimalOf p count parts (fixed_text p count parts)
+fixed_text_means p count parts few small =
     let number = fixed_digits_mean count (rounded count (unsigned_abs parts)) (rounded_small count (unsigned_abs parts) few small) in
     record {
       digits = fixed_digits count (rounded count (unsigned_abs parts));
@@ -107,3 +109,13 @@ decimal_texts_mean p count parts few small =
       shown = filled_up_so p (is_negative parts && not (rounded count (unsigned_abs parts) == 0)) (fixed_digits count (rounded count (unsigned_abs parts)))
           (fixed_short count (rounded count (unsigned_abs parts)) (fixed_digits count (rounded count (unsigned_abs parts))) number);
     }
+
+not_plain : (letter : ℕ) → (letter == 102) ≡ true → (letter == 115) ≡ false
+not_plain letter e = grind (arith, nat_tests)
+
+fixed_directive : (p : FormatParts) (v : Value) → (p.letter == 102) ≡ true → directive_text p v ≡ fixed_text p (precision_of p.precision) (parts_in v)
+fixed_directive p v fixed = rw (not_plain p.letter fixed, fixed) refl
+
+pub decimal_texts_mean : DecimalTextsMeanTheirNumber
+decimal_texts_mean p v fixed few small =
+    subst (IsDecimalOf p (precision_of p.precision) (parts_in v)) (sym (fixed_directive p v fixed)) (fixed_text_means p (precision_of p.precision) (parts_in v) few small)

@@ -2,3 +2,4 @@ mod Numerals
 mod Texts
 mod Fractions
 mod Uses
+mod Blocks

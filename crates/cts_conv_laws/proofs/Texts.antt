@@ -1,5 +1,5 @@
 -- The texts of whole numbers.
-use Rattle.std.proofs.Common.{◌≡◌, ℕ, suc, pos, negsuc, ◌+◌, ◌-◌, ◌^◌, ◌≤◌, ◌<◌, Bool, true, false, List, [], ◌∷◌, ◌++◌, length, refl, sym, ap, ◌∙◌, arith, unsigned_abs}
+use Rattle.std.proofs.Common.{◌≡◌, ℕ, suc, pos, negsuc, ◌+◌, ◌-◌, ◌^◌, ◌≤◌, ◌<◌, Bool, true, false, List, [], ◌∷◌, ◌++◌, length, refl, sym, ap, ◌∙◌, arith, unsigned_abs, ℤ, subst}
 use Rattle.std.specs.Prelude.{◌==◌, ◌||◌, max, nat_lt, replicate, if◌then◌else◌}
 use Rattle.std.specs.Fmt.{char_count, decimal, digits, sign_text_with}
 use Rattle.std.specs.Int.{is_negative}
@@ -8,8 +8,9 @@ use Rattle.std.proofs.lemmas.Bool.{and_from, and_parts}
 use Rattle.std.proofs.lemmas.Bool.Decides.{nat_tests}
 use Rattle.std.proofs.lemmas.List.{append-nil, length-append, length-replicate}
 use Rattle.cts_def.specs.FormatParts.{FormatParts}
-use Rattle.cts_conv.specs.Formatting.{base_of, digits_in, has_flag, number_filled_up, width_of, with_gap}
-use Rattle.cts_conv_laws.specs.Numerals.{IsFilledUp, IsNumeralOf, PlainWholesMeanTheirNumber, WholeTextsMeanTheirNumber, is_digit_of}
+use Rattle.cts_conv.specs.declared.value.Value.{Value}
+use Rattle.cts_conv.specs.Formatting.{cut, directive_text, base_of, digits_in, has_flag, number_filled_up, width_of, with_gap, whole_text}
+use Rattle.cts_conv_laws.specs.Numerals.{IsWholeOf, IsFilledUp, IsNumeralOf, PlainWholesMeanTheirNumber, WholeTextsMeanTheirNumber, is_digit_of}
 use Rattle.cts_conv_laws.proofs.Numerals.{digits_mean, onto, onto_nothing}
 
 -- ---- characters
@@ -94,8 +95,8 @@ base_by false false false = (omega arith, omega arith)
 base_small : (letter : ℕ) → (2 ≤ base_of letter) × (base_of letter ≤ 16)
 base_small letter = base_by (letter == 120 || letter == 88) (letter == 111) (letter == 98)
 
-pub whole_texts_mean : WholeTextsMeanTheirNumber
-whole_texts_mean p z small =
+whole_text_means : (p : FormatParts) (z : ℤ) → unsigned_abs z < 2 ^ 128 → IsWholeOf p z (whole_text p z)
+whole_text_means p z small =
     let base = base_small p.letter in
     let number = digits_mean (base_of p.letter) (p.letter == 88) (unsigned_abs z) base.0 base.1 small in
     record {
@@ -104,6 +105,12 @@ whole_texts_mean p z small =
       shown = filled_up_so p (is_negative z) (digits_in (base_of p.letter) (p.letter == 88) (unsigned_abs z))
           (digits_short (base_of p.letter) (p.letter == 88) (digits_in (base_of p.letter) (p.letter == 88) (unsigned_abs z)) base.1 number.digits);
     }
+
+whole_directive : (p : FormatParts) (v : Value) → (p.letter == 115) ≡ false → (p.letter == 102) ≡ false → directive_text p v ≡ whole_text p (cut v)
+whole_directive p v plain fixed = rw (plain, fixed) refl
+
+pub whole_texts_mean : WholeTextsMeanTheirNumber
+whole_texts_mean p v plain fixed small = subst (IsWholeOf p (cut v)) (sym (whole_directive p v plain fixed)) (whole_text_means p (cut v) small)
 
 pub decimal_means : (n : ℕ) → n < 2 ^ 128 → IsNumeralOf 10 false n (decimal n)
 unfolding digits

@@ -1,12 +1,13 @@
 -- Numbers as they are read from their digits.
-use Rattle.std.specs.Prelude.{◌≡◌, ℕ, ℤ, ◌+◌, ◌-◌, ◌/◌, ◌^◌, ◌≤◌, ◌<◌, max, Bool, false, not, ◌&&◌, ◌||◌, ◌==◌, nat_le, nat_lt, List, [], ◌∷◌, ◌++◌, length, replicate, slice_index, unsigned_abs, IsTrue, if◌then◌else◌}
+use Rattle.std.specs.Prelude.{◌≡◌, ℕ, ℤ, ◌+◌, ◌-◌, ◌/◌, ◌^◌, ◌≤◌, ◌<◌, max, Bool, false, not, ◌&&◌, ◌||◌, ◌==◌, nat_le, nat_lt, true, List, [], ◌∷◌, ◌++◌, length, replicate, slice_index, unsigned_abs, IsTrue, if◌then◌else◌}
 use Rattle.std.specs.Fmt.{sign_text_with}
 use Rattle.std.specs.Int.{is_negative}
 use Rattle.std.specs.List.{list_all}
 use Rattle.std.specs.Str.Parse.{digits_value}
 use Rattle.cts_def.specs.FormatParts.{FormatParts}
-use Rattle.cts_conv.specs.Formatting.{base_of, digits_in, fixed_digits, fixed_text, has_flag, rounded, whole_text, width_of}
+use Rattle.cts_conv.specs.Formatting.{base_of, cut, digits_in, directive_text, fixed_digits, has_flag, parts_in, precision_of, rounded, width_of}
 use Rattle.cts_conv.specs.Plains.{plain_text}
+use Rattle.cts_conv.specs.declared.value.Value.{Value}
 use Rattle.cts_conv.specs.declared.value.Value.TheVariants.{Whole}
 
 -- ---- digits
@@ -56,8 +57,9 @@ pub record IsWholeOf (p : FormatParts) (z : ℤ) (text : List ℕ) : Type 0 wher
   pub number : IsNumeralOf (base_of p.letter) (p.letter == 88) (unsigned_abs z) digits
   pub shown : IsFilledUp p (is_negative z) digits text
 
+-- A format of another letter than `s` and `f` gives the number, cut toward zero.
 abbrev pub WholeTextsMeanTheirNumber : Type 0
-WholeTextsMeanTheirNumber = (p : FormatParts) (z : ℤ) → unsigned_abs z < 2 ^ 128 → IsWholeOf p z (whole_text p z)
+WholeTextsMeanTheirNumber = (p : FormatParts) (v : Value) → (p.letter == 115) ≡ false → (p.letter == 102) ≡ false → unsigned_abs (cut v) < 2 ^ 128 → IsWholeOf p (cut v) (directive_text p v)
 
 -- The plain text of a whole number: a `-` where it is negative, and the digits of its magnitude in base 10.
 pub record IsPlainOf (z : ℤ) (text : List ℕ) : Type 0 where
@@ -95,5 +97,7 @@ pub record IsDecimalOf (p : FormatParts) (count : ℕ) (parts : ℤ) (text : Lis
   pub number : IsFixedOf count (rounded count (unsigned_abs parts)) digits
   pub shown : IsFilledUp p (is_negative parts && not (rounded count (unsigned_abs parts) == 0)) digits text
 
+-- A format of `f` gives the number with as many digits behind the point as its precision says.
 abbrev pub DecimalTextsMeanTheirNumber : Type 0
-DecimalTextsMeanTheirNumber = (p : FormatParts) (count : ℕ) (parts : ℤ) → count ≤ 12 → unsigned_abs parts ≤ 2 ^ 127 → IsDecimalOf p count parts (fixed_text p count parts)
+DecimalTextsMeanTheirNumber = (p : FormatParts) (v : Value) → (p.letter == 102) ≡ true → precision_of p.precision ≤ 12 → unsigned_abs (parts_in v) ≤ 2 ^ 127
+    → IsDecimalOf p (precision_of p.precision) (parts_in v) (directive_text p v)

@@ -3,6 +3,7 @@
 //! They are said of the definitions that the contracts of `cts_conv` cite, so they are laws of what it shows.
 #![tactic(auto)]
 
+ghost use Rattle.cts_conv_laws.specs.Blocks.{PlainTextsMeanTheirBytes};
 ghost use Rattle.cts_conv_laws.specs.Numerals.{DecimalTextsMeanTheirNumber, DigitsMeanTheirNumber, FixedDigitsMeanTheirNumber, NoOtherDigitsMeanIt, PlainWholesMeanTheirNumber, WholeTextsMeanTheirNumber};
 ghost use Rattle.cts_conv_laws.specs.Uses.{SomeSegmentIsUsed};
 
@@ -27,6 +28,12 @@ pub fn whole_texts_mean_their_number()
 pub fn decimal_texts_mean_their_number()
     ensures digits { FixedDigitsMeanTheirNumber }
     ensures formatted { DecimalTextsMeanTheirNumber }
+{}
+
+/// The plain text of a block is read as its bytes where it is given for a BLOCK, and the text of a STRING's bytes as those where
+/// it is given for a STRING.
+pub fn plain_texts_mean_their_bytes()
+    ensures { PlainTextsMeanTheirBytes }
 {}
 
 /// Of the segments of a conversion, which are some, one is used for each number: one of those with the greatest bound that is at
