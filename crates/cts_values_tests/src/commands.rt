@@ -1,6 +1,9 @@
 // Commands built from texts, over definitions that were read.
-use crate::read::definitions_of;
+use crate::read::{definitions_of, only_packet};
+use crate::values::{packet_with, shown};
+use cts_base::Bytes;
 use cts_cmd::{Built, Checks, Refused, build, parse};
+use cts_conv::ValueKind;
 use cts_def::Definitions;
 use cts_rows::{Answers, cut, debug_of, readable_of, rows_hold};
 use std::alloc::Global;
@@ -22,7 +25,10 @@ APPEND_PARAMETER NAME 24 STRING 'ab';OVERFLOW TRUNCATE;\
 APPEND_PARAMETER RAW 16 BLOCK 0x0102;\
 APPEND_PARAMETER REST 0 BLOCK '';\
 COMMAND T B LITTLE_ENDIAN;HAZARDOUS;\
-APPEND_PARAMETER W 16 UINT 0 65535 258";
+APPEND_PARAMETER W 16 UINT 0 65535 258;\
+COMMAND T C BIG_ENDIAN;\
+PARAMETER N 8 8 UINT 0 255 1;\
+PARAMETER REST 0 0 BLOCK ''";
 
 /// What is answered, `all` or `none` of the checks, and the text.
 const COLLECTS: &str = "\
@@ -64,7 +70,23 @@ Built { command: 0, bytes: Bytes { held: [31, 0, 97, 98, 0, 120, 0] } }|all|T A 
 Built { command: 0, bytes: Bytes { held: [31, 0, 97, 98, 0, 1, 2, 10, 11, 12] } }|all|T A with M 0, REST '0x0a0b0c'
 Hazardous|all|T B
 Built { command: 1, bytes: Bytes { held: [2, 1] } }|none|T B
-Built { command: 1, bytes: Bytes { held: [1, 0] } }|none|T B with W 1";
+Built { command: 1, bytes: Bytes { held: [1, 0] } }|none|T B with W 1
+Built { command: 2, bytes: Bytes { held: [0, 1] } }|all|T C
+Built { command: 2, bytes: Bytes { held: [0, 9, 10, 11] } }|all|T C with REST '0x0a0b', N 9";
+
+/// What a telemetry item reads in the bytes of a command of A at the place of one of its parameters, the item, and the text.
+const READ_BACK: &str = "\
+15|ITEM I 0 4 UINT|T A with M 0, N 15
+-2|ITEM I 4 4 INT|T A with M 0, S -2
+1|ITEM I 8 8 UINT|T A with M 1
+ab|ITEM I 16 24 STRING|T A with M 0
+a|ITEM I 16 24 STRING|T A with M 0, NAME a
+abc|ITEM I 16 24 STRING|T A with M 0, NAME abcd
+0x0102|ITEM I 40 16 BLOCK|T A with M 0
+0xff00|ITEM I 40 16 BLOCK|T A with M 0, RAW '0xff'
+0x7879|ITEM I 40 16 BLOCK|T A with M 0, RAW xy
+0x|ITEM I 56 0 BLOCK|T A with M 0
+0x0a0b0c|ITEM I 56 0 BLOCK|T A with M 0, REST '0x0a0b0c'";
 
 /// The number and the bytes of the command that is built, or why it is not.
 fn told(alloc: Global, answer: Result<Built, Refused>) -> Result<String, Fail> {
@@ -117,4 +139,39 @@ impl Answers for Fields {
 #[test]
 fn fields_hold_what_is_given_for_them(rt: HostRuntime) -> Result<(), Fail> {
     rows_hold::<Fields>(rt.alloc(), FIELD_ROWS)
+}
+
+/// The bytes of the command that is built of a text, without checks.
+fn built_of(alloc: Global, text: &str) -> Result<Bytes, Fail> {
+    let definitions = definitions_of(alloc, FIELDS)?;
+    let request = parse(alloc, text.as_bytes())?;
+    let checks = Checks {
+        range: false,
+        hazardous: false,
+    };
+    match build(alloc, &definitions, &request, checks) {
+        Ok(built) => Ok(built.bytes),
+        Err(_) => Err(Fail::new("refused")),
+    }
+}
+
+struct ReadBack;
+
+impl Answers for ReadBack {
+    fn answer(alloc: Global, asked: &str) -> Result<String, Fail> {
+        let (line, text) = cut(asked, '|')?;
+        let bytes = built_of(alloc, text)?;
+        let definitions = packet_with(alloc, line)?;
+        shown(
+            alloc,
+            only_packet(&definitions)?,
+            ValueKind::Raw,
+            bytes.as_slice(),
+        )
+    }
+}
+
+#[test]
+fn fields_are_read_back(rt: HostRuntime) -> Result<(), Fail> {
+    rows_hold::<ReadBack>(rt.alloc(), READ_BACK)
 }

@@ -39,7 +39,37 @@ ON|ITEM I 0 8 UINT;STATE OFF 0;STATE ON 1|converted|01
 7    .|ITEM I 0 8 UINT;FORMAT_STRING '%-5d.'|formatted|07
 -005|ITEM I 0 8 INT;FORMAT_STRING '%+04d'|formatted|fb
 101|ITEM I 0 8 UINT;FORMAT_STRING '%b'|formatted|05
-5 V|ITEM I 0 8 UINT;UNITS VOLTS V|units|05";
+5 V|ITEM I 0 8 UINT;UNITS VOLTS V|units|05
+171|ITEM I 0 8 UINT;FORMAT_STRING '%u'|formatted|ab
+ab|ITEM I 0 8 UINT;FORMAT_STRING '%x'|formatted|ab
+AB|ITEM I 0 8 UINT;FORMAT_STRING '%X'|formatted|ab
+253|ITEM I 0 8 UINT;FORMAT_STRING '%o'|formatted|ab
+10101011|ITEM I 0 8 UINT;FORMAT_STRING '%b'|formatted|ab
+-171|ITEM I 0 16 INT;FORMAT_STRING '%i'|formatted|ff55
+-ab|ITEM I 0 16 INT;FORMAT_STRING '%x'|formatted|ff55
+-AB|ITEM I 0 16 INT;FORMAT_STRING '%X'|formatted|ff55
+-253|ITEM I 0 16 INT;FORMAT_STRING '%+o'|formatted|ff55
+-10101011|ITEM I 0 16 INT;FORMAT_STRING '%b'|formatted|ff55
++171|ITEM I 0 8 UINT;FORMAT_STRING '%+d'|formatted|ab
++AB|ITEM I 0 8 UINT;FORMAT_STRING '%+X'|formatted|ab
++0|ITEM I 0 8 UINT;FORMAT_STRING '%+d'|formatted|00
+0|ITEM I 0 8 UINT;FORMAT_STRING '%x'|formatted|00
+0|ITEM I 0 8 UINT;FORMAT_STRING '%o'|formatted|00
+0|ITEM I 0 8 UINT;FORMAT_STRING '%b'|formatted|00
+ffffffffffffffff|ITEM I 0 64 UINT;FORMAT_STRING '%x'|formatted|ffffffffffffffff
+3|ITEM I 0 8 UINT;POLY_READ_CONVERSION 0.5 1;FORMAT_STRING '%.0f'|formatted|02
+-3|ITEM I 0 8 INT;POLY_READ_CONVERSION -0.5 1;FORMAT_STRING '%.0f'|formatted|fe
++0|ITEM I 0 8 UINT;POLY_READ_CONVERSION -0.4 1;FORMAT_STRING '%+.0f'|formatted|00
+2.500000|ITEM I 0 8 UINT;POLY_READ_CONVERSION 0.5 1;FORMAT_STRING '%f'|formatted|02
+2.500000000000|ITEM I 0 8 UINT;POLY_READ_CONVERSION 0.5 1;FORMAT_STRING '%.12f'|formatted|02
+-0.000000000001|ITEM I 0 8 UINT;POLY_READ_CONVERSION -0.000000000001 1;FORMAT_STRING '%.12f'|formatted|00
+0.00000000000|ITEM I 0 8 UINT;POLY_READ_CONVERSION -0.000000000001 1;FORMAT_STRING '%.11f'|formatted|00
+00001.05|ITEM I 0 8 UINT;POLY_READ_CONVERSION 0.05 1;FORMAT_STRING '%08.2f'|formatted|01
+7.000|ITEM I 0 8 UINT;FORMAT_STRING '%.3f'|formatted|07
+  ON|ITEM I 0 8 UINT;STATE OFF 0;STATE ON 1;FORMAT_STRING '%4s'|formatted|01
+1.0|ITEM I 0 8 UINT;SEG_POLY_READ_CONVERSION 20 2;SEG_POLY_READ_CONVERSION 10 1|converted|05
+1.0|ITEM I 0 8 UINT;SEG_POLY_READ_CONVERSION 20 2;SEG_POLY_READ_CONVERSION 10 1|converted|13
+2.0|ITEM I 0 8 UINT;SEG_POLY_READ_CONVERSION 20 2;SEG_POLY_READ_CONVERSION 10 1|converted|14";
 
 fn kind_named(name: &str) -> Result<ValueKind, Fail> {
     match name {
@@ -52,7 +82,12 @@ fn kind_named(name: &str) -> Result<ValueKind, Fail> {
 }
 
 /// The text of the value of the one item of a packet, in these bytes.
-fn shown(alloc: Global, packet: &Packet, kind: ValueKind, bytes: &[u8]) -> Result<String, Fail> {
+pub fn shown(
+    alloc: Global,
+    packet: &Packet,
+    kind: ValueKind,
+    bytes: &[u8],
+) -> Result<String, Fail> {
     match packet.items.as_slice() {
         [item] => plain_text(alloc, &value_of(alloc, packet, item, bytes, kind)?),
         _ => Err(Fail::new("another count of items")),
@@ -65,7 +100,7 @@ fn plain_text(alloc: Global, value: &Value) -> Result<String, Fail> {
 }
 
 /// A packet of an item with these lines.
-fn packet_with(alloc: Global, lines: &str) -> Result<Definitions, Fail> {
+pub fn packet_with(alloc: Global, lines: &str) -> Result<Definitions, Fail> {
     let text = format!(in alloc; "TELEMETRY T P BIG_ENDIAN;{lines}")?;
     definitions_of(alloc, text.as_str())
 }
