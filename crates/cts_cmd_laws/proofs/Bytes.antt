@@ -88,7 +88,7 @@ text_is_bytes Block word = of_block word (is_marked word)
 
 -- ---- numbers spelled in bytes
 
--- so many bytes that spell the number, the most significant first
+-- n bytes that spell the number, the most significant first
 spelling : ℕ → ℕ → List ℕ
 spelling zero x = []
 spelling (suc n) x = spelling n (x / 256) ++ (x % 256) ∷ []
@@ -114,7 +114,7 @@ twice_turned : (o : Order) (xs : List ℕ) → in_order o (in_order o xs) ≡ xs
 twice_turned Big xs = refl
 twice_turned Little xs = reverse-reverse xs
 
--- Bytes, so many, that make the number in an order.
+-- A list of n bytes that make the number in an order.
 pub record MakeNumber (o : Order) (n x : ℕ) : Type 0 where
   pub them : List ℕ
   pub count : length them ≡ n

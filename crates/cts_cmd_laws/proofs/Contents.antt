@@ -85,7 +85,7 @@ content_suits params i it some = content_suits_by (given_for params i) i it some
 
 -- ---- room
 
--- A text or block that does not go to the end lies in so many bytes.
+-- A text or block that does not go to the end lies within a length.
 abbrev pub HasRoom : ℕ → ItemData → Preset → Type 0
 HasRoom len i (Whole z) = Unit {0}
 HasRoom len i (Raw bytes) = is_to_the_end i ≡ false → unsigned_abs i.offset / 8 + length bytes ≤ len

@@ -105,7 +105,7 @@ can_behind true i (Whole z) end can = rw end can
 can_behind false i (Whole z) end can = rw end can
 can_behind end i (Raw bytes) e can = can
 
--- Bytes in which the field holds it, behind the byte from which its offset counts.
+-- Bytes in which the field holds it, where its offset counts from a byte of its own.
 record FromWritten (i : ItemData) (held : Preset) (old : List ℕ) : Type 0 where
   new : List ℕ
   writes : WritesFrom i held old new

@@ -92,7 +92,7 @@ is_no : (b : Bool) → not b ≡ true → b ≡ false
 is_no true h = sym h
 is_no false h = refl
 
--- What is behind the length.
+-- What stands after the length.
 record EndsSo (len : ℕ) (tail new : List ℕ) : Type 0 where
   count : length new ≡ len + length tail
   end : drop len new ≡ tail
@@ -170,7 +170,7 @@ text_stands len holds i bytes later stood next new own long most room w more lef
     ∙ ap (λ (x : List ℕ). get_or x (at + j) 0) is
     ∙ put_stands at bytes stood j (omega (arith, fits, long)) lt)
 
--- nothing stands behind what goes to the end
+-- nothing stands after what goes to the end
 none_later : (i : ItemData) (later : List ItemData) → is_to_the_end i ≡ true → are_before_the_end (i ∷ later) ≡ true → later ≡ []
 none_later i [] end before = refl
 none_later i (j ∷ later) end before =

@@ -17,15 +17,16 @@ pub record IsItem (i : ItemData) : Type 0 where
   pub sound : IsSoundItem i
   pub preset : IsPreset i.preset
 
--- What every packet keeps, and every command.
+-- What every packet keeps.
 pub record IsPacket (p : PacketData) : Type 0 where
   pub sound : IsSoundPacket p
   pub items : AllByRecursion IsItem p.items
 
+-- What every command keeps.
 pub record IsCommand (c : PacketData) : Type 0 where
   pub packet : IsPacket c
   pub command : IsTrue (is_command c)
 
--- What all definitions keep.
+-- what all commands of definitions keep
 abbrev pub AreCommands : List PacketData → Type 0
 AreCommands commands = AllByRecursion IsCommand commands

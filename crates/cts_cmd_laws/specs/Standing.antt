@@ -13,7 +13,7 @@ use Rattle.cts_cmd.specs.Builds.{IsBuilt, place_of}
 use Rattle.cts_cmd.specs.Contents.{content}
 use Rattle.cts_cmd.specs.Laws.{IsLeftBy, IsWrittenBit}
 
--- the bytes of the item's field in a command of this length: those from where it begins, so many, or all behind the command's
+-- the bytes of the item's field in a command of this length: as many as the count from where it begins, or all after the command's
 -- length where it goes to the end
 abbrev pub field_bytes : ℕ → ItemData → ℕ → List ℕ → List ℕ
 field_bytes len i count bytes =
@@ -24,7 +24,7 @@ abbrev pub Holds : ℕ → ItemData → Preset → List ℕ → Type 0
 Holds len i (Whole z) bytes = number_at (place_of i) (is_signed i.kind) bytes ≡ z
 Holds len i (Raw held) bytes = field_bytes len i (length held) bytes ≡ held
 
--- what an item that goes to the end adds behind the command's length
+-- what an item that goes to the end adds after the command's length
 abbrev pub added : ItemData → Preset → List ℕ
 added i (Whole z) = []
 added i (Raw bytes) = if is_to_the_end i then bytes else []

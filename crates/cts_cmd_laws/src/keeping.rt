@@ -1,4 +1,4 @@
-// What items, packets and commands keep of themselves. Each function looks at what tells it, and does nothing.
+// What items, packets and commands keep by their types. Each function looks at them, by which the proof learns it, and does nothing else.
 ghost use Rattle.std.specs.Prelude.{option_map};
 ghost use Rattle.std.specs.List.{AllByRecursion};
 ghost use Rattle.cts_cmd.specs.Builds.{AreBytes};

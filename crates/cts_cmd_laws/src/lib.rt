@@ -35,7 +35,7 @@ pub fn members_leave_bytes(packet: &Packet, current: Option<&[u8]>, members: &[(
     stand_as_bytes(current);
 }
 
-/// The command of a request has as many bytes as its length, and behind them those of the parameter that goes to the end, if
+/// The command of a request has as many bytes as its length, and after them those of the parameter that goes to the end, if
 /// there is one. Each parameter's field holds what is given for it, or else its default: a number, a text or a block, where no
 /// later parameter is written to a bit of that field.
 pub fn commands_hold_their_parameters(definitions: &Definitions, request: &Request)

@@ -1,4 +1,4 @@
--- The digits behind a point.
+-- The digits after a point.
 use Rattle.std.proofs.Common.{◌≡◌, ℕ, zero, suc, ◌+◌, ◌-◌, ◌*◌, ◌/◌, ◌%◌, ◌^◌, ◌≤◌, ◌<◌, Bool, true, false, not, ◌&&◌, List, [], ◌∷◌, ◌++◌, length, refl, sym, ap, ◌∙◌, arith, unsigned_abs, append_assoc, ℤ, subst}
 use Rattle.std.specs.Prelude.{◌==◌}
 use Rattle.std.specs.Char.{digit_value}
@@ -39,7 +39,7 @@ last_are_digits (suc k) n = all_push (is_digit_of 10 false) (last_digits k (n / 
 carried : (v p q m : ℕ) (r : ℕ) → q ≡ p * 10 → (v * p + m) * 10 + r ≡ v * q + (m * 10 + r)
 carried v p q m r e = rw (e, add-mul (v * p) m 10, mul_assoc v p 10) (omega arith)
 
--- digits and the last k digits of n behind them
+-- digits, and after them the last k digits of n
 last_worth : (k n : ℕ) (ds : List ℕ) → digits_value 10 (ds ++ last_digits k n) ≡ digits_value 10 ds * 10 ^ k + n % 10 ^ k
 unfolding last_digits
 last_worth zero n ds = ap (digits_value 10) (append-nil ds) ∙ omega arith

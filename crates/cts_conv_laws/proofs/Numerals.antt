@@ -119,7 +119,7 @@ onto (suc k) base n upper acc two few room = elim (cases_lt n base) [
       }
 ]
 
--- nothing stands behind them
+-- nothing stands after them
 pub onto_nothing : (base : ℕ) (upper : Bool) (n : ℕ) (text : List ℕ) → IsOnto base upper n [] text → IsNumeralOf base upper n text
 onto_nothing base upper n text w = subst (IsNumeralOf base upper n) (sym (w.parts ∙ append-nil w.front)) w.number
 

@@ -40,7 +40,7 @@ digits_short base upper (c ∷ ds) few h =
 
 -- ---- filling up
 
--- what stands before, between and behind
+-- what stands before, between and after
 abbrev form : ℕ → ℕ → ℕ → List ℕ → List ℕ → List ℕ
 form before zeros after sign body = replicate before 32 ++ (sign ++ (replicate zeros 48 ++ (body ++ replicate after 32)))
 

@@ -6,7 +6,7 @@ use Rattle.cts_conv.specs.Plains.{plain_text}
 use Rattle.cts_conv.specs.Raws.{characters_of}
 use Rattle.cts_conv.specs.declared.value.Value.TheVariants.{Text, Raw}
 
--- each of these is a byte
+-- each number of the list is a byte
 abbrev pub AreBytes : List ℕ → Type 0
 AreBytes bytes = (k : ℕ) → slice_index bytes k < 256
 

@@ -39,8 +39,8 @@ NoOtherDigitsMeanIt = (base : ℕ) (upper : Bool) (n : ℕ) (text : List ℕ) �
 
 -- ---- how a format fills up
 
--- The text has these digits behind the sign that the number and the format ask for, with zeros between the two or spaces round
--- them: so many that the format's width is reached, and none where it is reached already.
+-- The text is the sign that the number and the format ask for and the digits after it, with zeros between the two or spaces round
+-- them. It is as long as the format's width, or as sign and digits where they are longer.
 pub record IsFilledUp (p : FormatParts) (negative : Bool) (digits text : List ℕ) : Type 0 where
   pub before : ℕ
   pub zeros : ℕ
@@ -72,13 +72,13 @@ PlainWholesMeanTheirNumber = (z : ℤ) → unsigned_abs z < 2 ^ 128 → IsPlainO
 
 -- ---- decimals
 
--- a point before the digits that stand behind it, where there are some
+-- a point and the digits after it, where there are some
 abbrev pub with_point : List ℕ → List ℕ
 with_point [] = []
 with_point (d ∷ ds) = 46 ∷ d ∷ ds
 
--- The text is n units of 10 ^ -count: a whole number, and count digits behind a point, or no point where count is 0. All
--- these digits together are read as n.
+-- The text is n units of 10 ^ -count: a whole number, a point, and as many digits as count says, or no point where count is 0.
+-- All digits together are read as n.
 pub record IsFixedOf (count n : ℕ) (text : List ℕ) : Type 0 where
   pub whole : List ℕ
   pub fraction : List ℕ
@@ -91,13 +91,13 @@ pub record IsFixedOf (count n : ℕ) (text : List ℕ) : Type 0 where
 abbrev pub FixedDigitsMeanTheirNumber : Type 0
 FixedDigitsMeanTheirNumber = (count n : ℕ) → n < 2 ^ 128 → IsFixedOf count n (fixed_digits count n)
 
--- The text of so many parts by `f`: the nearest number of units of 10 ^ -count, which has no `-` where it is zero.
+-- The text of a number of parts by `f`: the nearest number of units of 10 ^ -count, which has no `-` where it is zero.
 pub record IsDecimalOf (p : FormatParts) (count : ℕ) (parts : ℤ) (text : List ℕ) : Type 0 where
   pub digits : List ℕ
   pub number : IsFixedOf count (rounded count (unsigned_abs parts)) digits
   pub shown : IsFilledUp p (is_negative parts && not (rounded count (unsigned_abs parts) == 0)) digits text
 
--- A format of `f` gives the number with as many digits behind the point as its precision says.
+-- A format of `f` gives the number with as many digits after the point as its precision says.
 abbrev pub DecimalTextsMeanTheirNumber : Type 0
 DecimalTextsMeanTheirNumber = (p : FormatParts) (v : Value) → (p.letter == 102) ≡ true → precision_of p.precision ≤ 12 → unsigned_abs (parts_in v) ≤ 2 ^ 127
     → IsDecimalOf p (precision_of p.precision) (parts_in v) (directive_text p v)

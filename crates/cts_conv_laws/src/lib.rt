@@ -5,7 +5,9 @@
 
 ghost use Rattle.cts_conv_laws.specs.Blocks.{PlainTextsMeanTheirBytes};
 ghost use Rattle.cts_conv_laws.specs.Numerals.{DecimalTextsMeanTheirNumber, DigitsMeanTheirNumber, FixedDigitsMeanTheirNumber, NoOtherDigitsMeanIt, PlainWholesMeanTheirNumber, WholeTextsMeanTheirNumber};
-ghost use Rattle.cts_conv_laws.specs.Uses.{SomeSegmentIsUsed};
+ghost use Rattle.cts_conv_laws.specs.Uses.{SegmentsConvert, SomeSegmentIsUsed};
+
+use cts_def::Item;
 
 /// The digits of a number in a base from 2 to 16 are read back as the number: they are digits of that base, with letters in the
 /// case that is asked for, and none but a single zero begins with a zero. No other text is so read.
@@ -16,7 +18,7 @@ pub fn digits_mean_their_number()
 
 /// A whole number that is shown, by a format of `d`, `i`, `u`, `x`, `X`, `o` or `b` or without one, is its sign and the digits of
 /// its magnitude, in the base and letter case of the format, or in base 10. A format adds only zeros between the two or spaces
-/// round them, so many that its width is reached.
+/// round them, and no more of these than its width asks for.
 pub fn whole_texts_mean_their_number()
     ensures formatted { WholeTextsMeanTheirNumber }
     ensures plain { PlainWholesMeanTheirNumber }
@@ -36,8 +38,16 @@ pub fn plain_texts_mean_their_bytes()
     ensures { PlainTextsMeanTheirBytes }
 {}
 
-/// Of the segments of a conversion, which are some, one is used for each number: one of those with the greatest bound that is at
-/// most the number, and below all bounds of those with the least.
+/// Of segments, if there is one at least, one is used for each number: one with the greatest bound that is at most the number, and
+/// below all bounds one with the least.
 pub fn some_segment_is_used()
     ensures { SomeSegmentIsUsed }
 {}
+
+/// A number of an item with segments is converted by one of them, the nearest. The body looks at the item: so the proof learns that
+/// it has segments where its conversion is of that kind.
+pub fn segments_convert(item: &Item)
+    ensures { SegmentsConvert item.now }
+{
+    let _ = &item.conversion;
+}
