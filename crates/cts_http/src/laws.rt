@@ -1,10 +1,10 @@
-//! Laws of the requests in the bytes of a connection.
+//! Laws of the requests in the bytes of a connection, and of what is put on it.
 
-ghost use Rattle.cts_http.specs.Laws.{HaveOneRequests, RequestsGrow, RefusalsStay, ClosedStays, WaitingIsBounded};
+ghost use Rattle.cts_http.specs.Laws.{HaveOneRequests, RequestsGrow, RefusalsStay, ClosedStays, WaitingIsBounded, HaveOneStream, OneMoreResponse};
 
-/// The bytes of a connection have one list of requests and one ending, but that a target which no UTF-8 can become may be
-/// refused before its end. More bytes only add requests, and change nothing behind a refusal or behind a request that ends
-/// the connection.
+/// The bytes of a connection have one list of requests and one ending, but that a target which no UTF-8 can become, and which
+/// stands last behind them, may be refused before its end. More bytes only add requests, and change nothing behind a refusal
+/// or behind a request that ends the connection.
 pub fn connections_have_one_list_of_requests()
     ensures one { HaveOneRequests }
     ensures grow { RequestsGrow }
@@ -15,4 +15,11 @@ pub fn connections_have_one_list_of_requests()
 /// What is neither accepted nor refused has at most 1,064,960 bytes.
 pub fn waiting_is_bounded()
     ensures { WaitingIsBounded }
+{}
+
+/// The bytes of a connection have one stream of responses for the same fronts and texts, with the same exception. One more
+/// whole request adds one response.
+pub fn connections_have_one_stream()
+    ensures one { HaveOneStream }
+    ensures one_more { OneMoreResponse }
 {}

@@ -11,8 +11,12 @@ mod laws;
 mod reader;
 mod step;
 mod texts;
+mod whole;
 
-pub use laws::{connections_have_one_list_of_requests, waiting_is_bounded};
+pub use laws::{
+    connections_have_one_list_of_requests, connections_have_one_stream, waiting_is_bounded,
+};
 pub use reader::Reader;
 pub use step::HttpStep;
 pub use texts::{refusal, response};
+pub use whole::requests;

@@ -1,10 +1,11 @@
 //! The reader of the bytes of one connection.
 
-ghost use Rattle.std.specs.Prelude.{◌≡◌, ◌≤◌, length, ◌++◌, ◌∷◌, [], ℕ, List, Some, false, IsSome, OnOk, OnErr};
-ghost use Rattle.cts_http.specs.Readings.{Stands, Steps, Answers, HoldsFew, HasStatus, closes, fresh, fed};
+ghost use Rattle.std.specs.Prelude.{◌≡◌, ◌≤◌, length, ◌++◌, ◌∷◌, [], ℕ, List, Some, None, false, IsSome, OnOk, OnErr};
+ghost use Rattle.cts_http.specs.Judgements.{Judges, HasAccepted};
+ghost use Rattle.cts_http.specs.Readings.{Stands, Steps, Gives, Answers, HoldsFew, HasStatus, closes, fresh, fed};
 
 use crate::HttpStep;
-use crate::judge::{Judged, ROOM, judge};
+use crate::judge::{Accepted, Judged, ROOM, judge};
 use cts_base::Memory;
 use httparse::spans::{EMPTY_HEADER_SPAN, HeaderSpan};
 use std::alloc::Global;
@@ -19,6 +20,8 @@ pub struct Reader {
     room: Vec<HeaderSpan>,
     // where the bytes begin that are in no given request
     from: usize,
+    // the head at their beginning, where it was judged and its body waits for bytes
+    head: Option<Accepted>,
     // where the body of the last given request begins; it ends at `from`
     body: Option<usize>,
     closed: bool,
@@ -30,12 +33,13 @@ impl Model for Reader {
     ghost use Rattle.cts_http.specs.Readings.{Reading};
     ghost use Rattle.cts_http.specs.Heads.{most_head};
     ghost use Rattle.cts_http.specs.Texts.{is_refusal};
+    ghost use Rattle.cts_http.specs.Judgements.{HasAccepted};
 
     ghost Value = { Reading };
 
     ghost view = { λ r. record { left = drop r.from r.held.items; given = option_map (λ start. slice_range r.held.items start r.from) r.body; closed = r.closed; refused = r.refused; held = length r.held.items } };
 
-    ghost invariant = { λ r. (r.from ≤ length r.held.items) × IfSome r.body (λ start. start ≤ r.from) × (length (take most_head r.held.items) ≤ 3 * length r.room.items + 2) × IfSome r.refused (λ status. IsTrue (is_refusal status)) };
+    ghost invariant = { λ r. (r.from ≤ length r.held.items) × IfSome r.head (λ head. HasAccepted (drop r.from r.held.items) head) × IfSome r.body (λ start. start ≤ r.from) × (length (take most_head r.held.items) ≤ 3 * length r.room.items + 2) × IfSome r.refused (λ status. IsTrue (is_refusal status)) };
 }
 
 impl Reader {
@@ -48,6 +52,7 @@ impl Reader {
             held: Vec::new(alloc),
             room: Vec::new(alloc),
             from: 0,
+            head: None,
             body: None,
             closed: false,
             refused: None,
@@ -73,7 +78,8 @@ impl Reader {
     }
 
     /// What the bytes are that are in no given request. It takes no memory. No request with `last` may have been given.
-    #[tactic(auto, using(crate::proofs::LawLemmas::refuses_known, crate::proofs::LawLemmas::waiting_is_bounded))]
+    ///
+    /// A head that was judged whole is not judged again while bytes of its body are missing.
     pub fn next(&mut self) -> HttpStep
         requires open { self.old.closed ≡ false }
         ensures step { Steps self.old result self.new }
@@ -86,14 +92,8 @@ impl Reader {
         if let Some(status) = self.refused {
             return HttpStep::Refuse(status);
         }
-        let judged = judge(&self.held[self.from..], &mut self.room);
-        match judged {
-            Judged::Whole { start, end, last } => {
-                self.body = Some(self.from + start);
-                self.from += end;
-                self.closed = last;
-                HttpStep::Request { last }
-            }
+        match self.judged() {
+            Judged::Head(head) => self.give(head),
             Judged::More => {
                 self.let_go();
                 HttpStep::More
@@ -104,6 +104,37 @@ impl Reader {
                 HttpStep::Refuse(status)
             }
         }
+    }
+
+    // What the bytes begin with that are in no given request: the head that waits for its body, or what they are judged.
+    fn judged(&mut self) -> Judged
+        ensures judged { Judges self.old.left result }
+        ensures kept { self.new ≡ self.old }
+    {
+        match self.head {
+            Some(head) => Judged::Head(head),
+            None => judge(&self.held[self.from..], &mut self.room),
+        }
+    }
+
+    // Gives the request with this head, where its body is there.
+    fn give(&mut self, head: Accepted) -> HttpStep
+        requires head { HasAccepted self.old.left head }
+        requires open { self.old.closed ≡ false }
+        requires taken { self.old.refused ≡ None }
+        ensures { Gives self.old.left self.old.held result self.new }
+    {
+        let start = self.from + head.start;
+        if self.held.len() - start < head.length {
+            self.head = Some(head);
+            self.let_go();
+            return HttpStep::More;
+        }
+        self.head = None;
+        self.body = Some(start);
+        self.from = start + head.length;
+        self.closed = head.last;
+        HttpStep::Request { last: head.last }
     }
 
     // Lets the bytes of the given requests go.

@@ -1,10 +1,10 @@
 // What no clause says: requests from outside however they are cut, heads with their answers, whole texts, and that a reader
 // takes what there is memory for.
-ghost use Rattle.std.specs.Prelude.{IsTrue, false, ◌≡◌};
+ghost use Rattle.std.specs.Prelude.{IsTrue, OnOk, false, ◌≡◌};
 ghost use Rattle.cts_http.specs.Texts.{is_refusal};
 
 use crate::parts::bytes_of_parts;
-use cts_http::{HttpStep, Reader, refusal, response};
+use cts_http::{HttpStep, Reader, refusal, requests, response};
 use cts_rows::{Answers, as_text, bytes_by_number, debug_of, rows_hold, same};
 use std::alloc::Global;
 use std::test::Fail;
@@ -166,7 +166,20 @@ Refuse(400)|POST / HTTP/2.0
 last:|POST / HTTP/1.0\r;Content-Length: 0\r;\r;
 last:|POST / HTTP/1.1\r;Connection: keep-alive,\tclose\r;Content-Length: 0\r;\r;
 again:|POST / HTTP/1.1\r;Connection: closed\r;Content-Length: 0\r;\r;
-Refuse(405)|post / HTTP/1.1\r;Content-Length: 0\r;\r;";
+Refuse(405)|post / HTTP/1.1\r;Content-Length: 0\r;\r;
+Refuse(501)|POST / HTTP/1.1\r;Content-Length: 0\r;Transfer-Encoding: chunked\r;\r;
+Refuse(400)|POST / HTTP/1.1\r;Content-Length: x\r;Transfer-Encoding: chunked\r;\r;
+Refuse(400)|POST / HTTP/1.1\r;X: a\r; b\r;Content-Length: 0\r;\r;
+Refuse(400)|POST / HTTP/1.1\r;X : a\r;Content-Length: 0\r;\r;
+Refuse(400)|POST / HTTP/1.1\r;: a\r;Content-Length: 0\r;\r;
+Refuse(400)|POST / HTTP/1.1\r;X: a\rb\r;Content-Length: 0\r;\r;
+Refuse(400)|POST / HTTP/1.1\r;Content-Length: 5, 5\r;\r;
+again:{}|POST / HTTP/1.1\r;Content-Length: 2\r;Content-Length: 2\r;\r;{}
+last:|POST / HTTP/1.0\r;Connection: keep-alive\r;Content-Length: 0\r;\r;
+again:|POST http://host:80/a?b HTTP/1.1\r;Content-Length: 0\r;\r;
+again:|POST * HTTP/1.1\r;Content-Length: 0\r;\r;
+again:{}|POST / HTTP/1.1\r;Expect: 100-continue\r;Content-Length: 2\r;\r;{}
+More|POST / HTTP/1.1\r;Expect: 100-continue\r;Content-Length: 2\r;\r;";
 
 #[test]
 fn each_request_has_its_answer_however_it_is_cut(rt: HostRuntime) -> Result<(), Fail> {
@@ -198,11 +211,90 @@ Refuse(431)|1*POST / HTTP/1.1\r;Content-Length: 0\r;X: |16342*a|1*\r;\r;
 More|1*POST / HTTP/1.1\r;Content-Length: 0\r;X: |16345*a
 Refuse(431)|1*POST / HTTP/1.1\r;Content-Length: 0\r;X: |16346*a
 again:|1*POST / HTTP/1.1\r;Content-Length: 0\r;|63*A: b\r;|1*\r;
-Refuse(431)|1*POST / HTTP/1.1\r;Content-Length: 0\r;|64*A: b\r;|1*\r;";
+Refuse(431)|1*POST / HTTP/1.1\r;Content-Length: 0\r;|64*A: b\r;|1*\r;
+More|8192*\r;
+Refuse(431)|8192*\r;|1*\r
+Refuse(431)|20000*\r;
+last:{|1*POST / HTTP/1.0\r;Content-Length: 1\r;\r;{POST / HTTP/2.0\0";
 
 #[test]
 fn heads_are_bounded(rt: HostRuntime) -> Result<(), Fail> {
     rows_hold::<Whole>(rt.alloc(), BOUNDS)
+}
+
+/// How many requests the bytes of a text of repeated parts have, and how they end.
+struct Counted;
+
+impl Answers for Counted {
+    fn answer(alloc: Global, asked: &str) -> Result<String, Fail> {
+        let bytes = bytes_of_parts(alloc, asked)?;
+        debug_of(alloc, &requests(&bytes))
+    }
+}
+
+const ENDINGS: &str = "\
+(0, More)|0*
+(0, More)|1*POST / HTTP/1.1
+(100, More)|100*POST / HTTP/1.1\r;Content-Length: 2\r;\r;{}
+(2, More)|2*POST / HTTP/1.1\r;Content-Length: 2\r;\r;{}|1*POST / HTTP/1.1\r;Content-Length: 2\r;\r;{
+(2, Refuse(405))|2*POST / HTTP/1.1\r;Content-Length: 2\r;\r;{}|1*GET / HTTP/1.1\r;\r;
+(1, Request { last: true })|1*POST / HTTP/1.0\r;Content-Length: 2\r;\r;{}
+(3, Request { last: true })|2*POST / HTTP/1.1\r;Content-Length: 2\r;\r;{}|2*POST / HTTP/1.0\r;Content-Length: 2\r;\r;{}
+(0, Refuse(431))|16385*\r;";
+
+#[test]
+fn every_list_of_bytes_has_its_requests(rt: HostRuntime) -> Result<(), Fail> {
+    rows_hold::<Counted>(rt.alloc(), ENDINGS)
+}
+
+/// How many bytes are more to come before the last of the bytes of a text of repeated parts, which come one by one, and what
+/// is answered to that one.
+struct Bytewise;
+
+impl Answers for Bytewise {
+    fn answer(alloc: Global, asked: &str) -> Result<String, Fail> {
+        let bytes = bytes_of_parts(alloc, asked)?;
+        let mut reader = Reader::new(alloc);
+        let (first, last) = bytes.split_at(bytes.len() - bytes.len().min(1));
+        come_one_by_one(&mut reader, first)?;
+        reader.feed(last)?;
+        let held = reader.held();
+        match reader.next() {
+            HttpStep::Request { last } => debug_of(alloc, &(held, last, reader.body().len())),
+            step => debug_of(alloc, &(held, step)),
+        }
+    }
+}
+
+/// Each of the bytes is asked of, and more are wanted.
+fn come_one_by_one(reader: &mut Reader, bytes: &[u8]) -> Result<(), Fail>
+    requires { reader.old.closed ≡ false }
+    ensures { OnOk result (reader.new.closed ≡ false) }
+{
+    for byte in bytes {
+        comes(reader, *byte)?;
+    }
+    Ok(())
+}
+
+fn comes(reader: &mut Reader, byte: u8) -> Result<(), Fail>
+    requires { reader.old.closed ≡ false }
+    ensures { OnOk result (reader.new.closed ≡ false) }
+{
+    reader.feed(&[byte])?;
+    match reader.next() {
+        HttpStep::More => Ok(()),
+        _ => Err(Fail::new("no more bytes are wanted")),
+    }
+}
+
+/// A longest head and a body of 100,000 bytes.
+const ONE_BY_ONE: &str =
+    "(116384, false, 100000)|1*POST / HTTP/1.1\r;Content-Length: 100000\r;X: |16336*a|1*\r;\r;|100000*b";
+
+#[test]
+fn a_body_comes_byte_by_byte(rt: HostRuntime) -> Result<(), Fail> {
+    rows_hold::<Bytewise>(rt.alloc(), ONE_BY_ONE)
 }
 
 /// A response is written over what stood there.

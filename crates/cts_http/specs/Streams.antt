@@ -1,0 +1,33 @@
+-- What is put on a connection for the requests in its bytes.
+use Rattle.std.specs.Prelude.{◌≡◌, ℕ, List, [], ◌∷◌, ◌++◌, length, Option, Some, None}
+use Rattle.cts_http.specs.Texts.{response_text, refusal_text}
+use Rattle.cts_http.specs.Requests.{Requests, Ending, Closed, Waiting, Refused}
+
+-- a response with the front from which it answers: its head and its text, or the head alone of one without a text
+abbrev pub response_with : ℕ → Option (List ℕ) → List ℕ
+response_with front (Some text) = response_text front (Some (length text)) ++ text
+response_with front None = response_text front None
+
+-- the responses in order, one of each front and text
+abbrev pub responses : List ℕ → List (Option (List ℕ)) → List ℕ
+responses [] texts = []
+responses (front ∷ fronts) [] = []
+responses (front ∷ fronts) (text ∷ texts) = response_with front text ++ responses fronts texts
+
+-- what is put behind the responses: the refusal, where the rest is refused
+abbrev pub behind : Ending → List ℕ
+behind Closed = []
+behind (Waiting left) = []
+behind (Refused status) = refusal_text status
+
+-- requests with these bodies and this ending have so many responses, with these fronts and texts, and then the refusal
+pub record AreAnswered (bodies : List (List ℕ)) (ending : Ending) (fronts : List ℕ) (texts : List (Option (List ℕ))) (put : List ℕ) : Type 0 where
+  pub fronts_fit : length fronts ≡ length bodies
+  pub texts_fit : length texts ≡ length bodies
+  pub put_is : put ≡ responses fronts texts ++ behind ending
+
+-- The stream of the bytes of a connection, where its requests are answered from these fronts with these texts (a text, or none
+-- for a notification): the responses in order, then the refusal.
+abbrev pub Stream : List ℕ → List ℕ → List (Option (List ℕ)) → List ℕ → Type 0
+Stream b fronts texts put =
+    (bodies : List (List ℕ)) × (ending : Ending) × Requests b bodies ending × AreAnswered bodies ending fronts texts put
