@@ -13,3 +13,4 @@ pub mod Settled
 pub mod SomeReply
 pub mod TextLemmas
 pub mod WholeAnswers
+pub mod WholeReplies

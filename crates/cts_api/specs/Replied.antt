@@ -1,15 +1,14 @@
 -- What the calls that reply leave: the text, the entries that stand behind the history, and how many these are.
-use Rattle.std.specs.Prelude.{◌≡◌, ℕ, false, List, ◌++◌, option_map, length, Result, Ok, Err}
+use Rattle.std.specs.Prelude.{◌≡◌, ℕ, List, ◌++◌, option_map, length, Result, Ok, Err}
 use Rattle.cts_base.specs.declared.memory.Memory.{Memory}
 use Rattle.cts_def.specs.declared.time.Time.{Time}
-use Rattle.cts_rpc.specs.Requests.{has_fraction}
 use Rattle.cts_rpc.specs.declared.call.Call.{Call}
 use Rattle.cts_table.specs.States.{Shown}
 use Rattle.serde_json.specs.View.{items_view, view}
 use Rattle.cts_api.specs.declared.settling.Answer as code
 use Rattle.cts_api.specs.Kinds.{listed}
 use Rattle.cts_api.specs.Methods.{method_named}
-use Rattle.cts_api.specs.Replies.{Reply, IsReply, IsReplyOf}
+use Rattle.cts_api.specs.Replies.{Reply, IsReply, IsReplyOf, IsTextFor, text_of}
 use Rattle.cts_api.specs.Telling.{point}
 
 -- Only the entries of the reply stand behind those that were there.
@@ -24,7 +23,7 @@ IsUnchanged old new = (new.entries ≡ old.entries) × (new.basis ≡ old.basis)
 
 -- The answer is the reply. Where no memory was found the entries are as they were.
 abbrev pub Gives : Shown → Reply → Result code.Answer Memory → Shown → Type 0
-Gives old r (Ok a) new = (a.text ≡ r.text) × Appends old r a.appended new
+Gives old r (Ok a) new = (a.text ≡ text_of r) × Appends old r a.appended new × IsTextFor r.response a.text
 Gives old r (Err e) new = IsUnchanged old new
 
 -- a body is answered
@@ -32,9 +31,10 @@ abbrev pub Replied : Shown → ℕ → Time → List ℕ → Result code.Answer 
 Replied old by time body (Ok a) new = (r : Reply) × IsReply (point old) by time body r × Gives old r (Ok a) new
 Replied old by time body (Err e) new = IsUnchanged old new
 
--- A call is answered. An id with a fraction has no one text; no body gives such a call.
+-- A call is answered. An id with a fraction has no one text, and no body gives such a call; but there is a text where there is an id, and it reads back as the
+-- response with that id.
 abbrev pub Answered : Shown → ℕ → Time → Call → Result code.Answer Memory → Shown → Type 0
 Answered old by time c (Ok a) new =
     (r : Reply) × IsReplyOf (point old) by time (option_map view c.id) (listed (items_view c.params)) (method_named c.method) r
-    × Appends old r a.appended new × (has_fraction (option_map view c.id) ≡ false → a.text ≡ r.text)
+    × Appends old r a.appended new × IsTextFor r.response a.text
 Answered old by time c (Err e) new = IsUnchanged old new

@@ -1,5 +1,5 @@
 -- The reply to a body at one point of the history: a text or none, and the entries to append.
-use Rattle.std.specs.Prelude.{◌≡◌, ℕ, ℤ, pos, neg_ℤ, Bool, false, ◌⊎◌, List, [], ◌∷◌, map, Option, Some, None, codes, if◌then◌else◌}
+use Rattle.std.specs.Prelude.{◌≡◌, ℕ, ℤ, pos, neg_ℤ, Bool, false, ◌⊎◌, List, [], ◌∷◌, map, Option, Some, None, option_map, codes, if◌then◌else◌}
 use Rattle.std.specs.List.{filter_map}
 use Rattle.std.specs.Str.Lossy.{utf8_lossy}
 use Rattle.cts_cmd.specs.Texts.{IsCommandText}
@@ -10,7 +10,7 @@ use Rattle.cts_entry.specs.declared.what.What.{What}
 use Rattle.cts_entry.specs.declared.what.What.TheVariants.{Command, Injected}
 use Rattle.cts_entry.specs.Histories.{entries_in, bytes_in}
 use Rattle.cts_rpc.specs.Requests.{Outcome, not_json, not_request, bad_params, calls, IsOutcome}
-use Rattle.cts_rpc.specs.Replies.{result_reply, error_reply}
+use Rattle.cts_rpc.specs.Replies.{IsTextOf, result_reply, error_reply}
 use Rattle.serde_json.specs.Data.{Data, null}
 use Rattle.serde_json.specs.Written.{compact_text, has_float}
 use Rattle.cts_api.specs.Answers.{Posting, posts_nothing, posts, posts_command, posts_injected, Done, answer}
@@ -23,22 +23,33 @@ use Rattle.cts_api.specs.Points.{Point}
 use Rattle.cts_api.specs.declared.method.Method.{Method}
 
 pub record Reply : Type 0 where
-  pub text : Option (List ℕ)
+  -- the response, none where none is wanted
+  pub response : Option Data
   pub entries : List Entry
+
+-- The text of a reply whose response has no number with a fraction.
+abbrev pub text_of : Reply → Option (List ℕ)
+text_of reply = option_map compact_text reply.response
+
+-- The text of a response, none where there is none.
+abbrev pub IsTextFor : Option Data → Option (List ℕ) → Type 0
+IsTextFor None text = text ≡ None
+IsTextFor (Some d) None = ⊥
+IsTextFor (Some d) (Some text) = IsTextOf text d
 
 -- ---- responses
 
 -- an absent id means no response
-abbrev pub respond : Option Data → (Data → Data) → Option (List ℕ)
+abbrev pub respond : Option Data → (Data → Data) → Option Data
 respond None said = None
-respond (Some id) said = Some (compact_text (said id))
+respond (Some id) said = Some (said id)
 
 -- A message is shown as text: what is no UTF-8 in it is replaced.
 abbrev pub error : ℤ → List ℕ → Data → Data
 error code message id = error_reply id code (utf8_lossy message)
 
 abbrev pub refusal_to : Option Data → ℤ → List ℕ → Reply
-refusal_to id code message = record { text = respond id (error code message); entries = [] }
+refusal_to id code message = record { response = respond id (error code message); entries = [] }
 
 abbrev pub parse_error : Reply
 parse_error = refusal_to (Some null) (neg_ℤ (pos 32700)) (codes "Parse error")
@@ -72,7 +83,7 @@ abbrev pub fit : Point → List Entry → Bool
 fit h entries = h.fits (entries_in entries) (bytes_in entries)
 
 abbrev pub done_reply : Option Data → Data → List Entry → Reply
-done_reply id result entries = record { text = respond id (λ i. result_reply i result); entries = entries }
+done_reply id result entries = record { response = respond id (λ i. result_reply i result); entries = entries }
 
 -- the reply that appends these, or else the one that they find no room
 abbrev pub reply_with : Point → Option Data → Data → List Entry → Reply

@@ -1,5 +1,5 @@
 -- The codes of errors, and how a refusal is told.
-use Rattle.std.specs.Prelude.{◌≡◌, ℕ, ℤ, pos, neg_ℤ, List, None, Option, codes, option_map}
+use Rattle.std.specs.Prelude.{ℕ, ℤ, pos, neg_ℤ, List, Option, codes, option_map}
 use Rattle.cts_rpc.specs.declared.call.RpcFault.{RpcFault}
 use Rattle.cts_rpc.specs.declared.call.RpcFault.TheVariants as fault
 use Rattle.serde_json.specs.Data.{Data}
@@ -8,7 +8,7 @@ use Rattle.cts_api.specs.declared.response.Code.{Code}
 use Rattle.cts_api.specs.declared.response.Code.TheVariants.{ParseError, InvalidRequest, MethodNotFound, InvalidParams, NoSuch, NotDone, HistoryFull}
 use Rattle.cts_api.specs.declared.refusal.Refusal.{Refusal}
 use Rattle.cts_api.specs.declared.refusal.Refusal.TheVariants as why
-use Rattle.cts_api.specs.Replies.{error, invalid_params, invalid_request, parse_error, respond}
+use Rattle.cts_api.specs.Replies.{IsTextFor, error, invalid_params, invalid_request, parse_error, respond}
 
 abbrev pub code_number : Code → ℤ
 code_number ParseError = neg_ℤ (pos 32700)
@@ -21,9 +21,9 @@ code_number HistoryFull = neg_ℤ (pos 32003)
 
 -- the response to a refusal; want of memory has none
 abbrev pub RefusesWith : Option Data → Refusal → Option (List ℕ) → Type 0
-RefusesWith id (why.NoSuch message) text = text ≡ respond id (error (code_number NoSuch) message.now)
-RefusesWith id (why.NotDone message) text = text ≡ respond id (error (code_number NotDone) message)
-RefusesWith id why.BadParams text = text ≡ respond id (error (code_number InvalidParams) (codes "Invalid params"))
+RefusesWith id (why.NoSuch message) text = IsTextFor (respond id (error (code_number NoSuch) message.now)) text
+RefusesWith id (why.NotDone message) text = IsTextFor (respond id (error (code_number NotDone) message)) text
+RefusesWith id why.BadParams text = IsTextFor (respond id (error (code_number InvalidParams) (codes "Invalid params"))) text
 RefusesWith id why.Memory text = ⊥
 
 -- want of memory is told nobody
@@ -33,16 +33,9 @@ IsTold (why.NotDone message) = Unit {0}
 IsTold why.BadParams = Unit {0}
 IsTold why.Memory = ⊥
 
--- the id that a body has which is no call, where it is known
-abbrev pub id_in : RpcFault → Option Data
-id_in fault.ParseError = None
-id_in fault.InvalidRequest = None
-id_in (fault.InvalidParams id) = option_map view id
-id_in fault.Memory = None
-
 -- the response to a body that is no call; want of memory has none
 abbrev pub TellsFault : RpcFault → Option (List ℕ) → Type 0
-TellsFault fault.ParseError text = text ≡ parse_error.text
-TellsFault fault.InvalidRequest text = text ≡ invalid_request.text
-TellsFault (fault.InvalidParams id) text = text ≡ (invalid_params (option_map view id)).text
+TellsFault fault.ParseError text = IsTextFor parse_error.response text
+TellsFault fault.InvalidRequest text = IsTextFor invalid_request.response text
+TellsFault (fault.InvalidParams id) text = IsTextFor (invalid_params (option_map view id)).response text
 TellsFault fault.Memory text = ⊥

@@ -14,14 +14,15 @@ use Rattle.cts_def.specs.Packets.{PacketData}
 use Rattle.cts_def.specs.Sites.{SiteData, InterfaceData}
 use Rattle.cts_entry.specs.declared.what.What.TheVariants.{SetLimits, Enable, LimitsSetIs, Stop}
 use Rattle.cts_table.specs.declared.basis.Basis.{Basis}
-use Rattle.cts_rpc.specs.Requests.{not_json, calls}
+use Rattle.cts_rpc.specs.Requests.{calls}
+use Rattle.cts_rpc.specs.Replies.{result_reply}
 use Rattle.serde_json.specs.Data.{Data, null, boolean, number, string, negative, no_items}
 use Rattle.cts_api.specs.Asking.{Said, gives, in_text, Asking, sends, stops}
 use Rattle.cts_api.specs.Answers.{Done, told, appended, answer}
 use Rattle.cts_api.specs.Methods.{params_of, method_named}
 use Rattle.cts_api.specs.declared.method.Method.{Method}
 use Rattle.cts_api.specs.Points.{Point, point_of}
-use Rattle.cts_api.specs.Replies.{IsReplyFor, made}
+use Rattle.cts_api.specs.Replies.{IsReplyFor, Reply, made, parse_error, text_of}
 use Rattle.cts_api.specs.Shown.{text, decimal, list, whole, no_such, not_done}
 
 abbrev pub wide : ℤ → ℤ → ℤ → ℤ → Limits
@@ -84,6 +85,10 @@ temp1_named more = string (codes "inst") ∷ string (codes "HS") ∷ string (cod
 abbrev pub limits_given : List Data → List Data
 limits_given more = number (negative (neg_ℤ (pos 80))) ∷ number (negative (neg_ℤ (pos 70))) ∷ whole 60 ∷ whole 80 ∷ more
 
+-- the current set, told to the id "a"
+abbrev pub the_set : Reply
+the_set = record { response = Some (result_reply (string (codes "a")) (text (codes "DEFAULT"))); entries = [] }
+
 pub record RowsHold : Type 0 where
   pub set : ask (codes "get_limits_set") [] ≡ Some (told (gives (text (codes "DEFAULT"))))
   pub set_with_a_param : asked (codes "get_limits_set") (null ∷ []) ≡ None
@@ -118,7 +123,8 @@ pub record RowsHold : Type 0 where
   pub injected_object : asked (codes "inject_tlm") (string (codes "INST") ∷ string (codes "HS") ∷ []) ≡ None
   pub stop : ask (codes "stop_server") [] ≡ Some (appended (gives Stop))
   pub stopped : answer behind_stop None stops ≡ told (gives null)
-  pub method_without_id : IsReplyFor point 24 at_rest (calls (codes "no such") no_items None) (record { text = None; entries = [] })
-  pub stop_without_id : IsReplyFor point 24 at_rest (calls (codes "stop_server") no_items None) (record { text = None; entries = record { by = 24; time = at_rest; what = Stop } ∷ [] })
-  pub set_text : IsReplyFor point 24 at_rest (calls (codes "get_limits_set") no_items (Some (string (codes "a")))) (record { text = Some (codes "{\"id\":\"a\",\"jsonrpc\":\"2.0\",\"result\":\"DEFAULT\"}"); entries = [] })
-  pub parse_error : IsReplyFor point 24 at_rest not_json (record { text = Some (codes "{\"error\":{\"code\":" ++ (signed_decimal (neg_ℤ (pos 32700)) ++ codes ",\"message\":\"Parse error\"},\"id\":null,\"jsonrpc\":\"2.0\"}")); entries = [] })
+  pub method_without_id : IsReplyFor point 24 at_rest (calls (codes "no such") no_items None) (record { response = None; entries = [] })
+  pub stop_without_id : IsReplyFor point 24 at_rest (calls (codes "stop_server") no_items None) (record { response = None; entries = record { by = 24; time = at_rest; what = Stop } ∷ [] })
+  pub set_text : IsReplyFor point 24 at_rest (calls (codes "get_limits_set") no_items (Some (string (codes "a")))) the_set
+  pub text_of_set : text_of the_set ≡ Some (codes "{\"id\":\"a\",\"jsonrpc\":\"2.0\",\"result\":\"DEFAULT\"}")
+  pub text_of_parse_error : text_of parse_error ≡ Some (codes "{\"error\":{\"code\":" ++ (signed_decimal (neg_ℤ (pos 32700)) ++ codes ",\"message\":\"Parse error\"},\"id\":null,\"jsonrpc\":\"2.0\"}"))

@@ -1,32 +1,38 @@
 -- How a call that is done is settled: room for its entry, the text, and then the entry.
-use Rattle.std.specs.Prelude.{◌≡◌, ℕ, ◌≤◌, false, map, Option, Some, None, IfSome, IfOk, Result, Ok, Err}
+use Rattle.std.specs.Prelude.{◌≡◌, ℕ, ◌≤◌, Bool, true, false, map, Option, Some, None, IfSome, IfOk, Result, Ok, Err}
 use Rattle.cts_base.specs.declared.memory.Memory.{Memory}
 use Rattle.cts_cmd.specs.declared.request.Request.{Request}
 use Rattle.cts_def.specs.declared.time.Time.{Time}
 use Rattle.cts_entry.specs.declared.what.What.{What}
 use Rattle.cts_entry.specs.declared.what.What.TheVariants.{SetLimits}
 use Rattle.cts_entry.specs.Legal.{IsAllowed}
-use Rattle.cts_rpc.specs.Requests.{has_fraction}
 use Rattle.cts_table.specs.Keeping.{rules_of, IsOfSite}
 use Rattle.cts_table.specs.States.{Shown}
 use Rattle.serde_json.specs.Data.{Data}
 use Rattle.serde_json.specs.View.{view}
-use Rattle.serde_json.specs.Written.{has_float}
 use Rattle.cts_api.specs.declared.settling.Answer as code
 use Rattle.cts_api.specs.declared.refusal.Refusal.{Refusal}
 use Rattle.cts_api.specs.declared.refusal.Refusal.TheVariants.{NoSuch, NotDone, BadParams, Memory as NoMemory}
 use Rattle.cts_api.specs.declared.sending.Done as done
 use Rattle.cts_api.specs.Answers.{answer}
-use Rattle.cts_api.specs.Asking.{Asking, sets_limits}
+use Rattle.cts_api.specs.Asking.{Asking, asks_received, asks_sent, enables, sets_limits, stops}
 use Rattle.cts_api.specs.Points.{Point}
 use Rattle.cts_api.specs.Replied.{Appends, IsUnchanged}
-use Rattle.cts_api.specs.Replies.{HasRequest, made, reply_with}
+use Rattle.cts_api.specs.Replies.{HasRequest, IsTextFor, made, reply_with}
 use Rattle.cts_api.specs.Responding.{IsTold, RefusesWith}
 use Rattle.cts_api.specs.Telling.{IsDoneBy, listed, point}
 
--- What is asked is answered so, where its request, if it is a command, is this one. Memory stands beside each answer.
+-- what is answered without memory
+abbrev pub takes_memory : Asking → Bool
+takes_memory (asks_received p) = false
+takes_memory (asks_sent p) = false
+takes_memory (enables on name) = false
+takes_memory stops = false
+takes_memory _ = true
+
+-- What is asked is answered so, where its request, if it is a command, is this one. Memory stands beside each answer for which some is taken.
 abbrev pub HasAnswered : Point → Asking → Result done.Done Refusal → Type 0
-HasAnswered h asking (Err NoMemory) = Unit {0}
+HasAnswered h asking (Err NoMemory) = takes_memory asking ≡ true
 HasAnswered h asking (Err (NoSuch message)) = (r : Option Request) × HasRequest asking r × IsDoneBy h (answer h r asking) (Err (NoSuch message))
 HasAnswered h asking (Err (NotDone message)) = (r : Option Request) × HasRequest asking r × IsDoneBy h (answer h r asking) (Err (NotDone message))
 HasAnswered h asking (Err BadParams) = (r : Option Request) × HasRequest asking r × IsDoneBy h (answer h r asking) (Err BadParams)
@@ -65,14 +71,14 @@ CanSayIt s by time (Some what) = CanSay s by time what
 abbrev pub Settled : Shown → ℕ → Time → Option Data → Data → Option What → Result code.Answer Memory → Shown → Type 0
 Settled old by time id value what (Ok a) new =
     let r = reply_with (point old) id value (map (made by time) (listed what)) in
-    (has_fraction id ≡ false → a.text ≡ r.text) × Appends old r a.appended new
+    IsTextFor r.response a.text × Appends old r a.appended new
 Settled old by time id value what (Err e) new = IsUnchanged old new
 
 -- ---- how a call ends
 
--- what is done may be said, and its result has one text
+-- what is done may be said
 abbrev pub CanEnd : Shown → ℕ → Time → Result done.Done Refusal → Type 0
-CanEnd s by time (Ok d) = CanSayIt s by time d.what × (has_float (view d.result) ≡ false)
+CanEnd s by time (Ok d) = CanSayIt s by time d.what
 CanEnd s by time (Err e) = Unit {0}
 
 -- A refusal is told, and appends nothing.
@@ -80,7 +86,7 @@ pub record Refuses (old : Shown) (id : Option Data) (why : Refusal) (x : Result 
   pub same : new ≡ old
   pub none : IfOk x (λ a. a.appended ≡ 0)
   pub told : IfOk x (λ a. IsTold why)
-  pub text : has_fraction id ≡ false → IfOk x (λ a. RefusesWith id why a.text)
+  pub text : IfOk x (λ a. RefusesWith id why a.text)
 
 -- What is done is settled.
 abbrev pub Ends : Shown → ℕ → Time → Option Data → Result done.Done Refusal → Result code.Answer Memory → Shown → Type 0

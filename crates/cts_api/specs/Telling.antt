@@ -11,6 +11,7 @@ use Rattle.cts_def.specs.Packets.{DefinitionsData}
 use Rattle.cts_entry.specs.declared.what.What.{What}
 use Rattle.cts_table.specs.States.{Shown}
 use Rattle.cts_api.specs.declared.naming.ItemPlace.{ItemPlace}
+use Rattle.cts_api.specs.declared.refusal.Missing.{Missing}
 use Rattle.cts_api.specs.declared.refusal.Refusal.{Refusal}
 use Rattle.cts_api.specs.declared.refusal.Refusal.TheVariants.{NoSuch, NotDone, BadParams, Memory}
 use Rattle.serde_json.specs.View.{view}
@@ -39,6 +40,16 @@ IsRefused Memory said = Unit {0}
 abbrev pub Tells : {A B : Type 0} → (B → A) → Result B Refusal → Said A → Type 0
 Tells view (Ok b) said = said ≡ gives (view b)
 Tells view (Err e) said = IsRefused e said
+
+-- The same of an answer for which no memory is taken.
+abbrev pub Finds : {A B : Type 0} → (B → A) → Result B Missing → Said A → Type 0
+Finds view (Ok b) said = said ≡ gives (view b)
+Finds view (Err e) said = said ≡ no_such e.message.now
+
+-- it is no want of memory
+abbrev pub IsFree : {A : Type 0} → Result A Refusal → Type 0
+IsFree (Err Memory) = ⊥
+IsFree _ = Unit {0}
 
 -- The request of an order, or BadParams where its text asks for nothing.
 abbrev pub IsRequestOf : Order → Result Request Refusal → Type 0

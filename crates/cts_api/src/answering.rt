@@ -4,7 +4,7 @@ ghost use Rattle.cts_api.specs.Answers.{appended, told};
 ghost use Rattle.cts_api.specs.Points.{Point};
 ghost use Rattle.cts_api.specs.Seen.{asking_data, item_name, limits_asked, order_data};
 ghost use Rattle.cts_api.specs.Settling.{HasAnswered, LimitsPersist};
-ghost use Rattle.cts_api.specs.Telling.{IsDoneBy, point, Tells};
+ghost use Rattle.cts_api.specs.Telling.{Finds, IsDoneBy, IsFree, point, Tells};
 ghost use Rattle.cts_api.specs.Asking.{Said, sends, sets_limits};
 ghost use Rattle.cts_entry.specs.declared.what.What.{What as Saying};
 ghost use Rattle.serde_json.specs.Data.{Data};
@@ -17,7 +17,7 @@ use crate::interfaces::{interface_names, interface_state};
 use crate::limits::{item_limits, limits_events, limits_set, out_of_limits};
 use crate::params::{ItemWords, LimitsWords};
 use crate::reading::{Asking, Order};
-use crate::refusal::Refusal;
+use crate::refusal::{Missing, Refusal};
 use crate::sending::{Done, nothing, send, stop};
 use crate::values::{command_count, item_value, packet_count, packet_values};
 use cts_cmd::Checks;
@@ -33,6 +33,31 @@ fn told(said: Result<Value, Refusal>) -> Result<Done, Refusal>
     match said {
         Ok(result) => Ok(Done { result, what: None }),
         Err(refusal) => Err(refusal),
+    }
+}
+
+// A result for which no memory was taken, with nothing to append.
+fn counted(found: Result<Value, Missing>) -> Result<Done, Refusal>
+    ensures told { (h : Point) (said : Said Data) → Finds view found said → IsDoneBy h (told said) result }
+    ensures free { IsFree result }
+{
+    match found {
+        Ok(result) => Ok(Done { result, what: None }),
+        Err(missing) => Err(Refusal::NoSuch(missing.message)),
+    }
+}
+
+// An entry to append for which no memory was taken, with the result null.
+fn switched(found: Result<What, Missing>) -> Result<Done, Refusal>
+    ensures told { (h : Point) (what : Said Saying) → Finds (λ w. w) found what → IsDoneBy h (appended what) result }
+    ensures free { IsFree result }
+{
+    match found {
+        Ok(what) => Ok(Done {
+            result: nothing(),
+            what: Some(what),
+        }),
+        Err(unknown) => Err(Refusal::NoSuch(unknown.message)),
     }
 }
 
@@ -80,12 +105,12 @@ pub(crate) fn asked(alloc: Global, hall: &Hall, asking: Asking<'_>) -> Result<Do
     match asking {
         Asking::Value(kind, names) => told(item_value(alloc, hall, kind, names)),
         Asking::Packet(names, kind) => told(packet_values(alloc, hall, names, kind)),
-        Asking::Received(names) => told(packet_count(hall, names)),
-        Asking::Sent(names) => told(command_count(hall, names)),
+        Asking::Received(names) => counted(packet_count(hall, names)),
+        Asking::Sent(names) => counted(command_count(hall, names)),
         Asking::Command(checks, order) => commanded(alloc, hall, checks, order),
         Asking::Limits(names, set) => told(item_limits(alloc, hall, names, set)),
         Asking::SetLimits(names, limits) => limits_changed(alloc, hall, names, limits),
-        Asking::Enable(on, names) => appended(enable_limits(hall, on, names)),
+        Asking::Enable(on, names) => switched(enable_limits(hall, on, names)),
         Asking::Set => told(limits_set(alloc, hall)),
         Asking::ChooseSet(name) => appended(choose_set(alloc, hall, name)),
         Asking::OutOfLimits => told(out_of_limits(alloc, hall)),

@@ -5,12 +5,12 @@ ghost use Rattle.cts_def.specs.Items.{HasSoundLimits};
 ghost use Rattle.cts_api.specs.Answers.{choose_answer, enable_answer, limits_given, new_set, set_limits_answer};
 ghost use Rattle.cts_api.specs.Seen.{item_name, limits_asked};
 ghost use Rattle.cts_api.specs.Settling.{HasPersistence, IsPersistent};
-ghost use Rattle.cts_api.specs.Telling.{point, Tells};
+ghost use Rattle.cts_api.specs.Telling.{Finds, point, Tells};
 
 use crate::limits::known_set;
 use crate::naming::item_at;
 use crate::params::{ItemWords, LimitsWords};
-use crate::refusal::Refusal;
+use crate::refusal::{Missing, Refusal};
 use cts_base::{Bytes, Name, NameFault};
 use cts_def::{Item, MOST_SETS};
 use cts_entry::What;
@@ -98,12 +98,14 @@ pub(crate) fn set_limits(
 /// # Errors
 ///
 /// `NoSuch`: `Unknown target`, `Unknown packet`, `Unknown item`, `No limits` where it has no state colours either, the first that holds.
-pub(crate) fn enable_limits(hall: &Hall, on: bool, names: ItemWords<'_>) -> Result<What, Refusal>
-    ensures told { Tells (λ w. w) result (enable_answer (point hall.now) on (item_name names.entry)) }
+pub(crate) fn enable_limits(hall: &Hall, on: bool, names: ItemWords<'_>) -> Result<What, Missing>
+    ensures told { Finds (λ w. w) result (enable_answer (point hall.now) on (item_name names.entry)) }
 {
     let place = item_at(hall.site().definitions.telemetry.as_slice(), names)?;
     if !is_watched(place.it) {
-        return Err(Refusal::NoSuch(b"No limits"));
+        return Err(Missing {
+            message: b"No limits",
+        });
     }
     Ok(What::Enable {
         packet: place.packet as u32,

@@ -1,4 +1,10 @@
 //! The methods of the JSON interface: what each asks, what it answers at a point of the history, and what it appends.
+//!
+//! The names of the methods, the order of their params and what they answer follow the documentation of the COSMOS 4 JSON API. This
+//! project's own are `stop_server`, `get_limits_events` and `interface_state` as they are here, the params of `inject_tlm` (an object
+//! of raw values, without a kind of value), the result null of `set_limits`, the codes -32001 to -32003 with all their messages and
+//! the order in which they are tried, and that decimals are exact and are texts. The codes from -32700 to -32600 are those of
+//! JSON-RPC 2.0. `docs/METHODS.md` has each method, and what a client of COSMOS finds different.
 #![tactic(auto)]
 
 mod answering;

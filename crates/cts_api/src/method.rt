@@ -168,7 +168,8 @@ fn method_in(list: &[Row], name: &[u8]) -> Option<Method>
     None
 }
 
-/// The method of this name, which stands exactly so; the names are those of the COSMOS 4 JSON API.
+/// The method of this name, which stands exactly so. The names are those of the COSMOS 4 JSON API, but for `stop_server` and
+/// `get_limits_events`, which are this project's own.
 pub(crate) fn method_named(name: &[u8]) -> Option<Method>
     ensures { result ≡ method_named name.now }
 {

@@ -6,10 +6,10 @@ ghost use Rattle.cts_cmd.specs.Checks.{has_target};
 ghost use Rattle.cts_def.specs.Packets.{is_named};
 ghost use Rattle.cts_api.specs.Answers.{first_with, has_name, is_called, item_at, packet_at};
 ghost use Rattle.cts_api.specs.Seen.{item_name, packet_name};
-ghost use Rattle.cts_api.specs.Telling.{Tells, item_place};
+ghost use Rattle.cts_api.specs.Telling.{Finds, item_place};
 
 use crate::params::{ItemWords, PacketWords};
-use crate::refusal::Refusal;
+use crate::refusal::Missing;
 use cts_base::spells;
 use cts_def::{Interface, Item, Packet};
 
@@ -47,16 +47,20 @@ fn packet_place(packets: &[Packet], target: &[u8], name: &[u8]) -> Option<usize>
 pub(crate) fn packet_at<'a>(
     packets: &'a [Packet],
     names: PacketWords<'_>,
-) -> Result<(usize, &'a Packet), Refusal>
-    ensures tells { Tells (λ f. (f.0, f.1.now)) result (packet_at packets.now (packet_name names.entry)) }
+) -> Result<(usize, &'a Packet), Missing>
+    ensures finds { Finds (λ f. (f.0, f.1.now)) result (packet_at packets.now (packet_name names.entry)) }
     ensures within { IfOk result (λ f. slice_get packets.now f.0 ≡ Some f.1.now) }
 {
     if !has_target(packets, names.target) {
-        return Err(Refusal::NoSuch(b"Unknown target"));
+        return Err(Missing {
+            message: b"Unknown target",
+        });
     }
     match packet_place(packets, names.target, names.packet) {
         Some(place) => Ok((place, &packets[place])),
-        None => Err(Refusal::NoSuch(b"Unknown packet")),
+        None => Err(Missing {
+            message: b"Unknown packet",
+        }),
     }
 }
 
@@ -73,8 +77,8 @@ fn item_place(items: &[Item], name: &[u8]) -> Option<usize>
 pub(crate) fn item_at<'a>(
     packets: &'a [Packet],
     names: ItemWords<'_>,
-) -> Result<ItemPlace<'a>, Refusal>
-    ensures tells { Tells item_place result (item_at packets.now (item_name names.entry)) }
+) -> Result<ItemPlace<'a>, Missing>
+    ensures finds { Finds item_place result (item_at packets.now (item_name names.entry)) }
     ensures packet { IfOk result (λ p. slice_get packets.now p.packet ≡ Some p.of.now) }
     ensures item { IfOk result (λ p. slice_get p.of.now.items p.item ≡ Some p.it.now) }
 {
@@ -93,7 +97,9 @@ pub(crate) fn item_at<'a>(
             item: item as u32,
             it: &items[item],
         }),
-        None => Err(Refusal::NoSuch(b"Unknown item")),
+        None => Err(Missing {
+            message: b"Unknown item",
+        }),
     }
 }
 

@@ -1,15 +1,14 @@
 //! Replies: what a desk answers to a body, and what it appends.
 
 ghost use Rattle.std.specs.Prelude.{◌≡◌, ◌≤◌, false, IfOk, length, option_map, Some, true};
-ghost use Rattle.cts_rpc.specs.Requests.{has_fraction};
 ghost use Rattle.serde_json.specs.Data.{null};
 ghost use Rattle.serde_json.specs.View.{view};
 ghost use Rattle.cts_def.specs.Most.{most_sets};
 ghost use Rattle.cts_entry.specs.Legal.{has_ended};
 ghost use Rattle.cts_entry.specs.Workers.{is_desk};
 ghost use Rattle.cts_api.specs.Replied.{Answered, Replied};
-ghost use Rattle.cts_api.specs.Replies.{error, respond};
-ghost use Rattle.cts_api.specs.Responding.{code_number, id_in, IsTold, RefusesWith, TellsFault};
+ghost use Rattle.cts_api.specs.Replies.{error, IsTextFor, respond};
+ghost use Rattle.cts_api.specs.Responding.{code_number, IsTold, RefusesWith, TellsFault};
 ghost use Rattle.cts_api.specs.Settling.{CanEnd, Ends};
 
 use crate::answering::asked;
@@ -29,7 +28,7 @@ use std::alloc::Global;
 // A response with an error, which appends nothing.
 fn refused(alloc: Global, id: Option<&Value>, code: Code, message: &[u8]) -> Result<Answer, Memory>
     ensures none { IfOk result (λ a. a.appended ≡ 0) }
-    ensures text { has_fraction (option_map (λ i. view i.now) id.entry) ≡ false → IfOk result (λ a. a.text ≡ respond (option_map (λ i. view i.now) id.entry) (error (code_number code) message.now)) }
+    ensures text { IfOk result (λ a. IsTextFor (respond (option_map (λ i. view i.now) id.entry) (error (code_number code) message.now)) a.text) }
 {
     Ok(Answer {
         text: error_to(alloc, id, code, message)?,
@@ -40,7 +39,7 @@ fn refused(alloc: Global, id: Option<&Value>, code: Code, message: &[u8]) -> Res
 // A response to a body whose id is not known: null stands for it.
 fn refused_body(alloc: Global, code: Code, message: &[u8]) -> Result<Answer, Memory>
     ensures none { IfOk result (λ a. a.appended ≡ 0) }
-    ensures text { IfOk result (λ a. a.text ≡ respond (Some null) (error (code_number code) message.now)) }
+    ensures text { IfOk result (λ a. IsTextFor (respond (Some null) (error (code_number code) message.now)) a.text) }
 {
     refused(alloc, Some(&nothing()), code, message)
 }
@@ -48,7 +47,7 @@ fn refused_body(alloc: Global, code: Code, message: &[u8]) -> Result<Answer, Mem
 // The response to a body that is no call, which appends nothing.
 fn no_call(alloc: Global, fault: &RpcFault) -> Result<Answer, Memory>
     ensures none { IfOk result (λ a. a.appended ≡ 0) }
-    ensures text { has_fraction (id_in fault.now) ≡ false → IfOk result (λ a. TellsFault fault.now a.text) }
+    ensures text { IfOk result (λ a. TellsFault fault.now a.text) }
 {
     match fault {
         RpcFault::ParseError => refused_body(alloc, Code::ParseError, b"Parse error"),
@@ -64,7 +63,7 @@ fn no_call(alloc: Global, fault: &RpcFault) -> Result<Answer, Memory>
 fn refusal_told(alloc: Global, id: Option<&Value>, refusal: Refusal) -> Result<Answer, Memory>
     ensures none { IfOk result (λ a. a.appended ≡ 0) }
     ensures told { IfOk result (λ a. IsTold refusal) }
-    ensures text { has_fraction (option_map (λ i. view i.now) id.entry) ≡ false → IfOk result (λ a. RefusesWith (option_map (λ i. view i.now) id.entry) refusal a.text) }
+    ensures text { IfOk result (λ a. RefusesWith (option_map (λ i. view i.now) id.entry) refusal a.text) }
 {
     Ok(Answer {
         text: refusal_to(alloc, id, refusal)?,
@@ -97,8 +96,9 @@ fn has_few_sets(site: &Site)
     let _packets = site.definitions.telemetry.as_slice();
 }
 
-/// The reply of a desk to a call: the text of its response, and its entry behind the history. All checks come first, then whether
-/// the history has room for the entry, and a refusal appends nothing.
+/// The reply of a desk to a call: the text of its response, and its entry after the history. All checks come first, then whether
+/// the history has room for the entry, and a refusal appends nothing. There is a text exactly where the call has an id, and it reads
+/// back as the response, also where the id has a fraction.
 ///
 /// # Errors
 ///

@@ -1,11 +1,9 @@
 //! The texts of responses.
 
-ghost use Rattle.std.specs.Prelude.{◌≡◌, false, IfOk, option_map};
+ghost use Rattle.std.specs.Prelude.{◌≡◌, IfOk, option_map};
 ghost use Rattle.cts_rpc.specs.Replies.{result_reply};
-ghost use Rattle.cts_rpc.specs.Requests.{has_fraction};
 ghost use Rattle.serde_json.specs.View.{view};
-ghost use Rattle.serde_json.specs.Written.{has_float};
-ghost use Rattle.cts_api.specs.Replies.{error, respond};
+ghost use Rattle.cts_api.specs.Replies.{error, IsTextFor, respond};
 ghost use Rattle.cts_api.specs.Responding.{code_number, IsTold, RefusesWith};
 
 use crate::refusal::Refusal;
@@ -55,8 +53,7 @@ pub(crate) fn result_to(
     id: Option<&Value>,
     value: Value,
 ) -> Result<Option<Bytes>, Memory>
-    requires whole { has_float (view value) ≡ false }
-    ensures { has_fraction (option_map (λ i. view i.now) id.entry) ≡ false → IfOk result (λ t. t ≡ respond (option_map (λ i. view i.now) id.entry) (λ i. result_reply i (view value))) }
+    ensures { IfOk result (λ t. IsTextFor (respond (option_map (λ i. view i.now) id.entry) (λ i. result_reply i (view value))) t) }
 {
     match id {
         Some(id) => Ok(Some(result_text(alloc, id, value)?)),
@@ -71,7 +68,7 @@ pub(crate) fn error_to(
     code: Code,
     message: &[u8],
 ) -> Result<Option<Bytes>, Memory>
-    ensures { has_fraction (option_map (λ i. view i.now) id.entry) ≡ false → IfOk result (λ t. t ≡ respond (option_map (λ i. view i.now) id.entry) (error (code_number code) message.now)) }
+    ensures { IfOk result (λ t. IsTextFor (respond (option_map (λ i. view i.now) id.entry) (error (code_number code) message.now)) t) }
 {
     match id {
         Some(id) => Ok(Some(error_text(alloc, id, code.number(), message)?)),
@@ -86,7 +83,7 @@ pub(crate) fn refusal_to(
     refusal: Refusal,
 ) -> Result<Option<Bytes>, Memory>
     ensures told { IfOk result (λ t. IsTold refusal) }
-    ensures text { has_fraction (option_map (λ i. view i.now) id.entry) ≡ false → IfOk result (λ t. RefusesWith (option_map (λ i. view i.now) id.entry) refusal t) }
+    ensures text { IfOk result (λ t. RefusesWith (option_map (λ i. view i.now) id.entry) refusal t) }
 {
     match refusal {
         Refusal::NoSuch(message) => error_to(alloc, id, Code::NoSuch, message),

@@ -1,10 +1,9 @@
 //! How a call that is done ends: its entry stands behind the history where there is room for it.
 
-ghost use Rattle.std.specs.Prelude.{◌≡◌, false, if◌then◌else◌, IfOk, OnErr, option_map};
+ghost use Rattle.std.specs.Prelude.{◌≡◌, if◌then◌else◌, IfOk, OnErr, option_map};
 ghost use Rattle.cts_entry.specs.Histories.{bytes_for, entries_for};
 ghost use Rattle.cts_table.specs.States.{fits, with_room};
 ghost use Rattle.serde_json.specs.View.{view};
-ghost use Rattle.serde_json.specs.Written.{has_float};
 ghost use Rattle.cts_api.specs.Settling.{CanSayIt, Settled};
 
 use crate::response::{Code, error_to, result_to};
@@ -49,7 +48,6 @@ pub(crate) fn settle(
     done: Done,
 ) -> Result<Answer, Memory>
     requires may { CanSayIt hall.old by time done.what }
-    requires whole { has_float (view done.result) ≡ false }
     ensures { Settled hall.old by time (option_map (λ i. view i.now) id.entry) (view done.result) done.what result hall.new }
 {
     hall.is_kept();

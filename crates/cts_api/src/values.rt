@@ -7,11 +7,11 @@ ghost use Rattle.serde_json.specs.View.{view};
 ghost use Rattle.cts_api.specs.Answers.{item_color, item_row, lookup_text, packet_answer, packet_rows, received_answer, rows_from, sent_answer, value_answer};
 ghost use Rattle.cts_api.specs.Seen.{item_name, packet_name};
 ghost use Rattle.cts_api.specs.Shown.{shown, text};
-ghost use Rattle.cts_api.specs.Telling.{Tells, point};
+ghost use Rattle.cts_api.specs.Telling.{Finds, Tells, point};
 
 use crate::naming::packet_at;
 use crate::params::{ItemWords, PacketWords};
-use crate::refusal::Refusal;
+use crate::refusal::{Missing, Refusal};
 use crate::shown::{color, push_text, shown};
 use cts_base::{Memory, spells};
 use cts_conv::{Value as Held, ValueKind, value_of};
@@ -202,12 +202,14 @@ pub(crate) fn packet_values(
 /// # Errors
 ///
 /// `NoSuch`: `Unknown target`, `Unknown packet`, the first that holds.
-pub(crate) fn packet_count(hall: &Hall, names: PacketWords<'_>) -> Result<Value, Refusal>
-    ensures { Tells view result (received_answer (point hall.now) (packet_name names.entry)) }
+pub(crate) fn packet_count(hall: &Hall, names: PacketWords<'_>) -> Result<Value, Missing>
+    ensures { Finds view result (received_answer (point hall.now) (packet_name names.entry)) }
 {
     if spells(names.target, b"UNKNOWN") {
         if !spells(names.packet, b"UNKNOWN") {
-            return Err(Refusal::NoSuch(b"Unknown packet"));
+            return Err(Missing {
+                message: b"Unknown packet",
+            });
         }
         return Ok(Value::from(hall.counts(Ident::Unknown).received));
     }
@@ -220,8 +222,8 @@ pub(crate) fn packet_count(hall: &Hall, names: PacketWords<'_>) -> Result<Value,
 /// # Errors
 ///
 /// `NoSuch`: `Unknown target`, `Unknown packet`, the first that holds.
-pub(crate) fn command_count(hall: &Hall, names: PacketWords<'_>) -> Result<Value, Refusal>
-    ensures { Tells view result (sent_answer (point hall.now) (packet_name names.entry)) }
+pub(crate) fn command_count(hall: &Hall, names: PacketWords<'_>) -> Result<Value, Missing>
+    ensures { Finds view result (sent_answer (point hall.now) (packet_name names.entry)) }
 {
     let (number, _command) = packet_at(hall.site().definitions.commands.as_slice(), names)?;
     Ok(Value::from(hall.command_count(number as u32)))

@@ -6,10 +6,11 @@ use crate::hall::hall_of;
 use cts_api::{Answer, answer, reply};
 use cts_def::{FIRST_DESK, Time};
 use cts_entry::{Entry, What};
-use cts_rows::{Answers, as_text, cut, readable_of, rows_end_so, same};
+use cts_rows::{Answers, as_text, cut, number, readable_of, rows_end_so, same};
 use cts_rpc::{Call, read};
 use cts_script::entry_lines;
 use cts_table::Hall;
+use serde_json::Value;
 use std::alloc::Global;
 use std::test::Fail;
 
@@ -265,6 +266,11 @@ fn a_full_history_is_stopped_once(rt: HostRuntime) -> Result<(), Fail> {
 const BODIES: &str =
     r#"{|(Some('{"error":{"code":-32700,"message":"Parse error"},"id":null,"jsonrpc":"2.0"}'), 2)
 []|(Some('{"error":{"code":-32600,"message":"Invalid Request"},"id":null,"jsonrpc":"2.0"}'), 2)
+[{"jsonrpc":"2.0","method":"get_limits_set","id":1},{"jsonrpc":"2.0","method":"stop_server"}]|(Some('{"error":{"code":-32600,"message":"Invalid Request"},"id":null,"jsonrpc":"2.0"}'), 2)
+{"method":"stop_server"}|(Some('{"error":{"code":-32600,"message":"Invalid Request"},"id":null,"jsonrpc":"2.0"}'), 2)
+{"jsonrpc":"2.0","method":"stop_server","id":1.5}|(Some('{"error":{"code":-32600,"message":"Invalid Request"},"id":null,"jsonrpc":"2.0"}'), 2)
+{"jsonrpc":"2.0","method":"tlm","params":["T A \u0000"],"id":"\u0000\u001f"}|(Some('{"error":{"code":-32001,"message":"Unknown item"},"id":"\u0000\u001f","jsonrpc":"2.0"}'), 2)
+{"jsonrpc":"2.0","method":"cmd","params":["T GO with \u0000 1"],"id":1}|(Some('{"error":{"code":-32002,"message":"Unknown parameter: \u0000"},"id":1,"jsonrpc":"2.0"}'), 2)
 {"jsonrpc":"2.0","method":"tlm","params":{},"id":"a"}|(Some('{"error":{"code":-32602,"message":"Invalid params"},"id":"a","jsonrpc":"2.0"}'), 2)
 {"jsonrpc":"2.0","method":"tlm","params":{}}|(None, 2)
 {"jsonrpc":"2.0","method":"none"}|(None, 2)
@@ -287,6 +293,82 @@ fn bodies_have_their_responses(rt: HostRuntime) -> Result<(), Fail> {
     rows_end_so::<Bodies>(rt.alloc(), BODIES)
 }
 
+/// A call of a method without params whose params are so many arrays in one another.
+fn nested(alloc: Global, count: usize) -> Result<Vec<u8>, Fail> {
+    let mut body = Vec::from_slice(
+        alloc,
+        b"{\"jsonrpc\":\"2.0\",\"method\":\"get_limits_set\",\"id\":1,\"params\":",
+    )?;
+    for _ in 0..count {
+        body.push(b'[')?;
+    }
+    for _ in 0..count {
+        body.push(b']')?;
+    }
+    body.push(b'}')?;
+    Ok(body)
+}
+
+/// How many arrays stand in one another, and the response: at 127 the params are read and are too many, at 128 there is no JSON.
+const DEPTHS: &str =
+    r#"126|(Some('{"error":{"code":-32602,"message":"Invalid params"},"id":1,"jsonrpc":"2.0"}'), 2)
+127|(Some('{"error":{"code":-32700,"message":"Parse error"},"id":null,"jsonrpc":"2.0"}'), 2)"#;
+
+struct Depths;
+
+impl Answers for Depths {
+    fn answer(alloc: Global, asked: &str) -> Result<String, Fail> {
+        let body = nested(alloc, number(asked, 0)?)?;
+        let mut hall = hall_of(alloc, 100)?;
+        told(alloc, &mut hall, &body)
+    }
+}
+
+#[test]
+fn params_nest_at_most_126_deep(rt: HostRuntime) -> Result<(), Fail> {
+    rows_end_so::<Depths>(rt.alloc(), DEPTHS)
+}
+
+/// Gives an item limits in so many new sets, with the names S0, S1 and so on.
+fn with_sets(alloc: Global, hall: &mut Hall, count: u32) -> Result<(), Fail> {
+    for set in 0..count {
+        let row = format!(in alloc;
+            "set_limits|[\"T\",\"A\",\"V\",1,2,3,4,\"2.1\",\"2.2\",\"S{set}\"]"
+        )?;
+        let body = call_of(alloc, row.as_str())?;
+        let answer = asked(alloc, hall, body.as_bytes())?;
+        drop(answer);
+    }
+    Ok(())
+}
+
+/// How many sets are named behind the two of the definitions, then a call, its response, and how many entries there are then: a 65th
+/// set is refused behind the order of its limits and before Full, and a known one is taken.
+const SETS: &str =
+    r#"61|set_limits|["T","A","V",1,2,3,4,"2.1","2.2","MORE"]|(Some('{"id":1,"jsonrpc":"2.0","result":null}'), 64)
+62|set_limits|["T","A","V",1,2,3,4,"2.1","2.2","MORE"]|(Some('{"error":{"code":-32002,"message":"Too many sets"},"id":1,"jsonrpc":"2.0"}'), 64)
+62|set_limits|["T","A","V",1,2,3,4]|(Some('{"error":{"code":-32002,"message":"Too many sets"},"id":1,"jsonrpc":"2.0"}'), 64)
+62|set_limits|["T","A","V",2,1,3,4]|(Some('{"error":{"code":-32002,"message":"Limits order"},"id":1,"jsonrpc":"2.0"}'), 64)
+62|set_limits|["T","A","V",1,2,3,4,"2.1","2.2","s61"]|(Some('{"id":1,"jsonrpc":"2.0","result":null}'), 65)
+62|set_limits_set|["MORE"]|(Some('{"error":{"code":-32001,"message":"Unknown limits set"},"id":1,"jsonrpc":"2.0"}'), 64)"#;
+
+struct Sets;
+
+impl Answers for Sets {
+    fn answer(alloc: Global, asked: &str) -> Result<String, Fail> {
+        let (count, call) = cut(asked, '|')?;
+        let mut hall = hall_of(alloc, 100)?;
+        with_sets(alloc, &mut hall, number(count, 0)?)?;
+        let body = call_of(alloc, call)?;
+        told(alloc, &mut hall, body.as_bytes())
+    }
+}
+
+#[test]
+fn a_65th_set_is_too_many(rt: HostRuntime) -> Result<(), Fail> {
+    rows_end_so::<Sets>(rt.alloc(), SETS)
+}
+
 /// What desk 0 answers to a call that was read before.
 fn answered(alloc: Global, hall: &mut Hall, call: &Call) -> Result<String, Fail> {
     if hall.site().desks == 0 || is_over(hall.entries(), FIRST_DESK) {
@@ -301,6 +383,12 @@ fn answered(alloc: Global, hall: &mut Hall, call: &Call) -> Result<String, Fail>
 /// A call that was read before is answered as its body is replied.
 const READ: &str = r#"tlm|["T A V"]|Some('{"id":1,"jsonrpc":"2.0","result":1286}')"#;
 
+/// The same with an id that has a fraction, which no body gives: a response with that id.
+const FRACTIONS: &str = r#"tlm|["T A V"]|Some('{"id":1.5,"jsonrpc":"2.0","result":1286}')
+tlm|["T A"]|Some('{"error":{"code":-32602,"message":"Invalid params"},"id":1.5,"jsonrpc":"2.0"}')
+none|[]|Some('{"error":{"code":-32601,"message":"Method not found"},"id":1.5,"jsonrpc":"2.0"}')
+tlm|["X A V"]|Some('{"error":{"code":-32001,"message":"Unknown target"},"id":1.5,"jsonrpc":"2.0"}')"#;
+
 struct ReadCalls;
 
 impl Answers for ReadCalls {
@@ -311,6 +399,27 @@ impl Answers for ReadCalls {
             Err(_) => Err(Fail::new("no call")),
         }
     }
+}
+
+struct WithFractions;
+
+impl Answers for WithFractions {
+    fn answer(alloc: Global, asked: &str) -> Result<String, Fail> {
+        let body = call_of(alloc, asked)?;
+        let Ok(call) = read(alloc, body.as_bytes()) else {
+            return Err(Fail::new("no call"));
+        };
+        let call = Call {
+            id: Some(Value::from(1.5)),
+            ..call
+        };
+        answered(alloc, &mut hall_of(alloc, 100)?, &call)
+    }
+}
+
+#[test]
+fn an_id_with_a_fraction_is_answered_with_it(rt: HostRuntime) -> Result<(), Fail> {
+    rows_end_so::<WithFractions>(rt.alloc(), FRACTIONS)
 }
 
 #[test]

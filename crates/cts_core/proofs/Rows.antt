@@ -47,7 +47,7 @@ site = record {
   is_desk = λ desk. desk == 0;
   is_logged = λ interface. true;
   layout = framed;
-  answers = λ history desk time body a. a ≡ record { text = None; entries = [] };
+  answers = λ history desk time body a. a ≡ record { response = None; entries = [] };
   most_entries = 100;
   most_bytes = 1000;
 }

@@ -35,7 +35,7 @@ use Rattle.cts_core.proofs.Keeping.{pieces_turned, pieces_grow, pieces_stay, cur
 use Rattle.cts_told.proofs.Walks.{posted_packets}
 use Rattle.cts_core.specs.Environments.{basis_of, site_environment, writers_at}
 use Rattle.cts_api.specs.Points.{point_of}
-use Rattle.cts_api.specs.Replies.{IsReply, Reply as Answer}
+use Rattle.cts_api.specs.Replies.{IsReply, Reply as Answer, text_of}
 use Rattle.cts_core.proofs.Replying.{reply_quiet}
 use Rattle.cts_entry.specs.Legal.{most_bytes as bytes_limit, most_entries as entries_limit}
 use Rattle.cts_core.specs.Kept.{GivesRoom, is_within}
@@ -659,10 +659,10 @@ has_desk_is site w s desk body h = ap (λ (b : Basis). nat_lt desk b.site.desks)
 reply_here : (site : SiteData) (w : Held) (s : State) (by : ℕ) (body : List ℕ) (a : Answer) → Represents site w s → IsReply (point_of w.basis w.history) by w.time body a → IsReply (point_of (basis_of site) s.history) by s.time body a
 reply_here site w s by body a h r = subst (λ (b : Basis). IsReply (point_of b s.history) by s.time body a) h.basis (subst (λ (l : List Entry). IsReply (point_of w.basis l) by s.time body a) h.history (subst (λ (now : Time). IsReply (point_of w.basis w.history) by now body a) h.time r))
 
-pub called : (site : SiteData) (w new : Held) (s : State) (desk : ℕ) (body : List ℕ) (front : ℕ) (text : Option (List ℕ)) (a : Answer) → nat_lt desk w.basis.site.desks ≡ true → front ≡ length w.history → text ≡ a.text
+pub called : (site : SiteData) (w new : Held) (s : State) (desk : ℕ) (body : List ℕ) (front : ℕ) (text : Option (List ℕ)) (a : Answer) → nat_lt desk w.basis.site.desks ≡ true → front ≡ length w.history → text ≡ text_of a
     → IsReply (point_of w.basis w.history) (first_desk + desk) w.time body a → new ≡ record w { history = w.history ++ a.entries } → Represents site w s → Steps site s (Call desk body) w (Ok (Reply desk front text)) new
 called site w new s desk body front text a there at says is n h =
-    let did : Did = record { entries = a.entries; effect = Reply desk (length s.history) a.text } in
+    let did : Did = record { entries = a.entries; effect = Reply desk (length s.history) (text_of a) } in
     let moved : State = after s (Call desk body) did in
     let none : (k : ℕ) → latest (connects_maker k) a.entries ≡ None = reply_quiet (point_of w.basis w.history) (first_desk + desk) w.time body a is in
     let whole : Represents site (record w { history = w.history ++ a.entries }) moved = record {

@@ -15,7 +15,7 @@ use Rattle.cts_frame.specs.Framing.{Output}
 use Rattle.cts_frame.specs.Cuts.{Pieces}
 use Rattle.cts_frame.specs.Packets.{IsPackets, Fault, fault_of, loss_of}
 use Rattle.cts_told.specs.Routing.{posted_entries}
-use Rattle.cts_api.specs.Replies.{Reply as Answer}
+use Rattle.cts_api.specs.Replies.{Reply as Answer, text_of}
 use Rattle.cts_core.specs.States.{Environment, State, is_enabled, takes_room, has_room, put_next, unsent, log_ahead, packets_log, commands_log}
 
 -- a connection's Closed has what its chain gave to no packet, and how many of its queue were not put whole
@@ -47,7 +47,7 @@ pub record Closes (env : Environment) (s : State) (by : ℕ) (why : Why) (entrie
 
 -- what is answered where no desk is asked
 abbrev pub silent : Answer
-silent = record { text = None; entries = [] }
+silent = record { response = None; entries = [] }
 
 -- A desk may reply this to the body that an event brings; an event that asks no desk has no answer.
 abbrev pub IsAnswered : Environment → State → Event → Answer → Type 0
@@ -80,7 +80,7 @@ effect_of env s (Opens by) a = Posted
 effect_of env s (Piece by piece) a = Posted
 effect_of env s (Finish by why) a = Posted
 effect_of env s (Write by count) a = Written by (put_next env s by count)
-effect_of env s (Call desk body) a = Reply desk (length s.history) a.text
+effect_of env s (Call desk body) a = Reply desk (length s.history) (text_of a)
 effect_of env s (DrainLog count) a = Logged (packets_log env (take count (log_ahead s))) (commands_log env (take count (log_ahead s)))
 effect_of env s (DrainSlot by count) a = Routed by (put_next env s by count)
 effect_of env s Stop a = Posted

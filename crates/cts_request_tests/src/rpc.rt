@@ -39,6 +39,7 @@ C|{"jsonrpc":"2.0","method":"m","params":[[{"a":-9223372036854775808}]],"id":"x"
 C|{"jsonrpc":"2.0","method":"m","id":18446744073709551615,"more":1.5}
 c|{"jsonrpc":"1.0","jsonrpc":"2.0","method":7,"method":"m"}
 c|{"jsonrpc":"2.0","method":"m","params":[{"a":1.5,"a":2}]}
+C|{"jsonrpc":"2.0","method":"\u0000","params":["\u0000\ud83d\ude00"],"id":"\u0000"}
 C|{"jsonrpc": "2.0", "method": "subtract", "params": [42, 23], "id": 1}
 c|{"jsonrpc": "2.0", "method": "update", "params": [1,2,3,4,5]}
 C|{"jsonrpc": "2.0", "method": "foobar", "id": "1"}
@@ -55,11 +56,13 @@ r|[]
 r|[1]
 r|{"jsonrpc": "2.0", "method": 1, "params": "bar"}
 r|[{"jsonrpc":"2.0","method":"m"}]
+r|[{"jsonrpc":"2.0","method":"m","id":1},{"jsonrpc":"2.0","method":"m","id":2}]
 r|{}
 r|{"method":"m"}
 r|{"jsonrpc":2.0,"method":"m"}
 r|{"jsonrpc":"2","method":"m","id":1}
 r|{"jsonrpc":"2.0"}
+r|{"a":[1.5]}
 r|{"jsonrpc":"2.0","method":null}
 r|{"jsonrpc":"2.0","method":"m","params":null,"id":1}
 r|{"jsonrpc":"2.0","method":"m","params":"a"}
@@ -83,11 +86,16 @@ fn bodies_are_calls_or_say_why_not(rt: HostRuntime) -> Result<(), Fail> {
     rows_hold::<Bodies>(rt.alloc(), BODIES)
 }
 
-/// The same of bodies whose bytes are the numbers of characters: blanks and a tab around a call, a method with a byte ff, and a call
-/// behind a byte order mark.
+/// The same of bodies whose bytes are the numbers of characters: blanks and a tab around a call, a method with a byte ff, with the
+/// control bytes 00, 09 and 1f, which stand in a text as `\u` and digits alone, with 7f, which may stand as it is, and a call behind a
+/// byte order mark.
 const BYTES: &str = "\
 C| {\"id\":null,\"method\":\"\",\"jsonrpc\":\"2.0\",\"params\":[]} \t
 p|{\"jsonrpc\":\"2.0\",\"method\":\"\u{ff}\"}
+p|{\"jsonrpc\":\"2.0\",\"method\":\"a\0\"}
+p|{\"jsonrpc\":\"2.0\",\"method\":\"a\t\"}
+p|{\"jsonrpc\":\"2.0\",\"method\":\"m\",\"params\":[\"\u{1f}\"]}
+c|{\"jsonrpc\":\"2.0\",\"method\":\"\u{7f}\"}
 p|\u{ef}\u{bb}\u{bf}{\"jsonrpc\":\"2.0\",\"method\":\"m\"}";
 
 #[test]
@@ -95,9 +103,16 @@ fn a_body_is_text(rt: HostRuntime) -> Result<(), Fail> {
     rows_hold::<Bodies>(rt.alloc(), BYTES)
 }
 
-/// Bodies whose params are 126 arrays in one another, and 127.
+/// Bodies whose params are 126 arrays in one another, and 127; 125 objects in one array, and 126; 126 objects, and 127; and a member
+/// without a meaning that nests as deep.
 const DEPTHS: &str = r#"c|1*{"jsonrpc":"2.0","method":"m","params":|126*[|126*]|1*}
-p|1*{"jsonrpc":"2.0","method":"m","params":|127*[|127*]|1*}"#;
+p|1*{"jsonrpc":"2.0","method":"m","params":|127*[|127*]|1*}
+c|1*{"jsonrpc":"2.0","method":"m","params":[|125*{"a":|1*1|125*}|1*]}
+p|1*{"jsonrpc":"2.0","method":"m","params":[|126*{"a":|1*1|126*}|1*]}
+a|1*{"jsonrpc":"2.0","method":"m","params":|126*{"a":|1*1|126*}|1*}
+p|1*{"jsonrpc":"2.0","method":"m","params":|127*{"a":|1*1|127*}|1*}
+C|1*{"jsonrpc":"2.0","method":"m","id":1,"more":|63*[{"a":|1*1|63*}]|1*}
+p|1*{"jsonrpc":"2.0","method":"m","id":1,"more":|64*[{"a":|1*1|64*}]|1*}"#;
 
 /// What a body of repeated parts asks.
 struct Depths;
@@ -136,8 +151,10 @@ fn a_call_has_its_parts(rt: HostRuntime) -> Result<(), Fail> {
     same(found.as_str(), wanted, "a call")
 }
 
-/// The text of a response, its id, and its result.
-const RESULTS: &str = r#"Ok('{"id":1,"jsonrpc":"2.0","result":"DEFAULT"}')|1|result|"DEFAULT"
+/// The text of a response, its id, and its result; also of those with a fraction, which no body of a request hands on.
+const RESULTS: &str =
+    r#"Ok('{"id":1.5,"jsonrpc":"2.0","result":[-0.0,{"a":1e+300}]}')|1.5|result|[-0,{"a":1e300}]
+Ok('{"id":1,"jsonrpc":"2.0","result":"DEFAULT"}')|1|result|"DEFAULT"
 Ok('{"id":null,"jsonrpc":"2.0","result":["INST","COLLECT",{"DURATION":10}]}')|null|result|["INST","COLLECT",{"DURATION":10}]"#;
 
 /// The text of a response, its id, and the code and the message of its error. In both texts each character is the byte of its

@@ -1,10 +1,9 @@
 //! The texts of responses.
 
-ghost use Rattle.std.specs.Prelude.{◌≡◌, IfOk, false};
+ghost use Rattle.std.specs.Prelude.{◌≡◌, IfOk};
 ghost use Rattle.std.specs.Str.Lossy.{utf8_lossy};
 ghost use Rattle.serde_json.specs.View.{view};
-ghost use Rattle.serde_json.specs.Written.{has_float, compact_text};
-ghost use Rattle.cts_rpc.specs.Replies.{result_reply, error_reply};
+ghost use Rattle.cts_rpc.specs.Replies.{IsTextOf, result_reply, error_reply};
 
 use cts_base::{Bytes, Memory};
 use serde_json::{Value, json};
@@ -16,14 +15,20 @@ fn result_value(alloc: Global, id: &Value, value: Value) -> Result<Value, AllocE
     json!(in alloc; {"id": id, "jsonrpc": "2.0", "result": value})
 }
 
-/// The text of a response with a result (JSON-RPC 2.0, section 5): compact, with its members in order of name. The contract
-/// tells it for an id and a result without floats, and a call hands on no others. `Memory` where none was found for it.
+// The text of a value.
+fn text_of(alloc: Global, value: &Value) -> Result<Bytes, Memory>
+    ensures { IfOk result (λ b. IsTextOf b (view value.now)) }
+{
+    Ok(Bytes::of(value.to_vec(alloc)?))
+}
+
+/// The text of a response with a result (JSON-RPC 2.0, section 5): compact, with its members in order of name. It reads back as the
+/// response, also where the id or the result has numbers with a fraction. `Memory` where none was found for it.
 pub fn result_text(alloc: Global, id: &Value, value: Value) -> Result<Bytes, Memory>
-    ensures text { has_float (view id.now) ≡ false → has_float (view value) ≡ false
-        → IfOk result (λ b. b ≡ compact_text (result_reply (view id.now) (view value))) }
+    ensures text { IfOk result (λ b. IsTextOf b (result_reply (view id.now) (view value))) }
 {
     let reply = result_value(alloc, id, value)?;
-    Ok(Bytes::of(reply.to_vec(alloc)?))
+    text_of(alloc, &reply)
 }
 
 fn error_value(alloc: Global, id: &Value, code: i64, message: &str) -> Result<Value, AllocError>
@@ -32,13 +37,13 @@ fn error_value(alloc: Global, id: &Value, code: i64, message: &str) -> Result<Va
     json!(in alloc; {"error": {"code": code, "message": message}, "id": id, "jsonrpc": "2.0"})
 }
 
-/// The text of a response with an error (JSON-RPC 2.0, section 5.1): compact, with its members in order of name. What is no
-/// UTF-8 in the message is replaced, and what is stays as it is. `Memory` where none was found for it.
+/// The text of a response with an error (JSON-RPC 2.0, section 5.1): compact, with its members in order of name. It reads back as the
+/// response, also where the id has numbers with a fraction. What is no UTF-8 in the message is replaced, and what is stays as it is.
+/// `Memory` where none was found for it.
 pub fn error_text(alloc: Global, id: &Value, code: i64, message: &[u8]) -> Result<Bytes, Memory>
-    ensures text { has_float (view id.now) ≡ false
-        → IfOk result (λ b. b ≡ compact_text (error_reply (view id.now) code (utf8_lossy message.now))) }
+    ensures text { IfOk result (λ b. IsTextOf b (error_reply (view id.now) code (utf8_lossy message.now))) }
 {
     let message = String::from_utf8_lossy(alloc, message)?;
     let reply = error_value(alloc, id, code, message.as_str())?;
-    Ok(Bytes::of(reply.to_vec(alloc)?))
+    text_of(alloc, &reply)
 }

@@ -1,23 +1,24 @@
-use Rattle.std.proofs.Common.{◌≡◌, ◌∙◌, ℕ, List, ◌++◌, [], Some, None, pos, neg_ℤ, codes, refl, sym, ap, append_assoc}
+use Rattle.std.proofs.Common.{◌≡◌, ◌∙◌, ℕ, List, ◌++◌, [], Option, Some, None, pos, neg_ℤ, codes, refl, sym, ap, append_assoc}
 use Rattle.std.specs.Fmt.{signed_decimal}
 use Rattle.std.specs.Str.Lossy.{utf8_lossy}
 use Rattle.cts_api.proofs.TextLemmas.{ascii_is_kept}
 use Rattle.serde_json.specs.Data.{null, string}
 use Rattle.serde_json.specs.Written.{compact_text}
 use Rattle.cts_rpc.specs.Replies.{error_reply, result_reply}
-use Rattle.cts_api.specs.Replies.{Reply}
+use Rattle.cts_api.specs.Replies.{Reply, text_of}
 use Rattle.serde_json.proofs.OnLiterals.{serde_json_on_literals}
 use Rattle.cts_api.proofs.laws.rows_are_as_defined.Goals as goal
 
-abbrev parse_error_with : List ℕ → Reply
-parse_error_with m = record { text = Some (compact_text (error_reply null (neg_ℤ (pos 32700)) m)); entries = [] }
+-- the text of an error with this message
+abbrev parse_error_with : List ℕ → Option (List ℕ)
+parse_error_with m = Some (compact_text (error_reply null (neg_ℤ (pos 32700)) m))
 
--- the reply with this text as its result
-abbrev set_with : List ℕ → Reply
-set_with t = record { text = Some (compact_text (result_reply (string (codes "a")) (string t))); entries = [] }
+-- the response, and its text, with this text as its result
+abbrev set_reply : List ℕ → Reply
+set_reply t = record { response = Some (result_reply (string (codes "a")) (string t)); entries = [] }
 
-set_is_text : set_with (codes "DEFAULT") ≡ set_with (utf8_lossy (codes "DEFAULT"))
-set_is_text = ap set_with (sym (ascii_is_kept (codes "DEFAULT") refl))
+set_is_text : codes "DEFAULT" ≡ utf8_lossy (codes "DEFAULT")
+set_is_text = sym (ascii_is_kept (codes "DEFAULT") refl)
 
 parse_error_is_text : utf8_lossy (codes "Parse error") ≡ codes "Parse error"
 parse_error_is_text = ascii_is_kept (codes "Parse error") refl
@@ -60,6 +61,7 @@ returns c = record {
   stopped = refl;
   method_without_id = refl;
   stop_without_id = (None, refl, refl);
-  set_text = (None, refl, set_is_text);
-  parse_error = sym (ap parse_error_with parse_error_is_text ∙ ap (λ t. record { text = Some (codes "{\"error\":{\"code\":" ++ t); entries = [] }) (append_assoc (signed_decimal (neg_ℤ (pos 32700))) (codes ",\"message\":\"Parse error\"}") (codes ",\"id\":null,\"jsonrpc\":\"2.0\"}")));
+  set_text = (None, refl, refl);
+  text_of_set = sym (ap (λ t. text_of (set_reply t)) set_is_text);
+  text_of_parse_error = ap parse_error_with parse_error_is_text ∙ ap (λ t. Some (codes "{\"error\":{\"code\":" ++ t)) (append_assoc (signed_decimal (neg_ℤ (pos 32700))) (codes ",\"message\":\"Parse error\"}") (codes ",\"id\":null,\"jsonrpc\":\"2.0\"}"));
 }

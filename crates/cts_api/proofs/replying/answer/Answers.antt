@@ -1,12 +1,11 @@
-use Rattle.std.proofs.Common.{rules, ◌≡◌, ◌≤◌, ◌∙◌, length, codes, pos, false, map, List, Option, Some, None, ap, subst}
+use Rattle.std.proofs.Common.{rules, ◌≡◌, ◌≤◌, ◌∙◌, length, codes, pos, map, List, Option, Some, None, ap, subst}
 use Rattle.std.specs.Prelude.{IfOk, neg_ℤ, option_map}
 use Rattle.cts_def.specs.Most.{most_sets}
-use Rattle.cts_rpc.specs.Requests.{has_fraction}
 use Rattle.serde_json.specs.Data.{Data}
 use Rattle.serde_json.specs.View.{view}
 use Rattle.cts_api.specs.declared.response.Code.TheVariants.{MethodNotFound, InvalidParams}
 use Rattle.cts_api.specs.Methods.{method_named, params_of}
-use Rattle.cts_api.specs.Replies.{error, respond}
+use Rattle.cts_api.specs.Replies.{IsTextFor, error, respond}
 use Rattle.cts_api.specs.Responding.{code_number}
 use Rattle.cts_api.specs.Seen.{asking_data}
 use Rattle.cts_api.specs.Settling.{Ends, HasAnswered, IsSoundAsking, LimitsPersist}
@@ -20,7 +19,7 @@ returns-in_default c =
     let call = c.args.call.now in
     let id : option_map (λ i. view i.now) c.as_ref-id.result ≡ option_map view call.id = search rules in
     let none : method_named call.method ≡ None = search rules in
-    let told = subst (λ (i : Option Data). has_fraction i ≡ false → IfOk c.refused.result (λ a. a.text ≡ respond i (error (code_number MethodNotFound) (codes "Method not found")))) id c.refused.ensures.text in
+    let told = subst (λ (i : Option Data). IfOk c.refused.result (λ a. IsTextFor (respond i (error (code_number MethodNotFound) (codes "Method not found"))) a.text)) id c.refused.ensures.text in
     record { answered = refused_so c.args.hall.now c.args.by c.args.time call (neg_ℤ (pos 32601)) (codes "Method not found") c.refused.result (not_found_of (point c.args.hall.now) c.args.by c.args.time (option_map view call.id) _ (method_named call.method) none) c.refused.ensures.none told }
 
 pub returns-in_default-read_asking : goal.returns-in_default-read_asking
@@ -29,7 +28,7 @@ returns-in_default-read_asking c =
     let id : option_map (λ i. view i.now) c.as_ref-id.result ≡ option_map view call.id = search rules in
     let named : method_named call.method ≡ Some c.in-Some.method = search rules in
     let asks : params_of c.in-Some.method (map view call.params) ≡ None = search rules in
-    let told = subst (λ (i : Option Data). has_fraction i ≡ false → IfOk c.refused-in_default-read_asking.result (λ a. a.text ≡ respond i (error (code_number InvalidParams) (codes "Invalid params")))) id c.refused-in_default-read_asking.ensures.text in
+    let told = subst (λ (i : Option Data). IfOk c.refused-in_default-read_asking.result (λ a. IsTextFor (respond i (error (code_number InvalidParams) (codes "Invalid params"))) a.text)) id c.refused-in_default-read_asking.ensures.text in
     record {
       answered = refused_so c.args.hall.now c.args.by c.args.time call (neg_ℤ (pos 32602)) (codes "Invalid params") c.refused-in_default-read_asking.result
           (bad_params_of (point c.args.hall.now) c.args.by c.args.time (option_map view call.id) _ (method_named call.method) c.in-Some.method named (ap (params_of c.in-Some.method) (all_listed (map view call.params)) ∙ asks))

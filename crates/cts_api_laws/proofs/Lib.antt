@@ -1,0 +1,5 @@
+mod Inverting
+mod Params
+mod SetLimits
+mod Rows
+mod Quiet

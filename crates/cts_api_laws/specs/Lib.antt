@@ -1,0 +1,2 @@
+pub mod ParamRows
+pub mod LookUps
