@@ -1,7 +1,7 @@
 -- What a build answers.
-use Rattle.std.specs.Prelude.{◌≡◌, ◌+◌, Bool, List, [], ◌∷◌, ◌++◌, map, filter, flat_map, Some, None}
+use Rattle.std.specs.Prelude.{◌≡◌, ◌≤◌, ◌+◌, Bool, List, [], ◌∷◌, ◌++◌, length, map, filter, flat_map, Some, None}
 use Rattle.cts_def.specs.declared.proto_spec.Kind.{Kind}
-use Rattle.cts_def.specs.Protocols.{SpecData, UseData}
+use Rattle.cts_def.specs.Protocols.{SpecData, UseData, reads}
 use Rattle.cts_def.specs.Sites.{InterfaceData}
 use Rattle.cts_frame.specs.Chains.{framings_of as framings_in}
 use Rattle.cts_proto.specs.Meaning.{Meaning}
@@ -17,6 +17,12 @@ use_specs uses = map (λ (u : UseData). u.spec) uses
 
 abbrev pub writes : UseData → Bool
 writes u = u.writes
+
+-- What a build asks for: one of the protocols reads, and there are no more than a chain may have, which are four. So one to four
+-- read.
+pub record CanBeBuilt (uses : List UseData) : Type 0 where
+  pub some : 1 ≤ length (filter reads uses)
+  pub few : length uses ≤ 4
 
 -- The chain has the framings of the protocols of these uses that read, in order, and writes by those that write; nothing was
 -- fed to it.

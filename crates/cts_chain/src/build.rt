@@ -1,9 +1,9 @@
 // How chains are built.
-ghost use Rattle.std.specs.Prelude.{◌≡◌, ◌+◌, ◌≤◌, ◌++◌, OnErr, OnOk, IfErr, IfOk, IfSome, IfNone, IsTrue, List, None, length, map};
+ghost use Rattle.std.specs.Prelude.{◌≡◌, ◌+◌, ◌≤◌, ◌++◌, OnErr, OnOk, IfErr, IfOk, IfSome, IfNone, List, None, length, map};
 ghost use Rattle.cts_def.specs.declared.proto_spec.Kind.{Kind as KindOf};
-ghost use Rattle.cts_def.specs.Protocols.{UseData, is_chain};
+ghost use Rattle.cts_def.specs.Protocols.{UseData};
 ghost use Rattle.cts_proto.specs.Stock.{stocked};
-ghost use Rattle.cts_chain.specs.Builds.{AreFresh, FaultIs, FirstTaken, IsFresh, LeavesStock, Taken, chains_in, use_specs, uses_in};
+ghost use Rattle.cts_chain.specs.Builds.{AreFresh, CanBeBuilt, FaultIs, FirstTaken, IsFresh, LeavesStock, Taken, chains_in, use_specs, uses_in};
 ghost use Rattle.cts_chain.specs.Stocking.{first_short as first_short_of, needed, needs_at};
 
 use crate::chain::{Chain, Chained};
@@ -31,13 +31,14 @@ pub enum ChainFault {
 impl Chain {
     ghost use Rattle.cts_chain.specs.Builds.{IsBuilt};
 
-    /// Takes a box for each protocol from the shelf. After a refusal the shelf is as it was.
+    /// Takes a box for each protocol from the shelf. One to four of them have to read, and a chain has at most four. After a
+    /// refusal the shelf is as it was.
     ///
     /// # Errors
     ///
     /// `ShelfEmpty` with the first kind, in their order, of which more boxes are needed than the shelf holds, and `Memory`.
     pub fn build(alloc: Global, shelf: &mut Shelf, uses: &[ProtoUse]) -> Result<Chain, ChainFault>
-        requires { IsTrue (is_chain uses.now) }
+        requires { CanBeBuilt uses.now }
         ensures ok { IfOk result (λ c. IsBuilt (⟦<Shelf as Stocked>⟧.stock shelf.old) uses.now (⟦<Chain as Chained>⟧.shape c)) }
         ensures fault { IfErr result (λ e. FaultIs (⟦<Shelf as Stocked>⟧.stock shelf.old) uses.now e) }
         ensures kept { OnErr result (⟦<Shelf as Stocked>⟧.stock shelf.new ≡ ⟦<Shelf as Stocked>⟧.stock shelf.old) }
@@ -99,7 +100,7 @@ fn shortage(shelf: &Shelf, needs: Needs) -> Option<ChainFault>
 
 /// Takes a box for each of these uses, of which the shelf holds enough. After a refusal the shelf is as it was.
 fn build_enough(alloc: Global, shelf: &mut Shelf, uses: &[ProtoUse]) -> Result<Chain, Memory>
-    requires chain { IsTrue (is_chain uses.now) }
+    requires chain { CanBeBuilt uses.now }
     requires enough { (k : KindOf) → needed k (use_specs uses.now) ≤ stocked k (⟦<Shelf as Stocked>⟧.stock shelf.old) }
     ensures fresh { IfOk result (λ c. IsFresh uses.now (⟦<Chain as Chained>⟧.shape c)) }
     ensures kept { OnErr result (⟦<Shelf as Stocked>⟧.stock shelf.new ≡ ⟦<Shelf as Stocked>⟧.stock shelf.old) }

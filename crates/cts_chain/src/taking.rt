@@ -1,10 +1,10 @@
 // Boxes that are taken from a shelf.
-ghost use Rattle.std.specs.Prelude.{◌≡◌, ℕ, ◌+◌, ◌≤◌, ◌<◌, List, ◌∷◌, [], ◌++◌, length, map, vec_len, vec_capacity};
+ghost use Rattle.std.specs.Prelude.{◌≡◌, ℕ, ◌+◌, ◌≤◌, ◌<◌, List, ◌∷◌, [], ◌++◌, length, map, vec_len, vec_capacity, IsTrue};
 ghost use Rattle.cts_def.specs.declared.proto_spec.Kind.{Kind};
-ghost use Rattle.cts_def.specs.Protocols.{SpecData, kind_of, spec_data};
+ghost use Rattle.cts_def.specs.Protocols.{SpecData, is_sound_spec, kind_of, spec_data};
 ghost use Rattle.cts_proto.specs.Stock.{one_if_same, stocked};
 ghost use Rattle.cts_chain.specs.Chains.{AllFresh, Fresh, specs_of};
-ghost use Rattle.cts_chain.specs.Plans.{beside_by, beside_of, parts_in, plan_data, plan_specs, read_by, reading};
+ghost use Rattle.cts_chain.specs.Plans.{AllSoundSpecs, beside_by, beside_of, parts_in, plan_data, plan_specs, read_by, reading};
 ghost use Rattle.cts_chain.specs.Stocking.{needed};
 
 use crate::part::Part;
@@ -15,7 +15,8 @@ use cts_proto::{Boxed, Protocol, Shelf, Stocked};
 
 /// Takes a box of the spec's kind and configures it.
 fn take_box(shelf: &mut Shelf, spec: ProtoSpec) -> Boxed
-    requires { 0 < stocked (kind_of (spec_data spec)) (⟦<Shelf as Stocked>⟧.stock shelf.old) }
+    requires stocked { 0 < stocked (kind_of (spec_data spec)) (⟦<Shelf as Stocked>⟧.stock shelf.old) }
+    requires sound { IsTrue (is_sound_spec (spec_data spec)) }
     ensures fresh { Fresh (meaning result) }
     ensures spec { (meaning result).spec ≡ spec_data spec }
     ensures taken { (k : Kind) → stocked k (⟦<Shelf as Stocked>⟧.stock shelf.new) + one_if_same (kind_of (spec_data spec)) k ≡ stocked k (⟦<Shelf as Stocked>⟧.stock shelf.old) }
@@ -82,6 +83,7 @@ pub(crate) fn take_plans(
     beside: &mut Vec<Boxed>,
     parts: &mut Vec<Part>,
 )
+    requires sound { AllSoundSpecs (plan_specs (map plan_data plans.old.items)) }
     requires enough { (k : Kind) → needed k (plan_specs (map plan_data plans.old.items)) ≤ stocked k (⟦<Shelf as Stocked>⟧.stock shelf.old) }
     requires stages_room { vec_len stages.old + length plans.old.items ≤ vec_capacity stages.old }
     requires beside_room { vec_len beside.old + length plans.old.items ≤ vec_capacity beside.old }

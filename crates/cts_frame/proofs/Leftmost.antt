@@ -1,5 +1,7 @@
 -- The leftmost place of a pattern is behind its leftmost occurrence.
-use Rattle.std.proofs.Common.{option_map, ◌≡◌, ◌≤◌, ℕ, suc, Bool, true, false, cond, List, [], ◌∷◌, ◌++◌, length, refl, sym, ◌∙◌, ap, arith, Some, None, Option, inl, inr}
+use Rattle.std.proofs.Common.{option_map, ◌≡◌, ◌≤◌, ℕ, suc, ◌+◌, Bool, true, false, cond, List, [], ◌∷◌, ◌++◌, length, take, drop, refl, sym, ◌∙◌, ap, append_assoc, arith, Some, None, Option, inl, inr}
+use Rattle.std.proofs.lemmas.List.{append-nil, take-append-drop, take_at}
+use Rattle.std.proofs.Math.Seq.{take-append-add}
 use Rattle.cts_frame.specs.Framing.{BeginsWith}
 use Rattle.cts_frame.specs.Patterns.{begins, first_place}
 use Rattle.cts_frame.specs.SyncPatterns.{OccursBehind, IsLeftmost}
@@ -71,3 +73,23 @@ pub first_none : (t u : List ℕ) → first_place t u ≡ None → (before : Lis
 first_none t u h [] o = some_none 0 (sym (first_zero t u (begins_test t u o)) ∙ h)
 first_none t [] h (y ∷ before) o = let e : [] ≡ y ∷ (before ++ (t ++ o.0)) = o.1 in absurd (cc)
 first_none t (x ∷ u) h (y ∷ before) o = first_none t u (none_by (begins t (x ∷ u)) (first_place t u) h) before (occurs_behind t u before x y o)
+
+-- what stands leftmost stands leftmost in the bytes up to its end
+pub first_cut : (t u : List ℕ) (k : ℕ) → first_place t u ≡ Some k → first_place t (take (k + length t) u) ≡ Some k
+first_cut t u k h =
+    let f = first_tells t u k h in
+    let before = f.before in
+    let rest = f.leftmost.occurs.0 in
+    let front : take (k + length t) u ≡ before ++ t =
+    ap (λ n. take (n + length t) u) (sym f.length_is)
+    ∙ (ap (take (length before + length t)) f.leftmost.occurs.1
+    ∙ (take-append-add before (t ++ rest) (length t) ∙ ap (λ v. before ++ v) (take_at t rest (length t) refl))) in
+    let whole : u ≡ take (k + length t) u ++ drop (k + length t) u = sym (take-append-drop (k + length t) u) in
+    let leftmost : IsLeftmost t (take (k + length t) u) before = record {
+      occurs = ([], front ∙ ap (λ v. before ++ v) (sym (append-nil t)));
+      first = λ other o. f.leftmost.first other (
+        o.0 ++ drop (k + length t) u,
+        whole ∙ (ap (λ v. v ++ drop (k + length t) u) o.1 ∙ (append_assoc other (t ++ o.0) (drop (k + length t) u) ∙ ap (λ v. other ++ v) (append_assoc t o.0 (drop (k + length t) u)))),
+      );
+    } in
+    first_test t (take (k + length t) u) before leftmost ∙ ap Some f.length_is

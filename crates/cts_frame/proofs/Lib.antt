@@ -26,4 +26,5 @@ pub mod RowsExact
 pub mod OutputsExact
 pub mod ErrorsExact
 pub mod Worked
+pub mod ShortRests
 pub mod BurstCutting

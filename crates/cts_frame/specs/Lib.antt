@@ -14,4 +14,5 @@ pub mod Bursts
 pub mod Frames
 pub mod Errors
 pub mod RowLaws
+pub mod Rests
 pub mod WorkedCuts

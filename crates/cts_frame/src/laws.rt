@@ -2,6 +2,7 @@
 ghost use Rattle.cts_frame.specs.Bursts.{AllBurstCuts};
 ghost use Rattle.cts_frame.specs.ChainLaws.{AllMakersHaveTheirChains, ChainsAreSound, ChainsHaveStages};
 ghost use Rattle.cts_frame.specs.Laws.{HasCut, HasOneCut, HasOneStage, HasPackets, HasOnePackets, PacketsGrow, HoweverCut};
+ghost use Rattle.cts_frame.specs.Rests.{RestsAreShort};
 ghost use Rattle.cts_frame.specs.RowLaws.{AreSound, AreNoLonger, FramesAreExact, OutputsAreExact, ErrorsAreExact, HeadsAreExact};
 ghost use Rattle.cts_frame.specs.SoFar.{NothingSoFar, MoreIsTaken, PieceComes, AllIsTaken};
 ghost use Rattle.cts_frame.specs.SyncPatterns.{CutsFollowThePattern, NothingIsSkipped};
@@ -57,6 +58,13 @@ pub fn rows()
     ensures frames { FramesAreExact }
     ensures outputs { OutputsAreExact }
     ensures errors { ErrorsAreExact }
+{}
+
+/// With parameters that a site may give, what is left where neither a whole frame nor an error stands
+/// has fewer bytes than the greatest frame. Of FIXED it may also be fewer than decide, the discarded
+/// bytes with the least id size, where these are more.
+pub fn rests()
+    ensures { RestsAreShort }
 {}
 
 /// BURST cuts off the rest so far and a piece behind it one frame: all bytes from the leftmost

@@ -12,24 +12,13 @@ use Rattle.cts_frame.specs.Rows.{frame_limit, is_over, long_within, count_states
 use Rattle.cts_frame.specs.Stating.{Long, Wrong, is_open}
 use Rattle.cts_frame.proofs.Endings.{open_ends, part_ends}
 use Rattle.cts_frame.proofs.Fronts.{le_tells, le_test}
-use Rattle.cts_frame.proofs.HeadFronts.{head_of_front}
+use Rattle.cts_frame.proofs.HeadFronts.{head_end_back, head_of_front}
 use Rattle.cts_frame.proofs.PreidentifiedSteady.{preidentified_steady}
 use Rattle.cts_spell.specs.HeadSpans.{IsHead}
 use Rattle.cts_spell.specs.declared.head.Head.{Head}
 use Rattle.cts_proto.specs.Founds.{FindsFrame, output_at, IsSpan}
 use Rattle.cts_proto.specs.declared.step.Stamp.{Stamp}
 use Rattle.cts_proto.proofs.Finding.{span_front, nil_of, error_ends, frame_found as stated_found}
-
--- a head that ends within some bytes is told by them
-target_end_back : (v y : List ℕ) → 9 ≤ length v → target_end v ≡ target_end (v ++ y)
-target_end_back v y h = ap (λ n. 9 + n) (sym (get_or_append_left v y 0 8 (omega (arith, h))))
-
-head_end_back : (v y : List ℕ) → head_end (v ++ y) ≤ length v → head_end v ≡ head_end (v ++ y)
-head_end_back v y h =
-    let t = target_end_back v y (omega (arith, h)) in
-    let byte : slice_index v (target_end v) ≡ slice_index (v ++ y) (target_end (v ++ y)) =
-    ap (slice_index v) t ∙ sym (get_or_append_left v y 0 (target_end (v ++ y)) (omega (arith, h))) in
-    omega (arith, t, byte)
 
 within_decided : (b : Bool) (n : ℕ) → is_open (cond b (Long n) (Wrong TooLong)) ≡ false
 within_decided true n = refl

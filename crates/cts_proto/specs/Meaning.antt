@@ -9,6 +9,7 @@ use Rattle.cts_frame.specs.SoFar.{TakenSoFar}
 use Rattle.cts_proto.specs.declared.step.Given.{Given}
 use Rattle.cts_proto.specs.declared.step.Step.{Step}
 use Rattle.cts_proto.specs.declared.step.Step.TheVariants.{Frame, More, Bad}
+use Rattle.cts_frame.specs.Rests.{rest_limit}
 use Rattle.cts_frame.specs.Rows.{framing_of}
 use Rattle.cts_proto.specs.Founds.{output_at, StampFits}
 
@@ -36,6 +37,14 @@ pub record Stands (m : Meaning) (pieces : List (List ℕ)) (given : List Output)
   pub skipped_is : m.skipped ≡ capped skipped
   pub empty_is : m.empty ≡ capped empty
   pub settled : m.drained ≡ true → Ends (framing m) m.pending m.failed
+
+-- A protocol that was not configured, which holds nothing.
+pub record Unset (m : Meaning) : Type 0 where
+  pub configured : m.configured ≡ false
+  pub pending : m.pending ≡ []
+  pub skipped : m.skipped ≡ 0
+  pub empty : m.empty ≡ 0
+  pub failed : m.failed ≡ None
 
 -- A protocol with this spec to which nothing was fed.
 pub record Blank (spec : SpecData) (m : Meaning) : Type 0 where
@@ -101,6 +110,13 @@ abbrev pub Steps : Meaning → Step → Meaning → List ℕ → Type 0
 Steps old (Frame start end stamp) new held = Gives old start end (output_at held start end stamp) new held × StampFits (length held) stamp
 Steps old More new held = Stops old None new held
 Steps old (Bad c) new held = Stops old (Some c) new held
+
+-- Where all was given that could be and no error stands, fewer bytes are lent than the greatest frame has, or, of FIXED, than
+-- decide, where these are more.
+abbrev pub LendsFew : Step → SpecData → List ℕ → Type 0
+LendsFew (Frame start end stamp) spec held = Unit {0}
+LendsFew More spec held = length held < rest_limit spec
+LendsFew (Bad c) spec held = Unit {0}
 
 -- the outputs that a step adds
 abbrev pub output_in : Step → List ℕ → List Output

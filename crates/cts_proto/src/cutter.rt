@@ -1,8 +1,8 @@
 // The one body that cuts for all protocols.
-ghost use Rattle.std.specs.Prelude.{◌≡◌, ℕ, ◌+◌, ◌-◌, ◌^◌, ◌≤◌, ◌<◌, List, [], ◌∷◌, ◌++◌, length, drop, true, OnOk, OnErr, None};
-ghost use Rattle.cts_def.specs.Protocols.{SpecData, kind_of, spec_data};
+ghost use Rattle.std.specs.Prelude.{◌≡◌, ℕ, ◌+◌, ◌-◌, ◌^◌, ◌≤◌, ◌<◌, List, [], ◌∷◌, ◌++◌, length, drop, true, OnOk, OnErr, None, IsTrue};
+ghost use Rattle.cts_def.specs.Protocols.{SpecData, kind_of, spec_data, is_sound_spec};
 ghost use Rattle.cts_proto.specs.Founds.{StampFits};
-ghost use Rattle.cts_proto.specs.Meaning.{Meaning, Steps};
+ghost use Rattle.cts_proto.specs.Meaning.{LendsFew, Meaning, Steps, Unset};
 ghost use Rattle.cts_frame.specs.Rows.{framing_of};
 ghost use Rattle.cts_proto.specs.Stores.{Looked, left, meaning_of, moved_stamp as moved_by};
 
@@ -22,14 +22,17 @@ pub struct Cutter<S: Search> {
     search: S,
     spec: ProtoSpec,
     store: Store,
+    ghost sound: { store.configured ≡ true → IsTrue (is_sound_spec (spec_data spec)) },
     ghost of_its_kind: { kind_of (spec_data spec) ≡ S.mine },
     ghost looked: { Looked (framing_of (spec_data spec)) store },
 }
 
 impl<S: Search> Cutter<S> {
-    /// One that is not configured. It takes no memory.
+    /// One that is not configured and holds nothing. It takes no memory.
     pub fn blank(alloc: Global) -> Cutter<S>
-        ensures { kind_of (⟦<Cutter<S> as Protocol>⟧.meaning result).spec ≡ S.mine }
+        ensures unset { Unset (⟦<Cutter<S> as Protocol>⟧.meaning result) }
+        ensures held { ⟦<Cutter<S> as Protocol>⟧.buffer result ≡ [] }
+        ensures kind { kind_of (⟦<Cutter<S> as Protocol>⟧.meaning result).spec ≡ S.mine }
     {
         Cutter {
             search: S::new(),
@@ -85,9 +88,11 @@ impl<S: Search> Protocol for Cutter<S> {
 /// The next output that is not empty, or why there is none.
 fn next_of<S: Search>(search: &S, spec: &ProtoSpec, store: &mut Store) -> Step
     requires kind { kind_of (spec_data spec.now) ≡ S.mine }
+    requires sound { IsTrue (is_sound_spec (spec_data spec.now)) }
     requires configured { store.old.configured ≡ true }
     requires looked { Looked (framing_of (spec_data spec.now)) store.old }
     ensures step { Steps (meaning_of (spec_data spec.now) store.old) result (meaning_of (spec_data spec.now) store.new) store.new.bytes.items }
+    ensures few { LendsFew result (spec_data spec.now) store.new.bytes.items }
     ensures looked { Looked (framing_of (spec_data spec.now)) store.new }
 {
     loop {

@@ -14,7 +14,7 @@ mod store;
 pub use boxed::Boxed;
 pub use cts_spell::{EncodeFault, Head, encode_head, read_head};
 pub use cutter::Cutter;
-pub use laws::stated_frames;
+pub use laws::{equal_bytes_hold_the_same, stated_frames};
 pub use protocol::Protocol;
 pub use search::{Search, sync_of};
 pub use shelf::{Shelf, Stocked};

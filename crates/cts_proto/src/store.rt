@@ -1,5 +1,6 @@
 // The bytes of a protocol, and what it counts.
 ghost use Rattle.std.specs.Prelude.{◌≡◌, ℕ, ◌+◌, ◌-◌, ◌^◌, ◌≤◌, ◌<◌, List, [], ◌∷◌, ◌++◌, length, drop, true, false, OnOk, OnErr, None, vec_len, vec_capacity};
+ghost use Rattle.cts_frame.specs.Heads.{AreBytes};
 ghost use Rattle.cts_proto.specs.Founds.{seen_by};
 
 use crate::step::Given;
@@ -29,14 +30,16 @@ impl Store {
     ghost use Rattle.cts_frame.specs.Framing.{Output};
     ghost use Rattle.cts_frame.specs.Rows.{framing_of};
     ghost use Rattle.cts_proto.specs.Founds.{IsFirstPlace, FindsFrame};
-    ghost use Rattle.cts_proto.specs.Meaning.{Advances, Blank, Fed, Roomier, GivenUp};
+    ghost use Rattle.cts_proto.specs.Meaning.{Advances, Blank, Fed, Roomier, GivenUp, Unset};
     ghost use Rattle.cts_frame.specs.Framing.{Framing};
     ghost use Rattle.cts_proto.specs.Founds.{NothingStands};
     ghost use Rattle.cts_proto.specs.Stores.{Looked, left, meaning_of};
 
     /// A store of nothing.
     pub fn blank(alloc: Global) -> Store
-        ensures { result.seen ≡ 0 }
+        ensures unset { (spec : SpecData) → Unset (meaning_of spec result) }
+        ensures held { result.bytes.items ≡ [] }
+        ensures seen { result.seen ≡ 0 }
     {
         Store {
             bytes: Vec::new(alloc),
@@ -53,6 +56,7 @@ impl Store {
     /// Gives all up.
     pub fn clear(&mut self)
         ensures blank { (spec : SpecData) → Blank spec (meaning_of spec self.new) }
+        ensures held { self.new.bytes.items ≡ [] }
         ensures seen { self.new.seen ≡ 0 }
     {
         self.bytes.clear();
@@ -80,6 +84,7 @@ impl Store {
     pub fn reserve(&mut self, bytes: usize) -> Result<(), Memory>
         ensures ok { OnOk result ((spec : SpecData) → bytes ≤ (meaning_of spec self.new).spare) }
         ensures kept { (spec : SpecData) → self.old.configured ≡ true → Roomier (meaning_of spec self.old) (meaning_of spec self.new) }
+        ensures held { self.new.bytes.items ≡ self.old.bytes.items }
         ensures looked { (f : Framing) → Looked f self.old → Looked f self.new }
     {
         self.bytes.reserve(bytes)?;
@@ -98,9 +103,10 @@ impl Store {
 
     /// The bytes that are left.
     pub fn left(&self) -> &[u8]
-        ensures { result.now ≡ left self.now }
+        ensures left { result.now ≡ left self.now }
+        ensures bytes { AreBytes result.now }
     {
-        &self.bytes[self.begin..]
+        bytes_from(&self.bytes, self.begin)
     }
 
     /// Skips bytes up to the first place where a frame may begin.
@@ -176,6 +182,15 @@ fn seen_by(bad: Option<BadCause>, len: usize) -> usize
         None => len,
         Some(_) => 0,
     }
+}
+
+/// The bytes from a place on.
+fn bytes_from(bytes: &[u8], begin: usize) -> &[u8]
+    requires { begin ≤ length bytes.now }
+    ensures left { result.now ≡ drop begin bytes.now }
+    ensures bytes { AreBytes result.now }
+{
+    &bytes[begin..]
 }
 
 /// Gives up the first bytes, and keeps the room.

@@ -10,9 +10,9 @@ use Rattle.cts_frame.specs.Framing.{Agree, plain}
 use Rattle.cts_frame.specs.Patterns.{begins}
 use Rattle.cts_frame.specs.Rows.{frame_limit, burst_whole, framing_of}
 use Rattle.cts_frame.proofs.BurstSound.{burst_tells, burst_is_sound}
-use Rattle.cts_frame.proofs.Fronts.{and_tells, le_test, lt_tells, lt_test, begins_length}
+use Rattle.cts_frame.proofs.Fronts.{agree_begins, and_tells, le_test, lt_tells, lt_test, begins_length}
 use Rattle.cts_proto.specs.Founds.{FindsFrame, output_at}
-use Rattle.cts_proto.proofs.Finding.{agree_begins, fault_ends, nil_of, span_front}
+use Rattle.cts_proto.proofs.Finding.{fault_ends, nil_of, span_front}
 
 cond_none : (b : Bool) (o : Option BadCause) → (b ≡ true → ⊥) → cond b o None ≡ None
 cond_none true o h = absurd (h refl)

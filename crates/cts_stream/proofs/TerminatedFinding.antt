@@ -10,13 +10,14 @@ use Rattle.cts_frame.specs.Framing.{Agree, plain}
 use Rattle.cts_frame.specs.Patterns.{first_place}
 use Rattle.cts_frame.specs.Rows.{frame_limit, framing_of, end_states, terminated_states, stripped}
 use Rattle.cts_frame.specs.Stating.{Long}
-use Rattle.cts_frame.proofs.Fronts.{le_test, first_fits}
+use Rattle.cts_frame.proofs.Fronts.{le_test, first_fits, take_turns}
+use Rattle.cts_frame.proofs.Leftmost.{first_cut}
 use Rattle.cts_frame.proofs.TerminatedSteady.{terminated_steady}
 use Rattle.cts_proto.specs.Founds.{FindsFrame, NothingStands, output_at}
 use Rattle.cts_proto.specs.StatedLaws.{StandsBy}
 use Rattle.cts_proto.proofs.Finding.{all_stand_by, span_front}
 use Rattle.cts_stream.specs.Seen.{first_unseen}
-use Rattle.cts_stream.proofs.Cutting.{take_min, take_fewer, take_turns, first_cut}
+use Rattle.cts_stream.proofs.Cutting.{take_min, take_fewer}
 
 not_full : (m n : ℕ) → n < m → nat_le m n ≡ false
 not_full m n h = grind (arith, nat_tests)

@@ -2,12 +2,15 @@ use Rattle.std.proofs.Common.{arith, ap, subst, sym, ◌∙◌, map}
 use Rattle.cts_chain.specs.Chains.{AllFresh, specs_of}
 use Rattle.cts_chain.specs.Plans.{plan_data, plan_specs}
 use Rattle.cts_chain.specs.Stocking.{needed as needed_of}
-use Rattle.cts_chain.proofs.Planning.{enough_plans, specs_are, is_fresh}
+use Rattle.cts_chain.proofs.Planning.{enough_plans, specs_are, is_fresh, sound_plans}
 use Rattle.cts_chain.proofs.build.build_enough.Goals as goal
 
 pub take_plans-requires-clause-enough : goal.take_plans-requires-clause-enough
 take_plans-requires-clause-enough g c k =
     enough_plans _ (map plan_data c.in-Ok.plans.items) c.args.uses.now c.in-Ok.ensures.plans c.requires.enough k
+
+pub take_plans-requires-clause-sound : goal.take_plans-requires-clause-sound
+take_plans-requires-clause-sound g c = sound_plans (map plan_data c.in-Ok.plans.items) c.args.uses.now c.in-Ok.ensures.plans c.in-Ok.ensures.sound
 
 pub returns-clause-fresh : goal.returns-clause-fresh
 returns-clause-fresh g c =
