@@ -19,11 +19,12 @@ pub fn effect_line(alloc: Global, site: &Site, effect: &Effect) -> Result<Bytes,
     ensures { IfOk result (λ b. b ≡ the_line site.now effect.now) }
 {
     let mut out = Vec::new(alloc);
-    put_effect(&mut out, site, effect)?;
+    put_effect_line(&mut out, site, effect)?;
     Ok(Bytes::of(out))
 }
 
-fn put_effect(out: &mut Vec<u8>, site: &Site, effect: &Effect) -> Result<(), Memory>
+/// Appends what [`effect_line`] gives to a text. After `Memory` the text may have some of it.
+pub fn put_effect_line(out: &mut Vec<u8>, site: &Site, effect: &Effect) -> Result<(), Memory>
     ensures { OnOk result (out.new.items ≡ out.old.items ++ the_line site.now effect.now) }
 {
     match effect {

@@ -16,7 +16,7 @@ mod times;
 mod what;
 mod why;
 
-pub use effects::effect_line;
+pub use effects::{effect_line, put_effect_line};
 pub use laws::lines_join;
 pub use limits_event::LimitsEvent;
-pub use lines::entry_lines;
+pub use lines::{entry_lines, put_entry_lines};

@@ -26,9 +26,23 @@ pub fn entry_lines(
     ensures { IfOk result (λ b. b ≡ the_lines site.now n entry.now events.now) }
 {
     let mut out = Vec::new(alloc);
-    put_entry(alloc, &mut out, site, n, entry)?;
-    put_events(&mut out, site, events)?;
+    put_entry_lines(alloc, &mut out, site, n, entry, events)?;
     Ok(Bytes::of(out))
+}
+
+/// Appends what [`entry_lines`] gives to a text. After `Memory` the text may have some of it.
+pub fn put_entry_lines(
+    alloc: Global,
+    out: &mut Vec<u8>,
+    site: &Site,
+    n: u64,
+    entry: &Entry,
+    events: &[LimitsEvent],
+) -> Result<(), Memory>
+    ensures { OnOk result (out.new.items ≡ out.old.items ++ the_lines site.now n entry.now events.now) }
+{
+    put_entry(alloc, out, site, n, entry)?;
+    put_events(out, site, events)
 }
 
 #[tactic(auto, unfolding(crate::specs::Lines::entry_line))]

@@ -1,3 +1,4 @@
+pub mod DigitPairs
 pub mod Said
 pub mod Taken
 pub mod Rows

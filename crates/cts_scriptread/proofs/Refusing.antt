@@ -1,6 +1,6 @@
 -- A line that says an event is not refused.
-use Rattle.std.proofs.Common.{◌≡◌, ◌∙◌, ℕ, ◌/◌, ◌%◌, Bool, true, false, ◌||◌, ◌&&◌, List, [], ◌∷◌, length, Option, Some, None, Ok, refl, ap, arith}
-use Rattle.std.specs.Prelude.{not, is_some, is_none, codes, IsTrue, if◌then◌else◌}
+use Rattle.std.proofs.Common.{◌≡◌, ◌∙◌, ℕ, ◌/◌, ◌%◌, Bool, true, false, ◌||◌, ◌&&◌, List, [], ◌∷◌, length, Option, Some, None, Ok, refl, sym, ap, arith}
+use Rattle.std.specs.Prelude.{not, is_some, is_none, option_and_then, codes, IsTrue, if◌then◌else◌}
 use Rattle.std.specs.List.{AllByRecursion}
 use Rattle.std.specs.Str.{bytes_eq}
 use Rattle.std.proofs.lemmas.Bool.{eq-eqb}
@@ -13,17 +13,20 @@ use Rattle.cts_entry.specs.declared.event.Event.{Event}
 use Rattle.cts_entry.specs.declared.event.Event.TheVariants as event
 use Rattle.cts_entry.specs.declared.why.Why.{Why}
 use Rattle.cts_entry.specs.declared.why.Why.TheVariants as why
+use Rattle.cts_words.specs.declared.statement.Statement.{Statement}
 use Rattle.cts_reader.specs.Reading.{at_line}
 use Rattle.cts_reader.specs.Words.{is_keyword}
 use Rattle.cts_reader.proofs.FirstCause.{none_told}
 use Rattle.cts_scriptread.specs.declared.form.Keyword.{Keyword}
 use Rattle.cts_scriptread.specs.declared.form.Keyword.TheVariants as keyword
 use Rattle.cts_scriptread.specs.Causes.{holds, order, cause_in}
+use Rattle.cts_scriptread.specs.Events.{event_of}
 use Rattle.cts_scriptread.specs.Forms.{keywords, keyword_of, parts, with_words}
 use Rattle.cts_scriptread.specs.Laws.{LinesAreRefused}
 use Rattle.cts_scriptread.specs.Lines.{IsLine, NamesMaker, WritesNumber, WritesCount, EndsBy, Says}
 use Rattle.cts_scriptread.specs.Makers.{interface_named, slot_named, maker_named}
 use Rattle.cts_scriptread.specs.Words.{number_of, count_of, are_byte_digits, is_piece_size, why_of, is_log}
+use Rattle.cts_scriptread.specs.Scripts.{refusal_in, event_in}
 use Rattle.cts_scriptread.proofs.OneEach.{one_event}
 use Rattle.cts_scriptread.proofs.Rows.{keyword_text, says_words}
 use Rattle.cts_scriptread.proofs.Exact.{makers_are_named, interfaces_are_named, slots_are_named, numbers_are_written, counts_are_written}
@@ -143,3 +146,10 @@ lines_are_refused site s = (
   λ none. let it = one_event site s none in (it.0, says_words site s.words it.0 it.1),
   λ h. ap (at_line s.line) (not_refused site s.words h.0 h.1),
 )
+
+-- A statement that says an event is not refused.
+pub is_taken : (site : SiteData) (s : Statement) (k : Keyword) (words : List (List ℕ)) (e : Event) → parts s.words ≡ Some (k, words) → Some e ≡ event_of site k words
+    → (refusal_in site s ≡ None) × (event_in site s.words ≡ Some e)
+is_taken site s k words e cut said =
+    let here : event_in site s.words ≡ Some e = ap (option_and_then (λ (l : Keyword × List (List ℕ)). event_of site l.0 l.1)) cut ∙ sym said in
+    (ap (at_line s.line) (not_refused site s.words e (says_words site s.words e here)), here)

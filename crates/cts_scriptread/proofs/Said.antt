@@ -10,6 +10,7 @@ use Rattle.hex.proofs.HexLemmas.{decode_of-digits, decode_of-ok}
 use Rattle.cts_def.specs.Sites.{SiteData}
 use Rattle.cts_entry.specs.declared.event.Event.TheVariants as event
 use Rattle.cts_words.proofs.Finds.{none_passes}
+use Rattle.cts_scriptread.specs.declared.cause.ScriptCause.{ScriptCause}
 use Rattle.cts_scriptread.specs.declared.form.Keyword.{Keyword}
 use Rattle.cts_scriptread.specs.declared.form.Keyword.TheVariants as keyword
 use Rattle.cts_reader.specs.Words.{any_word}
@@ -167,3 +168,11 @@ event_said site keyword.Stop words h = stop_said words h.0
 -- The words behind a keyword say an event, where no cause is found.
 pub says_event : (site : SiteData) (k : Keyword) (words : List (List ℕ)) → find (λ c. holds site c k words) order ≡ None → is_some (event_of site k words) ≡ true
 says_event site k words none = event_said site k words (none_passes (λ c. holds site c k words) order none)
+
+cause_of : (site : SiteData) (k : Keyword) (words : List (List ℕ)) (o : Option ScriptCause) → find (λ c. holds site c k words) order ≡ o → event_of site k words ≡ None → is_some o ≡ true
+cause_of site k words None is none = absurd (let said = says_event site k words is in cc)
+cause_of site k words (Some c) is none = refl
+
+-- The words behind a keyword that say no event have a cause.
+pub has_cause : (site : SiteData) (k : Keyword) (words : List (List ℕ)) → event_of site k words ≡ None → is_some (find (λ c. holds site c k words) order) ≡ true
+has_cause site k words none = cause_of site k words (find (λ c. holds site c k words) order) refl none

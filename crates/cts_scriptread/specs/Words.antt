@@ -1,10 +1,10 @@
 -- What a word of a script says by itself.
-use Rattle.std.specs.Prelude.{ℕ, ◌%◌, ℤ, Bool, ◌==◌, ◌&&◌, ◌||◌, nat_lt, nat_le, unsigned_abs, List, length, codes, Option, Some, None, option_and_then, if◌then◌else◌}
+use Rattle.std.specs.Prelude.{ℕ, ◌%◌, ℤ, Bool, ◌==◌, ◌&&◌, ◌||◌, nat_lt, nat_le, unsigned_abs, List, length, codes, Option, Some, None, option_and_then, unwrap_or, if◌then◌else◌}
 use Rattle.std.specs.Int.{is_negative}
 use Rattle.std.specs.List.{list_all}
 use Rattle.std.specs.Result.{result_ok}
 use Rattle.std.specs.Str.{bytes_eq}
-use Rattle.hex.specs.Hex.{decode_of, is_hex_digit}
+use Rattle.hex.specs.Hex.{decode_of, hex_digit_value, is_hex_digit}
 use Rattle.cts_base.specs.Wholes.{whole_of}
 use Rattle.cts_entry.specs.declared.why.Why.{Why}
 use Rattle.cts_entry.specs.declared.why.Why.TheVariants.{PeerEnded, ReadFault, WriteFault, Stopped}
@@ -39,6 +39,10 @@ if_piece bytes = if is_piece_size (length bytes) then Some bytes else None
 -- the piece that the digits of the word write
 abbrev pub piece_of : List ℕ → Option (List ℕ)
 piece_of word = option_and_then if_piece (result_ok (decode_of word))
+
+-- the value of a hexadecimal digit in either case, and 255 of a byte that is none
+abbrev pub value_or_none : ℕ → ℕ
+value_or_none digit = unwrap_or (hex_digit_value digit) 255
 
 -- ---- fixed words
 

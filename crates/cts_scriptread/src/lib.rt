@@ -3,6 +3,7 @@
 #![tactic(auto)]
 
 mod cause;
+mod digits;
 mod events;
 mod form;
 mod judging;

@@ -29,11 +29,11 @@ fn read_event(alloc: Global, site: &Site, statement: &Statement) -> Result<Event
         let cause = ScriptCause::UnknownKeyword;
         return Err(ScriptFault::Refused { line, cause });
     };
-    match first_cause(site, keyword, words) {
-        Some(cause) => Err(ScriptFault::Refused { line, cause }),
+    match event_of(alloc, site, keyword, words)? {
+        Some(event) => Ok(event),
         None => {
-            let event = event_of(alloc, site, keyword, words)?;
-            Ok(event.unwrap())
+            let cause = first_cause(site, keyword, words).unwrap();
+            Err(ScriptFault::Refused { line, cause })
         }
     }
 }

@@ -3,13 +3,13 @@
 ghost use Rattle.std.specs.Prelude.{◌≡◌, ◌≤◌, IfOk, IfSome};
 ghost use Rattle.std.specs.Int.{is_negative};
 ghost use Rattle.std.specs.List.{list_all};
-ghost use Rattle.hex.specs.Hex.{decode_of, is_hex_digit};
+ghost use Rattle.hex.specs.Hex.{is_hex_digit};
 ghost use Rattle.cts_base.specs.Wholes.{whole_of};
 ghost use Rattle.cts_scriptread.specs.Words.{are_byte_digits, count_of, if_piece, is_log, is_piece_size, natural_in, number_of, piece_of, why_of};
 
+use crate::digits::decoded;
 use cts_base::{Bytes, Memory, read_whole};
 use cts_entry::Why;
-use hex::FromHexError;
 use std::alloc::Global;
 
 /// The most bytes of a piece.
@@ -78,16 +78,12 @@ pub fn is_piece_size(size: usize) -> bool
 pub fn piece_of(alloc: Global, word: &[u8]) -> Result<Option<Bytes>, Memory>
     ensures { IfOk result (λ piece. piece ≡ piece_of word.now) }
 {
-    match hex::decode(alloc, word) {
-        Ok(bytes) => {
-            if is_piece_size(bytes.len()) {
-                Ok(Some(Bytes::of(bytes)))
-            } else {
-                Ok(None)
-            }
-        }
-        Err(FromHexError::OutOfMemory) => Err(Memory),
-        Err(_) => Ok(None),
+    if !is_piece_size(word.len() / 2) {
+        return Ok(None);
+    }
+    match decoded(alloc, word)? {
+        Some(bytes) => Ok(Some(Bytes::of(bytes))),
+        None => Ok(None),
     }
 }
 

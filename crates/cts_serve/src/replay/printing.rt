@@ -15,7 +15,7 @@ use cts_base::Memory;
 use cts_def::Site;
 use cts_entry::{Effect, Entry};
 use cts_outside::Sink;
-use cts_script::{LimitsEvent, effect_line, entry_lines};
+use cts_script::{LimitsEvent, put_effect_line, put_entry_lines};
 use cts_table::{Hall, LimitsEvent as Change};
 use cts_watch::Follower;
 use std::alloc::Global;
@@ -79,8 +79,7 @@ fn lines_from(
     let mut lines = Vec::new(alloc);
     'entries: for entry in &history[n..] {
         let events = events_at(alloc, changes, n as u64)?;
-        let text = entry_lines(alloc, site, n as u64, entry, &events)?;
-        lines.extend_from_slice(text.as_slice())?;
+        put_entry_lines(alloc, &mut lines, site, n as u64, entry, &events)?;
         n += 1;
     }
     Ok(lines)
@@ -124,7 +123,6 @@ fn event_text(
     ensures { IfOk result (λ v. v.items ≡ lines_of site.now (take from history.now) (drop from history.now) ++ effect_line site.now effect.now) }
 {
     let mut text = lines_from(alloc, site, history, changes, from)?;
-    let line = effect_line(alloc, site, effect)?;
-    text.extend_from_slice(line.as_slice())?;
+    put_effect_line(&mut text, site, effect)?;
     Ok(text)
 }

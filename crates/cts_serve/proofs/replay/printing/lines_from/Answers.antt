@@ -10,6 +10,7 @@ use Rattle.std.proofs.Math.Seq.{take-length}
 use Rattle.cts_entry.specs.declared.entry.Entry.{Entry}
 use Rattle.cts_serve.specs.Replay.Transcript.{limits_events, line_event, lines_of}
 use Rattle.cts_script.proofs.LineLemmas.{lines_behind-take_more}
+use Rattle.cts_script.specs.declared.limits_event.LimitsEvent.{LimitsEvent}
 use Rattle.cts_script.specs.Transcripts.{entry_lines}
 use Rattle.cts_serve.proofs.replay.printing.lines_from.Goals as goal
 
@@ -55,11 +56,12 @@ entries-preserved c =
     let number : length (take c.args.from history) + index ≡ c.entries.n = omega (arith, count_to c.args.from c.min-n.result history c.min-n.ensures, c.entries.invariant.0) in
     let events = c.in_ok-events.ensures ∙ changes_here site history c.args.from index c.entries.n c.entry-item.result c.args.changes.now below is number c.requires in
     let line = ap (λ (n : ℕ). entry_lines site n c.entry-item.result (limits_events site (take c.args.from history ++ take index (drop c.args.from history)) c.entry-item.result)) number ∙ ap (entry_lines site c.entries.n c.entry-item.result) (sym events) in
-    let text : c.as_slice.result.now ≡ entry_lines site c.entries.n c.entry-item.result c.in_ok-events.events.items = c.as_slice.ensures ∙ (c.in_ok-text.ensures ∙ ap (entry_lines site c.entries.n c.entry-item.result) c.deref.ensures.value) in
+    let text = c.in_ok-put_entry_lines.ensures in
     let so_far = lines_of site (take c.args.from history) (take index (drop c.args.from history)) in (
       omega (arith, c.entries.invariant.0),
-      c.in_ok-extend_from_slice.ensures.items
-          ∙ (ap (λ (l : List ℕ). l ++ c.as_slice.result.now) c.entries.invariant.1 ∙ (ap (λ (l : List ℕ). so_far ++ l) (text ∙ sym line) ∙ sym more)),
+      text
+          ∙ (ap (λ (es : List LimitsEvent). c.entries.lines.items ++ entry_lines site c.entries.n c.entry-item.result es) c.deref.ensures.value
+          ∙ (ap (λ (l : List ℕ). l ++ entry_lines site c.entries.n c.entry-item.result c.in_ok-events.events.items) c.entries.invariant.1 ∙ (ap (λ (l : List ℕ). so_far ++ l) (sym line) ∙ sym more))),
     )
 
 pub returns : goal.returns
