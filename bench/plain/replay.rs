@@ -284,9 +284,7 @@ fn main() -> ExitCode {
         eprintln!("usage: replay SCRIPT");
         return ExitCode::from(2);
     };
-    // A file without a buffer: each event is one write, as those of the server's program are.
-    let out = io::stdout().lock();
-    match replay(&script, io::LineWriter::with_capacity(0, out)) {
+    match replay(&script, io::stdout().lock()) {
         Ok(()) => ExitCode::SUCCESS,
         Err(halt) => {
             eprintln!("{halt}");
