@@ -1,11 +1,12 @@
 //! Laws of the requests in the bytes of a connection, and of what is put on it.
 
-ghost use Rattle.cts_http.specs.Laws.{HaveOneRequests, RequestsGrow, RefusalsStay, ClosedStays, WaitingIsBounded, HaveOneStream, OneMoreResponse};
+ghost use Rattle.cts_http.specs.Laws.{NoneLacksRequests, HaveOneRequests, RequestsGrow, RefusalsStay, ClosedStays, WaitingIsBounded, HaveOneStream, OneMoreResponse};
 
-/// The bytes of a connection have one list of requests and one ending, but that a target which no UTF-8 can become, and which
+/// No bytes of a connection lack a list of requests, and they have no two, nor two endings, but that a target which no UTF-8 can become, and which
 /// stands last behind them, may be refused before its end. More bytes only add requests, and change nothing behind a refusal
 /// or behind a request that ends the connection.
 pub fn connections_have_one_list_of_requests()
+    ensures some { NoneLacksRequests }
     ensures one { HaveOneRequests }
     ensures grow { RequestsGrow }
     ensures refusals_stay { RefusalsStay }
