@@ -3,3 +3,4 @@ mod Params
 mod SetLimits
 mod Rows
 mod Quiet
+mod Listing

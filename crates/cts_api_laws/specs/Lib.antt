@@ -1,2 +1,3 @@
 pub mod ParamRows
 pub mod LookUps
+pub mod ListedRows

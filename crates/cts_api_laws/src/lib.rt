@@ -3,6 +3,7 @@
 //! They are said of the definitions that the contracts of `cts_api` cite, so they are laws of what desks reply.
 #![tactic(auto)]
 
+ghost use Rattle.cts_api_laws.specs.ListedRows.{RowsAreListed};
 ghost use Rattle.cts_api_laws.specs.LookUps.{LookUpsAppendNothing, LookUpsNeedNoRoom};
 ghost use Rattle.cts_api_laws.specs.ParamRows.{ParamsAreTheirRow};
 
@@ -16,4 +17,10 @@ pub fn params_are_their_row()
 pub fn look_ups_leave_nothing()
     ensures nothing { LookUpsAppendNothing }
     ensures room { LookUpsNeedNoRoom }
+{}
+
+/// The rows of `get_tlm_packet` are one an item, those of `get_out_of_limits` one an item that is red or yellow, and those of
+/// `get_limits_events` one an event, each in the order of these.
+pub fn rows_are_listed()
+    ensures { RowsAreListed }
 {}

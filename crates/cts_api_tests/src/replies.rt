@@ -309,7 +309,8 @@ fn nested(alloc: Global, count: usize) -> Result<Vec<u8>, Fail> {
     Ok(body)
 }
 
-/// How many arrays stand in one another, and the response: at 127 the params are read and are too many, at 128 there is no JSON.
+/// How many arrays stand in one another in the object of the call, and the response: 127 deep the params are read, and are too many;
+/// 128 deep there is no JSON.
 const DEPTHS: &str =
     r#"126|(Some('{"error":{"code":-32602,"message":"Invalid params"},"id":1,"jsonrpc":"2.0"}'), 2)
 127|(Some('{"error":{"code":-32700,"message":"Parse error"},"id":null,"jsonrpc":"2.0"}'), 2)"#;
@@ -342,8 +343,8 @@ fn with_sets(alloc: Global, hall: &mut Hall, count: u32) -> Result<(), Fail> {
     Ok(())
 }
 
-/// How many sets are named behind the two of the definitions, then a call, its response, and how many entries there are then: a 65th
-/// set is refused behind the order of its limits and before Full, and a known one is taken.
+/// How many sets are named after the two of the definitions, then a call, its response, and how many entries there are then: a 65th
+/// set is refused after the order of its limits is checked, and a known one is taken.
 const SETS: &str =
     r#"61|set_limits|["T","A","V",1,2,3,4,"2.1","2.2","MORE"]|(Some('{"id":1,"jsonrpc":"2.0","result":null}'), 64)
 62|set_limits|["T","A","V",1,2,3,4,"2.1","2.2","MORE"]|(Some('{"error":{"code":-32002,"message":"Too many sets"},"id":1,"jsonrpc":"2.0"}'), 64)
