@@ -1,0 +1,4 @@
+pub mod Makers
+mod Moves
+mod Splits
+pub mod ManyPasses
