@@ -8,8 +8,8 @@ use cts_base::Memory;
 use cts_entry::Stands;
 use std::alloc::Global;
 
-/// A pass for each maker below `n`, in their order; the other makers stay with the pass. `Memory` where none was found for the list of them, and then
-/// nothing is handed out.
+/// A pass for each maker below `n`, in their order; the other makers stay with the pass. `Memory` where none was
+/// found for the list of them, and then nothing is handed out.
 pub fn hand_out<S: Stands>(
     alloc: Global,
     turn: &Turn<S>,
@@ -49,7 +49,8 @@ pub fn take_back<S: Stands>(turn: &Turn<S>, pass: &mut Pass<S>, passes: Vec<Pass
     }
 }
 
-/// The state, where these are all passes that were handed out. Its list begins with what each of them saw, and has of each maker just what its pass saw.
+/// The state, where these are all passes that were handed out. Its list begins with what each of them saw, and has of
+/// each maker just what its pass saw.
 pub fn close_all<S: Stands>(turn: Turn<S>, mut pass: Pass<S>, passes: Vec<Pass<S>>) -> S
     requires pass { IsPassOf turn pass }
     requires each { All (λ p. IsPassOf turn p) passes.items }

@@ -1,7 +1,8 @@
-//! What a pass knows, the rule that holds between any two steps, and what each step tells. No value of these types is made.
+//! What a pass knows, the rule that holds between any two steps, and what each step tells. No value of these types is
+//! made.
 //!
-//! The table has two words and one slot. Word 0 is 1 while a pass has the turn and 0 otherwise, and word 1 is how many entries stand.
-//! The slot has the state, and is with the pass that has the turn while it has it.
+//! The table has two words and one slot. Word 0 is 1 while a pass has the turn and 0 otherwise, and word 1 is how
+//! many entries stand. The slot has the state, and is with the pass that has the turn while it has it.
 use atomic_table::{Join, Play, Split, TableRule};
 use cts_entry::{Entry, Stands};
 use std::collections::LinkedList;
@@ -22,7 +23,8 @@ pub struct View<E, G> {
     pub found: LinkedList<u64>,
     /// Whether the pass has the turn.
     pub holds: bool,
-    /// While a pass is joined, the shorter of the two lists, until it is compared with the one that is kept. Empty otherwise.
+    /// While a pass is joined, the shorter of the two lists, until it is compared with the one that is kept. Empty
+    /// otherwise.
     pub aside: LinkedList<E>,
     /// The makers of the pass whose list was set aside.
     pub aside_makers: LinkedList<u32>,
@@ -86,7 +88,8 @@ impl<S: Stands> Play<Option<S>, View<Entry, S::Basis>> for Looks<S> {
     ghost then = { looks (λ e. e.by) S.list S.basis };
 }
 
-/// The load after a join, of which only matters that the rule holds there: so the list that was set aside begins the one that is kept.
+/// The load after a join, of which only matters that the rule holds there: so the list that was set aside begins the
+/// one that is kept.
 pub struct Compares<S> {
     of: PhantomData<S>,
 }

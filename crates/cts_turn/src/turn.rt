@@ -24,7 +24,8 @@ pub struct Turn<S: Stands> {
     ghost sized: { (table.shared.table_id.words ≡ 2) × (table.shared.table_id.slots ≡ 1) },
 }
 
-/// The right to take the turn and to append entries of some makers, with what was seen of the history. It has no bytes.
+/// The right to take the turn and to append entries of some makers, with what was seen of the history. It has no
+/// bytes.
 #[derive(Drop)]
 pub struct Pass<S: Stands> {
     seat: Seat<Option<S>, View<Entry, S::Basis>>,
@@ -45,8 +46,8 @@ pub struct Held<S: Stands> {
 impl<S: Stands> Turn<S> {
     ghost use Rattle.cts_turn.specs.Passes.{IsPassOf, IsHeldOf, view, held_view, basis_of, entered, left, shown, rest_of, least_of, joined, HasAll};
 
-    /// A turn round this state, and a pass with all makers, 0 to 31, that has seen the entries that stand. `Memory` where none was found for the words and
-    /// the slot; the state is dropped then.
+    /// A turn round this state, and a pass with all makers, 0 to 31, that has seen the entries that stand. `Memory`
+    /// where none was found for the words and the slot; the state is dropped then.
     pub fn new(alloc: Global, state: S) -> Result<(Turn<S>, Pass<S>), Memory>
         ensures pass { IfOk result (λ r. IsPassOf r.0 r.1) }
         ensures makers { IfOk result (λ r. (view r.1).makers ≡ makers_from 0) }
@@ -63,8 +64,9 @@ impl<S: Stands> Turn<S> {
         }
     }
 
-    /// Takes the turn, and waits while another pass has it: a thread that waits sleeps until the turn is free. The state has the basis that it had in `new`. It
-    /// stands for a list of entries that begins with what the pass has seen, is no shorter than what it knows, and has no more entries of its makers. It takes no memory.
+    /// Takes the turn, and waits while another pass has it: a thread that waits sleeps until the turn is free. The
+    /// state has the basis that it had in `new`. It stands for a list of entries that begins with what the pass has
+    /// seen, is no shorter than what it knows, and has no more entries of its makers. It takes no memory.
     pub fn enter<R: Wait>(&self, rt: &R, pass: Pass<S>) -> Held<S>
         requires { IsPassOf self.now pass }
         ensures held { IsHeldOf S.basis self.now result }
@@ -91,8 +93,9 @@ impl<S: Stands> Turn<S> {
         unreachable!()
     }
 
-    /// Gives the turn back, and wakes one thread that waits for it. The state has to have the basis of the turn, and only entries of the pass's makers may
-    /// have come to those that stood at the beginning of the hold. It takes no memory, and waits for nobody.
+    /// Gives the turn back, and wakes one thread that waits for it. The state has to have the basis of the turn, and
+    /// only entries of the pass's makers may have come to those that stood at the beginning of the hold. It takes no
+    /// memory, and waits for nobody.
     pub fn leave(&self, held: Held<S>) -> Pass<S>
         requires held { IsHeldOf S.basis self.now held }
         requires basis { S.basis held.state ≡ basis_of S.basis self.now }
@@ -107,7 +110,8 @@ impl<S: Stands> Turn<S> {
         } = held;
         let count = state.count();
         let words = &self.table.shared;
-        // The state is back in the slot before the count grows: what a step on a word tells of the list is read off the slot.
+        // The state is back in the slot before the count grows: what a step on a word tells of the list is read off
+        // the slot.
         match words.exchange(&mut seat, STATE, Some(state)) {
             None => {}
             Some(_) => unreachable!(),
@@ -118,7 +122,8 @@ impl<S: Stands> Turn<S> {
         Pass { seat }
     }
 
-    /// How many entries stand, which is never fewer than the pass knew. It waits for nobody, also while another pass has the turn, and takes no memory.
+    /// How many entries stand, which is never fewer than the pass knew. It waits for nobody, also while another pass
+    /// has the turn, and takes no memory.
     pub fn front(&self, pass: &mut Pass<S>) -> u64
         requires { IsPassOf self.now pass.old }
         ensures pass { IsPassOf self.now pass.new }
@@ -128,7 +133,8 @@ impl<S: Stands> Turn<S> {
         self.table.shared.load::<Looks<S>>(&mut pass.seat, COUNT)
     }
 
-    /// Gives the least maker of the pass to a new pass, which has seen and knows the same. The pass has to have two makers. It takes no memory, and waits for nobody.
+    /// Gives the least maker of the pass to a new pass, which has seen and knows the same. The pass has to have two
+    /// makers. It takes no memory, and waits for nobody.
     pub fn split(&self, pass: &mut Pass<S>) -> Pass<S>
         requires pass { IsPassOf self.now pass.old }
         requires two { without (least (view pass.old).makers) (view pass.old).makers ≢ [] }
@@ -140,8 +146,9 @@ impl<S: Stands> Turn<S> {
         Pass { seat }
     }
 
-    /// Puts the other pass's makers to those of this one, which keeps the longer of what both have seen and the greater of what both know. What was seen is a
-    /// beginning of what is kept, and has as many entries of its pass's makers. It takes no memory, and waits for nobody.
+    /// Puts the other pass's makers to those of this one, which keeps the longer of what both have seen and the
+    /// greater of what both know. What was seen is a beginning of what is kept, and has as many entries of its pass's
+    /// makers. It takes no memory, and waits for nobody.
     pub fn join(&self, pass: &mut Pass<S>, other: Pass<S>)
         requires { IsPassOf self.now pass.old × IsPassOf self.now other }
         ensures pass { IsPassOf self.now pass.new }
@@ -154,11 +161,13 @@ impl<S: Stands> Turn<S> {
         let Pass { seat } = other;
         let words = &self.table.shared;
         words.join_seat::<Shares>(&mut pass.seat, seat);
-        // What it finds is of no use: the rule holds at that moment, and says that one of the two lists begins the other.
+        // What it finds is of no use: the rule holds at that moment, and says that one of the two lists begins the
+        // other.
         words.load::<Compares<S>>(&mut pass.seat, TURN);
     }
 
-    /// Ends the turn and gives its state. The pass has to have all makers, which it has where every other pass was joined. It takes no memory, and waits for nobody.
+    /// Ends the turn and gives its state. The pass has to have all makers, which it has where every other pass was
+    /// joined. It takes no memory, and waits for nobody.
     pub fn close(self, pass: Pass<S>) -> S
         requires pass { IsPassOf self pass }
         requires all { HasAll (view pass).makers }

@@ -1,0 +1,2 @@
+mod Two
+mod Owns
