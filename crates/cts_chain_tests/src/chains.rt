@@ -75,7 +75,8 @@ fn told_by(alloc: Global, protocols: &str, pieces: &str) -> Result<String, Fail>
     told_of_pieces(alloc, &mut chain, pieces.as_slice())
 }
 
-fn told_of_pieces(alloc: Global, chain: &mut Chain, pieces: &[&str]) -> Result<String, Fail>
+/// What a chain gives of the pieces, and what is lost at its reset.
+pub fn told_of_pieces(alloc: Global, chain: &mut Chain, pieces: &[&str]) -> Result<String, Fail>
     requires { IsIdle (⟦<Chain as Chained>⟧.shape chain.old) }
 {
     let mut out = String::new(alloc);

@@ -8,10 +8,14 @@ mod chains;
 #[cfg(test)]
 mod heads;
 #[cfg(test)]
+mod held;
+#[cfg(test)]
 mod read;
 #[cfg(test)]
 mod shelves;
 #[cfg(test)]
 mod sites;
+#[cfg(test)]
+mod watched;
 #[cfg(test)]
 mod writing;

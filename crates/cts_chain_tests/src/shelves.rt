@@ -13,7 +13,8 @@ use cts_stream::{Burst, Length, Terminated};
 use std::alloc::Global;
 use std::test::Fail;
 
-fn put(shelf: &mut Shelf, protocol: Boxed) -> Result<(), Fail> {
+/// Puts a box on the shelf.
+pub fn put(shelf: &mut Shelf, protocol: Boxed) -> Result<(), Fail> {
     match shelf.put(protocol) {
         Ok(()) => Ok(()),
         Err(_) => Err(Fail::new("out of memory")),
@@ -50,7 +51,8 @@ fn stocked(alloc: Global) -> Result<Shelf, Fail> {
     Ok(shelf)
 }
 
-fn interface_of(site: &Site) -> Result<&Interface, Fail> {
+/// The first interface of a site.
+pub fn interface_of(site: &Site) -> Result<&Interface, Fail> {
     match site.interfaces.as_slice().first() {
         Some(interface) => Ok(interface),
         None => Err(Fail::new("no interface")),
@@ -69,7 +71,14 @@ fn chain_at(alloc: Global, interface: &Interface) -> Result<Chain, Fail>
     ensures { IfOk result (λ chain. IsIdle (⟦<Chain as Chained>⟧.shape chain)) }
 {
     let mut shelf = stocked(alloc)?;
-    match Chain::build(alloc, &mut shelf, interface.chain.as_slice()) {
+    chain_over(alloc, &mut shelf, interface)
+}
+
+/// The chain of an interface over the boxes of a shelf, to which nothing came yet.
+pub fn chain_over(alloc: Global, shelf: &mut Shelf, interface: &Interface) -> Result<Chain, Fail>
+    ensures { IfOk result (λ chain. IsIdle (⟦<Chain as Chained>⟧.shape chain)) }
+{
+    match Chain::build(alloc, shelf, interface.chain.as_slice()) {
         Ok(chain) => Ok(chain),
         Err(_) => Err(Fail::new("no chain")),
     }
