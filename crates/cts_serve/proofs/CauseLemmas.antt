@@ -5,12 +5,17 @@ use Rattle.cts_chain.specs.declared.build.ChainFault.TheVariants as chain
 use Rattle.cts_outside.specs.Causes.{Rose}
 use Rattle.cts_outside.specs.Seen.{FilesSeen, SinkSeen}
 use Rattle.cts_serve.specs.Command.{IsCaused, IsLater}
-use Rattle.cts_serve.specs.Ending.{EndingData, Ends, EndsCheck, EndsReplay, refused_as, memory_ending, unloaded_ending, unloaded_status, unmade_ending, halt_ending}
-use Rattle.cts_serve.specs.Load.Fetching.{IsFound, LoadCounts}
+use Rattle.cts_serve.specs.Dump.{DumpPuts}
+use Rattle.cts_serve.specs.Ending.{EndingData, Ends, EndsCheck, EndsDump, EndsReplay, refused_as, dump_ending, memory_ending, unfetched_ending, unloaded_ending, unloaded_status, unmade_ending, halt_ending}
+use Rattle.cts_serve.specs.Load.Fetching.{IsFound, FetchCounts, LoadCounts}
 use Rattle.cts_serve.specs.Putting.{FailsWithin, PutsText}
 use Rattle.cts_serve.specs.Replay.Steps.{ReplayPuts}
+use Rattle.cts_serve.specs.declared.dump.halt.DumpHalt.{DumpHalt}
+use Rattle.cts_serve.specs.declared.dump.halt.DumpHalt.TheVariants as dump
 use Rattle.cts_serve.specs.declared.ending.status.Status.{Status}
 use Rattle.cts_serve.specs.declared.ending.status.Status.TheVariants as is
+use Rattle.cts_serve.specs.declared.load.fetch.FetchFault.{FetchFault}
+use Rattle.cts_serve.specs.declared.load.fetch.FetchFault.TheVariants as fetch
 use Rattle.cts_serve.specs.declared.load.file_kind.FileKind.{FileKind}
 use Rattle.cts_serve.specs.declared.load.file_kind.FileKind.TheVariants.{Definitions, Site, Script}
 use Rattle.cts_serve.specs.declared.load.unloaded.Unloaded.{Unloaded}
@@ -68,6 +73,18 @@ module _ (files files' : FilesSeen) (out out' : SinkSeen) where
   pub unloaded_caused : {T E : Type 0} (answer : Result T E) (name : List ℕ) (kind : FileKind) (why : Unloaded) (status : Status) → LoadCounts {T = T} (Err why) files files' → Ends (unloaded_ending name kind why) status out out' → IsCaused status files files' out out'
   unloaded_caused {T} answer name kind why status f h = ended (unloaded_ending name kind why) status out (unloaded T kind why f) (fails_later T why f) h
 
+  log_refused : IsLater files files' out out' → IsCaused is.LogRefused files files' out out'
+  log_refused later = plain is.LogRefused (λ e. absurd (cc)) (λ e. absurd (cc)) (λ e. absurd (cc)) (λ e. absurd (cc)) later
+
+  -- a log that is not read whole
+  pub unfetched_caused : {T E : Type 0} (answer : Result T E) (log : List ℕ) (why : FetchFault) (status : Status) → FetchCounts {T = T} (Err why) files files' → Ends (unfetched_ending log why) status out out' → IsCaused status files files' out out'
+  unfetched_caused answer log fetch.TooLarge status f h = ended (unfetched_ending log fetch.TooLarge) status out log_refused (found_later f) h
+  unfetched_caused answer log fetch.Memory status f h = ended (unfetched_ending log fetch.Memory) status out wanted (found_later f) h
+  unfetched_caused {T} answer log fetch.Absent status f h =
+      ended (unfetched_ending log fetch.Absent) status out (λ later. record { read = λ e. absurd (cc); absent = λ e. f.1; write = λ e. absurd (cc); fine = λ e. absurd (cc); later = later }) (fails_later T Absent f) h
+  unfetched_caused {T} answer log fetch.Failed status f h =
+      ended (unfetched_ending log fetch.Failed) status out (λ later. record { read = λ e. f.0; absent = λ e. absurd (cc); write = λ e. absurd (cc); fine = λ e. absurd (cc); later = later }) (fails_later T ReadFault f) h
+
   module _ (found : IsFound files files') (mid : SinkSeen) (status : Status) where
     done : status ≡ is.Ok → out' ≡ mid → mid.faults ≡ out.faults → IsCaused status files files' out out'
     done e same p =
@@ -94,6 +111,12 @@ module _ (files files' : FilesSeen) (out out' : SinkSeen) where
     replay_caused script body due (Err halt.Memory) p h = told memory_ending wanted h p.1.0
     replay_caused script body due (Err (halt.NotEnabled line)) p h = told (halt_ending script (halt.NotEnabled line)) (plain is.ScriptRefused (λ e. absurd (cc)) (λ e. absurd (cc)) (λ e. absurd (cc)) (λ e. absurd (cc))) h p.1.0
     replay_caused script body due (Err (halt.HistoryFull entries bytes)) p h = told (halt_ending script (halt.HistoryFull entries bytes)) (plain is.HistoryFull (λ e. absurd (cc)) (λ e. absurd (cc)) (λ e. absurd (cc)) (λ e. absurd (cc))) h p.1.0
+
+    pub dump_caused : (body : List ℕ) (due answer : Result (Unit {0}) DumpHalt) → DumpPuts body due answer out mid → EndsDump answer status mid out' → IsCaused status files files' out out'
+    dump_caused body due (Ok x) p h = done h.0 h.1 p.1.0
+    dump_caused body due (Err dump.WriteFault) p h = failed body h.0 h.1 p
+    dump_caused body due (Err dump.Memory) p h = told memory_ending wanted h p.1.0
+    dump_caused body due (Err (dump.Refused place)) p h = told (dump_ending (dump.Refused place)) log_refused h p.1.0
 
     pub unmade_caused : (why : ChainFault) → Ends (unmade_ending why) status mid out' → mid.faults ≡ out.faults → IsCaused status files files' out out'
     unmade_caused chain.Memory h p = told memory_ending wanted h p

@@ -27,6 +27,7 @@ use Rattle.cts_serve.specs.Putting.{IsPut, FailsWithin, PutsText, Printed}
 use Rattle.cts_serve.specs.Replay.Steps.{ReplayPuts, Replays}
 use Rattle.cts_serve.specs.Replay.Transcript.{events_of, replay_body, replay_answer}
 use Rattle.cts_serve.specs.Request.{RequestData}
+use Rattle.cts_serve.specs.Request.Words.{AskedData, Sited}
 use Rattle.cts_serve.specs.Start.{short_kind, short_fault}
 use Rattle.cts_serve.specs.declared.ending.status.Status.{Status}
 use Rattle.cts_serve.specs.declared.ending.status.Status.TheVariants as is
@@ -57,11 +58,11 @@ module _ (stock : List Meaning) where
   outcome_by (Some x) files r = (x, refl)
   outcome_by None files r = done_of files r r.script
 
-  pub some_outcome : (files : List ℕ → Option (List ℕ)) (r : RequestData) → (o : Outcome) × IsOutcome stock files (Some r) o
+  pub some_outcome : (files : List ℕ → Option (List ℕ)) (r : RequestData) → (o : Outcome) × IsOutcome stock files (Some (Sited r)) o
   some_outcome files r = outcome_by (first_refusal stock files r) files r
 
   -- want of memory before anything was printed
-  wants : (files : List ℕ → Option (List ℕ)) (r : RequestData) (old new : SinkSeen) → Printed old new [] memory_line → Answers stock files (Some r) is.Memory old new
+  wants : (files : List ℕ → Option (List ℕ)) (r : RequestData) (old new : SinkSeen) → Printed old new [] memory_line → Answers stock files (Some (Sited r)) is.Memory old new
   wants files r old new h = let o = some_outcome files r in record { outcome = o.0; is = o.1; puts = (0, h) }
 
   -- ---- which file gives nothing first
@@ -99,17 +100,17 @@ module _ (stock : List Meaning) where
 
   -- ---- a file gives nothing
 
-  is_refused : (files : List ℕ → Option (List ℕ)) (r : RequestData) (x : Outcome) → first_refusal stock files r ≡ Some x → IsOutcome stock files (Some r) x
+  is_refused : (files : List ℕ → Option (List ℕ)) (r : RequestData) (x : Outcome) → first_refusal stock files r ≡ Some x → IsOutcome stock files (Some (Sited r)) x
   is_refused files r x e = subst (λ (t : Option Outcome). MatchOption t (IsDone files r r.script x) (λ y. x ≡ y)) (sym e) refl
 
   -- a refused line, or a file that is too large
-  refused_puts : (files : List ℕ → Option (List ℕ)) (r : Option RequestData) (kind : FileKind) (o : Outcome) (old new : SinkSeen) → o.status ≡ refused_as kind → Printed old new o.body o.last → PutsFor stock files r o (refused_as kind) old new
+  refused_puts : (files : List ℕ → Option (List ℕ)) (r : Option AskedData) (kind : FileKind) (o : Outcome) (old new : SinkSeen) → o.status ≡ refused_as kind → Printed old new o.body o.last → PutsFor stock files r o (refused_as kind) old new
   refused_puts files r Definitions o old new e h = (e, h)
   refused_puts files r Site o old new e h = (e, h)
   refused_puts files r Script o old new e h = (e, h)
 
   said_answers : (files : List ℕ → Option (List ℕ)) (r : RequestData) (kind : FileKind) (name : List ℕ) (why : Unloaded) (old new : SinkSeen)
-      → FailsToLoad files r kind name why → HasBoxes stock files r kind → Printed old new [] (unloaded_ending name kind why).line → Answers stock files (Some r) (unloaded_ending name kind why).status old new
+      → FailsToLoad files r kind name why → HasBoxes stock files r kind → Printed old new [] (unloaded_ending name kind why).line → Answers stock files (Some (Sited r)) (unloaded_ending name kind why).status old new
   said_answers files r kind name ReadFault old new f boxes h = let o = some_outcome files r in record { outcome = o.0; is = o.1; puts = (name, (kind, f.0, boxes), h) }
   said_answers files r kind name Memory old new f boxes h = wants files r old new h
   said_answers files r kind name Absent old new f boxes h = record { outcome = refusal (unloaded_ending name kind Absent); is = is_refused files r _ (next_refuses files r kind name Absent f.0 boxes f.1); puts = (refl, h) }
@@ -117,18 +118,18 @@ module _ (stock : List Meaning) where
   said_answers files r kind name TooLarge old new f boxes h = record {
     outcome = refusal (unloaded_ending name kind TooLarge);
     is = is_refused files r _ (next_refuses files r kind name TooLarge f.0 boxes f.1);
-    puts = refused_puts files (Some r) kind (refusal (unloaded_ending name kind TooLarge)) old new refl h;
+    puts = refused_puts files (Some (Sited r)) kind (refusal (unloaded_ending name kind TooLarge)) old new refl h;
   }
   said_answers files r kind name (Refused line cause) old new f boxes h = record {
     outcome = refusal (unloaded_ending name kind (Refused line cause));
     is = is_refused files r _ (next_refuses files r kind name (Refused line cause) f.0 boxes f.1);
-    puts = refused_puts files (Some r) kind (refusal (unloaded_ending name kind (Refused line cause))) old new refl h;
+    puts = refused_puts files (Some (Sited r)) kind (refusal (unloaded_ending name kind (Refused line cause))) old new refl h;
   }
 
   fails : (files : List ℕ → Option (List ℕ)) (r : RequestData) (kind : FileKind) (name : List ℕ) (why : Unloaded) (status : Status) (old new : SinkSeen)
-      → FailsToLoad files r kind name why → HasBoxes stock files r kind → Ends (unloaded_ending name kind why) status old new → Answers stock files (Some r) status old new
-  fails files r kind name why status old new f boxes (inl h) = subst (λ (st : Status). Answers stock files (Some r) st old new) (sym h.0) (said_answers files r kind name why old new f boxes h.1)
-  fails files r kind name why status old new f boxes (inr h) = subst (λ (st : Status). Answers stock files (Some r) st old new) (sym h.0) (wants files r old new h.1)
+      → FailsToLoad files r kind name why → HasBoxes stock files r kind → Ends (unloaded_ending name kind why) status old new → Answers stock files (Some (Sited r)) status old new
+  fails files r kind name why status old new f boxes (inl h) = subst (λ (st : Status). Answers stock files (Some (Sited r)) st old new) (sym h.0) (said_answers files r kind name why old new f boxes h.1)
+  fails files r kind name why status old new f boxes (inr h) = subst (λ (st : Status). Answers stock files (Some (Sited r)) st old new) (sym h.0) (wants files r old new h.1)
 
   -- definitions and site are read before the shelf is looked at
   site_first : (files : List ℕ → Option (List ℕ)) (r : RequestData) (kind : FileKind) → kind ≢ Script → HasBoxes stock files r kind
@@ -137,19 +138,19 @@ module _ (stock : List Meaning) where
   site_first files r Script h = absurd (h refl)
 
   pub site_refuses : (told : Option (List ℕ → Option (List ℕ))) (r : RequestData) (kind : FileKind) (why : Unloaded) (name : List ℕ) (status : Status) (old new : SinkSeen) → name ≡ name_of r kind
-      → IfSome told (λ all. LoadsSite all r (Err (kind, why))) → Ends (unloaded_ending name kind why) status old new → IfSome told (λ all. Answers stock all (Some r) status old new)
+      → IfSome told (λ all. LoadsSite all r (Err (kind, why))) → Ends (unloaded_ending name kind why) status old new → IfSome told (λ all. Answers stock all (Some (Sited r)) status old new)
   site_refuses None r kind why name status old new same f h = tt
   site_refuses (Some all) r kind why name status old new same f h = fails all r kind name why status old new (subst (λ (n : List ℕ). FailsToLoad all r kind n why) (sym same) f.1) (site_first all r kind f.0) h
 
   -- ---- a check
 
-  is_done : (files : List ℕ → Option (List ℕ)) (r : RequestData) (script : Option (List ℕ)) (x : Outcome) → r.script ≡ script → first_refusal stock files r ≡ None → IsDone files r script x → IsOutcome stock files (Some r) x
+  is_done : (files : List ℕ → Option (List ℕ)) (r : RequestData) (script : Option (List ℕ)) (x : Outcome) → r.script ≡ script → first_refusal stock files r ≡ None → IsDone files r script x → IsOutcome stock files (Some (Sited r)) x
   is_done files r script x asked e h =
       let d = subst (λ (s : Option (List ℕ)). IsDone files r s x) (sym asked) h in
       subst (λ (t : Option Outcome). MatchOption t (IsDone files r r.script x) (λ y. x ≡ y)) (sym e) d
 
   -- want of memory behind a part of a body, and after it
-  wanted : (files : List ℕ → Option (List ℕ)) (r : Option RequestData) (o : Outcome) (n : ℕ) (status : Status) (old mid new : SinkSeen)
+  pub wanted : (files : List ℕ → Option (List ℕ)) (r : Option AskedData) (o : Outcome) (n : ℕ) (status : Status) (old mid new : SinkSeen)
       → IsPut (take n o.body) old mid → Ends memory_ending status mid new → PutsFor stock files r o status old new
   wanted files r o n status old mid new m (inl h) = subst (λ (st : Status). PutsFor stock files r o st old new) (sym h.0) (n, printed_then old mid new (take n o.body) memory_line m h.1)
   wanted files r o n status old mid new m (inr h) = subst (λ (st : Status). PutsFor stock files r o st old new) (sym h.0) (n, printed_then old mid new (take n o.body) memory_line m h.1)
@@ -157,19 +158,19 @@ module _ (stock : List Meaning) where
   none_put : (old mid : SinkSeen) → mid ≡ old → IsPut [] old mid
   none_put old mid e = (ap (λ (s : SinkSeen). s.faults) e, ap (λ (s : SinkSeen). s.told) e ∙ sym (appended-nil old.told))
 
-  check_puts : (files : List ℕ → Option (List ℕ)) (r : Option RequestData) (body : List ℕ) (checked : Result (Unit {0}) Unput) (status : Status) (old mid new : SinkSeen)
+  check_puts : (files : List ℕ → Option (List ℕ)) (r : Option AskedData) (body : List ℕ) (checked : Result (Unit {0}) Unput) (status : Status) (old mid new : SinkSeen)
       → PutsText body checked old mid → EndsCheck checked status mid new → PutsFor stock files r (fine body) status old new
   check_puts files r body (Ok done) status old mid new p h = subst (λ (st : Status). PutsFor stock files r (fine body) st old new) (sym h.0) (refl, ap (λ (s : SinkSeen). s.told) h.1 ∙ p.1)
   check_puts files r body (Err unput.WriteFault) status old mid new p h = subst (λ (st : Status). PutsFor stock files r (fine body) st old new) (sym h.0) (subst (FailsWithin body old) (sym h.1) p)
   check_puts files r body (Err unput.Memory) status old mid new p h = wanted files r (fine body) 0 status old mid new (none_put old mid p) h
 
   pub check_answers : (told : Option (List ℕ → Option (List ℕ))) (r : RequestData) (site : SiteData) (checked : Result (Unit {0}) Unput) (status : Status) (old mid new : SinkSeen) → r.script ≡ None
-      → IfSome told (λ all. LoadsSite all r (Ok site)) → PutsText (counts_line site) checked old mid → EndsCheck checked status mid new → IfSome told (λ all. Answers stock all (Some r) status old new)
+      → IfSome told (λ all. LoadsSite all r (Ok site)) → PutsText (counts_line site) checked old mid → EndsCheck checked status mid new → IfSome told (λ all. Answers stock all (Some (Sited r)) status old new)
   check_answers None r site checked status old mid new asked s p h = tt
   check_answers (Some all) r site checked status old mid new asked s p h = record {
     outcome = check_outcome site;
     is = is_done all r None (check_outcome site) asked (none_refuses all r site s (ap (option_and_then (script_refusal stock all r)) asked)) (ap check_outcome s.2);
-    puts = check_puts all (Some r) (counts_line site) checked status old mid new p h;
+    puts = check_puts all (Some (Sited r)) (counts_line site) checked status old mid new p h;
   }
 
   -- ---- the shelf is short
@@ -182,7 +183,7 @@ module _ (stock : List Meaning) where
       third_is _ _ _ _ (refusal_is files r Definitions r.definitions None s.0) (refusal_is files r Site r.site None s.1) (ap (option_and_then (script_refusal stock files r)) asked ∙ rw here refl)
 
   short_answers : (files : List ℕ → Option (List ℕ)) (r : RequestData) (site : SiteData) (script : List ℕ) (why : ChainFault) (old new : SinkSeen) → r.script ≡ Some script → LoadsSite files r (Ok site) → FaultIs stock (uses_in site.interfaces) why
-      → Printed old new [] (unmade_ending why).line → Answers stock files (Some r) (unmade_ending why).status old new
+      → Printed old new [] (unmade_ending why).line → Answers stock files (Some (Sited r)) (unmade_ending why).status old new
   short_answers files r site script chain.Memory old new asked s f h = wants files r old new h
   short_answers files r site script (chain.ShelfEmpty kind wanted there) old new asked s f h =
       let due : short_fault stock site kind ≡ chain.ShelfEmpty kind wanted there = ap (λ (n : ℕ). chain.ShelfEmpty kind n (stocked kind stock)) (sym f.1) ∙ ap (λ (n : ℕ). chain.ShelfEmpty kind wanted n) (sym f.2) in
@@ -193,10 +194,10 @@ module _ (stock : List Meaning) where
       }
 
   pub shelf_refuses : (told : Option (List ℕ → Option (List ℕ))) (r : RequestData) (site : SiteData) (script : List ℕ) (why : ChainFault) (status : Status) (old new : SinkSeen) → r.script ≡ Some script
-      → IfSome told (λ all. LoadsSite all r (Ok site)) → FaultIs stock (uses_in site.interfaces) why → Ends (unmade_ending why) status old new → IfSome told (λ all. Answers stock all (Some r) status old new)
+      → IfSome told (λ all. LoadsSite all r (Ok site)) → FaultIs stock (uses_in site.interfaces) why → Ends (unmade_ending why) status old new → IfSome told (λ all. Answers stock all (Some (Sited r)) status old new)
   shelf_refuses None r site script why status old new asked s f h = tt
-  shelf_refuses (Some all) r site script why status old new asked s f (inl h) = subst (λ (st : Status). Answers stock all (Some r) st old new) (sym h.0) (short_answers all r site script why old new asked s f h.1)
-  shelf_refuses (Some all) r site script why status old new asked s f (inr h) = subst (λ (st : Status). Answers stock all (Some r) st old new) (sym h.0) (wants all r old new h.1)
+  shelf_refuses (Some all) r site script why status old new asked s f (inl h) = subst (λ (st : Status). Answers stock all (Some (Sited r)) st old new) (sym h.0) (short_answers all r site script why old new asked s f h.1)
+  shelf_refuses (Some all) r site script why status old new asked s f (inr h) = subst (λ (st : Status). Answers stock all (Some (Sited r)) st old new) (sym h.0) (wants all r old new h.1)
 
   -- ---- a replay
 
@@ -205,12 +206,12 @@ module _ (stock : List Meaning) where
   body_of script body (Err why) = refl
 
   -- a replay that halts with a last line behind its body
-  halted : (files : List ℕ → Option (List ℕ)) (r : Option RequestData) (o : Outcome) (status : Status) (old mid new : SinkSeen)
+  pub halted : (files : List ℕ → Option (List ℕ)) (r : Option AskedData) (o : Outcome) (status : Status) (old mid new : SinkSeen)
       → (Printed old new o.body o.last → PutsFor stock files r o o.status old new) → IsPut o.body old mid → Ends (record { status = o.status; line = o.last }) status mid new → PutsFor stock files r o status old new
   halted files r o status old mid new puts m (inl h) = subst (λ (st : Status). PutsFor stock files r o st old new) (sym h.0) (puts (printed_then old mid new o.body o.last m h.1))
   halted files r o status old mid new puts m (inr h) = wanted files r o (length o.body) status old mid new (subst (λ (t : List ℕ). IsPut t old mid) (sym (take-length o.body)) m) (inr h)
 
-  replay_puts : (files : List ℕ → Option (List ℕ)) (r : Option RequestData) (script body : List ℕ) (due answer : Result (Unit {0}) Halt) (status : Status) (old mid new : SinkSeen)
+  replay_puts : (files : List ℕ → Option (List ℕ)) (r : Option AskedData) (script body : List ℕ) (due answer : Result (Unit {0}) Halt) (status : Status) (old mid new : SinkSeen)
       → ReplayPuts body due answer old mid → EndsReplay script answer status mid new → PutsFor stock files r (replayed script body due) status old new
   replay_puts files r script body due (Ok done) status old mid new p h =
       subst (λ (d : Result (Unit {0}) Halt). PutsFor stock files r (replayed script body d) status old new) p.0 (check_puts files r body (Ok done) status old mid new p.1 h)
@@ -230,13 +231,13 @@ module _ (stock : List Meaning) where
   TakesScript all site script answer = Takes (judge_script site) (events_in site) (all script) answer
 
   pub script_refuses : (told : Option (List ℕ → Option (List ℕ))) (r : RequestData) (site : SiteData) (script : List ℕ) (why : Unloaded) (status : Status) (old new : SinkSeen) → r.script ≡ Some script → short_kind stock site ≡ None
-      → IfSome told (λ all. LoadsSite all r (Ok site)) → IfSome told (λ all. TakesScript all site script (Err why)) → Ends (unloaded_ending script Script why) status old new → IfSome told (λ all. Answers stock all (Some r) status old new)
+      → IfSome told (λ all. LoadsSite all r (Ok site)) → IfSome told (λ all. TakesScript all site script (Err why)) → Ends (unloaded_ending script Script why) status old new → IfSome told (λ all. Answers stock all (Some (Sited r)) status old new)
   script_refuses None r site script why status old new asked boxes s f h = tt
   script_refuses (Some all) r site script why status old new asked boxes s f h =
       fails all r Script script why status old new ((s.0, s.1, asked), subst (λ (t : SiteData). TakesScript all t script (Err why)) s.2 f) (subst (λ (t : SiteData). short_kind stock t ≡ None) s.2 boxes) h
 
   replay_is : (all : List ℕ → Option (List ℕ)) (r : RequestData) (site : SiteData) (script : List ℕ) (events : List (ℕ × Event)) (o : Outcome)
-      → r.script ≡ Some script → short_kind stock site ≡ None → LoadsSite all r (Ok site) → TakesScript all site script (Ok events) → IsReplay site script events o → IsOutcome stock all (Some r) o
+      → r.script ≡ Some script → short_kind stock site ≡ None → LoadsSite all r (Ok site) → TakesScript all site script (Ok events) → IsReplay site script events o → IsOutcome stock all (Some (Sited r)) o
   replay_is all r site script events o asked boxes s h is =
       let h' = subst (λ (t : SiteData). TakesScript all t script (Ok events)) s.2 h in
       let over = subst (λ (t : SiteData). IsReplay t script events o) s.2 is in
@@ -245,28 +246,32 @@ module _ (stock : List Meaning) where
 
   pub replay_answers : (told : Option (List ℕ → Option (List ℕ))) (r : RequestData) (site : SiteData) (script : List ℕ) (events : List (ℕ × Event)) (answer : Result (Unit {0}) Halt) (status : Status) (old mid new : SinkSeen)
       → r.script ≡ Some script → short_kind stock site ≡ None → IfSome told (λ all. LoadsSite all r (Ok site)) → IfSome told (λ all. TakesScript all site script (Ok events))
-      → Replays site events answer old mid → EndsReplay script answer status mid new → IfSome told (λ all. Answers stock all (Some r) status old new)
+      → Replays site events answer old mid → EndsReplay script answer status mid new → IfSome told (λ all. Answers stock all (Some (Sited r)) status old new)
   replay_answers None r site script events answer status old mid new asked boxes s t done h = tt
   replay_answers (Some all) r site script events answer status old mid new asked boxes s t done h =
       let o = replay_outcome site script events done.dids done.ending in
       record {
         outcome = o;
         is = replay_is all r site script events o asked boxes s t (record { dids = done.dids; ending = done.ending; runs = done.runs; commands = run_judged stand_ins site opening (events_of events) done.dids done.ending done.runs; outcome = refl });
-        puts = replay_puts all (Some r) script (replay_body site done.dids done.ending) (replay_answer events done.dids done.ending) answer status old mid new done.puts h;
+        puts = replay_puts all (Some (Sited r)) script (replay_body site done.dids done.ending) (replay_answer events done.dids done.ending) answer status old mid new done.puts h;
       }
 
   -- ---- the words fit no command
 
-  usage_puts : (all : List ℕ → Option (List ℕ)) (asked : Option RequestData) (old new : SinkSeen) → asked ≡ None → Printed old new [] usage_line → Answers stock all asked is.Usage old new
-  usage_puts all asked old new e h = subst (λ (r : Option RequestData). Answers stock all r is.Usage old new) (sym e) (record { outcome = refusal usage_ending; is = refl; puts = (refl, h) })
+  usage_puts : (all : List ℕ → Option (List ℕ)) (asked : Option AskedData) (old new : SinkSeen) → asked ≡ None → Printed old new [] usage_line → Answers stock all asked is.Usage old new
+  usage_puts all asked old new e h = subst (λ (r : Option AskedData). Answers stock all r is.Usage old new) (sym e) (record { outcome = refusal usage_ending; is = refl; puts = (refl, h) })
 
-  pub usage_answers : (told : Option (List ℕ → Option (List ℕ))) (asked : Option RequestData) (status : Status) (old new : SinkSeen) → asked ≡ None → status ≡ is.Usage → Printed old new [] usage_line → IfSome told (λ all. Answers stock all asked status old new)
+  pub usage_answers : (told : Option (List ℕ → Option (List ℕ))) (asked : Option AskedData) (status : Status) (old new : SinkSeen) → asked ≡ None → status ≡ is.Usage → Printed old new [] usage_line → IfSome told (λ all. Answers stock all asked status old new)
   usage_answers None asked status old new e u h = tt
   usage_answers (Some all) asked status old new e u h = subst (λ (st : Status). Answers stock all asked st old new) (sym u) (usage_puts all asked old new e h)
 
+  -- what is asked is what the words ask for
+  pub asked_so : (told : Option (List ℕ → Option (List ℕ))) (r asked : Option AskedData) (status : Status) (old new : SinkSeen) → r ≡ asked → IfSome told (λ all. Answers stock all r status old new) → IfSome told (λ all. Answers stock all asked status old new)
+  asked_so told r asked status old new same a = subst (λ (q : Option AskedData). IfSome told (λ all. Answers stock all q status old new)) same a
+
   -- ---- where no count rose, the status is the outcome's
 
-  status_of : (files : List ℕ → Option (List ℕ)) (r : Option RequestData) (o : Outcome) (status : Status) (old new : SinkSeen) (no_read : status ≢ is.ReadFault) (no_write : status ≢ is.WriteFault) → PutsFor stock files r o status old new → (status ≡ o.status) ⊎ (status ≡ is.Memory)
+  status_of : (files : List ℕ → Option (List ℕ)) (r : Option AskedData) (o : Outcome) (status : Status) (old new : SinkSeen) (no_read : status ≢ is.ReadFault) (no_write : status ≢ is.WriteFault) → PutsFor stock files r o status old new → (status ≡ o.status) ⊎ (status ≡ is.Memory)
   status_of files r o is.Memory old new a b h = inr refl
   status_of files r o is.ReadFault old new a b h = absurd (a refl)
   status_of files r o is.WriteFault old new a b h = absurd (b refl)
@@ -277,12 +282,13 @@ module _ (stock : List Meaning) where
   status_of files r o is.ShelfEmpty old new a b h = inl (sym h.0)
   status_of files r o is.ScriptRefused old new a b h = inl (sym h.0)
   status_of files r o is.HistoryFull old new a b h = inl (sym h.0)
+  status_of files r o is.LogRefused old new a b h = inl (sym h.0)
   status_of files r o is.NotBuilt old new a b h = inl (sym h.0)
 
   steady_rose : (before now : ℕ) → Steady before now → Rose before now → ⊥
   steady_rose before now s r = omega (arith, s, r.1)
 
-  pub completes : (told : Option (List ℕ → Option (List ℕ))) (r : Option RequestData) (status : Status) (old new : SinkSeen) (faults faults_now : ℕ)
+  pub completes : (told : Option (List ℕ → Option (List ℕ))) (r : Option AskedData) (status : Status) (old new : SinkSeen) (faults faults_now : ℕ)
       → (status ≡ is.ReadFault → Rose faults faults_now) → (status ≡ is.WriteFault → Rose old.faults new.faults) → Steady faults faults_now → Steady old.faults new.faults
       → IfSome told (λ all. Answers stock all r status old new) → IfSome told (λ all. Completes stock all r status)
   completes None r status old new f f' read write sf so h = tt

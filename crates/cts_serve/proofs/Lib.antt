@@ -4,6 +4,10 @@ pub mod LoadLemmas
 pub mod EndingLemmas
 pub mod CauseLemmas
 pub mod ReplayLemmas
+pub mod MomentLemmas
+pub mod DumpLemmas
 pub mod CommandLemmas
+pub mod DumpingLemmas
 pub mod LawLemmas
 pub mod FollowingLemmas
+pub mod RefusedLogLemmas

@@ -84,11 +84,11 @@ begins_so [] b h = λ e. h refl
 begins_so (x ∷ a) b h = λ e. absurd (cc)
 
 -- a put failed behind a text, and within a longer one
-fails_then : (old mid new : SinkSeen) (xs ys : List ℕ) → IsPut xs old mid → FailsWithin ys mid new → FailsWithin (xs ++ ys) old new
+pub fails_then : (old mid new : SinkSeen) (xs ys : List ℕ) → IsPut xs old mid → FailsWithin ys mid new → FailsWithin (xs ++ ys) old new
 fails_then old mid new xs ys p f =
     (rw (← p.0) f.0, ends_so xs ys f.1, part_then old.told mid.told new.told xs ys p.1 f.2)
 
-fails_first : (old new : SinkSeen) (xs ys : List ℕ) → FailsWithin xs old new → FailsWithin (xs ++ ys) old new
+pub fails_first : (old new : SinkSeen) (xs ys : List ℕ) → FailsWithin xs old new → FailsWithin (xs ++ ys) old new
 fails_first old new xs ys f = (f.0, begins_so xs ys f.1, part_first old.told new.told xs ys f.2)
 
 -- ---- what a replay answers

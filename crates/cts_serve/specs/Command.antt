@@ -1,5 +1,5 @@
 -- What a command answers and prints, from the boxes on the shelf and the content of the files alone.
-use Rattle.std.specs.Prelude.{◌≡◌, ℕ, ◌≤◌, List, [], take, Option, Some, None, option_map, option_and_then, MatchOption, Result, Ok, Err, ◌⊎◌}
+use Rattle.std.specs.Prelude.{◌≡◌, ℕ, ◌≤◌, nat_lt, Bool, true, false, List, length, [], take, Option, Some, None, option_map, option_and_then, MatchOption, Result, Ok, Err, ◌⊎◌}
 use Rattle.std.specs.Option.{option_or}
 use Rattle.cts_core.specs.Runs.{Did, Ending, Runs}
 use Rattle.cts_core.specs.Sendings.{AreJudged}
@@ -10,16 +10,21 @@ use Rattle.cts_outside.specs.Causes.{Rose}
 use Rattle.cts_outside.specs.Contents.{appended}
 use Rattle.cts_outside.specs.Seen.{FilesSeen, SinkSeen}
 use Rattle.cts_proto.specs.Meaning.{Meaning}
-use Rattle.cts_serve.specs.Ending.{EndingData, usage_ending, unloaded_ending, unmade_ending, halt_ending}
+use Rattle.cts_serve.specs.Dump.{IsDump}
+use Rattle.cts_serve.specs.Ending.{EndingData, usage_ending, unloaded_ending, unfetched_ending, unmade_ending, dump_ending, halt_ending}
 use Rattle.cts_serve.specs.Ending.Lines.{memory_line, read_fault_line, counts_line}
 use Rattle.cts_core.specs.Environments.{site_environment}
 use Rattle.cts_serve.specs.Load.{IsNext, unloaded, site_asked, events_asked}
+use Rattle.cts_serve.specs.Load.Judging.{log_limit}
 use Rattle.cts_serve.specs.Putting.{Printed, FailsWithin}
 use Rattle.cts_serve.specs.Replay.Transcript.{events_of, replay_body, replay_answer}
 use Rattle.cts_serve.specs.Request.{RequestData}
+use Rattle.cts_serve.specs.Request.Words.{AskedData, Sited, Dumped}
 use Rattle.cts_serve.specs.Start.{short_kind, short_fault}
+use Rattle.cts_serve.specs.declared.dump.halt.DumpHalt.{DumpHalt}
 use Rattle.cts_serve.specs.declared.ending.status.Status.{Status}
 use Rattle.cts_serve.specs.declared.ending.status.Status.TheVariants.{Ok as Fine, Memory, ReadFault, Absent, WriteFault}
+use Rattle.cts_serve.specs.declared.load.fetch.FetchFault.TheVariants as fetch
 use Rattle.cts_serve.specs.declared.load.file_kind.FileKind.{FileKind}
 use Rattle.cts_serve.specs.declared.load.file_kind.FileKind.TheVariants.{Definitions, Site, Script}
 use Rattle.cts_serve.specs.declared.replay.halt.Halt.{Halt}
@@ -84,10 +89,33 @@ abbrev pub IsDone : (List ℕ → Option (List ℕ)) → RequestData → Option 
 IsDone files r None o = o ≡ check_outcome (site_asked files r)
 IsDone files r (Some script) o = IsReplay (site_asked files r) script (events_asked files r script) o
 
+-- what is answered and printed where the lines of a log are these and its dump ends so
+abbrev pub dumped : List ℕ → Result (Unit {0}) DumpHalt → Outcome
+dumped body (Ok done) = fine body
+dumped body (Err halt) = behind body (dump_ending halt)
+
+-- The outcome of a dump of this file.
+pub record IsDumpOf (file : List ℕ) (o : Outcome) : Type 0 where
+  pub body : List ℕ
+  pub due : Result (Unit {0}) DumpHalt
+  pub is : IsDump file body due
+  pub outcome : o ≡ dumped body due
+
+-- of a file that is too large no line is printed
+abbrev pub IsDumpBy : List ℕ → List ℕ → Bool → Outcome → Type 0
+IsDumpBy log file true o = o ≡ refusal (unfetched_ending log fetch.TooLarge)
+IsDumpBy log file false o = IsDumpOf file o
+
+-- the outcome of a dump of the log of this name, for a file with this content, or none
+abbrev pub IsDumped : List ℕ → Option (List ℕ) → Outcome → Type 0
+IsDumped log None o = o ≡ refusal (unfetched_ending log fetch.Absent)
+IsDumped log (Some file) o = IsDumpBy log file (nat_lt log_limit (length file)) o
+
 -- The outcome of a command, for a shelf with these boxes and files with this content.
-abbrev pub IsOutcome : List Meaning → (List ℕ → Option (List ℕ)) → Option RequestData → Outcome → Type 0
+abbrev pub IsOutcome : List Meaning → (List ℕ → Option (List ℕ)) → Option AskedData → Outcome → Type 0
 IsOutcome stock files None o = o ≡ refusal usage_ending
-IsOutcome stock files (Some r) o = MatchOption (first_refusal stock files r) (IsDone files r r.script o) (λ refused. o ≡ refused)
+IsOutcome stock files (Some (Sited r)) o = MatchOption (first_refusal stock files r) (IsDone files r r.script o) (λ refused. o ≡ refused)
+IsOutcome stock files (Some (Dumped log)) o = IsDumped log (files log) o
 
 -- before a script is read the shelf is looked at, which has to have all boxes
 abbrev pub HasBoxes : List Meaning → (List ℕ → Option (List ℕ)) → RequestData → FileKind → Type 0
@@ -96,14 +124,15 @@ HasBoxes stock files r Site = Unit {0}
 HasBoxes stock files r Script = short_kind stock (site_asked files r) ≡ None
 
 -- the file of this name is the next one to be read
-abbrev pub IsRead : List Meaning → (List ℕ → Option (List ℕ)) → Option RequestData → List ℕ → Type 0
+abbrev pub IsRead : List Meaning → (List ℕ → Option (List ℕ)) → Option AskedData → List ℕ → Type 0
 IsRead stock files None name = ⊥
-IsRead stock files (Some r) name = (kind : FileKind) × IsNext files r kind name × HasBoxes stock files r kind
+IsRead stock files (Some (Sited r)) name = (kind : FileKind) × IsNext files r kind name × HasBoxes stock files r kind
+IsRead stock files (Some (Dumped log)) name = name ≡ log
 
 -- What was put where the outcome is this and the status that. Want of memory and faults may come in place of the
 -- outcome's own status: then what was put is a prefix of its body. A fault of the sink comes only where there is a body to
 -- be put: where a last line can't be put, the outcome's status stays.
-abbrev pub PutsFor : List Meaning → (List ℕ → Option (List ℕ)) → Option RequestData → Outcome → Status → SinkSeen → SinkSeen → Type 0
+abbrev pub PutsFor : List Meaning → (List ℕ → Option (List ℕ)) → Option AskedData → Outcome → Status → SinkSeen → SinkSeen → Type 0
 PutsFor stock files r o Fine old new = (o.status ≡ Fine) × (new.told ≡ appended old.told o.body)
 PutsFor stock files r o Memory old new = (n : ℕ) × Printed old new (take n o.body) memory_line
 PutsFor stock files r o ReadFault old new = (name : List ℕ) × IsRead stock files r name × Printed old new [] (read_fault_line name)
@@ -111,13 +140,13 @@ PutsFor stock files r o WriteFault old new = FailsWithin o.body old new
 PutsFor stock files r o status old new = (o.status ≡ status) × Printed old new o.body o.last
 
 -- The command's outcome, and what was put for it.
-pub record Answers (stock : List Meaning) (files : List ℕ → Option (List ℕ)) (r : Option RequestData) (status : Status) (old new : SinkSeen) : Type 0 where
+pub record Answers (stock : List Meaning) (files : List ℕ → Option (List ℕ)) (r : Option AskedData) (status : Status) (old new : SinkSeen) : Type 0 where
   pub outcome : Outcome
   pub is : IsOutcome stock files r outcome
   pub puts : PutsFor stock files r outcome status old new
 
 -- The outcome's status was answered, or want of memory.
-pub record Completes (stock : List Meaning) (files : List ℕ → Option (List ℕ)) (r : Option RequestData) (status : Status) : Type 0 where
+pub record Completes (stock : List Meaning) (files : List ℕ → Option (List ℕ)) (r : Option AskedData) (status : Status) : Type 0 where
   pub outcome : Outcome
   pub is : IsOutcome stock files r outcome
   pub status_is : (status ≡ outcome.status) ⊎ (status ≡ Memory)

@@ -3,11 +3,16 @@ use Rattle.std.specs.Prelude.{◌≡◌, ℕ, List, [], codes, ◌⊎◌, Result
 use Rattle.cts_chain.specs.declared.build.ChainFault.{ChainFault}
 use Rattle.cts_chain.specs.declared.build.ChainFault.TheVariants as chain
 use Rattle.cts_outside.specs.Seen.{SinkSeen}
-use Rattle.cts_serve.specs.Ending.Lines.{usage_line, memory_line, read_fault_line, absent_line, not_built_line, refused_line, shelf_line, full_line}
+use Rattle.cts_serve.specs.Ending.Lines.{usage_line, memory_line, read_fault_line, absent_line, not_built_line, refused_line, shelf_line, full_line, log_line}
 use Rattle.cts_serve.specs.Load.Causes.{cause_text}
+use Rattle.cts_serve.specs.Load.Judging.{log_limit}
 use Rattle.cts_serve.specs.Putting.{Printed}
+use Rattle.cts_serve.specs.declared.dump.halt.DumpHalt.{DumpHalt}
+use Rattle.cts_serve.specs.declared.dump.halt.DumpHalt.TheVariants as dump
 use Rattle.cts_serve.specs.declared.ending.status.Status.{Status}
 use Rattle.cts_serve.specs.declared.ending.status.Status.TheVariants as is
+use Rattle.cts_serve.specs.declared.load.fetch.FetchFault.{FetchFault}
+use Rattle.cts_serve.specs.declared.load.fetch.FetchFault.TheVariants as fetch
 use Rattle.cts_serve.specs.declared.load.file_kind.FileKind.{FileKind}
 use Rattle.cts_serve.specs.declared.load.file_kind.FileKind.TheVariants.{Definitions, Site, Script}
 use Rattle.cts_serve.specs.declared.load.unloaded.Unloaded.{Unloaded}
@@ -72,6 +77,19 @@ halt_ending script (halt.HistoryFull entries bytes) = ends is.HistoryFull (full_
 halt_ending script halt.WriteFault = ends is.WriteFault []
 halt_ending script halt.Memory = memory_ending
 
+-- where the log of this name is not read whole; one that is too large is refused at the limit
+abbrev pub unfetched_ending : List ℕ → FetchFault → EndingData
+unfetched_ending name fetch.TooLarge = ends is.LogRefused (log_line log_limit)
+unfetched_ending name fetch.Absent = ends is.Absent (absent_line name)
+unfetched_ending name fetch.Failed = ends is.ReadFault (read_fault_line name)
+unfetched_ending name fetch.Memory = memory_ending
+
+-- where a dump halts; after a put that failed there is no last line
+abbrev pub dump_ending : DumpHalt → EndingData
+dump_ending (dump.Refused place) = ends is.LogRefused (log_line place)
+dump_ending dump.WriteFault = ends is.WriteFault []
+dump_ending dump.Memory = memory_ending
+
 -- An ending's last line was put, and the status is its own; or want of memory was told in its place.
 abbrev pub Ends : EndingData → Status → SinkSeen → SinkSeen → Type 0
 Ends ending status old new =
@@ -88,3 +106,9 @@ abbrev pub EndsReplay : List ℕ → Result (Unit {0}) Halt → Status → SinkS
 EndsReplay script (Ok done) status old new = (status ≡ is.Ok) × (new ≡ old)
 EndsReplay script (Err halt.WriteFault) status old new = (status ≡ is.WriteFault) × (new ≡ old)
 EndsReplay script (Err why) status old new = Ends (halt_ending script why) status old new
+
+-- the status after a dump, and what is put then
+abbrev pub EndsDump : Result (Unit {0}) DumpHalt → Status → SinkSeen → SinkSeen → Type 0
+EndsDump (Ok done) status old new = (status ≡ is.Ok) × (new ≡ old)
+EndsDump (Err dump.WriteFault) status old new = (status ≡ is.WriteFault) × (new ≡ old)
+EndsDump (Err why) status old new = Ends (dump_ending why) status old new

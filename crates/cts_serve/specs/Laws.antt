@@ -1,5 +1,5 @@
 -- Laws of outcomes, and of the runs on which they stand.
-use Rattle.std.specs.Prelude.{◌≡◌, ◌↔◌, ℕ, true, List, Option, Some, None}
+use Rattle.std.specs.Prelude.{◌≡◌, ◌↔◌, ◌<◌, ◌⊎◌, ℕ, true, List, length, Option, Some, None}
 use Rattle.std.specs.List.{list_all}
 use Rattle.cts_core.specs.Runs.{Did, Ending, Runs}
 use Rattle.cts_core.specs.States.{opening}
@@ -8,26 +8,31 @@ use Rattle.cts_entry.specs.declared.event.Event.{Event}
 use Rattle.cts_core.specs.Environments.{Undefined, environment_with}
 use Rattle.cts_core.specs.Built.{is_built_event, is_built_site}
 use Rattle.cts_def.specs.declared.proto_spec.Kind.{Kind}
+use Rattle.cts_log.specs.Logged.{Logged}
+use Rattle.cts_log.specs.Reading.{IsLogRead}
+use Rattle.cts_log.specs.declared.kind.LogKind.{LogKind}
 use Rattle.cts_proto.specs.Meaning.{Meaning}
 use Rattle.cts_serve.specs.Command.{Outcome, IsOutcome}
 use Rattle.cts_serve.specs.Load.{site_asked, unloaded}
+use Rattle.cts_serve.specs.Load.Judging.{log_limit}
 use Rattle.cts_serve.specs.Request.{RequestData}
+use Rattle.cts_serve.specs.Request.Words.{AskedData, Dumped, Sited}
 use Rattle.cts_serve.specs.Start.{short_kind}
-use Rattle.cts_serve.specs.declared.ending.status.Status.TheVariants.{ShelfEmpty}
+use Rattle.cts_serve.specs.declared.ending.status.Status.TheVariants.{LogRefused, ShelfEmpty}
 use Rattle.cts_serve.specs.declared.load.file_kind.FileKind.TheVariants.{Definitions, Site}
 
 -- a command has one outcome, for a shelf with these boxes and files with this content
 abbrev pub HasOneOutcome : Type 0
-HasOneOutcome = (stock : List Meaning) (files : List ℕ → Option (List ℕ)) (r : Option RequestData) (o p : Outcome) → IsOutcome stock files r o → IsOutcome stock files r p → o ≡ p
+HasOneOutcome = (stock : List Meaning) (files : List ℕ → Option (List ℕ)) (r : Option AskedData) (o p : Outcome) → IsOutcome stock files r o → IsOutcome stock files r p → o ≡ p
 
 -- and there is one, whatever is asked for
 abbrev pub HasOutcome : Type 0
-HasOutcome = (stock : List Meaning) (files : List ℕ → Option (List ℕ)) (r : Option RequestData) → (o : Outcome) × IsOutcome stock files r o
+HasOutcome = (stock : List Meaning) (files : List ℕ → Option (List ℕ)) (r : Option AskedData) → (o : Outcome) × IsOutcome stock files r o
 
 -- A replay is asked for whose definitions and site are taken, and the chains of this site need more boxes of a kind than there are.
-pub record IsShort (stock : List Meaning) (files : List ℕ → Option (List ℕ)) (asked : Option RequestData) : Type 0 where
+pub record IsShort (stock : List Meaning) (files : List ℕ → Option (List ℕ)) (asked : Option AskedData) : Type 0 where
   pub request : RequestData
-  pub asked_is : asked ≡ Some request
+  pub asked_is : asked ≡ Some (Sited request)
   pub script : List ℕ
   pub script_is : request.script ≡ Some script
   pub definitions : unloaded files request Definitions request.definitions ≡ None
@@ -37,7 +42,23 @@ pub record IsShort (stock : List Meaning) (files : List ℕ → Option (List ℕ
 
 -- the outcome has the status of a shelf that is short exactly there
 abbrev pub ShortExactly : Type 0
-ShortExactly = (stock : List Meaning) (files : List ℕ → Option (List ℕ)) (r : Option RequestData) (o : Outcome) → IsOutcome stock files r o → (o.status ≡ ShelfEmpty) ↔ IsShort stock files r
+ShortExactly = (stock : List Meaning) (files : List ℕ → Option (List ℕ)) (r : Option AskedData) (o : Outcome) → IsOutcome stock files r o → (o.status ≡ ShelfEmpty) ↔ IsShort stock files r
+
+-- the head of a log, and whole entries alone behind it
+abbrev pub IsWholeLog : List ℕ → Type 0
+IsWholeLog file = (kind : LogKind) × (es : List Logged) × IsLogRead file kind es (length file)
+
+-- A dump is asked for of a file that is too large, or is no head with whole entries alone behind it.
+pub record IsBadLog (files : List ℕ → Option (List ℕ)) (asked : Option AskedData) : Type 0 where
+  pub log : List ℕ
+  pub asked_is : asked ≡ Some (Dumped log)
+  pub file : List ℕ
+  pub file_is : files log ≡ Some file
+  pub bad : (log_limit < length file) ⊎ (IsWholeLog file → ⊥)
+
+-- the outcome has the status of a log that is refused exactly there
+abbrev pub RefusedExactly : Type 0
+RefusedExactly = (stock : List Meaning) (files : List ℕ → Option (List ℕ)) (r : Option AskedData) (o : Outcome) → IsOutcome stock files r o → (o.status ≡ LogRefused) ↔ IsBadLog files r
 
 -- A run of built events on a built site is the same whatever stands for what is not defined yet.
 abbrev pub RestsOnNoStandIn : Type 0

@@ -3,6 +3,7 @@ pub mod Load
 pub mod Putting
 pub mod Ending
 pub mod Replay
+pub mod Dump
 pub mod Start
 pub mod Command
 pub mod Laws

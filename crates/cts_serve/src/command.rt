@@ -8,20 +8,25 @@ ghost use Rattle.cts_outside.specs.Causes.{Rose, Steady};
 ghost use Rattle.cts_proto.specs.Meaning.{Meaning};
 ghost use Rattle.cts_serve.specs.Command.{Answers, Completes, IsCaused};
 ghost use Rattle.cts_serve.specs.Ending.Lines.{usage_line};
-ghost use Rattle.cts_serve.specs.Laws.{IsShort};
+ghost use Rattle.cts_serve.specs.Laws.{IsBadLog, IsShort};
 ghost use Rattle.cts_serve.specs.Load.{LoadsSite};
 ghost use Rattle.cts_serve.specs.Putting.{Printed};
-ghost use Rattle.cts_serve.specs.Request.{asked};
+ghost use Rattle.cts_serve.specs.Request.Words.{Dumped, Sited, asked};
 ghost use Rattle.cts_serve.specs.Start.{short_kind};
 
 use crate::check::put_counts;
+use crate::dump::{LOG_LIMIT, dump};
 use crate::ending::status::Status;
-use crate::ending::{end_check, end_replay, end_unloaded, end_unmade, end_usage};
+use crate::ending::{
+    end_check, end_dump, end_replay, end_unfetched, end_unloaded, end_unmade, end_usage,
+};
+use crate::load::fetch::fetch;
 use crate::load::file_kind::FileKind;
 use crate::load::load_site;
 use crate::load::script::load_script;
 use crate::replay::replay;
-use crate::request::{Request, read_words};
+use crate::request::Request;
+use crate::request::words::{Asked, read_words};
 use crate::start::start;
 use cts_core::{Framer, Supplier, World};
 use cts_def::Site;
@@ -32,8 +37,8 @@ use std::alloc::Global;
 /// and answers how it ended.
 ///
 /// The words are those after the program's name: `check DEFS SITE` reads definitions and a site, and
-/// puts how much they have; `replay DEFS SITE SCRIPT` does the events of a script. Other words are
-/// `Usage`. The boxes of the protocols of all chains of a replayed site are taken from the shelf,
+/// puts how much they have; `replay DEFS SITE SCRIPT` does the events of a script; `dump LOG` puts the
+/// entries of a log file. Other words are `Usage`. The boxes of the protocols of all chains of a replayed site are taken from the shelf,
 /// before its script is read. The program's chains and shelf are `Chain` of `cts_chain` and `Shelf` of
 /// `cts_proto`; it is written over any, since a function that is lent boxes may not make a world of them.
 pub fn run<C: Framer, B: Supplier<C>, F: Files, O: Sink>(
@@ -64,6 +69,11 @@ pub fn run<C: Framer, B: Supplier<C>, F: Files, O: Sink>(
     // And there no other status comes, where no count rose, but want of memory.
     ensures shelf { Steady (F.seen files.old).faults (F.seen files.new).faults → Steady (O.seen out.old).faults (O.seen out.new).faults
         → IfSome (F.seen files.old).told (λ all. IsShort (B.stock shelf.old) all (asked (map (λ w. w.now) words.now)) → (result ≡ Status.ShelfEmpty) ⊎ (result ≡ Status.Memory)) }
+    // Only where a dump is asked for of a file that is too large, or is no head with whole entries alone behind it.
+    ensures refused { result ≡ Status.LogRefused → IfSome (F.seen files.old).told (λ all. IsBadLog all (asked (map (λ w. w.now) words.now))) }
+    // And there no other status comes, where no count rose, but want of memory.
+    ensures log { Steady (F.seen files.old).faults (F.seen files.new).faults → Steady (O.seen out.old).faults (O.seen out.new).faults
+        → IfSome (F.seen files.old).told (λ all. IsBadLog all (asked (map (λ w. w.now) words.now)) → (result ≡ Status.LogRefused) ⊎ (result ≡ Status.Memory)) }
     // The outcome that the boxes on the shelf and the content of the files have, and what was put for it.
     ensures transcript { IfSome (F.seen files.old).told (λ all. Answers (B.stock shelf.old) all (asked (map (λ w. w.now) words.now)) result (O.seen out.old) (O.seen out.new)) }
     // Where no count rose, the outcome's status comes, or want of memory.
@@ -72,7 +82,10 @@ pub fn run<C: Framer, B: Supplier<C>, F: Files, O: Sink>(
 {
     match read_words(words) {
         None => end_usage(out),
-        Some(request) => do_request::<C, B, F, O>(alloc, &request, shelf, files, out),
+        Some(Asked::Sited(request)) => {
+            do_request::<C, B, F, O>(alloc, &request, shelf, files, out)
+        }
+        Some(Asked::Dumped(log)) => dump_log(alloc, log, files, out),
     }
 }
 
@@ -87,7 +100,7 @@ fn do_request<C: Framer, B: Supplier<C>, F: Files, O: Sink>(
     ensures usage { result ≢ Status.Usage }
     ensures stays { (F.seen files.new).told ≡ (F.seen files.old).told }
     ensures caused { IsCaused result (F.seen files.old) (F.seen files.new) (O.seen out.old) (O.seen out.new) }
-    ensures transcript { IfSome (F.seen files.old).told (λ all. Answers (B.stock shelf.old) all (Some request.now) result (O.seen out.old) (O.seen out.new)) }
+    ensures transcript { IfSome (F.seen files.old).told (λ all. Answers (B.stock shelf.old) all (Some (Sited request.now)) result (O.seen out.old) (O.seen out.new)) }
 {
     match load_site(alloc, files, request) {
         Ok(site) => match request.script {
@@ -120,7 +133,7 @@ fn replay_site<C: Framer, B: Supplier<C>, F: Files, O: Sink>(
     ensures usage { result ≢ Status.Usage }
     ensures stays { (F.seen files.new).told ≡ (F.seen files.old).told }
     ensures caused { IsCaused result (F.seen files.old) (F.seen files.new) (O.seen out.old) (O.seen out.new) }
-    ensures transcript { IfSome (F.seen files.old).told (λ all. Answers (B.stock shelf.old) all (Some request.now) result (O.seen out.old) (O.seen out.new)) }
+    ensures transcript { IfSome (F.seen files.old).told (λ all. Answers (B.stock shelf.old) all (Some (Sited request.now)) result (O.seen out.old) (O.seen out.new)) }
 {
     match start::<C, B>(alloc, site, shelf) {
         Ok(world) => replay_script(alloc, request, script, world, files, out),
@@ -145,7 +158,7 @@ fn replay_script<C: Framer, F: Files, O: Sink>(
     ensures stays { (F.seen files.new).told ≡ (F.seen files.old).told }
     ensures caused { IsCaused result (F.seen files.old) (F.seen files.new) (O.seen out.old) (O.seen out.new) }
     ensures transcript { (stock : List Meaning) → short_kind stock (held_in world).basis.site ≡ None
-        → IfSome (F.seen files.old).told (λ all. Answers stock all (Some request.now) result (O.seen out.old) (O.seen out.new)) }
+        → IfSome (F.seen files.old).told (λ all. Answers stock all (Some (Sited request.now)) result (O.seen out.old) (O.seen out.new)) }
 {
     match load_script(alloc, files, script, world.hall().site()) {
         Ok(events) => {
@@ -157,5 +170,22 @@ fn replay_script<C: Framer, F: Files, O: Sink>(
             drop(world);
             end_unloaded(alloc, script, FileKind::Script, why, out)
         }
+    }
+}
+
+// Reads a log, and puts the lines of its entries.
+fn dump_log<F: Files, O: Sink>(alloc: Global, log: &str, files: &mut F, out: &mut O) -> Status
+    ensures usage { result ≢ Status.Usage }
+    ensures stays { (F.seen files.new).told ≡ (F.seen files.old).told }
+    ensures caused { IsCaused result (F.seen files.old) (F.seen files.new) (O.seen out.old) (O.seen out.new) }
+    ensures transcript { (stock : List Meaning) → IfSome (F.seen files.old).told (λ all. Answers stock all (Some (Dumped log.now)) result (O.seen out.old) (O.seen out.new)) }
+{
+    match fetch(alloc, files, log, LOG_LIMIT as usize) {
+        Ok(bytes) => {
+            let dumped = dump(alloc, bytes.as_slice(), out);
+            drop(bytes);
+            end_dump(alloc, dumped, out)
+        }
+        Err(why) => end_unfetched(alloc, log, why, out),
     }
 }

@@ -1,12 +1,15 @@
 // How a command ends: the one place that makes a status and a last line of what the phases answer, and puts them.
 ghost use Rattle.std.specs.Prelude.{◌≡◌, [], IfOk};
-ghost use Rattle.cts_serve.specs.Ending.{Ends, EndsCheck, EndsReplay, refused_as, unloaded_ending, unloaded_status, unloaded_line, unmade_ending};
+ghost use Rattle.cts_serve.specs.Ending.{Ends, EndsCheck, EndsDump, EndsReplay, dump_ending, refused_as, unfetched_ending, unloaded_ending, unloaded_status, unloaded_line, unmade_ending};
 ghost use Rattle.cts_serve.specs.Ending.Lines.{memory_line, usage_line};
 ghost use Rattle.cts_serve.specs.Putting.{Printed};
 
 pub mod lines;
 pub mod status;
 
+use crate::dump::LOG_LIMIT;
+use crate::dump::halt::DumpHalt;
+use crate::load::fetch::FetchFault;
 use crate::load::file_kind::FileKind;
 use crate::load::unloaded::Unloaded;
 use crate::putting::Unput;
@@ -132,6 +135,37 @@ pub fn end_replay<O: Sink>(
                 Err(Memory) => put_memory(out),
             }
         }
+    }
+}
+
+/// Ends a dump for which the log of this name is not read whole.
+pub fn end_unfetched<O: Sink>(alloc: Global, log: &str, why: FetchFault, out: &mut O) -> Status
+    ensures { Ends (unfetched_ending log.now why) result (O.seen out.old) (O.seen out.new) }
+{
+    let (line, status) = match why {
+        FetchFault::TooLarge => (lines::log_refused(alloc, LOG_LIMIT), Status::LogRefused),
+        FetchFault::Absent => (lines::absent(alloc, log), Status::Absent),
+        FetchFault::Failed => (lines::read_fault(alloc, log), Status::ReadFault),
+        FetchFault::Memory => (Err(Memory), Status::Memory),
+    };
+    match line {
+        Ok(line) => put_last(out, &line, status),
+        Err(Memory) => put_memory(out),
+    }
+}
+
+/// Ends a dump.
+pub fn end_dump<O: Sink>(alloc: Global, dumped: Result<(), DumpHalt>, out: &mut O) -> Status
+    ensures { EndsDump dumped result (O.seen out.old) (O.seen out.new) }
+{
+    match dumped {
+        Ok(()) => Status::Ok,
+        Err(DumpHalt::WriteFault) => Status::WriteFault,
+        Err(DumpHalt::Memory) => put_memory(out),
+        Err(DumpHalt::Refused { place }) => match lines::log_refused(alloc, place) {
+            Ok(text) => put_last(out, &text, Status::LogRefused),
+            Err(Memory) => put_memory(out),
+        },
     }
 }
 

@@ -3,6 +3,7 @@
 
 mod check;
 mod command;
+mod dump;
 mod ending;
 mod laws;
 mod load;

@@ -1,11 +1,12 @@
-// What the words of the command line ask for.
-ghost use Rattle.std.specs.Prelude.{◌≡◌, map};
-ghost use Rattle.cts_serve.specs.Request.{asked};
+// The files of a site that a command asks for.
+ghost use Rattle.std.specs.Prelude.{◌≡◌};
+
+pub mod words;
 
 use crate::load::file_kind::FileKind;
 use std::marker::Model;
 
-/// The files that a command asks for, by their names. One that only checks has no script.
+/// The files of a site that a command asks for, by their names. One that only checks has no script.
 #[derive(Drop)]
 pub struct Request<'a> {
     /// The definitions.
@@ -37,24 +38,5 @@ impl<'a> Request<'a> {
             FileKind::Site => self.site,
             FileKind::Script => self.script.unwrap_or(""),
         }
-    }
-}
-
-/// What the words ask for, if they fit a command.
-pub fn read_words<'a>(words: &[&'a str]) -> Option<Request<'a>>
-    ensures { result ≡ asked (map (λ w. w.now) words.now) }
-{
-    match words {
-        [command, definitions, site] if *command == "check" => Some(Request {
-            definitions: *definitions,
-            site: *site,
-            script: None,
-        }),
-        [command, definitions, site, script] if *command == "replay" => Some(Request {
-            definitions: *definitions,
-            site: *site,
-            script: Some(*script),
-        }),
-        _ => None,
     }
 }

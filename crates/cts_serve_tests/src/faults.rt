@@ -35,7 +35,7 @@ fn ended_where_fails(
 }
 
 /// A number, or none for a dash.
-fn numbers_of(alloc: Global, text: &str) -> Result<Vec<u64>, Fail> {
+pub fn numbers_of(alloc: Global, text: &str) -> Result<Vec<u64>, Fail> {
     if text == "-" {
         return Ok(Vec::new(alloc));
     }
@@ -92,7 +92,7 @@ fn a_last_line_that_fails_leaves_the_status(rt: HostRuntime) -> Result<(), Fail>
     rows_hold::<Failing>(rt.alloc(), "0 1 ConfigRefused |replay d s c|A|-|0")
 }
 
-const STATUSES: [Status; 11] = [
+const STATUSES: [Status; 12] = [
     Status::Ok,
     Status::Memory,
     Status::Usage,
@@ -103,6 +103,7 @@ const STATUSES: [Status; 11] = [
     Status::ShelfEmpty,
     Status::ScriptRefused,
     Status::HistoryFull,
+    Status::LogRefused,
     Status::NotBuilt,
 ];
 
@@ -112,7 +113,7 @@ fn show_status(alloc: Global, out: &mut String, status: Status) -> Result<(), Fa
 }
 
 const CODES: &str =
-    "Ok 0;Memory 1;Usage 2;ReadFault 3;Absent 3;WriteFault 4;ConfigRefused 5;ShelfEmpty 6;ScriptRefused 7;HistoryFull 8;NotBuilt 13;";
+    "Ok 0;Memory 1;Usage 2;ReadFault 3;Absent 3;WriteFault 4;ConfigRefused 5;ShelfEmpty 6;ScriptRefused 7;HistoryFull 8;LogRefused 10;NotBuilt 13;";
 
 #[test]
 fn exit_statuses(rt: HostRuntime) -> Result<(), Fail> {

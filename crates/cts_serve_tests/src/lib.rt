@@ -10,6 +10,8 @@ mod commands;
 #[cfg(test)]
 mod counting;
 #[cfg(test)]
+mod dumps;
+#[cfg(test)]
 mod faults;
 #[cfg(test)]
 mod instrument;

@@ -15,7 +15,9 @@ replay d s
 replay d s c c
 CHECK d s
 rehearse 5
-dump x
+dump
+dump x y
+DUMP x
 serve d s";
 
 #[test]

@@ -40,6 +40,10 @@ shelf_line k needed stocked = codes "shelf empty: " ++ kind_name k ++ codes " ne
 abbrev pub full_line : ℕ → ℕ → List ℕ
 full_line entries bytes = codes "history full: " ++ decimal entries ++ codes " entries, " ++ decimal bytes ++ codes " bytes\n"
 
+-- where a log is refused: at the first byte that is in no entry
+abbrev pub log_line : ℕ → List ℕ
+log_line place = codes "log refused at " ++ decimal place ++ 10 ∷ []
+
 -- how many entries the history has at the end
 abbrev pub end_line : ℕ → List ℕ
 end_line entries = codes "END " ++ decimal entries ++ 10 ∷ []

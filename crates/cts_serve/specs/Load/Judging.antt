@@ -22,6 +22,10 @@ use Rattle.cts_serve.specs.declared.load.unloaded.Unloaded.TheVariants.{Absent, 
 abbrev pub file_limit : ℕ
 file_limit = 67108864
 
+-- the greatest log
+abbrev pub log_limit : ℕ
+log_limit = 1073741824
+
 -- a file is refused by the fault of its words, and else by what is said of its statements
 abbrev pub judge_said : FileKind → (List Statement → Option Unloaded) → Result (List Statement) WordFault → Option Unloaded
 judge_said kind verdict (Err fault) = Some (words_unloaded kind fault)

@@ -1,6 +1,6 @@
 // The lines that a command prints for itself.
 ghost use Rattle.std.specs.Prelude.{◌≡◌, ◌≤◌, ◌++◌, ◌∷◌, [], IfOk};
-ghost use Rattle.cts_serve.specs.Ending.Lines.{usage_line, memory_line, read_fault_line, absent_line, not_built_line, refused_line, kind_name, shelf_line, full_line, end_line, numbers_line, counts_line};
+ghost use Rattle.cts_serve.specs.Ending.Lines.{usage_line, memory_line, read_fault_line, absent_line, not_built_line, refused_line, kind_name, shelf_line, full_line, log_line, end_line, numbers_line, counts_line};
 ghost use Rattle.cts_def.specs.Packets.{items_in};
 
 use cts_base::Memory;
@@ -83,6 +83,14 @@ pub fn history_full(alloc: Global, entries: u64, bytes: u64) -> Result<Vec<u8>, 
 {
     let line = format!(in alloc; "history full: {entries} entries, {bytes} bytes\n")?;
     Ok(Vec::from_slice(alloc, line.as_bytes())?)
+}
+
+/// The line for a log that is refused at this place.
+pub fn log_refused(alloc: Global, place: u64) -> Result<Vec<u8>, Memory>
+    ensures { IfOk result (λ line. line.items ≡ log_line place) }
+{
+    let line = format!(in alloc; "log refused at {place}\n")?;
+    Ok(line.as_bytes().to_vec(alloc)?)
 }
 
 /// The line after all that was done.

@@ -24,6 +24,8 @@ pub enum Status {
     ScriptRefused,
     /// An event's entries would pass a limit of the history.
     HistoryFull,
+    /// A log is not a head with whole entries alone behind it, or is too large.
+    LogRefused,
     /// A file asks for what is not built yet.
     NotBuilt,
 }
@@ -46,6 +48,7 @@ impl Status {
             Status::ShelfEmpty => 6,
             Status::ScriptRefused => 7,
             Status::HistoryFull => 8,
+            Status::LogRefused => 10,
             Status::NotBuilt => 13,
         }
     }

@@ -1,0 +1,75 @@
+// Dumps of log files.
+use crate::faults::numbers_of;
+use crate::shelves::stocked;
+use crate::table::{commands_end_so, ended, hold_bytes};
+use cts_outside::{MemFiles, MemSink};
+use cts_rows::{Answers, bytes_of, number, part, rows_hold};
+use std::alloc::Global;
+use std::test::Fail;
+
+// What stands in a head behind the digits.
+const HOST: &[u8] =
+    b"_cts                                                                                ";
+
+/// Of a log: its mark and digits, how many of its bytes there are, its entries, and the read and the put that fail: how its dump
+/// ends.
+struct Dumps;
+
+impl Answers for Dumps {
+    fn answer(alloc: Global, asked: &str) -> Result<String, Fail> {
+        let mut held = Vec::new(alloc);
+        hold_bytes(alloc, &mut held, "l", log_of(alloc, asked)?)?;
+        let mut files = MemFiles::new(held, numbers_of(alloc, part(asked, 3))?);
+        let mut sink = MemSink::new(alloc, numbers_of(alloc, part(asked, 4))?);
+        let mut shelf = stocked(alloc)?;
+        ended(alloc, "dump l", &mut shelf, &mut files, &mut sink)
+    }
+}
+
+fn log_of(alloc: Global, asked: &str) -> Result<Vec<u8>, Fail> {
+    let mut log = part(asked, 0).as_bytes().to_vec(alloc)?;
+    log.extend_from_slice(HOST)?;
+    log.extend_from_slice(&bytes_of(alloc, part(asked, 2))?)?;
+    log.truncate(number(asked, 1)?);
+    Ok(log)
+}
+
+// Beginnings of a log with one entry of 32 bytes; two entries, and the second one cut; the other mark, with digits of either case;
+// a mark and digits with one byte changed; an entry without bytes, whose microseconds are the greatest; and reads and puts that fail,
+// of which the last one is that of the last line.
+const LOGS: &str = "\
+LogRefused log refused at 0;|COSMOS2_TLM_d41d8cd98f00b204e9800998ecf8427e 0 000000000000000007554e4b4e4f574e07554e4b4e4f574e000000040004aabb - -
+LogRefused log refused at 0;|COSMOS2_TLM_d41d8cd98f00b204e9800998ecf8427e 127 000000000000000007554e4b4e4f574e07554e4b4e4f574e000000040004aabb - -
+Ok |COSMOS2_TLM_d41d8cd98f00b204e9800998ecf8427e 128 000000000000000007554e4b4e4f574e07554e4b4e4f574e000000040004aabb - -
+LogRefused log refused at 128;|COSMOS2_TLM_d41d8cd98f00b204e9800998ecf8427e 129 000000000000000007554e4b4e4f574e07554e4b4e4f574e000000040004aabb - -
+LogRefused log refused at 128;|COSMOS2_TLM_d41d8cd98f00b204e9800998ecf8427e 159 000000000000000007554e4b4e4f574e07554e4b4e4f574e000000040004aabb - -
+Ok 1970-01-01 00:00:00.000000 UNKNOWN UNKNOWN 0004aabb;|COSMOS2_TLM_d41d8cd98f00b204e9800998ecf8427e 160 000000000000000007554e4b4e4f574e07554e4b4e4f574e000000040004aabb - -
+Ok 1970-01-01 00:00:00.000000 UNKNOWN UNKNOWN 0004aabb;1970-01-01 00:01:40.250000 INST HS 01800001;|COSMOS2_TLM_d41d8cd98f00b204e9800998ecf8427e 184 000000000000000007554e4b4e4f574e07554e4b4e4f574e000000040004aabb000000640003d09004494e53540248530000000401800001 - -
+LogRefused 1970-01-01 00:00:00.000000 UNKNOWN UNKNOWN 0004aabb;log refused at 160;|COSMOS2_TLM_d41d8cd98f00b204e9800998ecf8427e 183 000000000000000007554e4b4e4f574e07554e4b4e4f574e000000040004aabb000000640003d09004494e53540248530000000401800001 - -
+Ok 1970-01-01 00:00:00.000000 UNKNOWN UNKNOWN 0004aabb;|COSMOS2_CMD_0123456789abcdefABCDEF0123456789 160 000000000000000007554e4b4e4f574e07554e4b4e4f574e000000040004aabb - -
+LogRefused log refused at 0;|COSMOS2_TLX_d41d8cd98f00b204e9800998ecf8427e 160 000000000000000007554e4b4e4f574e07554e4b4e4f574e000000040004aabb - -
+LogRefused log refused at 0;|COSMOS2_TLM_d41d8cd98f00b204e9800998ecf8427g 160 000000000000000007554e4b4e4f574e07554e4b4e4f574e000000040004aabb - -
+Ok 1970-01-01 01:11:34.967295 T A ;|COSMOS2_TLM_d41d8cd98f00b204e9800998ecf8427e 999 00000000ffffffff0154014100000000 - -
+ReadFault read fault: l;|COSMOS2_TLM_d41d8cd98f00b204e9800998ecf8427e 160 000000000000000007554e4b4e4f574e07554e4b4e4f574e000000040004aabb 0 -
+ReadFault read fault: l;|COSMOS2_TLM_d41d8cd98f00b204e9800998ecf8427e 160 000000000000000007554e4b4e4f574e07554e4b4e4f574e000000040004aabb 1 -
+Ok 1970-01-01 00:00:00.000000 UNKNOWN UNKNOWN 0004aabb;|COSMOS2_TLM_d41d8cd98f00b204e9800998ecf8427e 160 000000000000000007554e4b4e4f574e07554e4b4e4f574e000000040004aabb 2 -
+WriteFault |COSMOS2_TLM_d41d8cd98f00b204e9800998ecf8427e 184 000000000000000007554e4b4e4f574e07554e4b4e4f574e000000040004aabb000000640003d09004494e53540248530000000401800001 - 0
+WriteFault 1970-01-01 00:00:00.000000 UNKNOWN UNKNOWN 0004aabb;|COSMOS2_TLM_d41d8cd98f00b204e9800998ecf8427e 184 000000000000000007554e4b4e4f574e07554e4b4e4f574e000000040004aabb000000640003d09004494e53540248530000000401800001 - 1
+LogRefused 1970-01-01 00:00:00.000000 UNKNOWN UNKNOWN 0004aabb;|COSMOS2_TLM_d41d8cd98f00b204e9800998ecf8427e 183 000000000000000007554e4b4e4f574e07554e4b4e4f574e000000040004aabb000000640003d09004494e53540248530000000401800001 - 1
+Ok 1970-01-01 00:00:00.000000 UNKNOWN UNKNOWN 0004aabb;1970-01-01 00:01:40.250000 INST HS 01800001;|COSMOS2_TLM_d41d8cd98f00b204e9800998ecf8427e 184 000000000000000007554e4b4e4f574e07554e4b4e4f574e000000040004aabb000000640003d09004494e53540248530000000401800001 - 2";
+
+#[test]
+fn logs_are_dumped(rt: HostRuntime) -> Result<(), Fail> {
+    rows_hold::<Dumps>(rt.alloc(), LOGS)
+}
+
+// A log that is not there, and files that are no logs.
+const OTHERS: &str = "\
+dump x|||OPEN I|Absent absent: x;
+dump d|||OPEN I|LogRefused log refused at 0;
+dump c|||OPEN I|LogRefused log refused at 0;";
+
+#[test]
+fn other_files_are_no_logs(rt: HostRuntime) -> Result<(), Fail> {
+    commands_end_so(rt.alloc(), "$", OTHERS)
+}
