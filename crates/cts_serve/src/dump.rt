@@ -1,9 +1,7 @@
 // The lines of a log file.
-ghost use Rattle.std.specs.Prelude.{◌≡◌, ◌≤◌, [], length, Ok};
-ghost use Rattle.cts_log.specs.Reading.{HasRead};
+ghost use Rattle.std.specs.Prelude.{[]};
+ghost use Rattle.cts_log.specs.Reading.{HasRead, logged};
 ghost use Rattle.cts_serve.specs.Dump.{PutsEntry, PutsLines, PutsLog};
-ghost use Rattle.cts_serve.specs.Load.Judging.{log_limit};
-ghost use Rattle.cts_log.specs.Reading.{logged};
 
 pub mod halt;
 
