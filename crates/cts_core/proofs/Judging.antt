@@ -36,7 +36,7 @@ use Rattle.cts_table.specs.declared.basis.Basis.{Basis}
 use Rattle.cts_table.specs.declared.fault.NoRoute.{NoRoute}
 use Rattle.cts_table.specs.declared.fault.NoRoute.TheVariants.{NoInterface, NotConnected}
 use Rattle.serde_json.specs.Data.{Data}
-use Rattle.cts_core.specs.Environments.{Undefined, basis_of, environment_with}
+use Rattle.cts_core.specs.Environments.{basis_of, site_environment}
 use Rattle.cts_core.specs.Kept.{is_within}
 use Rattle.cts_core.specs.Runs.{Did, Does, Runs, after}
 use Rattle.cts_core.specs.Sendings.{AsksFor, CommandsAreJudged, IsJudged, IsJudgedEvent, IsJudgedOrder, IsRefused, command_entry}
@@ -181,27 +181,27 @@ module _ (site : SiteData) (s : State) (desk : ℕ) (body : List ℕ) (did : Did
             entries ∙ ap (λ (z : Answer). z.entries) told;
       }
 
-pub event_judged : (u : Undefined) (site : SiteData) (s : State) (event : Event) (did : Did) → Does (environment_with u site) s event did → IsJudgedEvent site s event did
-event_judged u site s (SetTime time) did d = tt
-event_judged u site s (Opens by) did d = tt
-event_judged u site s (Piece by piece) did d = tt
-event_judged u site s (Finish by why) did d = tt
-event_judged u site s (Write by count) did d = tt
-event_judged u site s (Call desk body) did d = order_judged site s desk body did d.answer d.appends d.answered
-event_judged u site s (DrainLog count) did d = tt
-event_judged u site s (DrainSlot by count) did d = tt
-event_judged u site s Stop did d = tt
+pub event_judged : (site : SiteData) (s : State) (event : Event) (did : Did) → Does (site_environment site) s event did → IsJudgedEvent site s event did
+event_judged site s (SetTime time) did d = tt
+event_judged site s (Opens by) did d = tt
+event_judged site s (Piece by piece) did d = tt
+event_judged site s (Finish by why) did d = tt
+event_judged site s (Write by count) did d = tt
+event_judged site s (Call desk body) did d = order_judged site s desk body did d.answer d.appends d.answered
+event_judged site s (DrainLog count) did d = tt
+event_judged site s (DrainSlot by count) did d = tt
+event_judged site s Stop did d = tt
 
 pub run_judged : CommandsAreJudged
-run_judged u site s [] dids ending h = tt
-run_judged u site s (event ∷ events) [] ending h = tt
-run_judged u site s (event ∷ events) (did ∷ dids) ending (inl h) = absurd (let none = h.0 in cc)
-run_judged u site s (event ∷ events) (did ∷ dids) ending (inr h) =
+run_judged site s [] dids ending h = tt
+run_judged site s (event ∷ events) [] ending h = tt
+run_judged site s (event ∷ events) (did ∷ dids) ending (inl h) = absurd (let none = h.0 in cc)
+run_judged site s (event ∷ events) (did ∷ dids) ending (inr h) =
     let head : did ≡ h.0 = ap (first_or did) h.2 in
     let tail : dids ≡ h.1 = ap rest_of h.2 in
-    let d : Does (environment_with u site) s event did = subst (Does (environment_with u site) s event) (sym head) h.3 in
-    let more = subst (λ (x : Did). Runs (environment_with u site) (after s event x) events h.1 ending) (sym head) h.4 in
-    (event_judged u site s event did d, run_judged u site (after s event did) events dids ending (subst (λ (l : List Did). Runs (environment_with u site) (after s event did) events l ending) (sym tail) more))
+    let d : Does (site_environment site) s event did = subst (Does (site_environment site) s event) (sym head) h.3 in
+    let more = subst (λ (x : Did). Runs (site_environment site) (after s event x) events h.1 ending) (sym head) h.4 in
+    (event_judged site s event did d, run_judged site (after s event did) events dids ending (subst (λ (l : List Did). Runs (site_environment site) (after s event did) events l ending) (sym tail) more))
   where
     first_or : Did → List Did → Did
     first_or d [] = d

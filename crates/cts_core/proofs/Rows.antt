@@ -12,6 +12,7 @@ use Rattle.cts_entry.specs.declared.what.NotSent.TheVariants.{Unknown as Unknown
 use Rattle.cts_entry.specs.declared.why.Why.TheVariants.{PeerEnded}
 use Rattle.cts_entry.specs.declared.event.Event.TheVariants.{Write, DrainSlot}
 use Rattle.cts_frame.specs.Framing.{Heading, plain}
+use Rattle.cts_log.specs.Logged.{laid_out}
 use Rattle.cts_told.specs.Routing.{said_of}
 use Rattle.cts_core.specs.States.{Environment, State, is_enabled, put_next, unsent, packets_log, commands_log}
 
@@ -46,7 +47,7 @@ site = record {
   is_slot = λ by. by == 16 || by == 17;
   is_desk = λ desk. desk == 0;
   is_logged = λ interface. true;
-  layout = framed;
+  layout = laid_out;
   answers = λ history desk time body a. a ≡ record { response = None; entries = [] };
   most_entries = 100;
   most_bytes = 1000;
@@ -139,11 +140,12 @@ one_ahead = refl
 
 -- the logs without their heads of 128 bytes
 logged_packets : length (packets_log site demo) ≡ 71
-unfolding site demo made noon ten framed four telemetry_names
+unfolding site demo made noon ten telemetry_names
 logged_packets = refl
 
-logged_commands : length (commands_log site demo) ≡ 28
-unfolding site demo made noon ten framed four telemetry_names
+logged_commands : commands_log site demo
+    ≡ 0 ∷ 0 ∷ 0 ∷ 100 ∷ 0 ∷ 3 ∷ 208 ∷ 144 ∷ 4 ∷ 73 ∷ 78 ∷ 83 ∷ 84 ∷ 7 ∷ 67 ∷ 79 ∷ 76 ∷ 76 ∷ 69 ∷ 67 ∷ 84 ∷ 0 ∷ 0 ∷ 0 ∷ 3 ∷ 7 ∷ 0 ∷ 10 ∷ []
+unfolding site demo made noon ten telemetry_names
 logged_commands = refl
 
 -- what becomes of a slot's packet

@@ -10,21 +10,21 @@ use Rattle.cts_def.specs.Makers.{first_desk, first_slot, router_of, server}
 use Rattle.cts_def.specs.Sites.{IsSoundSite, SiteData}
 use Rattle.cts_entry.specs.Workers.{is_desk}
 use Rattle.cts_frame.proofs.Sound.{chains_are_sound}
-use Rattle.cts_core.specs.Environments.{Undefined, basis_of, environment_with}
+use Rattle.cts_core.specs.Environments.{basis_of, site_environment}
 use Rattle.cts_core.specs.Laws.{AreApart, IsAnsweredByDesks, IsAnsweredLegally, IsSoundEnvironment}
 use Rattle.cts_core.specs.States.{is_line}
 use Rattle.cts_core.proofs.Building.{and_false}
 use Rattle.cts_core.proofs.Legality.{none_ended}
 
-pub site_sound : (u : Undefined) (site : SiteData) → IsSoundEnvironment (environment_with u site)
-site_sound u site = record {
+pub site_sound : (site : SiteData) → IsSoundEnvironment (site_environment site)
+site_sound site = record {
   chains = λ by. chains_are_sound site by;
   some_answer = λ history desk now body. some_reply (point_of (basis_of site) history) (first_desk + desk) now body;
   one_answer = λ history desk now body a b x y. reply_one (point_of (basis_of site) history) (first_desk + desk) now body a b x y;
 }
 
-pub by_desks : (u : Undefined) (site : SiteData) → IsAnsweredByDesks (environment_with u site)
-by_desks u site = λ history desk now body a is. (of_their_desk (point_of (basis_of site) history) (first_desk + desk) now body a is).0
+pub by_desks : (site : SiteData) → IsAnsweredByDesks (site_environment site)
+by_desks site = λ history desk now body a is. (of_their_desk (point_of (basis_of site) history) (first_desk + desk) now body a is).0
 
 -- a desk is the maker of its number
 desk_is : (site : SiteData) (desk : ℕ) → nat_lt desk site.desks ≡ true → is_desk site (first_desk + desk) ≡ true
@@ -33,8 +33,8 @@ desk_is site desk there =
     let high : nat_le first_desk (first_desk + desk) ≡ true = grind (arith, nat_tests) in
     ap (λ (b : Bool). b && nat_lt (first_desk + desk - first_desk) site.desks) high ∙ (ap (λ (n : ℕ). nat_lt n site.desks) at ∙ there)
 
-pub legally : (u : Undefined) (site : SiteData) → IsAnsweredLegally (environment_with u site)
-legally u site = record {
+pub legally : (site : SiteData) → IsAnsweredLegally (site_environment site)
+legally site = record {
   legal = λ history desk now body a there last is legal. replies_are_legal (basis_of site) history (first_desk + desk) now body a (desk_is site desk there) (none_ended (first_desk + desk) history last) legal is;
   none_ended = λ history desk now body a is. (of_their_desk (point_of (basis_of site) history) (first_desk + desk) now body a is).1;
 }
@@ -49,14 +49,14 @@ neither true b x y = x
 neither false b x y = y
 
 -- a number behind those of slots is that of no line
-no_line : (u : Undefined) (site : SiteData) (by : ℕ) → IsSoundSite site → first_desk ≤ by → is_line (environment_with u site) by ≡ false
-no_line u site by sound high =
+no_line : (site : SiteData) (by : ℕ) → IsSoundSite site → first_desk ≤ by → is_line (site_environment site) by ≡ false
+no_line site by sound high =
     neither (nat_le first_slot by && nat_lt (router_of by) (length site.routers)) (nat_lt by (length site.interfaces))
     (and_false (nat_le first_slot by) (nat_lt (router_of by) (length site.routers)) (not_below (router_of by) (length site.routers) (omega (arith, high, sound.few_routers))))
     (not_below by (length site.interfaces) (omega (arith, high, sound.few_interfaces)))
 
-pub apart : (u : Undefined) (site : SiteData) → IsSoundSite site → AreApart (environment_with u site)
-apart u site sound = record {
-  server = no_line u site server sound (omega arith);
-  desks = λ desk there. no_line u site (first_desk + desk) sound (omega arith);
+pub apart : (site : SiteData) → IsSoundSite site → AreApart (site_environment site)
+apart site sound = record {
+  server = no_line site server sound (omega arith);
+  desks = λ desk there. no_line site (first_desk + desk) sound (omega arith);
 }

@@ -1,5 +1,5 @@
 -- What a site gives to events: the environment in which they are done.
-use Rattle.std.specs.Prelude.{◌+◌, ℕ, false, Bool, ◌==◌, ◌&&◌, nat_lt, List, [], filter, map, slice_index_or, Option, Some, None, if◌then◌else◌}
+use Rattle.std.specs.Prelude.{◌+◌, ℕ, false, Bool, ◌==◌, ◌&&◌, nat_lt, List, filter, map, slice_index_or, Option, Some, None, if◌then◌else◌}
 use Rattle.std.specs.List.{list_any}
 use Rattle.cts_chain.specs.Builds.{use_specs, writes}
 use Rattle.cts_chain.specs.Writing.{chain_spelling}
@@ -20,6 +20,7 @@ use Rattle.cts_entry.specs.Workers.{is_interface, is_slot, interface_of}
 use Rattle.cts_ident.specs.Identification.{identified, identified_command, named, routes_at}
 use Rattle.cts_frame.specs.Chains.{framings_at, uses_at}
 use Rattle.cts_frame.specs.Framing.{Heading, Output}
+use Rattle.cts_log.specs.Logged.{laid_out}
 use Rattle.cts_script.specs.Names.{packet_names as names_of_packet, command_names}
 
 -- ---- makers
@@ -71,10 +72,6 @@ spelling_at site by heading bytes = chain_spelling (writers_at site by) heading 
 
 -- ---- the environment
 
--- what is not defined yet: the layout in logs
-pub record Undefined : Type 0 where
-  pub layout : Heading → List ℕ → List ℕ
-
 -- the limits of a server's history
 abbrev pub basis_of : SiteData → Basis
 basis_of site = record { site = site; entries = entries_limit; bytes = bytes_limit }
@@ -83,9 +80,9 @@ basis_of site = record { site = site; entries = entries_limit; bytes = bytes_lim
 abbrev pub IsAnswerOf : SiteData → List Entry → ℕ → Time → List ℕ → Answer → Type 0
 IsAnswerOf site history desk now body a = IsReply (point_of (basis_of site) history) (first_desk + desk) now body a
 
--- The environment that a site gives, with these in their places.
-abbrev pub environment_with : Undefined → SiteData → Environment
-environment_with u site = record {
+-- The environment that a site gives.
+abbrev pub site_environment : SiteData → Environment
+site_environment site = record {
   routing = record {
     is_interface = is_interface site;
     chain = framings_at site;
@@ -99,15 +96,8 @@ environment_with u site = record {
   is_slot = is_slot site;
   is_desk = is_desk site;
   is_logged = is_logged site;
-  layout = u.layout;
+  layout = laid_out;
   answers = IsAnswerOf site;
   most_entries = entries_limit;
   most_bytes = bytes_limit;
 }
-
--- A stand-in: nothing is laid out. No event that is built asks for it.
-abbrev pub stand_ins : Undefined
-stand_ins = record { layout = λ heading bytes. [] }
-
-abbrev pub site_environment : SiteData → Environment
-site_environment site = environment_with stand_ins site

@@ -13,7 +13,7 @@ use Rattle.cts_told.specs.Routing.{queue, walk}
 use Rattle.cts_api.specs.Replies.{Reply as Answer}
 use Rattle.cts_core.specs.States.{Environment, State, is_line, opening, ahead, unsent, packets_log, commands_log}
 use Rattle.cts_core.specs.Runs.{Did, Ending, Runs}
-use Rattle.cts_core.specs.Environments.{Undefined, environment_with}
+use Rattle.cts_core.specs.Environments.{site_environment}
 use Rattle.cts_core.specs.Logs.{drained_by, packets_logged, commands_logged}
 use Rattle.cts_core.specs.Cursors.{IsPassed}
 use Rattle.cts_core.specs.Told.{Told, told, history_of}
@@ -80,10 +80,10 @@ abbrev pub CursorIsPlace : Environment → Type 0
 CursorIsPlace env = (s : State) (by place count : ℕ) → IsPassed env s by place count
     → (ahead env s by ≡ walk env.routing by (drop place s.history)) × (unsent env s by ≡ capped (count + length (queue env.routing by (drop place s.history))))
 
--- Sites keep a law, whatever stands for what is not defined yet.
+-- Sites keep a law.
 abbrev pub OfSites : (Environment → Type 0) → Type 0
-OfSites Law = (u : Undefined) (site : SiteData) → Law (environment_with u site)
+OfSites Law = (site : SiteData) → Law (site_environment site)
 
 -- The numbers of a site's makers are apart, since it has at most sixteen interfaces and four routers.
 abbrev pub SitesAreApart : Type 0
-SitesAreApart = (u : Undefined) (site : SiteData) → IsSoundSite site → AreApart (environment_with u site)
+SitesAreApart = (site : SiteData) → IsSoundSite site → AreApart (site_environment site)

@@ -21,7 +21,7 @@ use Rattle.cts_table.specs.Routes.{route_of}
 use Rattle.cts_table.specs.declared.basis.Basis.{Basis}
 use Rattle.cts_table.specs.declared.fault.NoRoute.{NoRoute}
 use Rattle.serde_json.specs.Data.{Data, Items}
-use Rattle.cts_core.specs.Environments.{Undefined, basis_of, environment_with}
+use Rattle.cts_core.specs.Environments.{basis_of, site_environment}
 use Rattle.cts_core.specs.Kept.{is_within}
 use Rattle.cts_core.specs.Runs.{Did, Ending, Runs, after}
 use Rattle.cts_core.specs.States.{State}
@@ -97,4 +97,4 @@ AreJudged site s (event ∷ events) (did ∷ dids) = IsJudgedEvent site s event 
 -- In every run a command is refused exactly where its text asks for none, a check fails, its target has no interface, that interface
 -- is not connected, or the history is full.
 abbrev pub CommandsAreJudged : Type 0
-CommandsAreJudged = (u : Undefined) (site : SiteData) (s : State) (events : List Event) (dids : List Did) (ending : Ending) → Runs (environment_with u site) s events dids ending → AreJudged site s events dids
+CommandsAreJudged = (site : SiteData) (s : State) (events : List Event) (dids : List Did) (ending : Ending) → Runs (site_environment site) s events dids ending → AreJudged site s events dids

@@ -11,6 +11,7 @@ use Rattle.cts_def.specs.Sites.{SiteData}
 use Rattle.cts_core.specs.States.{opening}
 use Rattle.cts_core.proofs.Judging.{run_judged}
 use Rattle.cts_core.proofs.OneRun.{has_run}
+use Rattle.cts_core.proofs.SiteSound.{site_sound}
 use Rattle.cts_outside.specs.Causes.{Rose, Steady}
 use Rattle.cts_outside.specs.Seen.{SinkSeen}
 use Rattle.cts_outside.proofs.Putting.{appended-nil}
@@ -19,7 +20,7 @@ use Rattle.cts_proto.specs.Stock.{stocked}
 use Rattle.cts_serve.specs.Command.{Outcome, fine, refusal, refusal_of, shelf_refusal, script_refusal, HasBoxes, first_refusal, replayed, replay_outcome, check_outcome, IsReplay, IsDone, IsOutcome, PutsFor, Answers, Completes}
 use Rattle.cts_serve.specs.Ending.{Ends, EndsCheck, EndsReplay, refused_as, usage_ending, memory_ending, unloaded_ending, unmade_ending}
 use Rattle.cts_serve.specs.Ending.Lines.{usage_line, memory_line, counts_line}
-use Rattle.cts_core.specs.Environments.{site_environment, stand_ins}
+use Rattle.cts_core.specs.Environments.{site_environment}
 use Rattle.cts_serve.specs.Load.{IsNext, FailsToLoad, LoadsSite, unloaded, name_of, site_asked, events_asked}
 use Rattle.cts_serve.specs.Load.Fetching.{Takes}
 use Rattle.cts_serve.specs.Load.Judging.{judge_script, events_in}
@@ -40,7 +41,6 @@ use Rattle.cts_serve.specs.declared.putting.Unput.TheVariants as unput
 use Rattle.cts_serve.specs.declared.replay.halt.Halt.{Halt}
 use Rattle.cts_serve.specs.declared.replay.halt.Halt.TheVariants as halt
 use Rattle.cts_serve.proofs.EndingLemmas.{printed_then}
-use Rattle.cts_serve.proofs.ReplayLemmas.{site_sound}
 
 module _ (stock : List Meaning) where
   -- ---- there is an outcome, whatever the files hold
@@ -48,7 +48,7 @@ module _ (stock : List Meaning) where
   replay_of : (site : SiteData) (script : List ℕ) (events : List (ℕ × Event)) → (o : Outcome) × IsReplay site script events o
   replay_of site script events =
       let run = has_run (site_environment site) (site_sound site) opening (events_of events) in
-      (replay_outcome site script events run.0 run.1, record { dids = run.0; ending = run.1; runs = run.2; commands = run_judged stand_ins site opening (events_of events) run.0 run.1 run.2; outcome = refl })
+      (replay_outcome site script events run.0 run.1, record { dids = run.0; ending = run.1; runs = run.2; commands = run_judged site opening (events_of events) run.0 run.1 run.2; outcome = refl })
 
   done_of : (files : List ℕ → Option (List ℕ)) (r : RequestData) (script : Option (List ℕ)) → (o : Outcome) × IsDone files r script o
   done_of files r None = (check_outcome (site_asked files r), refl)
@@ -252,7 +252,7 @@ module _ (stock : List Meaning) where
       let o = replay_outcome site script events done.dids done.ending in
       record {
         outcome = o;
-        is = replay_is all r site script events o asked boxes s t (record { dids = done.dids; ending = done.ending; runs = done.runs; commands = run_judged stand_ins site opening (events_of events) done.dids done.ending done.runs; outcome = refl });
+        is = replay_is all r site script events o asked boxes s t (record { dids = done.dids; ending = done.ending; runs = done.runs; commands = run_judged site opening (events_of events) done.dids done.ending done.runs; outcome = refl });
         puts = replay_puts all (Some (Sited r)) script (replay_body site done.dids done.ending) (replay_answer events done.dids done.ending) answer status old mid new done.puts h;
       }
 

@@ -7,6 +7,7 @@ use Rattle.cts_entry.specs.declared.event.Event.{Event}
 use Rattle.cts_core.specs.States.{opening}
 use Rattle.cts_core.specs.Runs.{Did, Ending}
 use Rattle.cts_core.proofs.OneRun.{has_one_run}
+use Rattle.cts_core.proofs.SiteSound.{site_sound}
 use Rattle.cts_def.specs.Sites.{SiteData}
 use Rattle.cts_core.specs.Environments.{site_environment}
 use Rattle.std.specs.Prelude.{nat_lt}
@@ -30,7 +31,6 @@ use Rattle.cts_serve.specs.declared.replay.halt.Halt.TheVariants as halt
 use Rattle.cts_serve.specs.Request.{RequestData}
 use Rattle.cts_serve.specs.Request.Words.{AskedData, Sited, Dumped}
 use Rattle.cts_serve.specs.Laws.{HasOutcome, HasOneOutcome, IsShort, ShortExactly}
-use Rattle.cts_serve.proofs.ReplayLemmas.{site_sound}
 use Rattle.cts_serve.proofs.DumpingLemmas.{one_dumped, some_dumped}
 use Rattle.cts_serve.proofs.CommandLemmas.{some_outcome, third_is, refusal_is, next_refuses, has_boxes, shelf_short}
 

@@ -1,4 +1,3 @@
-pub mod Undefining
 pub mod ScriptLemmas
 pub mod LoadLemmas
 pub mod EndingLemmas

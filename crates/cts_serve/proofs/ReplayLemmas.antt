@@ -6,13 +6,12 @@ use Rattle.cts_entry.specs.declared.event.Event.{Event}
 use Rattle.cts_entry.specs.Histories.{entries_in, bytes_in}
 use Rattle.cts_core.specs.States.{State, opening}
 use Rattle.cts_core.specs.Runs.{Did, Does, after, Ending, Finished, NotEnabled, HistoryFull, Runs}
-use Rattle.cts_core.specs.Laws.{IsSoundEnvironment}
 use Rattle.cts_core.proofs.OneRun.{has_run}
-use Rattle.cts_core.proofs.SiteSound.{site_sound as environment_sound}
+use Rattle.cts_core.proofs.SiteSound.{site_sound}
 use Rattle.cts_outside.specs.Seen.{SinkSeen}
 use Rattle.cts_outside.proofs.Putting.{appended-nil, whole_then, part_first, part_then}
 use Rattle.cts_def.specs.Sites.{SiteData}
-use Rattle.cts_core.specs.Environments.{site_environment, stand_ins}
+use Rattle.cts_core.specs.Environments.{site_environment}
 use Rattle.cts_core.specs.Worlds.{Held, Represents}
 use Rattle.cts_serve.specs.Ending.Lines.{end_line}
 use Rattle.cts_serve.specs.Putting.{IsPut, FailsWithin}
@@ -64,9 +63,6 @@ goes_on site events rest x w new text p did d h = record {
   runs = λ dids ending r. subst (λ (t : List Did). Runs (site_environment site) opening (events_of events) t ending) (sym (append_assoc p.prior (did ∷ []) dids)) (p.runs (did ∷ dids) ending (inr (did, dids, refl, d, r)));
   lines = λ dids. ap (λ (t : List Did). next_line t events) (append_assoc p.prior (did ∷ []) dids) ∙ p.lines (did ∷ dids);
 }
-
-pub site_sound : (site : SiteData) → IsSoundEnvironment (site_environment site)
-site_sound site = environment_sound stand_ins site
 
 -- ---- what is put
 

@@ -1,12 +1,5 @@
--- Laws of outcomes, and of the runs on which they stand.
-use Rattle.std.specs.Prelude.{◌≡◌, ◌↔◌, ◌<◌, ◌⊎◌, ℕ, true, List, length, Option, Some, None}
-use Rattle.std.specs.List.{list_all}
-use Rattle.cts_core.specs.Runs.{Did, Ending, Runs}
-use Rattle.cts_core.specs.States.{opening}
-use Rattle.cts_def.specs.Sites.{SiteData}
-use Rattle.cts_entry.specs.declared.event.Event.{Event}
-use Rattle.cts_core.specs.Environments.{Undefined, environment_with}
-use Rattle.cts_core.specs.Built.{is_built_event, is_built_site}
+-- Laws of outcomes.
+use Rattle.std.specs.Prelude.{◌≡◌, ◌↔◌, ◌<◌, ◌⊎◌, ℕ, List, length, Option, Some, None}
 use Rattle.cts_def.specs.declared.proto_spec.Kind.{Kind}
 use Rattle.cts_log.specs.Logged.{Logged}
 use Rattle.cts_log.specs.Reading.{IsLogRead}
@@ -59,8 +52,3 @@ pub record IsBadLog (files : List ℕ → Option (List ℕ)) (asked : Option Ask
 -- the outcome has the status of a log that is refused exactly there
 abbrev pub RefusedExactly : Type 0
 RefusedExactly = (stock : List Meaning) (files : List ℕ → Option (List ℕ)) (r : Option AskedData) (o : Outcome) → IsOutcome stock files r o → (o.status ≡ LogRefused) ↔ IsBadLog files r
-
--- A run of built events on a built site is the same whatever stands for what is not defined yet.
-abbrev pub RestsOnNoStandIn : Type 0
-RestsOnNoStandIn = (u v : Undefined) (site : SiteData) (events : List Event) (dids : List Did) (ending : Ending) → is_built_site site ≡ true → list_all is_built_event events ≡ true
-    → Runs (environment_with u site) opening events dids ending → Runs (environment_with v site) opening events dids ending

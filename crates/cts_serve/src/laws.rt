@@ -1,5 +1,5 @@
 // Laws of the definitions. The function does nothing: its contract is the law.
-ghost use Rattle.cts_serve.specs.Laws.{HasOutcome, HasOneOutcome, RefusedExactly, RestsOnNoStandIn, ShortExactly};
+ghost use Rattle.cts_serve.specs.Laws.{HasOutcome, HasOneOutcome, RefusedExactly, ShortExactly};
 
 /// The words of a command, the boxes on the shelf and the content of the files decide one outcome: its status, and all that is
 /// printed. Its status is that of a shelf that is short exactly where all chains of the site need more boxes of a kind than the
@@ -10,9 +10,4 @@ pub fn outcomes()
     ensures one { HasOneOutcome }
     ensures short { ShortExactly }
     ensures refused { RefusedExactly }
-{}
-
-/// How logs are laid out is not defined yet. No run of the events that are built, on a site that is built, rests on it.
-pub fn stand_ins()
-    ensures { RestsOnNoStandIn }
 {}

@@ -14,4 +14,4 @@ mod start;
 
 pub use command::run;
 pub use ending::status::Status;
-pub use laws::{outcomes, stand_ins};
+pub use laws::outcomes;
