@@ -142,7 +142,7 @@ module _ {S E G : Type 0} (maker : E → ℕ) (list : S → List E) (basis : S �
       let y : S = home.0 in
       let same : list y ≡ r.whole = home.2 in
       let fit = r.fits id me.0 at in
-      let w : V = entered maker list basis me.0 (list y) in
+      let w : V = entered me.0 (list y) in
       let unbusy : (b : ℕ) → b ≡ r.busy → ¬ (b ≡ 1) = λ b e f. omega arith in (
         w,
         takes 0 (Some y),
@@ -336,5 +336,5 @@ module _ {S E G : Type 0} (maker : E → ℕ) (list : S → List E) (basis : S �
   pub slot_taken : (m n : M) → Entered maker list basis m n → (x : Option S) × (n.1 ≡ (0, x) ∷ rest n.1)
   slot_taken m n e = (Some e.state, e.slot ∙ ap (λ z. (0, Some e.state) ∷ rest z) (sym e.slot))
 
-  pub climbs_entered : (old v w : V) (xs : List E) → v ≡ entered maker list basis old xs → w ≡ v → climbs 0 old.found (length old.seen) ≡ true → StartsWith xs old.seen → climbs 0 w.found (length w.seen) ≡ true
+  pub climbs_entered : (old v w : V) (xs : List E) → v ≡ entered old xs → w ≡ v → climbs 0 old.found (length old.seen) ≡ true → StartsWith xs old.seen → climbs 0 w.found (length w.seen) ≡ true
   climbs_entered old v w xs e f up p = subst (λ (u : V). climbs 0 u.found (length u.seen) ≡ true) (sym (f ∙ e)) (climbs_on 0 old.found (length old.seen) (length xs) up (begins_shorter xs old.seen p))

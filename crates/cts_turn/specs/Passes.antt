@@ -4,7 +4,7 @@ use Rattle.atomic_table.specs.Table.{Me}
 use Rattle.cts_entry.specs.declared.entry.Entry.{Entry}
 use Rattle.cts_entry.specs.declared.stands.Stands.{Ghosts}
 use Rattle.cts_turn.specs.declared.rule.View.{View}
-use Rattle.cts_turn.specs.Lists.{has, climbs, longer, least, without}
+use Rattle.cts_turn.specs.Lists.{has, climbs, longer, least}
 use Rattle.cts_turn.specs.declared.turn.Turn.{Turn}
 use Rattle.cts_turn.specs.declared.turn.Pass.{Pass}
 use Rattle.cts_turn.specs.declared.turn.Held.{Held}
@@ -38,17 +38,11 @@ module _ {S G : Type 0} where
 
 -- the view after a step
 module _ {E G : Type 0} where
-  abbrev pub entered : View E G → List E → View E G
-  entered v xs = record v { holds = true; seen = xs; known = length xs; found = v.found ++ length xs ∷ [] }
-
   abbrev pub left : View E G → List E → View E G
   left v xs = record v { holds = false; seen = xs; known = length xs }
 
   abbrev pub shown : View E G → ℕ → View E G
   shown v n = record v { known = n }
-
-  abbrev pub rest_of : View E G → View E G
-  rest_of v = record v { makers = without (least v.makers) v.makers }
 
   abbrev pub least_of : View E G → View E G
   least_of v = record v { makers = least v.makers ∷ []; found = [] }

@@ -8,6 +8,11 @@ use Rattle.atomic_table.specs.Table.{State, Me, Step, rest}
 use Rattle.cts_turn.specs.declared.rule.View.{View}
 use Rattle.cts_turn.specs.Lists.{has, StartsWith, of, least, without, longer, shorter, shorter_makers}
 
+module _ {E G : Type 0} where
+  -- the view once the seat has the turn, and has found this list
+  abbrev pub entered : View E G → List E → View E G
+  entered v xs = record v { holds = true; seen = xs; known = length xs; found = v.found ++ length xs ∷ [] }
+
 module _ {S E G : Type 0} (maker : E → ℕ) (list : S → List E) (basis : S → G) where
   -- a view beside the list that stands
   pub record Fits (g : G) (whole : List E) (busy : ℕ) (v : View E G) : Type 0 where
@@ -44,9 +49,6 @@ module _ {S E G : Type 0} (maker : E → ℕ) (list : S → List E) (basis : S �
     pub manned : (m : ℕ) → m < 32 → (i : ℕ) × (v : View E G) × (get_elem? s.views i ≡ some v) × (has m v.makers ≡ true)
 
   -- the seat took the slot, with the state y
-  abbrev pub entered : View E G → List E → View E G
-  entered v xs = record v { holds = true; seen = xs; known = length xs; found = v.found ++ length xs ∷ [] }
-
   pub record Entered (m : Me (Option S) (View E G)) (n : Me (Option S) (View E G)) : Type 0 where
     pub state : S
     pub slot : n.1 ≡ (0, Some state) ∷ m.1

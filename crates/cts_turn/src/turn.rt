@@ -44,7 +44,8 @@ pub struct Held<S: Stands> {
 }
 
 impl<S: Stands> Turn<S> {
-    ghost use Rattle.cts_turn.specs.Passes.{IsPassOf, IsHeldOf, view, held_view, basis_of, entered, left, shown, rest_of, least_of, joined, HasAll};
+    ghost use Rattle.cts_turn.specs.Passes.{IsPassOf, IsHeldOf, view, held_view, basis_of, left, shown, least_of, joined, HasAll};
+    ghost use Rattle.cts_turn.specs.Rule.{entered, rest_of};
 
     /// A turn round this state, and a pass with all makers, 0 to 31, that has seen the entries that stand. `Memory`
     /// where none was found for the words and the slot; the state is dropped then.

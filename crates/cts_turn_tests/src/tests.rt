@@ -7,7 +7,7 @@ use cts_entry::{Entry, Stands, What};
 use cts_plan::read_site;
 use cts_rows::lines;
 use cts_table::Hall;
-use cts_turn::Turn;
+use cts_turn::{Turn, close_all, hand_out};
 use cts_words::{Statement, statements};
 use std::alloc::Global;
 use std::sync::Arc;
@@ -97,6 +97,17 @@ fn a_hold_stops_no_front(rt: HostRuntime) -> Result<(), Fail> {
     let mine = turn.leave(held);
     let written = close_two(turn, rest, mine, other);
     assert!(rt; during == 2 && written.count() == 2);
+    Ok(())
+}
+
+#[test]
+fn passes_are_handed_out_and_taken_back(rt: HostRuntime) -> Result<(), Fail> {
+    let alloc = rt.alloc();
+    let (turn, mut rest) = Turn::new(alloc, two_opened(alloc)?)?;
+    let passes = hand_out(alloc, &turn, &mut rest, 3)?;
+    let handed = passes.len();
+    let written = close_all(turn, rest, passes);
+    assert!(rt; handed == 3 && written.count() == 2);
     Ok(())
 }
 
