@@ -11,8 +11,8 @@ use Rattle.cts_core.proofs.SiteSound.{site_sound}
 use Rattle.cts_def.specs.Sites.{SiteData}
 use Rattle.cts_core.specs.Environments.{site_environment}
 use Rattle.std.specs.Prelude.{nat_lt}
-use Rattle.cts_serve.specs.Command.{Outcome, refusal, dumped, IsDumpBy, IsDumped, first_refusal, script_refusal, HasBoxes, replayed, replay_outcome, check_outcome, IsReplay, IsDone, IsOutcome, Answers, Completes}
-use Rattle.cts_serve.specs.Ending.{usage_ending, unfetched_ending, refused_as, unloaded_status, unloaded_ending, unmade_ending}
+use Rattle.cts_serve.specs.Command.{Outcome, refusal, dumped, IsDumpBy, IsDumped, first_refusal, script_refusal, HasBoxes, replay_outcome, check_outcome, IsReplay, IsDone, IsOutcome, Answers, Completes}
+use Rattle.cts_serve.specs.Ending.{usage_ending, unfetched_ending, unloaded_ending, unmade_ending}
 use Rattle.cts_serve.specs.Load.{IsNext, site_asked, events_asked, unloaded}
 use Rattle.cts_serve.specs.Load.Judging.{log_limit}
 use Rattle.cts_serve.specs.Replay.Transcript.{events_of, replay_body, replay_answer}
@@ -25,11 +25,9 @@ use Rattle.cts_serve.specs.declared.load.fetch.FetchFault.TheVariants as fetch
 use Rattle.cts_serve.specs.declared.load.file_kind.FileKind.{FileKind}
 use Rattle.cts_serve.specs.declared.load.file_kind.FileKind.TheVariants.{Definitions, Site, Script}
 use Rattle.cts_serve.specs.declared.load.unloaded.Unloaded.{Unloaded}
-use Rattle.cts_serve.specs.declared.load.unloaded.Unloaded.TheVariants.{Absent, ReadFault, TooLarge, Refused, NotBuilt, Memory}
-use Rattle.cts_serve.specs.declared.replay.halt.Halt.{Halt}
-use Rattle.cts_serve.specs.declared.replay.halt.Halt.TheVariants as halt
 use Rattle.cts_serve.specs.Request.{RequestData}
 use Rattle.cts_serve.specs.Request.Words.{AskedData, Sited, Dumped}
+use Rattle.cts_serve.proofs.OtherStatuses.{shelf_is_other, unloaded_other, replayed_other, status_in}
 use Rattle.cts_serve.specs.Laws.{HasOutcome, HasOneOutcome, IsShort, ShortExactly}
 use Rattle.cts_serve.proofs.DumpingLemmas.{one_dumped, some_dumped}
 use Rattle.cts_serve.proofs.CommandLemmas.{some_outcome, third_is, refusal_is, next_refuses, has_boxes, shelf_short}
@@ -68,44 +66,20 @@ refused_is refused files r o x e h = subst (λ (t : Option Outcome). MatchOption
 done_is : (refused : Option Outcome) (files : List ℕ → Option (List ℕ)) (r : RequestData) (o : Outcome) → refused ≡ None → MatchOption refused (IsDone files r r.script o) (λ y. o ≡ y) → IsDone files r r.script o
 done_is refused files r o e h = subst (λ (t : Option Outcome). MatchOption t (IsDone files r r.script o) (λ y. o ≡ y)) e h
 
--- the statuses of all else
-refused_other : (kind : FileKind) → refused_as kind ≢ is.ShelfEmpty
-refused_other Definitions = λ e. absurd (cc)
-refused_other Site = λ e. absurd (cc)
-refused_other Script = λ e. absurd (cc)
-
-unloaded_other : (kind : FileKind) (why : Unloaded) → unloaded_status kind why ≢ is.ShelfEmpty
-unloaded_other kind Absent = λ e. absurd (cc)
-unloaded_other kind ReadFault = λ e. absurd (cc)
-unloaded_other kind TooLarge = refused_other kind
-unloaded_other kind (Refused line cause) = refused_other kind
-unloaded_other kind NotBuilt = λ e. absurd (cc)
-unloaded_other kind Memory = λ e. absurd (cc)
-
-replayed_other : (script body : List ℕ) (answer : Result (Unit {0}) Halt) → (replayed script body answer).status ≢ is.ShelfEmpty
-replayed_other script body (Ok done) = λ e. absurd (cc)
-replayed_other script body (Err (halt.NotEnabled line)) = λ e. absurd (cc)
-replayed_other script body (Err (halt.HistoryFull entries bytes)) = λ e. absurd (cc)
-replayed_other script body (Err halt.WriteFault) = λ e. absurd (cc)
-replayed_other script body (Err halt.Memory) = λ e. absurd (cc)
-
-status_in : (o x : Outcome) → o ≡ x → o.status ≡ is.ShelfEmpty → x.status ≡ is.ShelfEmpty
-status_in o x e h = sym (ap (λ (t : Outcome). t.status) e) ∙ h
-
 module _ (stock : List Meaning) (files : List ℕ → Option (List ℕ)) (r : RequestData) (o : Outcome) (is_so : IsOutcome stock files (Some (Sited r)) o) (told : o.status ≡ is.ShelfEmpty) where
   -- a file that gives nothing has another status
   not_refused : (kind : FileKind) (name : List ℕ) (why : Unloaded) → IsNext files r kind name → HasBoxes stock files r kind → unloaded files r kind name ≡ Some why → ⊥
   not_refused kind name why next boxes e =
       let so = refused_is (first_refusal stock files r) files r o (refusal (unloaded_ending name kind why)) (next_refuses stock files r kind name why next boxes e) is_so in
-      unloaded_other kind why (status_in o (refusal (unloaded_ending name kind why)) so told)
+      unloaded_other is.ShelfEmpty shelf_is_other kind why (status_in is.ShelfEmpty o (refusal (unloaded_ending name kind why)) so told)
 
   not_replayed : (script : List ℕ) → IsReplay (site_asked files r) script (events_asked files r script) o → ⊥
   not_replayed script h =
-      replayed_other script (replay_body (site_asked files r) h.dids h.ending) (replay_answer (events_asked files r script) h.dids h.ending)
-      (status_in o (replay_outcome (site_asked files r) script (events_asked files r script) h.dids h.ending) h.outcome told)
+      replayed_other is.ShelfEmpty shelf_is_other script (replay_body (site_asked files r) h.dids h.ending) (replay_answer (events_asked files r script) h.dids h.ending)
+      (status_in is.ShelfEmpty o (replay_outcome (site_asked files r) script (events_asked files r script) h.dids h.ending) h.outcome told)
 
   not_checked : o ≡ check_outcome (site_asked files r) → ⊥
-  not_checked h = absurd (cc (status_in o (check_outcome (site_asked files r)) h told))
+  not_checked h = absurd (cc (status_in is.ShelfEmpty o (check_outcome (site_asked files r)) h told))
 
   by_text : (script : List ℕ) (u : Option Unloaded) → unloaded files r Script script ≡ u → unloaded files r Definitions r.definitions ≡ None → unloaded files r Site r.site ≡ None → r.script ≡ Some script → short_kind stock (site_asked files r) ≡ None → ⊥
   by_text script (Some why) u d s q k = not_refused Script script why (d, s, q) k u
@@ -151,11 +125,11 @@ answered_other body (Err dump.WriteFault) = λ e. absurd (cc)
 answered_other body (Err dump.Memory) = λ e. absurd (cc)
 
 dumped_by_size : (log file : List ℕ) (large : Bool) (o : Outcome) → IsDumpBy log file large o → o.status ≢ is.ShelfEmpty
-dumped_by_size log file true o h = λ e. absurd (cc (status_in o (refusal (unfetched_ending log fetch.TooLarge)) h e))
-dumped_by_size log file false o h = λ e. answered_other h.body h.due (status_in o (dumped h.body h.due) h.outcome e)
+dumped_by_size log file true o h = λ e. absurd (cc (status_in is.ShelfEmpty o (refusal (unfetched_ending log fetch.TooLarge)) h e))
+dumped_by_size log file false o h = λ e. answered_other h.body h.due (status_in is.ShelfEmpty o (dumped h.body h.due) h.outcome e)
 
 dumped_other : (log : List ℕ) (file : Option (List ℕ)) (o : Outcome) → IsDumped log file o → o.status ≢ is.ShelfEmpty
-dumped_other log None o h = λ e. absurd (cc (status_in o (refusal (unfetched_ending log fetch.Absent)) h e))
+dumped_other log None o h = λ e. absurd (cc (status_in is.ShelfEmpty o (refusal (unfetched_ending log fetch.Absent)) h e))
 dumped_other log (Some file) o h = dumped_by_size log file (nat_lt log_limit (length file)) o h
 
 no_site_asked : (log : List ℕ) (r : RequestData) → Some (Dumped log) ≡ Some (Sited r) → ⊥

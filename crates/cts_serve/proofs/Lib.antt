@@ -7,6 +7,7 @@ pub mod MomentLemmas
 pub mod DumpLemmas
 pub mod CommandLemmas
 pub mod DumpingLemmas
+pub mod OtherStatuses
 pub mod LawLemmas
 pub mod FollowingLemmas
 pub mod RefusedLogLemmas

@@ -1,5 +1,5 @@
 -- Where the status of a log that is refused comes from.
-use Rattle.std.proofs.Common.{◌≡◌, ◌≢◌, ℕ, ◌<◌, Bool, true, false, nat_eq, List, length, Option, Some, None, option_map, option_and_then, IfSome, MatchOption, Result, Ok, Err, refl, sym, ◌∙◌, ap, subst, arith, ◌⊎◌, inl, inr}
+use Rattle.std.proofs.Common.{◌≡◌, ◌≢◌, ℕ, ◌<◌, Bool, true, false, nat_eq, List, length, Option, Some, None, option_map, option_and_then, IfSome, MatchOption, Result, Ok, refl, sym, ◌∙◌, ap, subst, arith, ◌⊎◌, inl, inr}
 use Rattle.std.specs.Prelude.{nat_lt}
 use Rattle.std.specs.Option.{option_or}
 use Rattle.std.proofs.lemmas.Bool.Decides.{nat_tests}
@@ -9,9 +9,10 @@ use Rattle.cts_log.proofs.ReadOnce.{logs_are_read_once, no_head_no_read}
 use Rattle.cts_log.specs.Reading.{IsLogRead}
 use Rattle.cts_outside.specs.Seen.{SinkSeen}
 use Rattle.cts_proto.specs.Meaning.{Meaning}
-use Rattle.cts_serve.specs.Command.{Outcome, refusal, refusal_of, shelf_refusal, script_refusal, first_refusal, dumped, replayed, check_outcome, replay_outcome, IsDone, IsDumpBy, IsDumped, IsOutcome, Answers, Completes}
+use Rattle.cts_serve.specs.Command.{Outcome, refusal, refusal_of, shelf_refusal, script_refusal, first_refusal, dumped, check_outcome, replay_outcome, IsDone, IsDumpBy, IsDumped, IsOutcome, Answers, Completes}
 use Rattle.cts_serve.specs.Dump.{IsDump, dump_answer}
-use Rattle.cts_serve.specs.Ending.{refused_as, unfetched_ending, unloaded_ending, unloaded_status, unmade_ending}
+use Rattle.cts_serve.specs.Ending.{unfetched_ending, unloaded_ending, unmade_ending}
+use Rattle.cts_serve.proofs.OtherStatuses.{log_is_other, unloaded_other, replayed_other, status_in}
 use Rattle.cts_serve.specs.Laws.{IsBadLog, IsWholeLog, RefusedExactly}
 use Rattle.cts_serve.specs.Load.{site_asked, events_asked, unloaded}
 use Rattle.cts_serve.specs.Load.Judging.{log_limit}
@@ -26,34 +27,8 @@ use Rattle.cts_serve.specs.declared.load.fetch.FetchFault.TheVariants as fetch
 use Rattle.cts_serve.specs.declared.load.file_kind.FileKind.{FileKind}
 use Rattle.cts_serve.specs.declared.load.file_kind.FileKind.TheVariants.{Definitions, Site, Script}
 use Rattle.cts_serve.specs.declared.load.unloaded.Unloaded.{Unloaded}
-use Rattle.cts_serve.specs.declared.load.unloaded.Unloaded.TheVariants.{Absent, ReadFault, TooLarge, Refused, NotBuilt, Memory}
-use Rattle.cts_serve.specs.declared.replay.halt.Halt.{Halt}
-use Rattle.cts_serve.specs.declared.replay.halt.Halt.TheVariants as halt
-
-status_in : (o x : Outcome) → o ≡ x → o.status ≡ is.LogRefused → x.status ≡ is.LogRefused
-status_in o x e h = sym (ap (λ (t : Outcome). t.status) e) ∙ h
 
 -- ---- no other command has it
-
-refused_other : (kind : FileKind) → refused_as kind ≢ is.LogRefused
-refused_other Definitions = λ e. absurd (cc)
-refused_other Site = λ e. absurd (cc)
-refused_other Script = λ e. absurd (cc)
-
-unloaded_other : (kind : FileKind) (why : Unloaded) → unloaded_status kind why ≢ is.LogRefused
-unloaded_other kind Absent = λ e. absurd (cc)
-unloaded_other kind ReadFault = λ e. absurd (cc)
-unloaded_other kind TooLarge = refused_other kind
-unloaded_other kind (Refused line cause) = refused_other kind
-unloaded_other kind NotBuilt = λ e. absurd (cc)
-unloaded_other kind Memory = λ e. absurd (cc)
-
-replayed_other : (script body : List ℕ) (answer : Result (Unit {0}) Halt) → (replayed script body answer).status ≢ is.LogRefused
-replayed_other script body (Ok done) = λ e. absurd (cc)
-replayed_other script body (Err (halt.NotEnabled line)) = λ e. absurd (cc)
-replayed_other script body (Err (halt.HistoryFull entries bytes)) = λ e. absurd (cc)
-replayed_other script body (Err halt.WriteFault) = λ e. absurd (cc)
-replayed_other script body (Err halt.Memory) = λ e. absurd (cc)
 
 -- an outcome that has another status, if there is one
 abbrev Other : Option Outcome → Type 0
@@ -66,7 +41,7 @@ other_or (Some o) b h k = h
 
 of_file : (kind : FileKind) (name : List ℕ) (why : Option Unloaded) → Other (option_map (λ w. refusal (unloaded_ending name kind w)) why)
 of_file kind name None = tt
-of_file kind name (Some why) = unloaded_other kind why
+of_file kind name (Some why) = unloaded_other is.LogRefused log_is_other kind why
 
 of_shelf : (stock : List Meaning) (site : SiteData) (kind : Option Kind) → Other (option_map (λ k. refusal (unmade_ending (short_fault stock site k))) kind)
 of_shelf stock site None = tt
@@ -83,14 +58,14 @@ module _ (stock : List Meaning) (files : List ℕ → Option (List ℕ)) (r : Re
       (other_or (refusal_of files r Site r.site) (option_and_then (script_refusal stock files r) r.script) (of_file Site r.site (unloaded files r Site r.site)) (of_script r.script))
 
   of_done : (script : Option (List ℕ)) (o : Outcome) → IsDone files r script o → o.status ≢ is.LogRefused
-  of_done None o h = λ e. absurd (cc (status_in o (check_outcome (site_asked files r)) h e))
+  of_done None o h = λ e. absurd (cc (status_in is.LogRefused o (check_outcome (site_asked files r)) h e))
   of_done (Some script) o h = λ e.
-      replayed_other script (replay_body (site_asked files r) h.dids h.ending) (replay_answer (events_asked files r script) h.dids h.ending)
-      (status_in o (replay_outcome (site_asked files r) script (events_asked files r script) h.dids h.ending) h.outcome e)
+      replayed_other is.LogRefused log_is_other script (replay_body (site_asked files r) h.dids h.ending) (replay_answer (events_asked files r script) h.dids h.ending)
+      (status_in is.LogRefused o (replay_outcome (site_asked files r) script (events_asked files r script) h.dids h.ending) h.outcome e)
 
   by_refusal : (refused : Option Outcome) (o : Outcome) → Other refused → MatchOption refused (IsDone files r r.script o) (λ x. o ≡ x) → o.status ≢ is.LogRefused
   by_refusal None o h k = of_done r.script o k
-  by_refusal (Some x) o h k = λ e. h (status_in o x k e)
+  by_refusal (Some x) o h k = λ e. h (status_in is.LogRefused o x k e)
 
   of_site : (o : Outcome) → IsOutcome stock files (Some (Sited r)) o → o.status ≢ is.LogRefused
   of_site o h = by_refusal (first_refusal stock files r) o of_first h
@@ -129,7 +104,7 @@ is_refused file body due (inr a) n = ap (λ (d : Result (Unit {0}) DumpHalt). (d
 
 bad_by_size : (log file : List ℕ) (large : Bool) (o : Outcome) → nat_lt log_limit (length file) ≡ large → IsDumpBy log file large o → o.status ≡ is.LogRefused → (log_limit < length file) ⊎ (IsWholeLog file → ⊥)
 bad_by_size log file true o e h told = inl (grind (arith, nat_tests))
-bad_by_size log file false o e h told = inr (never_whole file h.body h.due h.is (status_in o (dumped h.body h.due) h.outcome told))
+bad_by_size log file false o e h told = inr (never_whole file h.body h.due h.is (status_in is.LogRefused o (dumped h.body h.due) h.outcome told))
 
 not_large : (n : ℕ) → log_limit < n → nat_lt log_limit n ≡ false → ⊥
 not_large n l f = grind (arith, nat_tests)
@@ -140,7 +115,7 @@ told_by_size log file false o e h (inl large) = absurd (not_large (length file) 
 told_by_size log file false o e h (inr none) = ap (λ (t : Outcome). t.status) h.outcome ∙ is_refused file h.body h.due h.is none
 
 bad_log : (files : List ℕ → Option (List ℕ)) (log : List ℕ) (file : Option (List ℕ)) (o : Outcome) → files log ≡ file → IsDumped log file o → o.status ≡ is.LogRefused → IsBadLog files (Some (Dumped log))
-bad_log files log None o e h told = absurd (cc (status_in o (refusal (unfetched_ending log fetch.Absent)) h told))
+bad_log files log None o e h told = absurd (cc (status_in is.LogRefused o (refusal (unfetched_ending log fetch.Absent)) h told))
 bad_log files log (Some file) o e h told = record { log = log; asked_is = refl; file = file; file_is = e; bad = bad_by_size log file (nat_lt log_limit (length file)) o refl h told }
 
 same_log : (a b : List ℕ) → Some (Dumped a) ≡ Some (Dumped b) → a ≡ b
