@@ -1,4 +1,4 @@
-// What `bench/turn` takes the time of.
+// What `bench/turn` takes the time of: holds in which nothing is appended, and looks. So no entry stands after them.
 use crate::{
     Written, first_two, hold_by_four, hold_by_two, hold_many, look_beside, look_many, next_two,
 };
@@ -14,7 +14,9 @@ const BESIDE: u32 = 50_000;
 fn one_thread_holds(rt: HostRuntime) -> Result<(), Fail> {
     let alloc = rt.alloc();
     let (turn, pass) = Turn::new(alloc, Written::new(alloc, 9))?;
-    hold_many(&rt, &turn, pass, ALONE);
+    let mut pass = hold_many(&rt, &turn, pass, ALONE);
+    let stand = turn.front(&mut pass);
+    assert!(rt; stand == 0);
     Ok(())
 }
 
@@ -22,7 +24,9 @@ fn one_thread_holds(rt: HostRuntime) -> Result<(), Fail> {
 fn one_thread_looks(rt: HostRuntime) -> Result<(), Fail> {
     let alloc = rt.alloc();
     let (turn, pass) = Turn::new(alloc, Written::new(alloc, 9))?;
-    look_many(&turn, pass, ALONE);
+    let mut pass = look_many(&turn, pass, ALONE);
+    let stand = turn.front(&mut pass);
+    assert!(rt; stand == 0);
     Ok(())
 }
 
@@ -32,6 +36,8 @@ fn two_threads_hold(rt: HostRuntime) -> Result<(), Fail> {
     let (turn, mut rest) = Turn::new(alloc, Written::new(alloc, 9))?;
     let (first, second) = first_two(&turn, &mut rest);
     hold_by_two(&rt, &turn, first, second, BESIDE);
+    let stand = turn.front(&mut rest);
+    assert!(rt; stand == 0);
     Ok(())
 }
 
@@ -42,6 +48,8 @@ fn four_threads_hold(rt: HostRuntime) -> Result<(), Fail> {
     let ones = first_two(&turn, &mut rest);
     let others = next_two(&turn, &mut rest);
     hold_by_four(&rt, &turn, ones, others, BESIDE);
+    let stand = turn.front(&mut rest);
+    assert!(rt; stand == 0);
     Ok(())
 }
 
@@ -51,5 +59,7 @@ fn one_looks_beside_one_that_holds(rt: HostRuntime) -> Result<(), Fail> {
     let (turn, mut rest) = Turn::new(alloc, Written::new(alloc, 9))?;
     let (first, second) = first_two(&turn, &mut rest);
     look_beside(&rt, &turn, first, second, BESIDE);
+    let stand = turn.front(&mut rest);
+    assert!(rt; stand == 0);
     Ok(())
 }
