@@ -21,7 +21,7 @@ use Rattle.cts_ident.specs.Identification.{identified, identified_command, named
 use Rattle.cts_frame.specs.Chains.{framings_at, uses_at}
 use Rattle.cts_frame.specs.Framing.{Heading, Output}
 use Rattle.cts_log.specs.Logged.{laid_out}
-use Rattle.cts_script.specs.Names.{packet_names as names_of_packet, command_names}
+use Rattle.cts_def.specs.Names.{packet_names as names_of_packet, command_names}
 
 -- ---- makers
 

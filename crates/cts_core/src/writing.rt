@@ -5,7 +5,7 @@ ghost use Rattle.cts_chain.specs.Writing.{chain_spelling};
 ghost use Rattle.cts_entry.specs.declared.entry.Entry.{Entry as EntryData};
 ghost use Rattle.cts_entry.specs.declared.what.What.TheVariants.{Command};
 ghost use Rattle.cts_entry.specs.Histories.{commanded};
-ghost use Rattle.cts_script.specs.Names.{command_names};
+ghost use Rattle.cts_def.specs.Names.{command_names};
 ghost use Rattle.cts_spell.specs.Spellings.{heading_of};
 ghost use Rattle.cts_table.specs.Keeping.{AllOfSite, IsOfSite};
 ghost use Rattle.cts_told.specs.Routing.{heading_of as heading_by};

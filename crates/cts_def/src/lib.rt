@@ -21,6 +21,7 @@ mod limits_setup;
 mod loss;
 mod makers;
 mod most;
+mod names;
 mod packet;
 mod proto_spec;
 mod proto_use;
@@ -56,6 +57,7 @@ pub use makers::{FIRST_DESK, FIRST_SLOT, SCRIBE, SERVER};
 pub use most::{
     MOST_BYTES, MOST_ITEMS, MOST_ITEMS_IN_ALL, MOST_PACKETS, MOST_SEGMENTS, MOST_SETS, MOST_STATES,
 };
+pub use names::{command_names, interface_name, item_name, packet_names, router_name};
 pub use packet::Packet;
 pub use proto_spec::{Kind, ProtoSpec};
 pub use proto_use::ProtoUse;

@@ -5,7 +5,7 @@ use Rattle.cts_def.specs.Sites.{SiteData}
 use Rattle.cts_entry.specs.declared.event.Effect.{Effect}
 use Rattle.cts_entry.specs.declared.event.Effect.TheVariants.{Posted, Reply, Written, Logged, Routed}
 use Rattle.cts_script.specs.Lines.{hex_or_dash, maker_text}
-use Rattle.cts_script.specs.Names.{interface_name}
+use Rattle.cts_def.specs.Names.{interface_name}
 use Rattle.cts_script.specs.Spacing.{spaced}
 
 -- a desk, which an effect names by its d

@@ -5,7 +5,7 @@ use Rattle.cts_def.specs.declared.color.Color.{Color}
 use Rattle.cts_def.specs.declared.color.Color.TheVariants.{RedLow, YellowLow, Green, GreenLow, Blue, GreenHigh, YellowHigh, RedHigh, Stale, StateRed, StateYellow, StateGreen}
 use Rattle.cts_def.specs.Sites.{SiteData}
 use Rattle.cts_script.specs.declared.limits_event.LimitsEvent.{LimitsEvent}
-use Rattle.cts_script.specs.Names.{packet_names, item_name}
+use Rattle.cts_def.specs.Names.{packet_names, item_name}
 use Rattle.cts_script.specs.Spacing.{spaced}
 
 -- a colour, by its name in the documentation of COSMOS 4; a state's colour has the name of the colour alone

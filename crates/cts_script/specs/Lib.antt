@@ -1,5 +1,4 @@
 pub mod Spacing
-pub mod Names
 pub mod Lines
 pub mod Events
 pub mod Effects

@@ -13,7 +13,7 @@ use Rattle.cts_def.specs.declared.loss.Loss.{Loss}
 use Rattle.cts_def.specs.declared.time.Time.{Time}
 use Rattle.cts_def.specs.Sites.{SiteData}
 use Rattle.cts_entry.specs.declared.entry.Entry.{Entry}
-use Rattle.cts_script.specs.Names.{interface_name, router_name, packet_names, command_names, item_name}
+use Rattle.cts_def.specs.Names.{interface_name, router_name, packet_names, command_names, item_name}
 use Rattle.cts_script.specs.Spacing.{spaced}
 use Rattle.cts_def.specs.Makers.{first_slot, first_desk, scribe}
 use Rattle.cts_entry.specs.declared.what.NotSent.{NotSent}

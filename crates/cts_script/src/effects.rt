@@ -6,10 +6,9 @@ ghost use Rattle.cts_script.specs.Lines.{hex_or_dash};
 ghost use Rattle.cts_script.specs.Spacing.{spaced};
 
 use crate::makers::put_maker_word;
-use crate::names::interface_name;
 use crate::texts::{put_hex_word, put_number, put_number_word, put_text, put_word};
 use cts_base::{Bytes, Memory};
-use cts_def::Site;
+use cts_def::{Site, interface_name};
 use cts_entry::Effect;
 use std::alloc::Global;
 

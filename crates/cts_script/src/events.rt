@@ -3,10 +3,9 @@ ghost use Rattle.std.specs.Prelude.{◌≡◌, ◌++◌, OnOk};
 ghost use Rattle.cts_script.specs.Events.{color_text, event_line, event_lines};
 
 use crate::LimitsEvent;
-use crate::names::{item_name, packet_names};
 use crate::texts::{put_text, put_word};
 use cts_base::Memory;
-use cts_def::{Color, Site};
+use cts_def::{Color, Site, item_name, packet_names};
 
 /// The lines of events, one after the other.
 pub fn put_events(out: &mut Vec<u8>, site: &Site, events: &[LimitsEvent]) -> Result<(), Memory>

@@ -10,7 +10,6 @@ mod limits;
 mod limits_event;
 mod lines;
 mod makers;
-mod names;
 mod texts;
 mod times;
 mod what;

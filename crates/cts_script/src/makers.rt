@@ -2,10 +2,9 @@
 ghost use Rattle.std.specs.Prelude.{◌≡◌, ◌++◌, ◌∷◌, ◌<◌, OnOk};
 ghost use Rattle.cts_script.specs.Lines.{maker_text, slot_text};
 
-use crate::names::{interface_name, router_name};
 use crate::texts::{put_number, put_text, put_word};
 use cts_base::Memory;
-use cts_def::{FIRST_DESK, FIRST_SLOT, SCRIBE, Site};
+use cts_def::{FIRST_DESK, FIRST_SLOT, SCRIBE, Site, interface_name, router_name};
 
 /// A space and the maker.
 pub fn put_maker_word(out: &mut Vec<u8>, site: &Site, by: u32) -> Result<(), Memory>

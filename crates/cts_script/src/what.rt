@@ -4,11 +4,10 @@ ghost use Rattle.cts_script.specs.Lines.{bytes_text, hex_or_dash, ident_names, i
 ghost use Rattle.cts_script.specs.Spacing.{spaced};
 
 use crate::limits::{put_limits_words, put_watch_words};
-use crate::names::{command_names, item_name, packet_names};
 use crate::texts::{put_hex_word, put_word};
 use crate::why::put_closed_words;
 use cts_base::Memory;
-use cts_def::{Ident, Site};
+use cts_def::{Ident, Site, command_names, item_name, packet_names};
 use cts_entry::{NotSent, What};
 use std::alloc::Global;
 

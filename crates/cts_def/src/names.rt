@@ -1,8 +1,8 @@
 // The names that a site has behind the numbers of entries. A number that names nothing has no text.
 ghost use Rattle.std.specs.Prelude.{◌≡◌};
-ghost use Rattle.cts_script.specs.Names.{command_names, interface_name, item_name, items_at, names_at, packet_names, router_name};
+ghost use Rattle.cts_def.specs.Names.{command_names, interface_name, item_name, items_at, names_at, packet_names, router_name};
 
-use cts_def::{Item, Packet, Site};
+use crate::{Item, Packet, Site};
 
 /// The name of an interface.
 pub fn interface_name(site: &Site, number: u32) -> &[u8]
