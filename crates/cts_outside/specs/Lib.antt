@@ -2,3 +2,4 @@ pub mod Seen
 pub mod Causes
 pub mod Contents
 pub mod InMemory
+pub mod Lines

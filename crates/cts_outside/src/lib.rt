@@ -1,14 +1,21 @@
-//! The outside as traits: files that are read in pieces, and sinks that bytes are put to. Each counts its own faults, so
-//! that a program over any of them can say when it may answer a fault. Beside them stand their parts in memory.
+//! The outside as traits: files that are read in pieces, sinks that bytes are put to, links and their dialers, a clock and a
+//! gate. Each device counts its own faults, so that a program over any of them can say when it may answer a fault. Beside them
+//! stand their parts in memory.
 #![tactic(auto)]
 
+mod clock;
 mod failing;
 mod files;
+mod gate;
+mod link;
 mod mem_files;
 mod mem_sink;
 mod sink;
 
+pub use clock::{Clock, FixedClock};
 pub use files::{FileGot, Files};
+pub use gate::{Gate, GateStage, OpenGate};
+pub use link::{Aim, Dialed, Dialer, Link, Taken};
 pub use mem_files::MemFiles;
 pub use mem_sink::MemSink;
 pub use sink::{PutFailed, Sink};
