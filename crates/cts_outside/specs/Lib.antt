@@ -3,3 +3,5 @@ pub mod Causes
 pub mod Contents
 pub mod InMemory
 pub mod Lines
+pub mod Dialers
+pub mod Vaults

@@ -1,0 +1,31 @@
+// The vault of the packet logs.
+ghost use Rattle.cts_outside.specs.Causes.{Cause};
+ghost use Rattle.cts_outside.specs.Seen.{VaultSeen};
+ghost use Rattle.cts_outside.specs.Vaults.{Appends, Syncs};
+
+use crate::PutFailed;
+
+/// Which of the two packet logs.
+#[derive(Clone, Copy, Debug, PartialEq, Eq)]
+pub enum LogKind {
+    /// That of telemetry.
+    Tlm,
+    /// That of commands.
+    Cmd,
+}
+
+/// Where the two packet logs are kept, as a server of COSMOS 4 writes them beside each other.
+pub trait Vault {
+    /// The logs, where they are told, and how often an append or a sync has failed.
+    ghost seen: { Self → VaultSeen };
+
+    /// Appends these bytes to a log. Where it fails, a prefix of them was appended.
+    fn append(&mut self, kind: LogKind, bytes: &[u8]) -> Result<(), PutFailed>
+        ensures content { Appends kind (seen self.old).told (seen self.new).told bytes.now result }
+        ensures cause { Cause result (seen self.old).faults (seen self.new).faults };
+
+    /// Makes sure that what was appended to a log outlives a stop of the program or of the system.
+    fn sync(&mut self, kind: LogKind) -> Result<(), PutFailed>
+        ensures content { Syncs kind (seen self.old).told (seen self.new).told result }
+        ensures cause { Cause result (seen self.old).faults (seen self.new).faults };
+}
