@@ -5,3 +5,4 @@ pub mod InMemory
 pub mod Lines
 pub mod Dialers
 pub mod Vaults
+pub mod Crews

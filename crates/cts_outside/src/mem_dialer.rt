@@ -1,5 +1,5 @@
 // A dialer in memory.
-ghost use Rattle.std.specs.Prelude.{◌≡◌, ◌+◌, ◌<◌, ◌≤◌, ◌∷◌, [], length, drop, map, true, false, Some, None, IsErr, OnErr, is_some};
+ghost use Rattle.std.specs.Prelude.{◌≡◌, ◌+◌, ◌<◌, ◌≤◌, ◌∷◌, [], length, drop, map, true, false, Some, None, IsErr, OnErr, is_some, option_map, slice_get};
 ghost use Rattle.cts_outside.specs.Causes.{Cause, TakeCause, DialCause, raised};
 ghost use Rattle.cts_outside.specs.InMemory.{fails_at, faults_after};
 ghost use Rattle.cts_outside.specs.Lines.{at_now, after_take, after_dial, aimed, hung_up, with_failed_put, LinkPuts, TakeFits, links};
@@ -109,6 +109,21 @@ impl MemDialer {
         ensures { result ≡ self.now.failed_dials }
     {
         self.failed_dials
+    }
+
+    /// The bytes that were put to a connection that was hung up. The first one has the number 0.
+    pub fn put_to(&self, connection: usize) -> Option<&[u8]>
+        ensures { option_map (λ bytes. bytes.now) result ≡ option_map (λ c. c.put) (slice_get self.now.line.past connection) }
+    {
+        let noted = self.past.get(connection)?;
+        Some(noted.bytes())
+    }
+
+    /// The last aim, if there was one.
+    pub fn last_aim(&self) -> Option<&Aim>
+        ensures { option_map (λ aim. aim.now) result ≡ self.now.line.aim }
+    {
+        self.aim.as_ref()
     }
 
     // Makes the next connection if it is due. Want of memory for what will be told of it is a dial that fails.

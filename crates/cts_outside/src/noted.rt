@@ -87,6 +87,13 @@ impl Noted {
         }
     }
 
+    /// The bytes that were put.
+    pub fn bytes(&self) -> &[u8]
+        ensures { result.now ≡ self.now.connection.put }
+    {
+        &self.put
+    }
+
     /// Notes that a put failed.
     pub fn fail_put(&mut self)
         ensures { self.new.connection ≡ record self.old.connection { put_failed = true } }
