@@ -1,6 +1,6 @@
 -- What a running line tells: its looks, and what more holds and entries leave of it.
-use Rattle.std.proofs.Common.{◌≡◌, ℕ, suc, ◌+◌, ◌<◌, ◌≤◌, Bool, true, false, ◌||◌, ◌&&◌, List, [], ◌∷◌, ◌++◌, length, Option, Some, None, refl, sym, ◌∙◌, ap, subst, arith, append_assoc, append-nil, length-append, filter, inl, inr}
-use Rattle.std.specs.Prelude.{nat_lt, nat_le, ◌⊎◌, ◌≢◌}
+use Rattle.std.proofs.Common.{◌≡◌, ℕ, suc, ◌+◌, ◌<◌, ◌≤◌, Bool, true, false, ◌||◌, ◌&&◌, List, [], ◌∷◌, ◌++◌, length, Option, Some, None, refl, sym, ◌∙◌, ap, subst, arith, append_assoc, append-nil, length-append, filter, le-leb, inl, inr}
+use Rattle.std.specs.Prelude.{nat_lt, nat_le, ◌⊎◌, ◌≢◌, sum_by}
 use Rattle.std.specs.List.{list_any}
 use Rattle.std.proofs.lemmas.List.{append_cancel_left}
 use Rattle.std.proofs.lemmas.List.Elements.{filter-append, All-append, All-cons, All-nil}
@@ -8,19 +8,19 @@ use Rattle.std.proofs.lemmas.List.Folds.{list_any-append}
 use Rattle.cts_entry.specs.declared.entry.Entry.{Entry}
 use Rattle.cts_entry.specs.declared.why.Why.{Why}
 use Rattle.cts_entry.specs.declared.why.Why.TheVariants.{PeerEnded, ReadFault, WriteFault, BadFrame, Stopped, NoMemory, Full}
-use Rattle.cts_entry.specs.Histories.{is_own, has_own, is_stop, is_stopped}
-use Rattle.cts_entry.proofs.Appending.{stopped-append}
+use Rattle.cts_entry.specs.Histories.{is_own, has_own, is_stop, is_stopped, entries_in, bytes_in}
+use Rattle.cts_entry.proofs.Appending.{stopped-append, entries-append, bytes-append}
 use Rattle.cts_entry.proofs.Queuing.{stays_more}
 use Rattle.cts_frame.specs.Framing.{Output}
 use Rattle.cts_frame.specs.Packets.{capped}
 use Rattle.cts_outside.specs.Lines.{Connection, Line}
-use Rattle.cts_told.specs.Lines.{Capacity, Looked, Causes, PutsAll, PostsNone, IsLook, LastTwo, looks}
+use Rattle.cts_told.specs.Lines.{Capacity, LacksRoom, Looked, Causes, Seen, PutsAll, PostsNone, IsLook, LastTwo, looks}
 use Rattle.cts_told.specs.Routing.{Routing, queue}
 use Rattle.cts_told.specs.Told.{IsStay, Said, Settled, Unopened, ToldBy}
 use Rattle.cts_told.specs.ToldLaws.{SaidIsPast, PutBeforeItsEntries, PutBeforeTheStop, PutsWhatItSaw, FullLeavesSome, HoldsMayFollow, EntriesOfOthersMayFollow}
 use Rattle.cts_told.proofs.Others.{nothing_own, strange_own}
 use Rattle.cts_told.proofs.Stretches.{stays_each}
-use Rattle.cts_told.proofs.Walks.{queue-append}
+use Rattle.cts_told.proofs.Walks.{queue-append, enough_of}
 
 -- ---- by the reason
 
@@ -41,6 +41,42 @@ posts_none_both (BadFrame stage cause) A B C f a b = tt
 posts_none_both Stopped A B C f a b = f a b
 posts_none_both NoMemory A B C f a b = tt
 posts_none_both Full A B C f a b = tt
+
+-- ---- room
+
+-- entries of any maker leave no more room
+pub lacks_more : (room : Capacity) (history more : List Entry) (left : List Output) → LacksRoom room history left → LacksRoom room (history ++ more) left
+lacks_more room history more left (some, full) = (
+  some,
+  fits_less room (entries_in history) (entries_in (history ++ more)) (bytes_in history) (bytes_in (history ++ more)) (length left) (sum_by (λ (o : Output). length o.bytes) left)
+      (let e = entries-append history more in omega arith) (let e = bytes-append history more in omega arith) full,
+)
+  where
+    within : (a b c : ℕ) → a ≤ b → nat_le b c ≡ true → nat_le a c ≡ true
+    within a b c le h = le-leb a c (let k = enough_of b c h in omega arith)
+    both : (a b : Bool) → (a && b) ≡ true → (a ≡ true) × (b ≡ true)
+    both true true h = (refl, refl)
+    both true false h = absurd (cc h)
+    both false b h = absurd (cc h)
+    all_false : (b : Bool) → (b ≡ true → ⊥) → b ≡ false
+    all_false true h = absurd (h refl)
+    all_false false h = refl
+    fits_less : (room : Capacity) (e e' b b' n k : ℕ) → e ≤ e' → b ≤ b' → (nat_le (e + n) room.entries && nat_le (b + k) room.bytes) ≡ false → (nat_le (e' + n) room.entries && nat_le (b' + k) room.bytes) ≡ false
+    fits_less room e e' b b' n k le lb full = all_false (nat_le (e' + n) room.entries && nat_le (b' + k) room.bytes) (λ fit.
+      let two = both (nat_le (e' + n) room.entries) (nat_le (b' + k) room.bytes) fit in
+      let entries = within (e + n) (e' + n) room.entries (omega arith) two.0 in
+      let bytes = within (b + k) (b' + k) room.bytes (omega arith) two.1 in
+      let f : true ≡ false = sym (ap (λ (x : Bool). x && nat_le (b + k) room.bytes) entries ∙ bytes) ∙ full in cc)
+
+-- a reason keeps its cause when entries follow
+pub causes_more : (room : Capacity) (why : Why) (s : Seen) (more : List Entry) → Causes room why s → Causes room why (record s { whole = s.whole ++ more })
+causes_more room PeerEnded s more c = c
+causes_more room ReadFault s more c = c
+causes_more room WriteFault s more c = c
+causes_more room (BadFrame stage cause) s more c = c
+causes_more room Stopped s more c = c
+causes_more room NoMemory s more c = c
+causes_more room Full s more c = lacks_more room s.whole more s.left c
 
 -- ---- places at which holds began
 
