@@ -1,6 +1,6 @@
 -- What a running line tells: its looks, and what more holds and entries leave of it.
 use Rattle.std.proofs.Common.{◌≡◌, ℕ, suc, ◌+◌, ◌<◌, ◌≤◌, Bool, true, false, ◌||◌, ◌&&◌, List, [], ◌∷◌, ◌++◌, length, Option, Some, None, refl, sym, ◌∙◌, ap, subst, arith, append_assoc, append-nil, length-append, filter, le-leb, inl, inr}
-use Rattle.std.specs.Prelude.{nat_lt, nat_le, ◌⊎◌, ◌≢◌, sum_by}
+use Rattle.std.specs.Prelude.{nat_le, ◌⊎◌, ◌≢◌, sum_by}
 use Rattle.std.specs.List.{list_any}
 use Rattle.std.proofs.lemmas.List.{append_cancel_left}
 use Rattle.std.proofs.lemmas.List.Elements.{filter-append, All-append, All-cons, All-nil}
@@ -14,7 +14,7 @@ use Rattle.cts_entry.proofs.Queuing.{stays_more}
 use Rattle.cts_frame.specs.Framing.{Output}
 use Rattle.cts_frame.specs.Packets.{capped}
 use Rattle.cts_outside.specs.Lines.{Connection, Line}
-use Rattle.cts_told.specs.Lines.{Capacity, LacksRoom, Looked, Causes, Seen, PutsAll, PostsNone, IsLook, LastTwo, looks}
+use Rattle.cts_told.specs.Lines.{Capacity, LacksRoom, Looked, Causes, Seen, PutsAll, PostsNone, IsLook, LastTwo, is_within, looks}
 use Rattle.cts_told.specs.Routing.{Routing, queue}
 use Rattle.cts_told.specs.Told.{IsStay, Said, Settled, Unopened, ToldBy}
 use Rattle.cts_told.specs.ToldLaws.{SaidIsPast, PutBeforeItsEntries, PutBeforeTheStop, PutsWhatItSaw, FullLeavesSome, HoldsMayFollow, EntriesOfOthersMayFollow}
@@ -54,19 +54,22 @@ lacks_more room history more left (some, full) = (
   where
     within : (a b c : ℕ) → a ≤ b → nat_le b c ≡ true → nat_le a c ≡ true
     within a b c le h = le-leb a c (let k = enough_of b c h in omega arith)
+
     both : (a b : Bool) → (a && b) ≡ true → (a ≡ true) × (b ≡ true)
     both true true h = (refl, refl)
     both true false h = absurd (cc h)
     both false b h = absurd (cc h)
+
     all_false : (b : Bool) → (b ≡ true → ⊥) → b ≡ false
     all_false true h = absurd (h refl)
     all_false false h = refl
+
     fits_less : (room : Capacity) (e e' b b' n k : ℕ) → e ≤ e' → b ≤ b' → (nat_le (e + n) room.entries && nat_le (b + k) room.bytes) ≡ false → (nat_le (e' + n) room.entries && nat_le (b' + k) room.bytes) ≡ false
     fits_less room e e' b b' n k le lb full = all_false (nat_le (e' + n) room.entries && nat_le (b' + k) room.bytes) (λ fit.
-      let two = both (nat_le (e' + n) room.entries) (nat_le (b' + k) room.bytes) fit in
-      let entries = within (e + n) (e' + n) room.entries (omega arith) two.0 in
-      let bytes = within (b + k) (b' + k) room.bytes (omega arith) two.1 in
-      let f : true ≡ false = sym (ap (λ (x : Bool). x && nat_le (b + k) room.bytes) entries ∙ bytes) ∙ full in cc)
+        let two = both (nat_le (e' + n) room.entries) (nat_le (b' + k) room.bytes) fit in
+        let entries = within (e + n) (e' + n) room.entries (omega arith) two.0 in
+        let bytes = within (b + k) (b' + k) room.bytes (omega arith) two.1 in
+        let f : true ≡ false = sym (ap (λ (x : Bool). x && nat_le (b + k) room.bytes) entries ∙ bytes) ∙ full in cc)
 
 -- a reason keeps its cause when entries follow
 pub causes_more : (room : Capacity) (why : Why) (s : Seen) (more : List Entry) → Causes room why s → Causes room why (record s { whole = s.whole ++ more })
@@ -81,8 +84,7 @@ causes_more room Full s more c = lacks_more room s.whole more s.left c
 -- ---- places at which holds began
 
 pub looks_append : (xs ys : List ℕ) (above most : ℕ) → looks (xs ++ ys) above most ≡ looks xs above most + looks ys above most
-looks_append xs ys above most =
-    ap length (filter-append (λ (n : ℕ). nat_lt above n && nat_le n most) xs ys) ∙ length-append (filter (λ (n : ℕ). nat_lt above n && nat_le n most) xs) (filter (λ (n : ℕ). nat_lt above n && nat_le n most) ys)
+looks_append xs ys above most = ap length (filter-append (is_within above most) xs ys) ∙ length-append (filter (is_within above most) xs) (filter (is_within above most) ys)
 
 pub looks_more : (found : List ℕ) (n above most : ℕ) → looks found above most ≤ looks (found ++ n ∷ []) above most
 looks_more found n above most = let e = looks_append found (n ∷ []) above most in omega arith

@@ -80,7 +80,7 @@ opens_nothing true what none = no_opened what none
 opens_nothing false what none = refl
 
 -- what holds of no entry that leaves the connection ls it is holds of none that shows packets
-posts_quiet : (g : Routing) (m : ℕ) (test : Entry → Bool) → ((e : Entry) → connects_maker m e ≡ None → test e ≡ false)
+pub posts_quiet : (g : Routing) (m : ℕ) (test : Entry → Bool) → ((e : Entry) → connects_maker m e ≡ None → test e ≡ false)
     → (before entries : List Entry) (packets : List Output) → Posts m (Shows g m) before entries packets → list_any test entries ≡ false
 posts_quiet g m test none before [] packets posts = refl
 posts_quiet g m test none before (e ∷ es) packets posts =
@@ -120,7 +120,7 @@ stretch_of g m before c entries s = record {
 
 -- ---- one Opened each
 
-filter_none : (test : Entry → Bool) (xs : List Entry) → list_any test xs ≡ false → filter test xs ≡ []
+pub filter_none : (test : Entry → Bool) (xs : List Entry) → list_any test xs ≡ false → filter test xs ≡ []
 filter_none test [] none = refl
 filter_none test (x ∷ xs) none =
     let head : test x ≡ false = grind arith in

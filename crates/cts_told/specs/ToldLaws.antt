@@ -1,5 +1,5 @@
 -- Laws of what is told of all connections of a maker.
-use Rattle.std.specs.Prelude.{◌≡◌, ℕ, ◌≤◌, true, false, List, [], ◌∷◌, ◌++◌, length, Option, is_some}
+use Rattle.std.specs.Prelude.{◌≡◌, ℕ, ◌≤◌, ◌||◌, true, false, List, [], ◌∷◌, ◌++◌, length, Option, is_some}
 use Rattle.std.specs.List.{filter}
 use Rattle.cts_entry.specs.declared.entry.Entry.{Entry}
 use Rattle.cts_entry.specs.declared.why.Why.TheVariants.{PeerEnded, Stopped, Full}
@@ -7,7 +7,7 @@ use Rattle.cts_entry.specs.Histories.{is_connected, is_own, is_stopped, opens}
 use Rattle.cts_entry.specs.Places.{Stays}
 use Rattle.cts_frame.specs.Packets.{capped}
 use Rattle.cts_outside.specs.Lines.{Connection, Line}
-use Rattle.cts_told.specs.Makers.{of_maker}
+use Rattle.cts_told.specs.Makers.{of_maker, faults_of}
 use Rattle.cts_told.specs.Routing.{Routing, queue}
 use Rattle.cts_told.specs.Lines.{Capacity, Looked}
 use Rattle.cts_told.specs.Told.{IsStay, Past, Tells, Said, ToldBy}
@@ -56,6 +56,11 @@ PutsWhatItSaw = (g : Routing) (room : Capacity) (m : ℕ) (found : List ℕ) (be
 abbrev pub FullLeavesSome : Type 0
 FullLeavesSome = (g : Routing) (room : Capacity) (m : ℕ) (found : List ℕ) (before : List Entry) (c : Connection) (entries : List Entry) → (l : Looked g room m found before c entries)
     → l.stay.why ≡ Full → 1 ≤ capped (length l.stay.left)
+
+-- Connections that were closed for a fault are no more than those in which a take or a put failed.
+abbrev pub FaultsAreTold : Type 0
+FaultsAreTold = (g : Routing) (room : Capacity) (m : ℕ) (found : List ℕ) (past : List Connection) (history : List Entry) → Said g room m found past history
+    → faults_of m history ≤ length (filter (λ c. c.take_failed || c.put_failed) past)
 
 -- What is told stays told when a further hold begins behind what was seen, ..
 abbrev pub HoldsMayFollow : Type 0
