@@ -1,5 +1,5 @@
 -- How the packets of a line's chain are gathered, one by one.
-use Rattle.std.proofs.Common.{◌≡◌, ℕ, ◌+◌, ◌-◌, ◌<◌, List, [], ◌∷◌, ◌++◌, length, map, Option, Some, None, refl, sym, ◌∙◌, ap, subst, arith, append_assoc, unwrap_or, drop, slice_range}
+use Rattle.std.proofs.Common.{◌≡◌, ℕ, ◌+◌, ◌-◌, ◌<◌, List, [], ◌∷◌, ◌++◌, length, Option, Some, None, refl, sym, ◌∙◌, ap, subst, arith, append_assoc, unwrap_or, drop, slice_range}
 use Rattle.std.proofs.lemmas.List.{append-nil, length-append, map-append, length-take-le, length-drop}
 use Rattle.cts_chain.specs.Chains.{StagesStand, AllSettled, Place, IsPlace, Rises, last_fault, packet_at, time_in as stamp_time, waiting}
 use Rattle.cts_chain.specs.Shapes.{ChainData, IsChain, IsSameChain}

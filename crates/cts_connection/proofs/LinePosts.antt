@@ -1,6 +1,6 @@
 -- What a line posts is of the site.
-use Rattle.std.proofs.Common.{◌≡◌, ℕ, suc, ◌+◌, ◌≤◌, ◌<◌, Bool, true, false, ◌||◌, ◌&&◌, List, [], ◌∷◌, ◌++◌, length, refl, sym, ◌∙◌, ap, subst, arith, Option, Some, None, Ok, Err}
-use Rattle.std.specs.Prelude.{nat_le, nat_lt, if◌then◌else◌, unwrap_or, option_map}
+use Rattle.std.proofs.Common.{◌≡◌, ℕ, ◌+◌, ◌≤◌, ◌<◌, Bool, true, false, ◌||◌, List, [], ◌∷◌, ◌++◌, length, refl, sym, ◌∙◌, ap, arith, Option, Some, None}
+use Rattle.std.specs.Prelude.{nat_lt, if◌then◌else◌}
 use Rattle.std.proofs.lemmas.Bool.Decides.{nat_tests}
 use Rattle.std.specs.List.{list_any}
 use Rattle.std.proofs.lemmas.List.{length-map}
@@ -15,14 +15,14 @@ use Rattle.cts_def.specs.declared.time.Time.{Time}
 use Rattle.cts_entry.specs.declared.entry.Entry.{Entry}
 use Rattle.cts_entry.specs.declared.what.What.{What}
 use Rattle.cts_entry.specs.declared.what.What.TheVariants.{Packet, Command, Unrouted}
-use Rattle.cts_entry.specs.declared.what.NotSent.TheVariants.{Unknown as UnknownCommand, NotConnected as NoConnection}
+use Rattle.cts_entry.specs.declared.what.NotSent.TheVariants.{NotConnected as NoConnection}
 use Rattle.cts_entry.specs.Histories.{entries_for, entries_in, is_connected}
 use Rattle.cts_entry.specs.Legal.{is_ended}
 use Rattle.cts_entry.specs.Workers.{interface_of, is_interface, is_maker, is_slot}
 use Rattle.cts_frame.specs.Framing.{Heading, Output}
-use Rattle.cts_ident.specs.Identification.{first_of, fits, identified, identified_command, named, router_targets, worker_packets, worker_targets}
+use Rattle.cts_ident.specs.Identification.{first_of, fits, router_targets}
 use Rattle.cts_ident.proofs.FirstMatches.{known_is_first}
-use Rattle.cts_table.specs.Keeping.{AllOfSite, IsIdent, IsSaid}
+use Rattle.cts_table.specs.Keeping.{AllOfSite, IsSaid}
 use Rattle.cts_told.specs.Routing.{routed_as, said_of, sent_on, time_in, posted_entries}
 use Rattle.cts_connection.specs.LinePlaces.{is_line}
 use Rattle.cts_connection.specs.Routings.{ident_by, ident_of, site_routing}

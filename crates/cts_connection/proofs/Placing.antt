@@ -1,9 +1,9 @@
 -- Each line has its own place.
-use Rattle.std.proofs.Common.{◌≡◌, ℕ, ◌+◌, ◌-◌, ◌*◌, ◌/◌, ◌≤◌, ◌<◌, Bool, true, false, ◌||◌, ◌&&◌, length, refl, sym, ◌∙◌, ap, arith}
-use Rattle.std.specs.Prelude.{nat_le, nat_lt, if◌then◌else◌}
+use Rattle.std.proofs.Common.{◌≡◌, ℕ, ◌+◌, ◌-◌, ◌≤◌, ◌<◌, Bool, true, false, ◌&&◌, length, refl, arith}
+use Rattle.std.specs.Prelude.{nat_le, nat_lt}
 use Rattle.std.proofs.lemmas.Bool.Decides.{nat_tests}
 use Rattle.cts_def.specs.Makers.{first_slot, router_of}
-use Rattle.cts_def.specs.Sites.{IsSoundSite, SiteData}
+use Rattle.cts_def.specs.Sites.{SiteData}
 use Rattle.cts_entry.specs.Workers.{is_interface, is_slot}
 use Rattle.cts_connection.specs.Laws.{LinesHavePlaces, PlacesAreApart}
 use Rattle.cts_connection.specs.LinePlaces.{is_line, line_count, line_place}

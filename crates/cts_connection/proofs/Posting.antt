@@ -1,7 +1,6 @@
 -- What a line may append to a hall.
-use Rattle.std.proofs.Common.{◌≡◌, ℕ, ◌+◌, ◌≤◌, Bool, true, false, ◌||◌, ◌&&◌, List, [], ◌∷◌, ◌++◌, length, Option, Some, None, refl, sym, ◌∙◌, ap, subst, arith, inl, inr, append_assoc, append-nil}
-use Rattle.std.specs.Prelude.{◌==◌, ◌⊎◌, max, nat_le, if◌then◌else◌, IfSome, Result, Err}
-use Rattle.std.specs.List.{list_any}
+use Rattle.std.proofs.Common.{◌≡◌, ℕ, ◌+◌, ◌≤◌, Bool, true, false, ◌||◌, ◌&&◌, List, [], ◌∷◌, ◌++◌, Option, Some, None, refl, sym, ◌∙◌, ap, subst, arith, inl, inr, append_assoc, append-nil}
+use Rattle.std.specs.Prelude.{◌==◌, ◌⊎◌, max, nat_le, if◌then◌else◌, IfSome, Err, option_map}
 use Rattle.std.proofs.lemmas.Bool.Decides.{nat_tests}
 use Rattle.std.proofs.lemmas.List.Folds.{list_any-append}
 use Rattle.cts_def.specs.Sites.{IsSoundSite, SiteData}
@@ -14,12 +13,12 @@ use Rattle.cts_entry.specs.declared.what.What.TheVariants.{Packet, Command, Unro
 use Rattle.cts_entry.specs.declared.what.NotSent.TheVariants.{NotConnected as NoConnection}
 use Rattle.cts_entry.specs.declared.why.Why.{Why}
 use Rattle.cts_entry.specs.declared.why.Why.TheVariants.{PeerEnded, ReadFault, WriteFault, BadFrame, Stopped, NoMemory, Full}
-use Rattle.cts_entry.specs.Histories.{connects, connects_maker, entries_in, bytes_in, is_connected, is_stopped, latest}
-use Rattle.cts_entry.specs.Legal.{AllAllowed, Allows, IsLine, IsOn, Rules, StopsAfter, has_ended, is_ended, most_bytes as bytes_limit}
-use Rattle.cts_entry.specs.Workers.{is_interface, is_slot, is_desk, interface_of}
+use Rattle.cts_entry.specs.Histories.{connects, connects_maker, entries_in, bytes_in, is_connected, latest}
+use Rattle.cts_entry.specs.Legal.{AllAllowed, Allows, IsOn, Rules, StopsAfter, has_ended, is_ended, most_bytes as bytes_limit}
+use Rattle.cts_entry.specs.Workers.{is_interface, is_slot, is_desk}
 use Rattle.cts_entry.proofs.Appending.{stopped-append}
 use Rattle.cts_frame.specs.Framing.{Output}
-use Rattle.cts_frame.specs.Packets.{capped}
+use Rattle.cts_frame.specs.Packets.{Fault, capped}
 use Rattle.cts_frame.proofs.Fronts.{le_tells}
 use Rattle.cts_table.specs.declared.basis.Basis.{Basis}
 use Rattle.cts_table.specs.Keeping.{IsKept, rules_of}
@@ -31,11 +30,11 @@ use Rattle.cts_told.specs.Routing.{Routing, posted_entries, routed_as, said_of, 
 use Rattle.cts_told.proofs.Walks.{behind, connected_kept, none_if, packets_connect, said, said_kept}
 use Rattle.cts_connection.specs.Laws.{LinesMayPost}
 use Rattle.cts_connection.specs.LinePlaces.{is_line}
-use Rattle.cts_connection.specs.Postings.{CanAddAll, CanClose, CanOpen, Grown, Posts, added_all, closed_of, opened_entry}
+use Rattle.cts_connection.specs.Postings.{CanAddAll, CanClose, CanOpen, Grown, Posts, added_all, closed_of, end_of, opened_entry}
 use Rattle.cts_connection.specs.declared.end.End.{End}
 use Rattle.cts_connection.specs.Connections.{HeldConnection}
 use Rattle.cts_connection.specs.Routings.{site_routing}
-use Rattle.cts_connection.specs.Takings.{entries_of}
+use Rattle.cts_connection.specs.Takings.{blamed, entries_of}
 use Rattle.cts_connection.proofs.LinePosts.{makes, posted}
 
 -- ---- what may be said, for any makers
@@ -160,6 +159,15 @@ stops_more history more (BadFrame stage cause) h = tt
 stops_more history more Stopped h = (let a = stopped-append history more in grind arith)
 stops_more history more NoMemory h = tt
 stops_more history more Full h = tt
+
+-- what a piece ends a connection for may stand behind any history
+pub end_stops : (history : List Entry) (unposted : ℕ) (fault : Option Fault) → IfSome (end_of unposted (blamed fault)) (λ e. StopsAfter history e.why)
+end_stops history unposted fault = either (unposted == 0) fault
+  where
+    either : (b : Bool) (f : Option Fault) → IfSome (if b then option_map (λ (w : Why). record { why = w; unposted = 0 }) (blamed f) else Some (record { why = NoMemory; unposted = unposted })) (λ (e : End). StopsAfter history e.why)
+    either true None = tt
+    either true (Some f) = tt
+    either false f = tt
 
 -- entries stand behind the others, where room was made for them
 pub grown : (s mid t : Shown) (es : List Entry) (n m : ℕ) → mid ≡ with_room s n m → t ≡ added_all mid es → Grown s es t

@@ -1,10 +1,11 @@
 -- What a connection appends to the history.
-use Rattle.std.specs.Prelude.{◌≡◌, ℕ, ◌-◌, ◌≤◌, true, false, List, [], ◌∷◌, ◌++◌, length, Option, None, Some, Result, Ok, Err, IfSome}
+use Rattle.std.specs.Prelude.{◌≡◌, ◌==◌, ℕ, ◌-◌, ◌≤◌, true, false, if◌then◌else◌, option_map, List, [], ◌∷◌, ◌++◌, length, Option, None, Some, Result, Ok, Err, IfSome}
 use Rattle.cts_chain.specs.Chains.{loss_in}
 use Rattle.cts_def.specs.declared.time.Time.{Time}
 use Rattle.cts_entry.specs.declared.entry.Entry.{Entry}
 use Rattle.cts_entry.specs.declared.what.What.TheVariants.{Opened, Closed}
 use Rattle.cts_entry.specs.declared.why.Why.{Why}
+use Rattle.cts_entry.specs.declared.why.Why.TheVariants.{NoMemory}
 use Rattle.cts_entry.specs.Histories.{entries_in, bytes_in, is_connected, is_stopped}
 use Rattle.cts_entry.specs.Legal.{AllAllowed, StopsAfter, has_ended}
 use Rattle.cts_frame.specs.Framing.{Output}
@@ -78,6 +79,11 @@ pub record Closes (by : ℕ) (now : Time) (s : Shown) (c : HeldConnection) (why 
   pub renewed : IsRenewed false c d
 
 -- ---- packets are posted
+
+-- why a connection is to be closed after the packets of a piece, where so many have no entry and its chain has failed so: for want of
+-- memory, where any has none, and else for the failure
+abbrev pub end_of : ℕ → Option Why → Option End
+end_of unposted why = if unposted == 0 then option_map (λ (w : Why). record { why = w; unposted = 0 }) why else Some (record { why = NoMemory; unposted = unposted })
 
 -- these are the entries of packets of a line that is connected, and why it is to be closed, if it is
 pub record CanPost (s : Shown) (by : ℕ) (now : Time) (entries : List Entry) (end : Option End) : Type 0 where

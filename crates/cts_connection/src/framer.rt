@@ -1,20 +1,16 @@
-// What a connection asks of a chain of protocols, and of what supplies chains. It is written over any of them, since what contracts
-// see of a connection with boxed protocols in it could not be said otherwise.
-ghost use Rattle.std.specs.Prelude.{◌≡◌, ◌≤◌, ℕ, IfErr, IfOk, List, None, OnOk, OnErr, length, map, option_map};
-ghost use Rattle.cts_chain.specs.Builds.{AreFresh, FaultIs, chains_in, use_specs, uses_in};
+// What a connection asks of a chain of protocols. It is written over any chain, since what contracts see of a connection with boxed
+// protocols in it could not be said otherwise.
+ghost use Rattle.std.specs.Prelude.{◌≡◌, ℕ, List, OnOk, OnErr, option_map};
 ghost use Rattle.cts_chain.specs.Chains.{Answers, FedFirst, given_by, loss_in, packet_at, Renewed, Reserved, Rises};
-ghost use Rattle.cts_chain.specs.Shapes.{ChainData, IsChain, IsGiving, IsIdle, IsSameChain, Leaves, writers};
-ghost use Rattle.cts_chain.specs.Stocking.{first_short};
+ghost use Rattle.cts_chain.specs.Shapes.{IsChain, IsGiving, IsIdle, IsSameChain, Leaves, writers};
 ghost use Rattle.cts_chain.specs.Writing.{chain_spelling};
-ghost use Rattle.cts_proto.specs.Meaning.{Meaning};
 ghost use Rattle.cts_spell.specs.Spelled.{Spells};
 ghost use Rattle.cts_spell.specs.Spellings.{heading_of};
 
 use cts_base::Memory;
-use cts_chain::{Chain, ChainFault, ChainStep, Chained, build_all};
-use cts_def::{Interface, Label, Loss};
-use cts_proto::{EncodeFault, Shelf, Stocked};
-use std::alloc::Global;
+use cts_chain::{Chain, ChainStep, Chained};
+use cts_def::{Label, Loss};
+use cts_proto::EncodeFault;
 
 /// A chain of protocols, as a connection uses it: it cuts the pieces that come into packets, and puts what goes to the peer into frames.
 pub trait Framer: Chained + Drop {
@@ -83,30 +79,5 @@ impl Framer for Chain {
 
     fn encode(&self, label: &Label, packet: &[u8], out: &mut Vec<u8>) -> Result<(), EncodeFault> {
         Chain::encode(self, label, packet, out)
-    }
-}
-
-/// What the chains of a site's interfaces are taken from.
-pub trait Supplier<C: Framer>: Stocked {
-    /// Builds a chain for each interface, in order.
-    ///
-    /// # Errors
-    ///
-    /// `ShelfEmpty` with the first kind, in their order, of which all these chains together need more boxes than there are, and
-    /// `Memory`.
-    fn build_all(&mut self, alloc: Global, interfaces: &[Interface]) -> Result<Vec<C>, ChainFault>
-        requires { length interfaces.now ≤ 16 }
-        ensures enough { OnOk result (first_short (Self.stock self.old) (use_specs (uses_in interfaces.now)) ≡ None) }
-        ensures fresh { IfOk result (λ chains. AreFresh (chains_in interfaces.now) (map C.shape chains.items)) }
-        ensures fault { IfErr result (λ e. FaultIs (Self.stock self.old) (uses_in interfaces.now) e) };
-}
-
-impl Supplier<Chain> for Shelf {
-    fn build_all(
-        &mut self,
-        alloc: Global,
-        interfaces: &[Interface],
-    ) -> Result<Vec<Chain>, ChainFault> {
-        build_all(alloc, self, interfaces)
     }
 }

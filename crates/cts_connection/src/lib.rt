@@ -17,7 +17,7 @@ mod writing;
 
 pub use connection::Connection;
 pub use end::End;
-pub use framer::{Framer, Supplier};
+pub use framer::Framer;
 pub use ident::ident_by;
 pub use laws::{lines, lines_may_post};
 pub use place::{is_line, line_place};

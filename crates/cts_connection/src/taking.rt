@@ -4,9 +4,11 @@ ghost use Rattle.cts_chain.specs.Chains.{packet_at};
 ghost use Rattle.cts_chain.specs.Shapes.{IsChain, IsGiving, IsIdle};
 ghost use Rattle.cts_told.specs.Routing.{said_of};
 ghost use Rattle.cts_connection.specs.LinePlaces.{is_line};
+ghost use Rattle.cts_connection.specs.Postings.{end_of};
 ghost use Rattle.cts_connection.specs.Routings.{site_routing};
 ghost use Rattle.cts_connection.specs.Takings.{Gathers, GivesUp};
 
+use crate::end::End;
 use crate::framer::Framer;
 use crate::ident::ident_by;
 use crate::saying::said;
@@ -26,6 +28,25 @@ pub struct Taken {
     pub unposted: u64,
     /// Why the connection has to be closed, where a stage has failed.
     pub why: Option<Why>,
+}
+
+impl Taken {
+    /// Why the connection is to be closed after these entries, if it is: memory was wanting, where a packet has no entry, and else a
+    /// stage has failed.
+    pub fn end(&self) -> Option<End>
+        ensures { result ≡ end_of self.now.unposted self.now.why }
+    {
+        if self.unposted > 0 {
+            return Some(End {
+                why: Why::NoMemory,
+                unposted: self.unposted,
+            });
+        }
+        match self.why {
+            None => None,
+            Some(why) => Some(End { why, unposted: 0 }),
+        }
+    }
 }
 
 /// What a chain gave besides the packets that have their entries.

@@ -1,4 +1,4 @@
-use Rattle.std.proofs.Common.{sym, ◌∙◌, ap}
+use Rattle.std.proofs.Common.{sym, ap}
 use Rattle.cts_chain.specs.Chains.{packet_at}
 use Rattle.cts_connection.proofs.Gathering.{gone_more, gone_done, blame_is, fewer_wait}
 use Rattle.cts_connection.specs.Takings.{blamed}

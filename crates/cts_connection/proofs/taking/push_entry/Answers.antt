@@ -1,7 +1,6 @@
 use Rattle.std.proofs.Common.{◌≡◌, ◌∙◌, sym, ap, ◌++◌, ◌∷◌, []}
 use Rattle.cts_chain.specs.Chains.{packet_at}
 use Rattle.cts_def.specs.Sites.{SiteData}
-use Rattle.cts_entry.specs.declared.entry.Entry.{Entry}
 use Rattle.cts_entry.specs.declared.what.What.{What}
 use Rattle.cts_frame.specs.Framing.{Output}
 use Rattle.cts_connection.specs.Routings.{ident_of}
