@@ -1,0 +1,6 @@
+pub mod Placing
+pub mod LinePosts
+pub mod Gathering
+pub mod Keepings
+pub mod Putting
+pub mod Posting

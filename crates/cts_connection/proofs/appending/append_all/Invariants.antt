@@ -1,0 +1,11 @@
+use Rattle.std.proofs.Common.{◌≡◌, ◌++◌, length}
+use Rattle.std.specs.Vec.Iter.{into_iter_items, into_iter_len}
+use Rattle.cts_connection.specs.Postings.{CanAddAll, added_all}
+use Rattle.cts_connection.proofs.appending.append_all.Given as goal
+
+abbrev pub invariant-loop-entry : goal.invariant-loop-entry
+invariant-loop-entry l =
+    (l.yielded ++ into_iter_items l.entry-iterator ≡ into_iter_items l.initial.entry-iterator)
+    × (l.hall ≡ added_all l.fn.hall l.yielded)
+    × CanAddAll l.hall (into_iter_items l.entry-iterator)
+    × (into_iter_len l.entry-iterator ≡ length (into_iter_items l.entry-iterator))

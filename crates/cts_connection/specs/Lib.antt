@@ -1,0 +1,7 @@
+pub mod Routings
+pub mod LinePlaces
+pub mod Connections
+pub mod Takings
+pub mod Writings
+pub mod Postings
+pub mod Laws

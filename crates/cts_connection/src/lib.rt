@@ -1,0 +1,25 @@
+//! The connections of a site's lines, which are its interfaces and the slots of its routers. What a line's chain takes becomes entries of
+//! the history, what the history has for its peer is put into frames, and each connection knows what it has passed. A core that does
+//! one event after the other and a running line make the same calls.
+#![tactic(auto)]
+
+mod appending;
+mod connection;
+mod end;
+mod framer;
+mod ident;
+mod laws;
+mod naming;
+mod place;
+mod saying;
+mod taking;
+mod writing;
+
+pub use connection::Connection;
+pub use end::End;
+pub use framer::Framer;
+pub use ident::ident_by;
+pub use laws::{lines, lines_may_post};
+pub use place::{is_line, line_place};
+pub use saying::said;
+pub use taking::Taken;

@@ -1,0 +1,64 @@
+// The names that a log and a frame state of an entry.
+ghost use Rattle.std.specs.Prelude.{◌≡◌, ◌<◌, length, IfOk};
+ghost use Rattle.cts_def.specs.Packets.{unknown};
+ghost use Rattle.cts_spell.specs.Spellings.{heading_of};
+ghost use Rattle.cts_def.specs.Names.{command_names};
+ghost use Rattle.cts_told.specs.Routing.{heading_of as heading_by};
+ghost use Rattle.cts_table.specs.Keeping.{IsIdent};
+ghost use Rattle.cts_connection.specs.Routings.{packet_names};
+
+use cts_base::{Memory, Name};
+use cts_def::{Ident, Label, Packet, Site, Time};
+use std::alloc::Global;
+
+/// What is stated beside the bytes of a packet.
+pub(crate) fn packet_label(
+    alloc: Global,
+    site: &Site,
+    time: Time,
+    ident: Ident,
+) -> Result<Label, Memory>
+    requires { IsIdent site.now ident }
+    ensures { IfOk result (λ l. heading_of l ≡ heading_by (packet_names site.now ident) time) }
+{
+    match ident {
+        Ident::Known(number) => {
+            let packets = site.definitions.telemetry.as_slice();
+            named(&packets[number as usize], time)
+        }
+        Ident::Unknown => Ok(Label {
+            time,
+            target: unknown(alloc)?,
+            packet: unknown(alloc)?,
+        }),
+    }
+}
+
+/// What is stated beside the bytes of a command.
+pub(crate) fn command_label(site: &Site, time: Time, command: u32) -> Result<Label, Memory>
+    requires { command < length site.now.definitions.commands }
+    ensures { IfOk result (λ l. heading_of l ≡ heading_by (command_names site.now command) time) }
+{
+    let commands = site.definitions.commands.as_slice();
+    named(&commands[command as usize], time)
+}
+
+fn named(packet: &Packet, time: Time) -> Result<Label, Memory>
+    ensures { IfOk result (λ l. heading_of l ≡ heading_by (packet.now.target, packet.now.name) time) }
+{
+    Ok(Label {
+        time,
+        target: packet.target.clone()?,
+        packet: packet.name.clone()?,
+    })
+}
+
+// The name where no definition fits.
+fn unknown(alloc: Global) -> Result<Name, Memory>
+    ensures { IfOk result (λ n. n ≡ unknown) }
+{
+    match Name::read(alloc, b"UNKNOWN") {
+        Ok(name) => Ok(name),
+        Err(_) => Err(Memory),
+    }
+}

@@ -1,0 +1,180 @@
+// What the history has for the peer of a line, and its spellings, one behind the other.
+ghost use Rattle.std.specs.Prelude.{◌≡◌, ◌≤◌, ◌<◌, ◌==◌, ◌∷◌, [], List, cond, length, IfOk, MatchOption};
+ghost use Rattle.std.specs.List.{list_any};
+ghost use Rattle.cts_chain.specs.Shapes.{IsChain, writers};
+ghost use Rattle.cts_chain.specs.Writing.{chain_spelling};
+ghost use Rattle.cts_entry.specs.declared.entry.Entry.{Entry as EntryData};
+ghost use Rattle.cts_entry.specs.Histories.{is_packet};
+ghost use Rattle.cts_spell.specs.Spellings.{heading_of};
+ghost use Rattle.cts_table.specs.Keeping.{AllOfSite, IsOfSite};
+ghost use Rattle.cts_told.specs.Routing.{is_for, queue};
+ghost use Rattle.cts_connection.specs.Connections.{HoldsNext};
+ghost use Rattle.cts_connection.specs.Routings.{is_routed, site_routing};
+ghost use Rattle.cts_connection.specs.Writings.{Puts, PutsOne};
+
+use crate::framer::Framer;
+use crate::naming::{command_label, packet_label};
+use crate::place::is_interface;
+use cts_base::Memory;
+use cts_def::{FIRST_SLOT, Label, Site};
+use cts_entry::{Entry, What, is_command_for, place_behind};
+use cts_proto::EncodeFault;
+use std::alloc::Global;
+
+/// How many of these entries are for the peer of a line.
+pub(crate) fn queued(site: &Site, by: u32, entries: &[Entry]) -> usize
+    ensures { result ≡ length (queue (site_routing site.now) by entries.now) }
+{
+    let mut count = 0;
+    let mut left = entries;
+    'left: while let Some((entry, after)) = left.split_first() {
+        count += one_if(is_for(site, by, entry));
+        left = after;
+    }
+    count
+}
+
+fn one_if(test: bool) -> usize
+    ensures { result ≡ cond test 1 0 }
+{
+    if test { 1 } else { 0 }
+}
+
+/// How many of these entries hold the next so many of those through which a line goes: an interface goes from one of its commands to the
+/// next, a slot through all entries. None where there are fewer.
+pub(crate) fn next_of(site: &Site, by: u32, entries: &[Entry], count: u64) -> Option<usize>
+    ensures { HoldsNext site.now by entries.now count result }
+{
+    if is_interface(site, by) {
+        return place_behind(entries, by, count);
+    }
+    first_of(entries, count)
+}
+
+fn first_of(entries: &[Entry], count: u64) -> Option<usize>
+    ensures { MatchOption result (length entries.now < count) (λ n. (n ≡ count) × (n ≤ length entries.now)) }
+{
+    if (entries.len() as u64) < count {
+        return None;
+    }
+    Some(count as usize)
+}
+
+/// Appends the spellings of what of these entries is for the peer of a line, in order, and says how many were refused: these are
+/// passed over.
+pub(crate) fn put_queue<C: Framer>(
+    alloc: Global,
+    site: &Site,
+    by: u32,
+    chain: &C,
+    entries: &[Entry],
+    out: &mut Vec<u8>,
+) -> Result<usize, Memory>
+    requires chain { IsChain (C.shape chain.now) }
+    requires of_site { (before : List EntryData) × AllOfSite site.now before entries.now }
+    ensures ok { IfOk result (λ count. Puts site.now (writers (C.shape chain.now)) by entries.now out.old.items out.new.items count) }
+    ensures few { IfOk result (λ count. count ≤ length entries.now) }
+{
+    let mut refused = 0;
+    let mut left = entries;
+    'left: while let Some((entry, after)) = left.split_first() {
+        refused += put_entry(alloc, site, by, chain, entry, out)?;
+        left = after;
+    }
+    Ok(refused)
+}
+
+/// The same of one entry.
+fn put_entry<C: Framer>(
+    alloc: Global,
+    site: &Site,
+    by: u32,
+    chain: &C,
+    entry: &Entry,
+    out: &mut Vec<u8>,
+) -> Result<usize, Memory>
+    requires chain { IsChain (C.shape chain.now) }
+    requires of_site { (before : List EntryData) × IsOfSite site.now before entry.now }
+    ensures ok { IfOk result (λ count. Puts site.now (writers (C.shape chain.now)) by (entry.now ∷ []) out.old.items out.new.items count) }
+    ensures few { IfOk result (λ count. count ≤ 1) }
+{
+    if !is_for(site, by, entry) {
+        return Ok(0);
+    }
+    match &entry.what {
+        What::Packet { ident, bytes } => {
+            let label = packet_label(alloc, site, entry.time, *ident)?;
+            put_one(chain, label, bytes.as_slice(), out)
+        }
+        What::Command {
+            interface: _,
+            command,
+            bytes,
+        } => {
+            let label = command_label(site, entry.time, *command)?;
+            put_one(chain, label, bytes.as_slice(), out)
+        }
+        _ => Ok(0),
+    }
+}
+
+// Appends one spelling, and says how many were refused.
+fn put_one<C: Framer>(
+    chain: &C,
+    label: Label,
+    bytes: &[u8],
+    out: &mut Vec<u8>,
+) -> Result<usize, Memory>
+    requires chain { IsChain (C.shape chain.now) }
+    ensures ok { IfOk result (λ count. PutsOne (chain_spelling (writers (C.shape chain.now)) (heading_of label) bytes.now) out.old.items out.new.items count) }
+    ensures few { IfOk result (λ count. count ≤ 1) }
+{
+    match chain.encode(&label, bytes, out) {
+        Ok(()) => Ok(0),
+        Err(EncodeFault::Memory) => Err(Memory),
+        Err(_) => Ok(1),
+    }
+}
+
+/// Whether an entry is for the peer of a line: a command for an interface, and a packet of an interface that is routed to a slot.
+fn is_for(site: &Site, by: u32, entry: &Entry) -> bool
+    ensures { result ≡ is_for (site_routing site.now) by entry.now }
+{
+    if is_interface(site, by) {
+        is_command_for(entry, by)
+    } else {
+        is_packet(entry) && is_routed(site, by, entry.by)
+    }
+}
+
+fn is_packet(entry: &Entry) -> bool
+    ensures { result ≡ is_packet entry.now.what }
+{
+    match &entry.what {
+        What::Packet { ident: _, bytes: _ } => true,
+        _ => false,
+    }
+}
+
+/// Whether the packets of an interface go to a slot.
+fn is_routed(site: &Site, by: u32, interface: u32) -> bool
+    ensures { result ≡ is_routed site.now by interface }
+{
+    if by < FIRST_SLOT {
+        return false;
+    }
+    match site
+        .routers
+        .as_slice()
+        .get(((by - FIRST_SLOT) / 2) as usize)
+    {
+        Some(router) => contains(router.routes.as_slice(), interface),
+        None => false,
+    }
+}
+
+fn contains(numbers: &[u32], number: u32) -> bool
+    ensures { result ≡ list_any (λ n. n == number) numbers.now }
+{
+    numbers.contains(&number)
+}
