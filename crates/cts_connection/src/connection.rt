@@ -1,19 +1,21 @@
 // The connection of one line.
-ghost use Rattle.std.specs.Prelude.{◌≡◌, ◌≤◌, true, false, drop, length, map, IfOk, IfSome, OnErr};
+ghost use Rattle.std.specs.Prelude.{◌≡◌, ◌+◌, ◌≤◌, true, false, [], drop, length, map, vec_len, vec_capacity, IfOk, IfSome, OnErr};
 ghost use Rattle.cts_chain.specs.Chains.{Reserved, loss_in};
-ghost use Rattle.cts_chain.specs.Shapes.{IsIdle, IsSameChain};
+ghost use Rattle.cts_chain.specs.Shapes.{IsIdle, IsSameChain, writers};
 ghost use Rattle.cts_connection.specs.Connections.{AllIdle, HoldsNext, IsRenewed, entries_ahead, shut, waiting};
+ghost use Rattle.cts_told.specs.Routing.{queue};
 ghost use Rattle.cts_connection.specs.LinePlaces.{is_line};
 ghost use Rattle.cts_connection.specs.Postings.{CanClose, CanOpen, CanPost, Closes, Ends, Opens, Posts};
+ghost use Rattle.cts_connection.specs.Routings.{site_routing};
 ghost use Rattle.cts_connection.specs.Takings.{TakesPiece};
-ghost use Rattle.cts_connection.specs.Writings.{Wrote};
+ghost use Rattle.cts_connection.specs.Writings.{Wrote, spell_by};
 
 use crate::appending::{append_all, weight};
 use crate::end::End;
 use crate::framer::Framer;
 use crate::taking::{Taken, gather};
-use crate::writing::{next_of, put_queue, queued};
-use cts_base::Memory;
+use crate::writing::{next_of, put_queue, queued, spell_queue};
+use cts_base::{Bytes, Memory};
 use cts_def::{Loss, Time};
 use cts_entry::Entry;
 use cts_table::{Hall, HallFault};
@@ -58,16 +60,18 @@ impl<C: Framer> Connection<C> {
         }
     }
 
-    /// Connections with these chains, in order, of which none stands.
-    pub fn all_shut(alloc: Global, chains: Vec<C>) -> Result<Vec<Connection<C>>, Memory>
-        requires { AllIdle (map C.shape chains.items) }
-        ensures { IfOk result (λ v. v.items ≡ map shut (map C.shape chains.items)) }
+    /// Connections with these chains, in order, of which none stands, in the room for them. It takes no memory.
+    pub fn all_shut(chains: Vec<C>, room: Vec<Connection<C>>) -> Vec<Connection<C>>
+        requires idle { AllIdle (map C.shape chains.items) }
+        requires none { room.items ≡ [] }
+        requires room { vec_len room + length chains.items ≤ vec_capacity room }
+        ensures { result.items ≡ map shut (map C.shape chains.items) }
     {
-        let mut connections = Vec::with_capacity(alloc, chains.len())?;
+        let mut connections = room;
         for chain in chains {
-            connections.push(Connection::of(chain))?;
+            let _ = connections.push(Connection::of(chain));
         }
-        Ok(connections)
+        connections
     }
 
     /// Whether it stands.
@@ -83,6 +87,13 @@ impl<C: Framer> Connection<C> {
     {
         let left = queued(hall.site(), by, behind(hall.entries(), self.place));
         (self.refused as u64).saturating_add(left as u64)
+    }
+
+    /// No more entries were refused than it has passed.
+    pub fn is_kept(&self)
+        ensures { self.now.cursor.refused ≤ self.now.cursor.place }
+    {
+        let _place = self.place;
     }
 
     // ---- what it appends
@@ -210,6 +221,33 @@ impl<C: Framer> Connection<C> {
         ensures { HoldsNext hall.now.basis.site by (entries_ahead self.now hall.now.entries) count result }
     {
         next_of(hall.site(), by, behind(hall.entries(), self.place), count)
+    }
+
+    /// The spellings of what is for the line's peer among the entries that it has not passed, in order; none where its chain refuses one.
+    ///
+    /// # Errors
+    ///
+    /// `Memory`.
+    pub fn spellings(
+        &self,
+        alloc: Global,
+        hall: &Hall,
+        by: u32,
+    ) -> Result<Vec<Option<Bytes>>, Memory>
+        ensures { IfOk result (λ v. v.items ≡ map (spell_by hall.now.basis.site (writers self.now.chain)) (queue (site_routing hall.now.basis.site) by (entries_ahead self.now hall.now.entries))) }
+    {
+        hall.is_kept();
+        let entries = behind(hall.entries(), self.place);
+        spell_queue(alloc, hall.site(), by, &self.chain, entries)
+    }
+
+    /// It has passed the history up to this place. So many of the entries for its peer that it passed then were not put whole.
+    pub fn pass(&mut self, place: usize, unsent: usize)
+        requires { self.old.cursor.refused + unsent ≤ place }
+        ensures { self.new ≡ record self.old { cursor = record { place = place; refused = self.old.cursor.refused + unsent } } }
+    {
+        self.place = place;
+        self.refused += unsent;
     }
 
     /// Puts what is for the line's peer among the next so many entries into the frames of its chain, one behind the other, and passes these

@@ -1,5 +1,5 @@
 // What the history has for the peer of a line, and its spellings, one behind the other.
-ghost use Rattle.std.specs.Prelude.{◌≡◌, ◌≤◌, ◌<◌, ◌==◌, ◌∷◌, [], List, cond, length, IfOk, MatchOption};
+ghost use Rattle.std.specs.Prelude.{◌≡◌, ◌≤◌, ◌<◌, ◌==◌, ◌∷◌, [], List, cond, length, map, true, IfOk, MatchOption};
 ghost use Rattle.std.specs.List.{list_any};
 ghost use Rattle.cts_chain.specs.Shapes.{IsChain, writers};
 ghost use Rattle.cts_chain.specs.Writing.{chain_spelling};
@@ -10,12 +10,12 @@ ghost use Rattle.cts_table.specs.Keeping.{AllOfSite, IsOfSite};
 ghost use Rattle.cts_told.specs.Routing.{is_for, queue};
 ghost use Rattle.cts_connection.specs.Connections.{HoldsNext};
 ghost use Rattle.cts_connection.specs.Routings.{is_routed, site_routing};
-ghost use Rattle.cts_connection.specs.Writings.{Puts, PutsOne};
+ghost use Rattle.cts_connection.specs.Writings.{Puts, PutsOne, spell_by};
 
 use crate::framer::Framer;
 use crate::naming::{command_label, packet_label};
 use crate::place::is_interface;
-use cts_base::Memory;
+use cts_base::{Bytes, Memory};
 use cts_def::{FIRST_SLOT, Label, Site};
 use cts_entry::{Entry, What, is_command_for, place_behind};
 use cts_proto::EncodeFault;
@@ -84,7 +84,50 @@ pub(crate) fn put_queue<C: Framer>(
     Ok(refused)
 }
 
-/// The same of one entry.
+/// The spellings of what of these entries is for the peer of a line, in order; none where one is refused.
+pub(crate) fn spell_queue<C: Framer>(
+    alloc: Global,
+    site: &Site,
+    by: u32,
+    chain: &C,
+    entries: &[Entry],
+) -> Result<Vec<Option<Bytes>>, Memory>
+    requires chain { IsChain (C.shape chain.now) }
+    requires of_site { (before : List EntryData) × AllOfSite site.now before entries.now }
+    ensures { IfOk result (λ v. v.items ≡ map (spell_by site.now (writers (C.shape chain.now))) (queue (site_routing site.now) by entries.now)) }
+{
+    let mut spellings = Vec::new(alloc);
+    let mut left = entries;
+    'left: while let Some((entry, after)) = left.split_first() {
+        if is_for(site, by, entry) {
+            spellings.push(spelling(alloc, site, by, chain, entry)?)?;
+        }
+        left = after;
+    }
+    Ok(spellings)
+}
+
+/// The spelling of an entry that is for the peer of a line.
+fn spelling<C: Framer>(
+    alloc: Global,
+    site: &Site,
+    by: u32,
+    chain: &C,
+    entry: &Entry,
+) -> Result<Option<Bytes>, Memory>
+    requires chain { IsChain (C.shape chain.now) }
+    requires of_site { (before : List EntryData) × IsOfSite site.now before entry.now }
+    requires mine { is_for (site_routing site.now) by entry.now ≡ true }
+    ensures { IfOk result (λ b. b ≡ spell_by site.now (writers (C.shape chain.now)) entry.now) }
+{
+    let mut bytes = Vec::new(alloc);
+    match put_entry(alloc, site, by, chain, entry, &mut bytes)? {
+        0 => Ok(Some(Bytes::of(bytes))),
+        _ => Ok(None),
+    }
+}
+
+/// Appends the spelling of one entry, where it is for the peer of a line, and says how many were refused.
 fn put_entry<C: Framer>(
     alloc: Global,
     site: &Site,

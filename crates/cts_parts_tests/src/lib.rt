@@ -5,6 +5,8 @@
 #[cfg(test)]
 mod colors;
 #[cfg(test)]
+mod connections;
+#[cfg(test)]
 mod effects;
 #[cfg(test)]
 mod history;
