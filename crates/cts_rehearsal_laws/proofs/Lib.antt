@@ -1,0 +1,5 @@
+pub mod Asked
+pub mod Cases
+pub mod Requested
+pub mod Sending
+pub mod Writing

@@ -1,0 +1,3 @@
+pub mod Orders
+pub mod Demo
+pub mod Sent
