@@ -1,4 +1,6 @@
-pub mod Latest
+pub mod MarkSteps
+pub mod Foreign
+pub mod KeptSteps
 pub mod Keeping
 pub mod Owing
 pub mod Growing

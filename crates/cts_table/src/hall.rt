@@ -5,12 +5,16 @@ ghost use Rattle.cts_def.specs.Makers.{server};
 ghost use Rattle.cts_def.specs.Sites.{IsSoundSite};
 ghost use Rattle.cts_entry.specs.Histories.{is_connected, is_stopped};
 ghost use Rattle.cts_entry.specs.Legal.{has_ended, most_bytes, most_entries};
+ghost use Rattle.cts_def.specs.declared.ident.Ident.TheVariants.{Unknown};
 ghost use Rattle.cts_table.specs.Keeping.{IsKept};
+ghost use Rattle.cts_table.specs.Lookups.{commands_in, counts_of};
+ghost use Rattle.cts_table.specs.Marking.{HeardTells};
 ghost use Rattle.cts_watch.specs.Watching.{watches};
 ghost use Rattle.cts_table.specs.States.{added, begun, CanAdd, IsRoomAnswer, with_room};
 
-use crate::kinds::connects;
-use crate::{Basis, HallFault, History};
+use crate::makers::Makers;
+use crate::marks::{Heard, Marks};
+use crate::{Basis, Counts, HallFault, History};
 use cts_base::Memory;
 use cts_def::Site;
 use cts_entry::{Entry, MOST_BYTES, MOST_ENTRIES, Stands, bytes_for, entries_for, is_stop};
@@ -28,8 +32,10 @@ pub struct Hall {
     site: Arc<Site>,
     limit_entries: u64,
     limit_bytes: u64,
-    watched: bool,
     entries: Vec<Entry>,
+    marks: Marks,
+    makers: Makers,
+    watched: bool,
     stopped: bool,
     used_entries: u64,
     used_bytes: u64,
@@ -81,14 +87,18 @@ impl Hall {
     {
         let rules: &Site = &site;
         let _desks = rules.desks;
+        let marks = Marks::begin(alloc, rules)?;
+        let makers = Makers::begin(alloc)?;
         let watched = watches(rules);
         let places = Vec::with_capacity(alloc, MOST_OWED)?;
         Ok(Hall {
             site,
             limit_entries: entries,
             limit_bytes: bytes,
-            watched,
             entries: places,
+            marks,
+            makers,
+            watched,
             stopped: false,
             used_entries: 0,
             used_bytes: 0,
@@ -133,6 +143,9 @@ impl Hall {
         let entries = entries_for(&entry.what);
         let bytes = bytes_for(&entry.what);
         let stops = is_stop(&entry.what);
+        let at = self.entries.len();
+        self.marks.note(&self.site, at as u64, &entry);
+        self.makers.note(&entry);
         self.entries.push_reserved(entry);
         self.stopped |= stops;
         self.used_entries += entries;
@@ -201,11 +214,30 @@ impl Hall {
     fn is_open(&self, by: u32) -> bool
         ensures { result ≡ is_connected by self.now.entries }
     {
-        let mut open = false;
-        for entry in self.entries.as_slice() {
-            open = connects(entry, by).unwrap_or(open);
-        }
-        open
+        self.makers.is_open(by)
+    }
+
+    /// What is kept of a packet of the site.
+    pub(crate) fn heard(&self, packet: u32) -> Heard
+        requires { packet < length self.now.basis.site.definitions.telemetry }
+        ensures { HeardTells self.now.basis.site self.now.entries packet result }
+    {
+        self.marks.heard(packet)
+    }
+
+    /// How often packets came that no definition matched.
+    pub(crate) fn unknown(&self) -> Counts
+        ensures { result ≡ counts_of self.now.basis.site Unknown self.now.entries }
+    {
+        self.marks.unknown()
+    }
+
+    /// How often a command of the site was sent.
+    pub(crate) fn sent(&self, command: u32) -> u64
+        requires { command < length self.now.basis.site.definitions.commands }
+        ensures { result ≡ commands_in command self.now.entries }
+    {
+        self.marks.sent(command)
     }
 
     /// Whether a Stop stands. The server itself, whose Stop it may be, never ends.

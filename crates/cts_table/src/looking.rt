@@ -1,80 +1,76 @@
 // What is looked up in a hall: counts, current bytes and values.
 ghost use Rattle.std.specs.Prelude.{◌≡◌, ◌<◌, length, Ok, IsTrue, slice_get};
 ghost use Rattle.std.specs.Option.{option_copied};
-ghost use Rattle.cts_table.specs.Lookups.{Answers, commands_in, count_value, counted, counts_of, every_length, is_long_of, is_short_of, is_whole, looked_up, packet_of, value_of_packet};
+ghost use Rattle.cts_table.specs.Lookups.{Answers, commands_in, count_value, counts_of, is_whole, looked_up, value_of_packet};
 ghost use Rattle.cts_watch.specs.Brought.{current_of};
 
-use crate::kinds::{is_command, is_long, is_received, is_short};
-use crate::naming::{has_packet_of, item_named, packet_of, place_of};
+use crate::naming::{has_packet_of, item_named, place_of};
 use crate::{Counts, Hall, Lookup};
 use cts_base::spells;
 use cts_conv::{Value, ValueKind, plain, value_of};
-use cts_def::{Ident, Packet};
+use cts_def::Ident;
 use cts_watch::brought;
 use std::alloc::Global;
 
 impl Hall {
-    /// How often a command was sent.
+    /// How often a command was sent. It looks at no entry.
     pub fn command_count(&self, command: u32) -> u64
         ensures { result ≡ commands_in command self.now.entries }
     {
-        self.entries()
-            .iter()
-            .filter(|e| is_command(e, command))
-            .count() as u64
+        self.is_kept();
+        if (command as usize) < self.site().definitions.commands.len() {
+            self.sent(command)
+        } else {
+            0
+        }
     }
 
-    /// The current bytes of a packet, if it has any.
+    /// The current bytes of a packet, if it has any. It looks at one entry at most.
     pub fn current(&self, packet: u32) -> Option<&[u8]>
         ensures { option_copied result ≡ current_of packet self.now.entries }
     {
-        let mut found = None;
-        for entry in self.entries() {
-            found = brought(entry, Ident::Known(packet)).or(found);
+        self.is_kept();
+        if (packet as usize) < self.site().definitions.telemetry.len() {
+            self.current_at(packet)
+        } else {
+            None
         }
-        found
     }
 
-    /// How many packets of this ident came, and how many of them were short or long.
+    // The current bytes of a packet of the site.
+    fn current_at(&self, packet: u32) -> Option<&[u8]>
+        requires { packet < length self.now.basis.site.definitions.telemetry }
+        ensures { option_copied result ≡ current_of packet self.now.entries }
+    {
+        match self.heard(packet).place {
+            None => None,
+            Some(n) => brought(self.entry(n), Ident::Known(packet)),
+        }
+    }
+
+    /// How many packets of this ident came, and how many of them were short or long. It looks at no entry.
     pub fn counts(&self, ident: Ident) -> Counts
         ensures { result ≡ counts_of self.now.basis.site ident self.now.entries }
     {
-        let packet = packet_of(self.site(), ident);
-        Counts {
-            received: self.received(ident),
-            short: self.short(ident, packet),
-            long: self.long(ident, packet),
+        self.is_kept();
+        match ident {
+            Ident::Known(packet) => {
+                if (packet as usize) < self.site().definitions.telemetry.len() {
+                    self.heard(packet).counts
+                } else {
+                    Counts {
+                        received: 0,
+                        short: 0,
+                        long: 0,
+                    }
+                }
+            }
+            Ident::Unknown => self.unknown(),
         }
     }
 
-    fn received(&self, ident: Ident) -> u64
-        ensures { result ≡ counted ident every_length self.now.entries }
-    {
-        self.entries()
-            .iter()
-            .filter(|e| is_received(e, ident))
-            .count() as u64
-    }
-
-    fn short(&self, ident: Ident, packet: Option<&Packet>) -> u64
-        ensures { result ≡ counted ident (is_short_of (option_copied packet.entry)) self.now.entries }
-    {
-        self.entries()
-            .iter()
-            .filter(|e| is_short(e, ident, packet))
-            .count() as u64
-    }
-
-    fn long(&self, ident: Ident, packet: Option<&Packet>) -> u64
-        ensures { result ≡ counted ident (is_long_of (option_copied packet.entry)) self.now.entries }
-    {
-        self.entries()
-            .iter()
-            .filter(|e| is_long(e, ident, packet))
-            .count() as u64
-    }
-
     /// The value of an item by names in any case. RECEIVED_COUNT is an item of every packet, and is never NeverReceived.
+    /// It looks at one entry at most.
     pub fn value(
         &self,
         alloc: Global,
@@ -111,12 +107,12 @@ impl Hall {
         let packet = &self.site().definitions.telemetry.as_slice()[place];
         let number = place as u32;
         if spells(item, b"RECEIVED_COUNT") {
-            return count_value(alloc, self.received(Ident::Known(number)), kind);
+            return count_value(alloc, self.heard(number).counts.received, kind);
         }
         let Some(item) = item_named(packet, item) else {
             return Err(Lookup::UnknownItem);
         };
-        let Some(bytes) = self.current(number) else {
+        let Some(bytes) = self.current_at(number) else {
             return Err(Lookup::NeverReceived);
         };
         value_of(alloc, packet, item, bytes, kind).map_err(|_| Lookup::Memory)
