@@ -6,7 +6,7 @@ use crate::read::site_of;
 use crate::shelves::stocked;
 use cts_chain::{Chain, Chained};
 use cts_connection::{Connection, End, Framer, is_line};
-use cts_def::{Site, Time};
+use cts_def::{Interface, Site, Time};
 use cts_entry::Why;
 use cts_rows::{Answers, as_text, bytes_of, cut, number, rows_end_so};
 use cts_script::entry_lines;
@@ -43,7 +43,13 @@ impl Answers for Pieces {
         let site = site_of(alloc, TEXTS.0, TEXTS.1)?;
         let chain = chain_of(alloc, &site)?;
         let mut hall = Hall::new(alloc, Arc::new(alloc, site)?)?;
-        talk(alloc, &mut hall, Connection::of(chain), number(asked, 0)?, &piece)?;
+        talk(
+            alloc,
+            &mut hall,
+            Connection::of(chain),
+            number(asked, 0)?,
+            &piece,
+        )?;
         lines_of(alloc, &hall)
     }
 }
@@ -52,10 +58,17 @@ impl Answers for Pieces {
 fn chain_of(alloc: Global, site: &Site) -> Result<Chain, Fail>
     ensures { IfOk result (λ c. IsIdle (⟦<Chain as Chained>⟧.shape c)) }
 {
-    let Some(interface) = site.interfaces.as_slice().first() else {
-        return Err(Fail::new("no interface"));
-    };
-    match Chain::build(alloc, &mut stocked(alloc)?, interface.chain.as_slice()) {
+    match site.interfaces.as_slice().first() {
+        Some(interface) => chain_at(alloc, interface),
+        None => Err(Fail::new("no interface")),
+    }
+}
+
+fn chain_at(alloc: Global, interface: &Interface) -> Result<Chain, Fail>
+    ensures { IfOk result (λ c. IsIdle (⟦<Chain as Chained>⟧.shape c)) }
+{
+    let mut shelf = stocked(alloc)?;
+    match Chain::build(alloc, &mut shelf, interface.chain.as_slice()) {
         Ok(chain) => Ok(chain),
         Err(_) => Err(Fail::new("no chain")),
     }
