@@ -15,8 +15,6 @@ mod ident;
 #[cfg(test)]
 mod lines;
 #[cfg(test)]
-mod outside;
-#[cfg(test)]
 mod read;
 #[cfg(test)]
 mod scripts;
