@@ -25,8 +25,10 @@ use Rattle.cts_frame.proofs.Framings.{taken_none, ends_nil}
 use Rattle.cts_frame.proofs.Stagings.{has_one_packets}
 use Rattle.cts_core.specs.States.{Environment, State, is_line, opening, may_close, unsent, ahead, put_next}
 use Rattle.cts_core.specs.Runs.{Did, Does, after, pieces_for, passed_for, pieces_after, cursor_after, Ending, Runs, Receives, Closes, closing, closed_entry}
-use Rattle.cts_core_laws.specs.Told.{Connection, Line, IsStay, Told, ToldBy, told_from, told_after, turned, heard, put_for, one_or_none, history_of}
+use Rattle.cts_core_laws.specs.Told.{Line, Told, told_from, told_after, turned, heard, put_for, one_or_none, history_of}
 use Rattle.cts_core_laws.specs.Laws.{AreApart, IsSoundEnvironment, IsAnsweredByDesks, CoreIsTold}
+use Rattle.cts_outside.specs.Lines.{Connection, fresh}
+use Rattle.cts_told.specs.Told.{IsStay, Tells}
 use Rattle.cts_told.specs.Routing.{time_in, said_of, posted_entries, walk, queue, spell}
 use Rattle.cts_told.specs.Connections.{Says, Shows, is_bad_frame, Blames}
 use Rattle.cts_told.proofs.Connecting.{says_connects}
@@ -60,9 +62,9 @@ Fits env s m past (Some c) = GoingWell env.routing m s.history (s.pieces m) (s.c
 abbrev FitsLine : Environment → State → ℕ → Line → Type 0
 FitsLine env s m line = Fits env s m line.past line.now
 
-told_by : (env : Environment) (s : State) (m : ℕ) (past : List Connection) (now : Option Connection) → Fits env s m past now → ToldBy env.routing m s.history past now
+told_by : (env : Environment) (s : State) (m : ℕ) (past : List Connection) (now : Option Connection) → Fits env s m past now → Tells env.routing m s.history past now
 told_by env s m past None f = f.1
-told_by env s m past (Some c) w = let go = w.0 in (go.before, go.opened ∷ go.between, go.history_is, go.past_is, going_talks env.routing m s.history (s.pieces m) (s.cursor m) past c go)
+told_by env s m past (Some c) w = let go = w.0 in (go.before, go.opened ∷ go.between, go.history_is, go.past_is, going_talks env.routing m s.history (s.pieces m) (s.cursor m) past c go w.1)
 
 -- an event that is not the maker's
 
@@ -70,7 +72,7 @@ heard_nothing : (m : ℕ) (event : Event) (did : Did) (c : Connection) → piece
 heard_nothing m event did c p q =
     let pieces = ap (λ (l : List (List ℕ)). c.pieces ++ l) p ∙ append-nil c.pieces in
     let put = ap (λ (l : List ℕ). c.put ++ l) q ∙ append-nil c.put in
-    λ i. record { pieces = pieces i; put = put i }
+    λ i. record c { pieces = pieces i; put = put i }
 
 heard_none : (m : ℕ) (event : Event) (did : Did) (now : Option Connection) → pieces_for m event ≡ [] → put_for m did.effect ≡ [] → option_map (heard m event did) now ≡ now
 heard_none m event did None p q = refl
@@ -136,7 +138,6 @@ opens_mine env s did m line sound f d =
     let tells : latest (connects_maker m) did.entries ≡ Some true = ap (latest (connects_maker m)) a ∙ says_connects m e Opened says in
     let off : is_connected m s.history ≡ false = (let n = d.enabled in grind arith) in
     let none = no_packets (env.routing.chain m) 1 (sound.chains m) in
-    let fresh : Connection = record { pieces = []; put = [] } in
     let zero_walk : [] ≡ spelled (spell env.routing m) (queue env.routing m (take 0 (walk env.routing m []))) = refl in
     let go : Going env.routing m (s.history ++ did.entries) [] 0 line.past fresh = record {
       before = s.history;

@@ -1,24 +1,20 @@
 -- What the events of a run tell of a maker's connections, and what its entries have to say of them.
-use Rattle.std.specs.Prelude.{◌≡◌, ℕ, Bool, true, false, ◌==◌, if◌then◌else◌, List, [], ◌∷◌, ◌++◌, Option, Some, None, option_map}
+use Rattle.std.specs.Prelude.{ℕ, Bool, true, false, ◌==◌, if◌then◌else◌, List, [], ◌∷◌, ◌++◌, Option, Some, None, option_map}
 use Rattle.std.specs.List.{flat_map}
 use Rattle.cts_entry.specs.declared.entry.Entry.{Entry}
 use Rattle.cts_entry.specs.declared.event.Event.{Event}
 use Rattle.cts_entry.specs.declared.event.Effect.{Effect}
 use Rattle.cts_entry.specs.declared.event.Effect.TheVariants.{Posted, Reply, Written, Logged, Routed}
 use Rattle.cts_entry.specs.Histories.{latest, connects_maker}
-use Rattle.cts_entry.specs.Places.{Stays}
+use Rattle.cts_outside.specs.Lines.{Connection, fresh}
 use Rattle.cts_told.specs.Routing.{Routing}
-use Rattle.cts_told.specs.Connections.{Talks, Stay}
+use Rattle.cts_told.specs.Told.{Tells}
 use Rattle.cts_core.specs.Runs.{Did, pieces_for}
 
 -- ---- what is told of connections
 
--- a connection: the pieces that came, and the bytes that were put
-pub record Connection : Type 0 where
-  pub pieces : List (List ℕ)
-  pub put : List ℕ
-
--- a maker's connections: those that ended, and the one that stands
+-- A maker's connections: those that ended, and the one that stands. Events tell of a connection the pieces that came and the
+-- bytes that were put; they are no takes, so the rest is that of a connection that was just made.
 pub record Line : Type 0 where
   pub past : List Connection
   pub now : Option Connection
@@ -32,7 +28,7 @@ put_for m (Routed slot bytes) = if slot == m then bytes else []
 
 -- the connection that stands takes a maker's piece, and what was put for it
 abbrev pub heard : ℕ → Event → Did → Connection → Connection
-heard m event did c = record { pieces = c.pieces ++ pieces_for m event; put = c.put ++ put_for m did.effect }
+heard m event did c = record c { pieces = c.pieces ++ pieces_for m event; put = c.put ++ put_for m did.effect }
 
 abbrev pub one_or_none : Option Connection → List Connection
 one_or_none (Some c) = c ∷ []
@@ -41,7 +37,7 @@ one_or_none None = []
 -- a connection is opened, or ends
 abbrev pub turned : Option Bool → Line → Line
 turned None line = line
-turned (Some true) line = record { past = line.past; now = Some (record { pieces = []; put = [] }) }
+turned (Some true) line = record { past = line.past; now = Some fresh }
 turned (Some false) line = record { past = line.past ++ one_or_none line.now; now = None }
 
 abbrev pub told_after : ℕ → Event → Did → Line → Line
@@ -58,16 +54,9 @@ told m events dids = told_from m (record { past = []; now = None }) events dids
 
 -- ---- what the history says of them
 
-abbrev pub IsStay : Routing → ℕ → List Entry → Connection → List Entry → Type 0
-IsStay g m before c entries = Stay g m before c.pieces c.put entries
-
 -- the history says this of a maker's connections
-abbrev pub ToldBy : Routing → ℕ → List Entry → List Connection → Option Connection → Type 0
-ToldBy g m history past None = Stays m (IsStay g m) [] past history
-ToldBy g m history past (Some c) = (before : List Entry) × (entries : List Entry) × (history ≡ before ++ entries) × Stays m (IsStay g m) [] past before × Talks g m before c.pieces c.put entries
-
 abbrev pub Told : Routing → ℕ → List Entry → Line → Type 0
-Told g m history line = ToldBy g m history line.past line.now
+Told g m history line = Tells g m history line.past line.now
 
 -- the entries that were appended
 abbrev pub history_of : List Did → List Entry
