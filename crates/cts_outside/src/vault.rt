@@ -15,7 +15,7 @@ pub enum LogKind {
 }
 
 /// Where the two packet logs are kept, as a server of COSMOS 4 writes them beside each other.
-pub trait Vault {
+pub trait Vault: Drop {
     /// The logs, where they are told, and how often an append or a sync has failed.
     ghost seen: { Self → VaultSeen };
 
