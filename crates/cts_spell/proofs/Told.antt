@@ -140,14 +140,6 @@ burst_spells b h bytes old new r e = spells (Burst b) h bytes old new (λ frame 
 pub fixed_spells : (f : FixedData) (h : Heading) (bytes old new : List ℕ) (r : Result (Unit {0}) EncodeFault) → Encodes (Fixed f) h bytes old new r → Spells (spelling_of (Fixed f) h bytes) old new r
 fixed_spells f h bytes old new r e = spells (Fixed f) h bytes old new (λ frame none is. sym is) r e
 
--- a frame whose count is not written
-bare_frame : (l : LengthData) (fill : Bool) (n : ℕ) (old frame : List ℕ) → fill ≡ false → counts l fill old frame → counted l fill n old ≡ frame
-bare_frame l true n old frame e is = cc
-bare_frame l false n old frame e is = sym is
-
-pub bare_spells : (l : LengthData) (h : Heading) (bytes old new : List ℕ) (r : Result (Unit {0}) EncodeFault) → l.fill ≡ false → Encodes (Length l) h bytes old new r → Spells (spelling_of (Length l) h bytes) old new r
-bare_spells l h bytes old new r e = spells (Length l) h bytes old new (λ frame none is. bare_frame l l.fill (length (synced (Length l) bytes)) (synced (Length l) bytes) frame e is) r
-
 pub terminated_spells : (t : TerminatedData) (h : Heading) (bytes old new : List ℕ) (r : Result (Unit {0}) EncodeFault) → Encodes (Terminated t) h bytes old new r → Spells (spelling_of (Terminated t) h bytes) old new r
 terminated_spells t h bytes old new r e = spells (Terminated t) h bytes old new (λ frame none is. sym is) r e
 

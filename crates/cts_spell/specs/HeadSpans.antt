@@ -3,8 +3,8 @@ use Rattle.std.specs.Prelude.{◌≡◌, ℕ, ◌+◌, true, false, List, Option
 use Rattle.cts_frame.specs.Heads.{has_head, head_of, head_end, target_end, packet_end}
 use Rattle.cts_spell.specs.declared.head.Head.{Head}
 
--- What was read is the head at the beginning of the bytes u. The names are told by where they stand: the target's behind its
--- length in byte 8, and the packet's behind its own.
+-- What was read is the head at the beginning of the bytes u. The names are told by where they stand: the target's after its
+-- length in byte 8, and the packet's after its own.
 pub record IsHead (u : List ℕ) (h : Head) : Type 0 where
   pub whole : has_head u ≡ true
   pub time : h.time ≡ (head_of u).time

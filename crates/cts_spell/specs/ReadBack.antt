@@ -13,7 +13,7 @@ use Rattle.cts_spell.specs.Spellings.{IsSpelling, refusal, sync_of}
 abbrev pub single : Output → Pieces
 single o = record { outs = and_output o o.bytes []; skipped = 0; empty = one_if_empty o.bytes; rest = []; bad = None }
 
--- what is read where these bytes were written
+-- what is read where the bytes were written
 abbrev pub output_for : SpecData → Heading → List ℕ → Output
 output_for (Burst s) h bytes = plain bytes
 output_for (Fixed f) h bytes = plain bytes
@@ -53,7 +53,7 @@ abbrev pub OneSpelling : Type 0
 OneSpelling = (s : SpecData) (h : Heading) (bytes one other : List ℕ) → IsTrue (is_sound_spec s) → refusal s h bytes ≡ None
     → IsSpelling s h bytes one → IsSpelling s h bytes other → one ≡ other
 
--- A head that was written is read again, whatever comes behind it, and it ends where it was written to.
+-- A head that was written is read again, whatever follows it, and it ends where it was written to.
 pub record HeadIsRead (h : HeadData) (behind : List ℕ) : Type 0 where
   pub whole : has_head (head_bytes h ++ behind) ≡ true
   pub head : head_of (head_bytes h ++ behind) ≡ h

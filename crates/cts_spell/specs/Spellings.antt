@@ -37,7 +37,7 @@ fills (Length l) = l.fill
 fills (Terminated t) = t.fill
 fills (Preidentified p) = false
 
--- what is put behind
+-- what is put after the bytes
 abbrev pub termination_of : SpecData → List ℕ
 termination_of (Burst b) = []
 termination_of (Fixed f) = []
@@ -49,7 +49,7 @@ termination_of (Preidentified p) = []
 abbrev pub padded : SpecData → List ℕ → List ℕ
 padded s b = if fills s then replicate (discard_of s) 0 ++ b else b
 
--- the second step: the termination behind them
+-- the second step: the termination after them
 abbrev pub ended : SpecData → List ℕ → List ℕ
 ended s b = padded s b ++ termination_of s
 
@@ -61,7 +61,7 @@ over_first sync frame = sync ++ drop (length sync) frame
 abbrev pub synced : SpecData → List ℕ → List ℕ
 synced s b = if fills s then over_first (sync_of s) (ended s b) else ended s b
 
--- The count of a frame of so many bytes, where count * per_count + value_offset is this number of bytes: none where none is.
+-- The count of a frame of `total` bytes, where count * per_count + value_offset is `total`: none where none is.
 abbrev pub count_by : ℤ → ℕ → ℕ → Option ℕ
 count_by value_offset per_count total =
     let counted = pos total -ℤ value_offset in
@@ -125,7 +125,7 @@ abbrev pub is_missing : Option ℕ → Bool
 is_missing None = true
 is_missing (Some n) = false
 
--- the field is past the end of a frame of so many bytes, or no count states its length
+-- the field is past the end of a frame of `total` bytes, or no count states its length
 abbrev pub has_no_count : LengthData → ℕ → Bool
 has_no_count l total = nat_lt total (reach l.place) || is_missing (count_of l total)
 
@@ -161,11 +161,11 @@ refusal s h b =
 
 -- ---- what encoding does
 
--- the spelling was put behind the old bytes
+-- the spelling was put after the old bytes
 abbrev pub Appends : SpecData → Heading → List ℕ → List ℕ → List ℕ → Type 0
 Appends s h b old new = (frame : List ℕ) × (new ≡ old ++ frame) × IsSpelling s h b frame
 
--- An answer: the spelling was put behind the old bytes, and no refusal stands; or the refusal that stands, or that no memory
+-- An answer: the spelling was put after the old bytes, and no refusal stands; or the refusal that stands, or that no memory
 -- was found, and nothing was put.
 abbrev pub Encodes : SpecData → Heading → List ℕ → List ℕ → List ℕ → Result (Unit {0}) EncodeFault → Type 0
 Encodes s h b old new (Ok u) = (refusal s h b ≡ None) × Appends s h b old new

@@ -1,8 +1,10 @@
 // The spelling of bytes by a protocol.
 ghost use Rattle.std.specs.Prelude.{◌≤◌, IsTrue, length};
 ghost use Rattle.cts_frame.specs.Framing.{Heading};
-ghost use Rattle.cts_spell.specs.Putting.{plain_data};
-ghost use Rattle.cts_def.specs.Protocols.{is_sound_spec, spec_data};
+ghost use Rattle.cts_frame.specs.Heads.{AreBytes};
+ghost use Rattle.cts_spell.specs.Putting.{length_row, plain_data};
+ghost use Rattle.cts_def.specs.Protocols.{Length, is_sound_spec, spec_data};
+ghost use Rattle.cts_def.specs.Starts.{place_data};
 ghost use Rattle.cts_spell.specs.Spelled.{Spells, spelling_of};
 ghost use Rattle.cts_spell.specs.Spellings.{Encodes, heading_of};
 
@@ -11,6 +13,7 @@ use crate::counted::encode_counted;
 use crate::headed::encode_headed;
 use crate::plain::{encode_bare, encode_filled};
 use cts_base::Bytes;
+use cts_bits::Place;
 use cts_def::{Label, ProtoSpec};
 
 /// Appends the spelling of the bytes by this protocol. The label stands in the head of PREIDENTIFIED.
@@ -50,20 +53,18 @@ pub fn encode(
             max,
             fill,
         } => {
-            if *fill {
-                encode_counted(
-                    out,
-                    place,
-                    value_offset,
-                    *per_count,
-                    *discard,
-                    sync.as_slice(),
-                    *max,
-                    bytes,
-                )
-            } else {
-                encode_bare(out, *discard, sync.as_slice(), bytes, &[])
-            }
+            let sync = sync.as_slice();
+            encode_length(
+                out,
+                place,
+                value_offset,
+                *per_count,
+                *discard,
+                sync,
+                *max,
+                *fill,
+                bytes,
+            )
         }
         ProtoSpec::Terminated {
             write,
@@ -79,6 +80,38 @@ pub fn encode(
             label,
             bytes,
         ),
+    }
+}
+
+// LENGTH, which without fill writes the bytes alone.
+fn encode_length(
+    out: &mut Vec<u8>,
+    place: &Place,
+    value_offset: &i32,
+    per_count: u32,
+    discard: u32,
+    sync: &[u8],
+    max: Option<u64>,
+    fill: bool,
+    bytes: &[u8],
+) -> Result<(), EncodeFault>
+    requires { 1 ≤ per_count }
+    ensures put { (h : Heading) → Encodes (Length (length_row (place_data place.now) value_offset.now per_count discard sync.now max fill)) h bytes.now out.old.items out.new.items result }
+    ensures bytes { AreBytes sync.now }
+{
+    if fill {
+        encode_counted(
+            out,
+            place,
+            value_offset,
+            per_count,
+            discard,
+            sync,
+            max,
+            bytes,
+        )
+    } else {
+        encode_bare(out, discard, sync, bytes, &[])
     }
 }
 

@@ -24,7 +24,7 @@ pub struct Head {
     pub count: u32,
 }
 
-/// The head at the beginning of these bytes, if they hold it whole.
+/// The head at the beginning of the bytes, if they hold it whole.
 pub fn read_head(bytes: &[u8]) -> Option<Head>
     ensures { ReadsHead bytes.now result }
 {
@@ -51,7 +51,7 @@ pub fn read_head(bytes: &[u8]) -> Option<Head>
     })
 }
 
-/// Appends a head with this time, these names and this count.
+/// Appends a head with the label's time and names, and the count.
 ///
 /// # Errors
 ///

@@ -6,7 +6,7 @@ ghost use Rattle.cts_spell.specs.Spellings.{Encodes, heading_of};
 use crate::EncodeFault;
 use crate::counted::is_over;
 use crate::plain::FRAME_LIMIT;
-use crate::put::{head_len, put, put_head};
+use crate::put::{head_len, put_bytes, put_head};
 use cts_def::Label;
 
 /// Appends the sync pattern, the head of the label and the bytes.
@@ -28,8 +28,8 @@ pub(crate) fn encode_headed(
         return Err(EncodeFault::LengthTooLarge);
     }
     out.reserve(total)?;
-    put(out, sync);
+    put_bytes(out, sync);
     put_head(out, label, bytes.len() as u32);
-    put(out, bytes);
+    put_bytes(out, bytes);
     Ok(())
 }

@@ -23,7 +23,7 @@ pub fn spellings_are_told()
     ensures bytes { SpellingsAreBytes }
 {}
 
-/// A head that was written is read again, whatever comes behind it: its time, its names and its
+/// A head that was written is read again, whatever follows it: its time, its names and its
 /// count, and that it ends where it was written to.
 pub fn heads_are_read()
     ensures { HeadsAreRead }

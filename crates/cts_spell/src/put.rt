@@ -7,8 +7,8 @@ ghost use Rattle.cts_spell.specs.Spellings.{head_for, heading_of};
 use byteorder::{BigEndian, ByteOrder};
 use cts_def::Label;
 
-/// Puts these bytes.
-pub(crate) fn put(out: &mut Vec<u8>, bytes: &[u8])
+/// Puts the bytes.
+pub(crate) fn put_bytes(out: &mut Vec<u8>, bytes: &[u8])
     requires { vec_len out.old + length bytes.now ≤ vec_capacity out.old }
     ensures items { out.new.items ≡ out.old.items ++ bytes.now }
     ensures capacity { vec_capacity out.old ≤ vec_capacity out.new }
@@ -33,18 +33,18 @@ fn put_u32(out: &mut Vec<u8>, number: u32)
 {
     let mut bytes = [0; 4];
     BigEndian::write_u32(&mut bytes, number);
-    put(out, &bytes);
+    put_bytes(out, &bytes);
 }
 
-/// Puts a name of at most 255 bytes behind its length.
+/// Puts a name of at most 255 bytes, after its length.
 fn put_name(out: &mut Vec<u8>, name: &[u8])
     requires few { length name.now ≤ 255 }
     requires room { vec_len out.old + 1 + length name.now ≤ vec_capacity out.old }
     ensures items { out.new.items ≡ out.old.items ++ (length name.now ∷ name.now) }
     ensures capacity { vec_capacity out.old ≤ vec_capacity out.new }
 {
-    put(out, &[name.len() as u8]);
-    put(out, name);
+    put_bytes(out, &[name.len() as u8]);
+    put_bytes(out, name);
 }
 
 /// How many bytes a head with this label has.
