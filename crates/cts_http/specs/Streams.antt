@@ -14,19 +14,19 @@ responses [] texts = []
 responses (front ∷ fronts) [] = []
 responses (front ∷ fronts) (text ∷ texts) = response_with front text ++ responses fronts texts
 
--- what is put behind the responses: the refusal, where the rest is refused
+-- what is put after the responses: the refusal, where the rest is refused
 abbrev pub behind : Ending → List ℕ
 behind Closed = []
 behind (Waiting left) = []
 behind (Refused status) = refusal_text status
 
--- requests with these bodies and this ending have so many responses, with these fronts and texts, and then the refusal
+-- requests with the bodies and the ending have as many responses, with the fronts and texts, and then the refusal
 pub record AreAnswered (bodies : List (List ℕ)) (ending : Ending) (fronts : List ℕ) (texts : List (Option (List ℕ))) (put : List ℕ) : Type 0 where
   pub fronts_fit : length fronts ≡ length bodies
   pub texts_fit : length texts ≡ length bodies
   pub put_is : put ≡ responses fronts texts ++ behind ending
 
--- The stream of the bytes of a connection, where its requests are answered from these fronts with these texts (a text, or none
+-- The stream of the bytes of a connection, where its requests are answered from the fronts with the texts (a text, or none
 -- for a notification): the responses in order, then the refusal.
 abbrev pub Stream : List ℕ → List ℕ → List (Option (List ℕ)) → List ℕ → Type 0
 Stream b fronts texts put =

@@ -3,8 +3,8 @@
 ghost use Rattle.cts_http.specs.Laws.{NoneLacksRequests, HaveOneRequests, RequestsGrow, RefusalsStay, ClosedStays, WaitingIsBounded, HaveOneStream, OneMoreResponse};
 
 /// No bytes of a connection lack a list of requests, and they have no two, nor two endings, but that a target which no UTF-8 can become, and which
-/// stands last behind them, may be refused before its end. More bytes only add requests, and change nothing behind a refusal
-/// or behind a request that ends the connection.
+/// stands last after them, may be refused before its end. More bytes only add requests, and change nothing after a refusal
+/// or after a request that ends the connection.
 pub fn connections_have_one_list_of_requests()
     ensures some { NoneLacksRequests }
     ensures one { HaveOneRequests }
