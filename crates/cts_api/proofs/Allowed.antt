@@ -247,7 +247,7 @@ ends_none h (Unrouted why bytes) may = absurd may
 ends_none h Stop may = refl
 ends_none h Ended may = absurd may
 
--- what is appended for an answer may stand behind the history
+-- what is appended for an answer may stand after the history
 pub allowed : (b : Basis) (history : List Entry) (by : ℕ) (time : Time) (r : Option Request) (a : Asking) (d : Done) (what : What) → is_desk b.site by ≡ true → has_ended by history ≡ false
     → answer (point_of b history) r a ≡ gives d → posted (point_of b history) d.posting ≡ what ∷ [] → IsAllowed (rules_of b) history (made by time what)
 allowed b history by time r a d what desk active e is =

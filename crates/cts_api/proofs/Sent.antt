@@ -36,7 +36,7 @@ said_of (why.Overflow name) o w h = h
 said_of why.Hazardous o w h = h
 said_of why.Memory o w h = absurd (cc w)
 
--- what is refused goes through the checks behind it
+-- what is refused goes through the checks after it
 pub refused_next : {A B : Type 0} (e : Refusal) (said : Said A) (rest : A → Said B) → IsRefused e said → IsRefused e (next said rest)
 refused_next (NoSuch message) said rest h = ap (λ s. next s rest) h
 refused_next (NotDone message) said rest h = ap (λ s. next s rest) h

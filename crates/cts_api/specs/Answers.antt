@@ -94,7 +94,7 @@ item_at packets name =
     (λ (p : ℕ × PacketData). given_or (no_such (codes "Unknown item"))
     (option_map (λ (i : ℕ × ItemData). record { packet = p.0; of = p.1; item = i.0; it = i.1 }) (first_with (is_called name.item) p.1.items)))
 
--- the packets of no definition are known by these names to the methods of counts and of packets
+-- the packets of no definition are known by two names to the methods of counts and of packets
 abbrev pub is_unknown_target : PacketName → Bool
 is_unknown_target p = spells p.target unknown
 
@@ -187,7 +187,7 @@ abbrev pub new_set : Option (List ℕ) → Said (List ℕ)
 new_set None = gives (codes "CUSTOM")
 new_set (Some name) = check (is_name name) (no_such (codes "Unknown limits set")) (gives (in_upper_case name))
 
--- what new limits of an item that has these limits now are
+-- what new limits of an item are, by the limits that it has now
 abbrev pub limits_given : Point → ℕ → ℕ → LimitsUsed → NewLimits → Said What
 limits_given h packet item now new =
     next (new_set new.set) (λ (s : List ℕ).
@@ -244,7 +244,7 @@ abbrev pub with_row : Option Data → List Data → List Data
 with_row None rows = rows
 with_row (Some d) rows = d ∷ rows
 
--- the rows of these events, each of which is of an item of the site
+-- the rows of events, each of which is of an item of the site
 abbrev pub event_rows : List PacketData → List LimitsEvent → List Data
 event_rows packets [] = []
 event_rows packets (e ∷ es) = with_row (event_row packets e) (event_rows packets es)

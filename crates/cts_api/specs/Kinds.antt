@@ -51,7 +51,7 @@ given_in (string s) = Some (Text s)
 given_in (array ds) = None
 given_in (object ms) = None
 
--- so many wholes
+-- a number of whole numbers
 abbrev pub wholes : ℤ → Decimal
 wholes z = record { parts = z *ℤ pos 1000000000000 }
 
@@ -97,7 +97,7 @@ members_given (member name d ms) = with_given name (given_in d) (members_given m
 abbrev pub is_black : ℕ → Bool
 is_black c = not (is_white c)
 
--- what stands behind white space
+-- what stands after white space
 abbrev pub behind_white : List ℕ → List ℕ
 behind_white text = drop (position_or_len is_black text) text
 
@@ -105,7 +105,7 @@ abbrev pub word_from : List ℕ → Option (List ℕ × List ℕ)
 word_from here =
     if length here == 0 then None else Some (before_first is_white here, drop (position_or_len is_white here) here)
 
--- the word that stands first, behind white space, and what stands behind it
+-- the word that stands first, after white space, and what stands after it
 abbrev pub word_first : List ℕ → Option (List ℕ × List ℕ)
 word_first text = word_from (behind_white text)
 
@@ -119,7 +119,7 @@ three_words text =
     option_and_then (λ (p : List ℕ × List ℕ).
     option_and_then (λ (i : List ℕ × List ℕ). named_by t.0 p.0 i.0 (behind_white i.1)) (word_first p.1)) (word_first t.1)) (word_first text)
 
--- ---- params from the front: what they are, and those behind
+-- ---- params from the front: what they are, and those that follow
 
 abbrev pub first_in : {A : Type 0} → (Data → Option A) → List Data → Option (A × List Data)
 first_in kind [] = None
@@ -137,12 +137,12 @@ names_first ds =
     option_and_then (λ (p : PacketName × List Data).
     option_map (λ (i : List ℕ × List Data). (record { target = p.0.target; packet = p.0.packet; item = i.0 }, i.1)) (first_in text_in p.1)) (packet_first ds)
 
--- one that may be absent; behind an absent one stands nothing
+-- one that may be absent; after an absent one stands nothing
 abbrev pub maybe_first : {A : Type 0} → (Data → Option A) → List Data → Option (Option A × List Data)
 maybe_first kind [] = Some (None, [])
 maybe_first kind (d ∷ ds) = option_map (λ a. (Some a, ds)) (kind d)
 
--- nothing stands behind
+-- nothing stands after
 abbrev pub alone : {A : Type 0} → A × List Data → Option A
 alone (a, []) = Some a
 alone (a, d ∷ ds) = None

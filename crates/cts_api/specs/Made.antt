@@ -14,12 +14,12 @@ use Rattle.cts_def.specs.declared.item_kind.Preset.{Preset}
 use Rattle.cts_def.specs.declared.item_kind.Preset.TheVariants.{Whole, Raw}
 use Rattle.cts_spell.specs.Spelled.{with_field}
 
--- the bits that spell a number in a field of so many, a negative one in two's complement
+-- the bits that spell a number in a field of `bits` bits, a negative one in two's complement
 abbrev pub bits_for : ℕ → ℤ → ℕ
 bits_for bits (pos n) = n
 bits_for bits (negsuc n) = 2 ^ bits - suc n
 
--- what an item's field holds is written over some bytes; an item to the end stands behind all
+-- what an item's field holds is written over some bytes; an item to the end stands after all
 abbrev pub with_content : ItemData → Preset → List ℕ → List ℕ
 with_content i (Whole z) old = with_field (place_of i) (bits_for (place_of i).bits z) old
 with_content i (Raw bytes) old =
@@ -28,7 +28,7 @@ with_content i (Raw bytes) old =
 
 -- ---- commands
 
--- each of these items is written over what those before it left
+-- each item is written over what those before it left
 abbrev pub with_contents : (ItemData → Preset) → List ItemData → List ℕ → List ℕ
 with_contents holds [] old = old
 with_contents holds (i ∷ items) old = with_contents holds items (with_content i (holds i) old)
@@ -54,7 +54,7 @@ CommandsAreBuilt = (d : DefinitionsData) (r : Request) (b : Built) → IsBuilt d
 
 -- ---- injections
 
--- what a member gives its item, written behind the byte from which the item's offset counts
+-- what a member gives its item, written after the byte from which the item's offset counts
 abbrev pub with_member : ItemData × Given → List ℕ → List ℕ
 with_member m old =
     let at = base (length old) m.0 in
@@ -65,6 +65,6 @@ unfoldable pub injected : List (ItemData × Given) → List ℕ → List ℕ
 injected [] old = old
 injected (m ∷ ms) old = injected ms (with_member m old)
 
--- What an injection leaves are these bytes.
+-- What an injection leaves are the bytes.
 abbrev pub InjectionsAreWritten : Type 0
 InjectionsAreWritten = (members : List (ItemData × Given)) (old new : List ℕ) → AreBytes old → Injects members old new → injected members old ≡ new

@@ -44,10 +44,10 @@ pub record Point : Type 0 where
   pub route : ℕ → Result ℕ NoRoute
   pub connected : ℕ → Bool
   pub stopped : Bool
-  -- whether so many entries and bytes more keep the limits of the history
+  -- whether as many more entries and bytes keep the limits of the history
   pub fits : ℕ → ℕ → Bool
 
--- the point behind these entries
+-- the point after the entries
 abbrev pub point_of : Basis → List Entry → Point
 point_of basis history = record {
   site = basis.site;

@@ -1,4 +1,4 @@
--- What the calls that reply leave: the text, the entries that stand behind the history, and how many these are.
+-- What the calls that reply leave: the text, the entries that stand after the history, and how many there are.
 use Rattle.std.specs.Prelude.{◌≡◌, ℕ, List, ◌++◌, option_map, length, Result, Ok, Err}
 use Rattle.cts_base.specs.declared.memory.Memory.{Memory}
 use Rattle.cts_def.specs.declared.time.Time.{Time}
@@ -11,7 +11,7 @@ use Rattle.cts_api.specs.Methods.{method_named}
 use Rattle.cts_api.specs.Replies.{Reply, IsReply, IsReplyOf, IsTextFor, text_of}
 use Rattle.cts_api.specs.Telling.{point}
 
--- Only the entries of the reply stand behind those that were there.
+-- Only the entries of the reply stand after those that were there.
 pub record Appends (old : Shown) (r : Reply) (appended : ℕ) (new : Shown) : Type 0 where
   pub count : appended ≡ length r.entries
   pub entries : new.entries ≡ old.entries ++ r.entries

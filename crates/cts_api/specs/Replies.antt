@@ -85,7 +85,7 @@ fit h entries = h.fits (entries_in entries) (bytes_in entries)
 abbrev pub done_reply : Option Data → Data → List Entry → Reply
 done_reply id result entries = record { response = respond id (λ i. result_reply i result); entries = entries }
 
--- the reply that appends these, or else the one that they find no room
+-- the reply that appends the entries, or else the one that they find no room
 abbrev pub reply_with : Point → Option Data → Data → List Entry → Reply
 reply_with h id result entries = if fit h entries then done_reply id result entries else history_full id
 

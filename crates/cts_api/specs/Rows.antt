@@ -1,4 +1,4 @@
--- Rows of replies at the beginning of a history and behind a Stop, over a site of one packet INST HS with one number TEMP1, one
+-- Rows of replies at the beginning of a history and after a Stop, over a site of one packet INST HS with one number TEMP1, one
 -- command INST COLLECT without parameters, one interface INST_INT.
 use Rattle.std.specs.Prelude.{◌≡◌, ℕ, ℤ, pos, neg_ℤ, true, false, List, [], ◌∷◌, ◌++◌, Option, Some, None, option_map, option_and_then, codes}
 use Rattle.std.specs.Fmt.{signed_decimal}
@@ -65,7 +65,7 @@ at_rest = record { seconds = 0; micros = 0 }
 abbrev pub basis : Basis
 basis = record { site = site; entries = 8; bytes = 100 }
 
--- at the beginning, and behind a Stop
+-- at the beginning, and after a Stop
 abbrev pub point : Point
 point = point_of basis []
 

@@ -58,7 +58,7 @@ LimitsPersist _ _ = Unit {0}
 
 -- ---- what is settled
 
--- what a desk says may stand behind the entries
+-- what a desk says may stand after the entries
 pub record CanSay (s : Shown) (by : ℕ) (time : Time) (what : What) : Type 0 where
   pub allowed : IsAllowed (rules_of s.basis) s.entries (made by time what)
   pub of_site : IsOfSite s.basis.site s.entries (made by time what)

@@ -84,7 +84,7 @@ abbrev pub given : Given → Data
 given (Whole z) = whole_shown z
 given (Text t) = text t
 
--- these members, and then what was given, by the names of parameters in upper case, which are the definition's
+-- the members, and then what was given, by the names of parameters in upper case, which are the definition's
 abbrev pub object_with : Members → List (List ℕ × Given) → Members
 object_with ms [] = ms
 object_with ms (p ∷ ps) = object_with (put (utf8_lossy (in_upper_case p.0)) (given p.1) ms) ps

@@ -22,7 +22,7 @@ use Rattle.cts_api.specs.Points.{Point, point_of}
 use Rattle.cts_api.specs.Replies.{IsRequested, posted}
 use Rattle.cts_api.specs.Shown.{no_such, not_done, bad_params}
 
--- the point behind all entries of a hall
+-- the point after all entries of a hall
 abbrev pub point : Shown → Point
 point hall = point_of hall.basis hall.entries
 

@@ -1,4 +1,4 @@
-//! What changes limits, and what stops the server: the entries that these append.
+//! What changes limits: the entries that such calls append.
 
 ghost use Rattle.std.specs.Prelude.{◌≤◌, IfOk, option_map};
 ghost use Rattle.cts_def.specs.Items.{HasSoundLimits};
@@ -32,14 +32,14 @@ fn new_set(alloc: Global, name: Option<&[u8]>) -> Result<Name, Refusal>
     }
 }
 
-// What an item's definition says of its limits: a persistence of at least 1.
+// An item's limits are sound: their persistence is at least 1.
 fn has_sound_limits(item: &Item)
     ensures { HasSoundLimits item.now item.now.limits }
 {
     let _kind = item.kind;
 }
 
-// The entry of new limits of an item that has these limits now.
+// The entry of new limits of an item, by the limits that it has now.
 fn limits_given(
     alloc: Global,
     hall: &Hall,

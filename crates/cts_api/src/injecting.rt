@@ -34,14 +34,14 @@ fn refused(alloc: Global, refused: &Refused) -> Refusal
     }
 }
 
-// Each of these is a byte.
+// Each number of a slice of bytes is a byte.
 fn are_bytes(bytes: &[u8])
     ensures { AreBytes bytes.now }
 {
     let _len = bytes.len();
 }
 
-// What stands are bytes.
+// The bytes that stand, if any, are bytes.
 fn is_of_bytes(current: Option<&[u8]>)
     ensures { (bytes : List ℕ) → option_map (λ t. t.now) current.entry ≡ Some bytes → AreBytes bytes }
 {
@@ -50,7 +50,7 @@ fn is_of_bytes(current: Option<&[u8]>)
     }
 }
 
-/// The entry that puts raw values in place of a device: the current bytes of the packet, or zeros of its length, with these fields
+/// The entry that puts raw values in place of a device: the current bytes of the packet, or zeros of its length, with the fields
 /// written.
 ///
 /// # Errors

@@ -143,7 +143,7 @@ fn out_row(alloc: Global, packet: &Packet, item: &Item, state: Color) -> Result<
     Ok(Value::Array(row))
 }
 
-// Puts the rows of a packet's items that are red or yellow behind the others.
+// Puts the rows of a packet's items that are red or yellow after the others.
 fn push_out(
     alloc: Global,
     hall: &Hall,

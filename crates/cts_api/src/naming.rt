@@ -43,7 +43,7 @@ fn packet_place(packets: &[Packet], target: &[u8], name: &[u8]) -> Option<usize>
         .position(|packet| packet.is_named(target, name))
 }
 
-/// The packet or command of these names, with its number.
+/// The packet or command of the names, with its number.
 pub(crate) fn packet_at<'a>(
     packets: &'a [Packet],
     names: PacketWords<'_>,
@@ -73,7 +73,7 @@ fn item_place(items: &[Item], name: &[u8]) -> Option<usize>
         .position(|item| spells(name, item.name.as_slice()))
 }
 
-/// The item of these names, with its number and its packet.
+/// The item of the names, with its number and its packet.
 pub(crate) fn item_at<'a>(
     packets: &'a [Packet],
     names: ItemWords<'_>,

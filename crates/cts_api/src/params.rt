@@ -167,7 +167,7 @@ fn object_in(value: &Value) -> Option<&Map<String, Value>>
     }
 }
 
-// ---- params from the front: what they are, and those behind
+// ---- params from the front: what they are, and those that follow
 
 fn text_first(params: &[Value]) -> Option<(&[u8], &[Value])>
     ensures { option_map (λ f. (f.0.now, map view f.1.now)) result ≡ first_in text_in (map view params.now) }

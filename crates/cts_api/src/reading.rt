@@ -36,7 +36,7 @@ pub(crate) enum Asking<'a> {
     Received(PacketWords<'a>),
     /// How often a command was sent.
     Sent(PacketWords<'a>),
-    /// To send a command, with these checks.
+    /// To send a command, with the checks that are made.
     Command(Checks, Order<'a>),
     /// The limits of an item, in the current set or in this one.
     Limits(ItemWords<'a>, Option<&'a [u8]>),

@@ -128,7 +128,7 @@ pub fn answer(
 }
 
 /// The reply of a desk to the body of a request (JSON-RPC 2.0): the text of its response, none where the request has no id, and its
-/// entry behind the history. All checks come first, then whether the history has room for the entry, and a refusal appends
+/// entry after the history. All checks come first, then whether the history has room for the entry, and a refusal appends
 /// nothing.
 ///
 /// # Errors

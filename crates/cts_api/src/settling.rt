@@ -1,4 +1,4 @@
-//! How a call that is done ends: its entry stands behind the history where there is room for it.
+//! How a call that is done ends: its entry stands after the history where there is room for it.
 
 ghost use Rattle.std.specs.Prelude.{◌≡◌, if◌then◌else◌, IfOk, OnErr, option_map};
 ghost use Rattle.cts_entry.specs.Histories.{bytes_for, entries_for};

@@ -42,14 +42,14 @@ fn white_place(text: &[u8]) -> usize
     first_white(text).unwrap_or(text.len())
 }
 
-// What stands behind white space.
+// What stands after white space.
 fn behind_white(text: &[u8]) -> &[u8]
     ensures { result.now ≡ behind_white text.now }
 {
     &text[black_place(text)..]
 }
 
-// The word that stands first, behind white space, and what stands behind it.
+// The word that stands first, after white space, and what stands after it.
 fn word_first(text: &[u8]) -> Option<(&[u8], &[u8])>
     ensures { option_map (λ f. (f.0.now, f.1.now)) result ≡ word_first text.now }
 {

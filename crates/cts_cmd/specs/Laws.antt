@@ -46,12 +46,12 @@ abbrev pub RequestsHaveOneCommand : Type 0
 RequestsHaveOneCommand = (d : DefinitionsData) (r : Request) (one other : Built) → IsBuilt d r one → IsBuilt d r other → one ≡ other
 
 -- The content is written to this bit: a bit of the number's field, or of the bytes from where the field begins. What goes to
--- the end stands behind all bits that were there.
+-- the end stands after all bits that were there.
 abbrev pub IsWrittenBit : ItemData → Preset → ℕ → Type 0
 IsWrittenBit i (Whole z) k = (j : ℕ) × (j < unsigned_abs i.size) × (k ≡ bit_place_at i.order (unsigned_abs i.offset) (unsigned_abs i.size) j)
 IsWrittenBit i (Raw bytes) k = (is_to_the_end i ≡ false) × (8 * (unsigned_abs i.offset / 8) ≤ k) × (k < 8 * (unsigned_abs i.offset / 8 + length bytes))
 
--- none of these items is written to the bit
+-- none of the items is written to the bit
 abbrev pub IsLeftBy : (ItemData → Preset) → List ItemData → ℕ → Type 0
 IsLeftBy holds [] k = Unit {0}
 IsLeftBy holds (i ∷ items) k = (IsWrittenBit i (holds i) k → ⊥) × IsLeftBy holds items k

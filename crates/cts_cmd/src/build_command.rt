@@ -52,7 +52,7 @@ fn check_command(
     check_hazard(command, params, checks.hazardous)
 }
 
-/// The bytes of a command with these parameters.
+/// The bytes of a command with the parameters.
 fn write_command(
     alloc: Global,
     command: &Packet,
@@ -93,7 +93,7 @@ fn checked_place(
 /// The command of a request: its number, and its bytes, in which each field, written in order of definition over zeros of the
 /// command's length, holds what is given for its parameter, and else the parameter's default. What has no spelling in the field
 /// is bent as OVERFLOW says: TRUNCATE keeps the low bits, SATURATE takes the nearer bound of the field, and both cut a text or
-/// block. A shorter text or block is filled up with zeros, and one of size 0 stands behind the command's length.
+/// block. A shorter text or block is filled up with zeros, and one of size 0 stands after the command's length.
 ///
 /// # Errors
 ///

@@ -29,7 +29,7 @@ use cts_base::{Bytes, Memory, spells};
 use cts_def::{Item, ItemKind, Overflow, Preset, StateDef, text_bytes};
 use std::alloc::Global;
 
-/// The least number of so many bits.
+/// The least number of `bits` bits.
 fn least(kind: ItemKind, bits: u32) -> i128
     requires some { 1 ≤ bits }
     requires at_most_64 { bits ≤ 64 }
@@ -43,7 +43,7 @@ fn least(kind: ItemKind, bits: u32) -> i128
     }
 }
 
-/// The greatest number of so many bits.
+/// The greatest number of `bits` bits.
 fn greatest(kind: ItemKind, bits: u32) -> i128
     requires some { 1 ≤ bits }
     requires at_most_64 { bits ≤ 64 }
@@ -57,7 +57,7 @@ fn greatest(kind: ItemKind, bits: u32) -> i128
     }
 }
 
-/// The number that `number` spells in so many bits of two's complement.
+/// The number that `number` spells in `bits` bits of two's complement.
 fn signed(number: u64, bits: u32) -> i128
     requires some { 1 ≤ bits }
     requires at_most_64 { bits ≤ 64 }
@@ -122,7 +122,7 @@ fn bent(overflow: Overflow, kind: ItemKind, bits: u32, value: i128) -> i128
     }
 }
 
-/// The number that a field holds for this one.
+/// The number that a field holds for the given one.
 pub(crate) fn written_number(item: &Item, value: i128) -> i128
     requires { IsTrue (is_number item.now.kind) }
     ensures value { result ≡ written_number item.now value }
@@ -146,7 +146,7 @@ fn sized(alloc: Global, size: usize, bytes: &[u8]) -> Result<Bytes, Memory>
     Ok(Bytes::of(held))
 }
 
-/// The bytes that a field holds for these.
+/// The bytes that a field holds for the given ones.
 pub(crate) fn written_bytes(alloc: Global, item: &Item, bytes: &[u8]) -> Result<Bytes, Memory>
     ensures value { IfOk result (λ b. b ≡ written_bytes item.now bytes.now) }
     ensures sized { IfOk result (λ b. is_to_the_end item.now ≡ false → length b ≡ unsigned_abs item.now.size / 8) }

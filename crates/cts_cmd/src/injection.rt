@@ -22,7 +22,7 @@ fn check_members(alloc: Global, items: &[Item], members: &[(Bytes, Given)]) -> R
     check_params(alloc, Check::Overflow, items, members)
 }
 
-/// The bytes that stand, filled up with zeros to so many, or zeros.
+/// The bytes that stand, filled up with zeros to `count` bytes, or zeros.
 fn standing(alloc: Global, current: Option<&[u8]>, count: usize) -> Result<Vec<u8>, Memory>
     ensures value { IfOk result (λ v. v.items ≡ stood (option_map (λ t. t.now) current.entry) count) }
     ensures room { IfOk result (λ v. count ≤ length v.items) }
@@ -88,7 +88,7 @@ fn written(
 /// bytes that stand, whole, and filled up with zeros where they are shorter than the packet, or zeros of the packet's length where none
 /// stand. The members are written in their order, each over what those before it left: a number into its field, and no other bit, and
 /// a text or block with its bytes, cut or filled up with zeros to its size. What has no spelling in the field is bent as OVERFLOW says.
-/// An item that is counted from the packet's end is counted from the end of these bytes.
+/// An item that is counted from the packet's end is counted from the end of the bytes over which the members are written.
 ///
 /// # Errors
 ///

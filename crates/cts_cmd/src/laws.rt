@@ -17,7 +17,7 @@ pub fn request_has_one_command()
 {}
 
 /// What is written for a parameter stands in the command, but for the bits to which a later parameter is written: a bit to which
-/// none of the items is written stays, and a number that shares no bit with what is written behind it stands in its field.
+/// none of the items is written stays, and a number that shares no bit with what is written after it stands in its field.
 pub fn fields_stand_unless_written_over()
     ensures bits { OtherBitsStay }
     ensures numbers { NumbersStand }

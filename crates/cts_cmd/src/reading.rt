@@ -12,7 +12,7 @@ use crate::{Given, Request, TextCause, TextFault};
 use cts_base::{Bytes, List, spells};
 use std::alloc::Global;
 
-/// What stands behind the name of a command: nothing, or `with` and parameters.
+/// What follows the name of a command: nothing, or `with` and parameters.
 fn tail(alloc: Global, text: &[u8]) -> Result<Vec<(Bytes, Given)>, Stopped<'_>>
     ensures params { IfOk result (λ v. IsTail text.now v.items) }
     ensures stopped { IfErr result (λ e. StopsBy (λ cause here. FailsInTail cause text.now here) e) }
@@ -79,7 +79,7 @@ fn read_text(alloc: Global, text: &[u8]) -> Result<Request, TextFault>
 
 /// What a command text asks for: a target, a command, and perhaps `with` in any case and parameters with commas between
 /// them. A parameter is a name and a value: a text in quotes, or a word; a word that writes a whole number gives that
-/// number, and any other its text. White space is space, tab and carriage return, and may stand round each of these parts.
+/// number, and any other its text. White space is space, tab and carriage return, and may stand round each part.
 ///
 /// # Errors
 ///

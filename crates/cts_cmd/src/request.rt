@@ -7,7 +7,7 @@ use cts_base::{Bytes, List};
 pub enum Given {
     /// A whole number.
     Whole(i128),
-    /// A text: the name of a state, or the characters of a STRING or BLOCK, or the bytes of a BLOCK behind `0x`.
+    /// A text: the name of a state, or the characters of a STRING or BLOCK, or the bytes of a BLOCK after `0x`.
     Text(Bytes),
 }
 

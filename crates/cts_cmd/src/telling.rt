@@ -38,7 +38,7 @@ pub fn refusal_text(alloc: Global, refused: &Refused) -> Result<Bytes, Memory>
     }
 }
 
-// These words with a name behind them.
+// The words with a name after them.
 fn naming(alloc: Global, words: &[u8], name: &Bytes) -> Result<Bytes, Memory>
     ensures { IfOk result (λ text. text ≡ words.now ++ name.now) }
 {
@@ -68,7 +68,7 @@ fn range_text(
     Ok(Bytes::of(text))
 }
 
-// The number in decimal digits, behind a text.
+// The number in decimal digits, after a text.
 fn put_whole(text: &mut Vec<u8>, number: i128) -> Result<(), Memory>
     ensures { OnOk result (text.new.items ≡ text.old.items ++ signed_decimal number) }
 {

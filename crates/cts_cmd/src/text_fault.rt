@@ -10,13 +10,13 @@ use std::alloc::{AllocError, AllocFailed};
 pub enum TextCause {
     /// There is no target.
     NoTarget,
-    /// There is no command behind the target.
+    /// There is no command after the target.
     NoCommand,
-    /// The word behind the command is not `with`.
+    /// The word after the command is not `with`.
     NoWith,
     /// There is no name of a parameter.
     NoName,
-    /// There is no value behind the name of a parameter.
+    /// There is no value after the name of a parameter.
     NoValue,
     /// A quoted value does not end.
     OpenQuote,
@@ -27,7 +27,7 @@ pub enum TextCause {
 /// Why a text asks for no command.
 #[derive(Clone, Copy, Debug, PartialEq, Eq)]
 pub enum TextFault {
-    /// The first place at which the form fails, counted in bytes from 0, and what is missing there: the place, behind white
+    /// The first place at which the form fails, counted in bytes from 0, and what is missing there: the place, after white
     /// space, where the missing part would begin, that of a quote without its end, or that of the word that is not `with`.
     Refused {
         /// The place.

@@ -1,4 +1,4 @@
--- Zero bytes behind a list, and fields among the bytes round them.
+-- Zero bytes after a list, and fields among the bytes round them.
 use Rattle.std.proofs.Common.{◌≡◌, ℕ, zero, suc, ◌+◌, ◌-◌, ◌*◌, ◌/◌, ◌%◌, ◌≤◌, ◌<◌, Bool, true, false, List, [], ◌∷◌, ◌++◌, length, take, drop, replicate, refl, sym, ap, ap₂, ◌∙◌, arith, reverse, inl, inr, min, not, nat_lt, ◌==◌}
 use Rattle.std.proofs.lemmas.Bool.{and_from, and_parts, cases_Bool, false≢true}
 use Rattle.std.proofs.lemmas.Bool.Decides.{nat_tests}
@@ -31,7 +31,7 @@ drop_only zero k = let e : k - 0 ≡ k = omega arith in rw e refl
 drop_only (suc n) zero = let e : 0 - suc n ≡ 0 = omega arith in rw e refl
 drop_only (suc n) (suc k) = let e : suc k - suc n ≡ k - n = omega arith in drop_only n k ∙ ap zeros (sym e)
 
--- zero bytes behind what is left of a list
+-- zero bytes after what is left of a list
 pub drop_zeros : (n : ℕ) (xs : List ℕ) (k : ℕ) → drop n (xs ++ replicate k 0) ≡ drop n xs ++ replicate (k - (n - length xs)) 0
 unfolding zeros
 drop_zeros zero xs k = let e : k - (0 - length xs) ≡ k = omega arith in rw e refl

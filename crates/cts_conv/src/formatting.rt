@@ -30,7 +30,7 @@ pub fn formatted(alloc: Global, item: &Item, raw: &Value) -> Result<Bytes, Memor
     Ok(Bytes::of(out))
 }
 
-/// The formatted text, and behind it a space and the abbreviated units where the item has units, as the documentation of COSMOS 4
+/// The formatted text, and after it a space and the abbreviated units where the item has units, as the documentation of COSMOS 4
 /// shows values. `Memory` where none was found for it.
 pub fn with_units(alloc: Global, item: &Item, raw: &Value) -> Result<Bytes, Memory>
     requires { IsTrue (is_raw_of item.now raw.now) }
@@ -207,7 +207,7 @@ fn put_fixed(
     put_number(out, format, parts < 0 && number != 0, text.as_slice())
 }
 
-// So many parts in units of 10^-digits, to the nearest, and from the middle up.
+// The parts in units of 10^-digits, to the nearest, and from the middle up.
 #[tactic(auto, using(crate::proofs::Digiting::ten_pos))]
 fn rounded(digits: u32, parts: u128) -> u128
     requires digits { digits ≤ 12 }
@@ -238,7 +238,7 @@ fn put_fraction(out: &mut Vec<u8>, digits: u32, number: u128) -> Result<(), Memo
     put_last_digits(out, digits, number)
 }
 
-// A number of these digits with its sign, filled up to the width.
+// The digits of a number with its sign, filled up to the width.
 fn put_number(
     out: &mut Vec<u8>,
     format: &FormatText<'_>,
@@ -264,7 +264,7 @@ fn sign_text(plus: bool, negative: bool) -> &'static [u8]
     }
 }
 
-// A sign and what stands behind it, filled up to the width.
+// A sign and what follows it, filled up to the width.
 fn put_filled_up(
     out: &mut Vec<u8>,
     format: &FormatText<'_>,

@@ -20,7 +20,7 @@ pub fn plain(alloc: Global, value: &Value) -> Result<Bytes, Memory>
     Ok(Bytes::of(out))
 }
 
-/// Puts the plain text of a value behind what a text has so far.
+/// Puts the plain text of a value at the end of a text.
 pub(crate) fn put_plain(alloc: Global, out: &mut Vec<u8>, value: &Value) -> Result<(), Memory>
     ensures { OnOk result (out.new.items ≡ out.old.items ++ plain_text value.now) }
 {

@@ -118,7 +118,7 @@ wanted AllowShort words = []
 abbrev pub last_fields : List Field
 last_fields = field.Text ∷ field.Order ∷ []
 
--- what may stand behind the name and the value of a state
+-- what may stand after the name and the value of a state
 abbrev pub state_fields : PacketKind → List Field
 state_fields «kind».Telemetry = field.Color ∷ []
 state_fields «kind».Command = field.Hazard ∷ field.Text ∷ []

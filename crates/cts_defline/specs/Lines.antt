@@ -43,7 +43,7 @@ packet_line k words = record {
   order = unwrap_or (order_of (word_at words 2)) Big;
 }
 
--- the size, and the type behind it
+-- the size, and the type after it
 abbrev pub size_in : Bool → List (List ℕ) → ℤ
 size_in append words = whole (word_at words (size_at append))
 
@@ -58,7 +58,7 @@ abbrev pub or_big : Option (List ℕ) → Option Order
 or_big None = None
 or_big (Some word) = Some (unwrap_or (order_of word) Big)
 
--- the order of the bytes, of which the word stands at this place, behind a description
+-- the order of the bytes, of which the word stands at this place, after a description
 abbrev pub order_at : ℕ → List (List ℕ) → Option Order
 order_at at words = or_big (slice_get words at)
 

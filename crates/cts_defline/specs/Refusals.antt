@@ -73,7 +73,7 @@ abbrev pub keyword_cause : Open → Option Keyword → List (List ℕ) → Optio
 keyword_cause opened None words = Some UnknownKeyword
 keyword_cause opened (Some k) words = find (λ c. holds c opened k words) word_order
 
--- The first cause for which these words are refused, the first of them being the keyword.
+-- The first cause for which the words of a statement are refused, the first of which is the keyword.
 abbrev pub word_cause : Open → List (List ℕ) → Option DefCause
 word_cause opened [] = Some UnknownKeyword
 word_cause opened (word ∷ words) = if is_array_keyword word then Some ArrayItem else keyword_cause opened (keyword_of word) words

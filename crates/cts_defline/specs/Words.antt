@@ -24,11 +24,11 @@ use Rattle.cts_defline.specs.Numbers.{bound, decimal, kind_of, persistence, whol
 abbrev pub kind_said : List ℕ → ItemKind
 kind_said word = unwrap_or (kind_of word) Uint
 
--- the number that a bound's word says for an item of these words for its size and type
+-- the number that a bound's word says for an item, by the words for its size and type
 abbrev pub bound_said : List ℕ → List ℕ → List ℕ → ℤ
 bound_said size kind word = bound (kind_said kind) (whole size) word
 
--- an item of these words for its name, offset, size, type and order, with this id, range and default
+-- an item by the words for its name, offset, size, type and order, with an id, range and default
 abbrev pub item_said : List ℕ → Option (List ℕ) → List ℕ → List ℕ → Option (List ℕ) → Option ℤ → Option (ℤ × ℤ) → Option Preset → Option Line
 item_said name offset size kind order id range preset = Some (line.Item (record {
   name = in_upper_case name;
@@ -44,7 +44,7 @@ item_said name offset size kind order id range preset = Some (line.Item (record 
 abbrev pub range_said : List ℕ → List ℕ → List ℕ → List ℕ → Option (ℤ × ℤ)
 range_said size kind least greatest = Some (bound_said size kind least, bound_said size kind greatest)
 
--- the statements of items and parameters, each with the words in their order; behind them stand a description and the order
+-- the statements of items and parameters, each with the words in their order; after them stand a description and the order
 pub record ItemsAreOfTheirWords : Type 0 where
   pub item : (word name offset size kind : List ℕ) (more : List (List ℕ)) → keyword_of word ≡ Some (keyword.Item false false)
       → line_in (word ∷ name ∷ offset ∷ size ∷ kind ∷ more) ≡ item_said name (Some offset) size kind (slice_get more 1) None None (Some (no_value (kind_said kind)))
@@ -79,7 +79,7 @@ pub record ItemsAreOfTheirWords : Type 0 where
 
 -- ---- details
 
--- limits of these words, with these green ones
+-- limits of the words, with green ones
 abbrev pub limits_said : List ℕ → List ℕ → List ℕ → List ℕ → List ℕ → List ℕ → List ℕ → Option (Decimal × Decimal) → Option Line
 limits_said set samples enabled red_low yellow_low yellow_high red_high green = Some (line.Detail (detail.Limits (record {
   set = in_upper_case set;

@@ -10,7 +10,7 @@ use std::fmt;
 pub enum DefCause {
     /// The first word is no keyword, or one of the other kind of definition.
     UnknownKeyword,
-    /// An item stands outside a definition, or what belongs to an item stands behind none.
+    /// An item stands outside a definition, or what belongs to an item stands after none.
     OutsidePacket,
     /// Too few or too many words, or a fixed word that is none of its choices.
     WrongCount,

@@ -10,7 +10,7 @@ use crate::{Field, Keyword, PacketKind};
 use cts_base::Bytes;
 use cts_reader::word_at;
 
-/// What the words behind a keyword have to be.
+/// What the words after a keyword have to be.
 #[derive(Clone, Copy)]
 pub(crate) struct Form {
     /// What each has to be, also of those that may be left out.
@@ -311,7 +311,7 @@ fn fits(keyword: Keyword, least: usize, most: usize, count: usize) -> bool
 }
 
 impl Form {
-    /// The form of the words behind a keyword, in a definition of this kind.
+    /// The form of the words after a keyword, in a definition of this kind.
     pub(crate) fn of(kind: PacketKind, keyword: Keyword, words: &[Bytes]) -> Form
         ensures fields { result.fields.now ≡ wanted keyword words.now ++ more kind keyword }
         ensures least { result.least ≡ length (wanted keyword words.now) }
@@ -322,7 +322,7 @@ impl Form {
         }
     }
 
-    /// Whether so many words may stand behind the keyword.
+    /// Whether `count` words may stand after the keyword.
     pub(crate) fn fits(&self, keyword: Keyword, count: usize) -> bool
         ensures { result ≡ fits_in keyword self.now.least (length self.now.fields.now) count }
     {

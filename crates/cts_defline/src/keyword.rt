@@ -1,4 +1,4 @@
-// The keywords, and what the words behind each have to be.
+// The keywords, and what the words after each have to be.
 ghost use Rattle.std.specs.Prelude.{◌≡◌, map};
 ghost use Rattle.cts_defline.specs.Forms.{begins_with, is_within, keyword_of, is_array_keyword, kind_of_keyword};
 ghost use Rattle.cts_reader.specs.Words.{keyword_in};
@@ -16,14 +16,14 @@ pub enum Keyword {
     Telemetry,
     /// `ITEM`, `APPEND_ITEM`, `ID_ITEM` and `APPEND_ID_ITEM`
     Item {
-        /// It is put behind the items before it, and has no offset.
+        /// It is put after the items before it, and has no offset.
         append: bool,
         /// Its packet is known by its value.
         id: bool,
     },
     /// `PARAMETER`, `APPEND_PARAMETER`, `ID_PARAMETER` and `APPEND_ID_PARAMETER`
     Parameter {
-        /// It is put behind the parameters before it, and has no offset.
+        /// It is put after the parameters before it, and has no offset.
         append: bool,
         /// Its command is known by its value.
         id: bool,
@@ -52,7 +52,7 @@ pub enum Keyword {
     AllowShort,
 }
 
-/// What a word behind a keyword has to be.
+/// What a word after a keyword has to be.
 #[derive(Clone, Copy, Debug)]
 pub enum Field {
     /// Any text.

@@ -96,7 +96,7 @@ fn copied(alloc: Global, words: &[Bytes], at: usize) -> Result<Bytes, Memory>
     Bytes::copy(alloc, word_at(words, at))
 }
 
-/// What the words behind a keyword say.
+/// What the words after a keyword say.
 pub(crate) fn line_of(alloc: Global, keyword: Keyword, words: &[Bytes]) -> Result<Line, Memory>
     requires { AreNames keyword words.now }
     ensures { IfOk result (λ l. l ≡ line_of keyword words.now) }

@@ -118,7 +118,7 @@ fn named_bound(word: &[u8]) -> Option<i128>
     bound_in(&BOUNDS, word)
 }
 
-// Whether a number of a definition may have so many bits.
+// Whether a number of a definition may have `size` bits.
 fn is_size(size: i128) -> bool
     ensures { result ≡ is_size size }
 {

@@ -62,7 +62,7 @@ fn causes() -> &'static [DefCause]
     &ORDER
 }
 
-/// The first cause for which the words behind a keyword are refused.
+/// The first cause for which the words after a keyword are refused.
 pub(crate) fn first_cause(opened: Open, keyword: Keyword, words: &[Bytes]) -> Option<DefCause>
     ensures { result ≡ find (λ c. holds c opened keyword words.now) word_order }
 {

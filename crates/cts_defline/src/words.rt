@@ -4,7 +4,7 @@ ghost use Rattle.cts_def.specs.Items.{is_same};
 
 use cts_base::Bytes;
 
-/// The words behind the first.
+/// The words after the first.
 pub(crate) fn rest(words: &[Bytes]) -> &[Bytes]
     ensures { result.now ≡ drop 1 words.now }
 {

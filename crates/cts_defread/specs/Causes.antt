@@ -167,7 +167,7 @@ is_open_ended i = int_le i.size (pos 0)
 abbrev pub of_place : (Span → Bool) → List Drafted → ItemLine → Bool
 of_place test packets head = test (span_in packets head)
 
--- an append stands behind an item of size at most 0
+-- an append stands after an item of size at most 0
 abbrev pub is_behind_open_end : List Drafted → ItemLine → Bool
 is_behind_open_end packets head = is_none head.offset && list_any is_open_ended (open_items packets)
 
@@ -180,7 +180,7 @@ abbrev pub is_from_end_in_command : List Drafted → ItemLine → Bool
 is_from_end_in_command packets head =
     is_command_in (last_of packets) && (is_negative (span_in packets head).offset || is_negative head.size)
 
--- in a command, an item stands behind one of size 0
+-- in a command, an item stands after one of size 0
 abbrev pub is_behind_rest_in_command : List Drafted → ItemLine → Bool
 is_behind_rest_in_command packets head = is_command_in (last_of packets) && list_any is_to_the_end (open_items packets)
 
@@ -286,7 +286,7 @@ holds BadFormat packets sets l = is_bad_format l
 holds TooMany packets sets l = is_too_many packets sets l
 holds _ packets sets l = false
 
--- these causes in the order in which they are tried, behind those of the words
+-- the causes in the order in which they are tried, after those of the words
 abbrev pub place_order : List DefCause
 place_order =
     WrongKind ∷ IdNotWhole ∷ DoubleName ∷ AppendLittleBits ∷ BadPlace ∷ IdOutOfRange ∷ DefaultOutOfRange

@@ -17,13 +17,13 @@ use Rattle.cts_defread.specs.Standing.{are_same_kind, conversion_of, firsts, for
 use Rattle.cts_words.specs.Blocks.{HasNoHead, last_of}
 use Rattle.cts_words.specs.declared.statement.Statement.{Statement}
 
--- ---- the lines behind a head, up to the next one
+-- ---- the lines after a head, up to the next one
 
 abbrev pub BeginsAtHead : {L H : Type 0} → (L → Option H) → List L → Type 0
 BeginsAtHead head_in [] = Unit {0}
 BeginsAtHead head_in (l ∷ ls) = IsTrue (is_some (head_in l))
 
--- These lines stand behind this head among all of them, and behind them the next head or nothing.
+-- The lines stand after the head among all lines, and after them the next head or nothing.
 pub record IsBlock {L H : Type 0} (head_in : L → Option H) (all : List L) (head : H) (body : List L) : Type 0 where
   pub before : List L
   pub opening : L
@@ -35,7 +35,7 @@ pub record IsBlock {L H : Type 0} (head_in : L → Option H) (all : List L) (hea
 
 -- ---- items
 
--- The item has from its own line its name, type, place, id, range and default, and each of the rest from the lines behind
+-- The item has from its own line its name, type, place, id, range and default, and each of the rest from the lines after
 -- that one: all states and limits and the segments in their order, and of what may be said again the last.
 pub record IsItemOf (order_of_packet : Order) (before : List ItemData) (l : ItemLine) (details : List Line) (i : ItemData) : Type 0 where
   pub name : i.name ≡ l.name
@@ -89,7 +89,7 @@ names_said kind _ = None
 -- ---- all of it
 
 -- One packet or command for each line that says so, in their order, each with what its own lines say, and the limits sets
--- that are named, behind DEFAULT.
+-- that are named, after DEFAULT.
 pub record IsDefinedBy (lines : List Line) (d : DefinitionsData) : Type 0 where
   pub telemetry_names : map names_of_packet d.telemetry ≡ filter_map (names_said Telemetry) lines
   pub command_names : map names_of_packet d.commands ≡ filter_map (names_said Command) lines

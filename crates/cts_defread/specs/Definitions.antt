@@ -20,7 +20,7 @@ abbrev pub cause_of_line : List Drafted → List (List ℕ) → Option Line → 
 cause_of_line packets sets None = None
 cause_of_line packets sets (Some l) = place_cause packets sets l
 
--- the first cause of a statement behind these definitions and limits sets
+-- the first cause of a statement after the definitions and limits sets
 abbrev pub cause_of : List Drafted → List (List ℕ) → List (List ℕ) → Option DefCause
 cause_of packets sets words = or_else (word_cause (opened packets) words) (cause_of_line packets sets (line_in words))
 
@@ -28,20 +28,20 @@ cause_of packets sets words = or_else (word_cause (opened packets) words) (cause
 abbrev pub lines_of : List Statement → List Line
 lines_of statements = filter_map (λ (s : Statement). line_in s.words) statements
 
--- the first cause of a statement behind these statements, none of which is refused
+-- the first cause of a statement after others, none of which is refused
 abbrev pub cause : List Statement → Statement → Option DefCause
 cause before s = cause_of (standing (lines_of before)) (set_names_of (lines_of before)) s.words
 
 -- ---- the refusal
 
--- the refusal of a statement behind these definitions and limits sets
+-- the refusal of a statement after the definitions and limits sets
 abbrev pub refusal_in : List Drafted → List (List ℕ) → Statement → Option (Refusal DefCause)
 refusal_in packets sets s = at_line s.line (cause_of packets sets s.words)
 
 abbrev pub refusal : List Statement → Statement → Option (Refusal DefCause)
 refusal before s = refusal_in (standing (lines_of before)) (set_names_of (lines_of before)) s
 
--- nothing more is judged behind the last statement
+-- nothing more is judged after the last statement
 abbrev pub at_end : List Statement → Option (Refusal DefCause)
 at_end all = None
 

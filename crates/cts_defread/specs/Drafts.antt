@@ -64,7 +64,7 @@ pub record IsKept (d : Draft) : Type 0 where
   pub room : d.end ≤ last_place
   pub sound : AreSound d.packets.items d.set_names.items
 
--- The draft stands for these statements.
+-- The draft stands for the statements.
 pub record Stands (draft : Draft) (before : List Statement) : Type 0 where
   pub packets : draft.packets.items ≡ standing (lines_of before)
   pub sets : draft.set_names.items ≡ set_names_of (lines_of before)

@@ -53,7 +53,7 @@ said_in i = record { name = i.name; kind = i.kind; size = i.size; id = i.id; ran
 abbrev pub OneForEachItem : Type 0
 OneForEachItem = (head : PacketLine) (body : List Line) → map said_in (items_of (head, body)) ≡ map said_of (filter_map item_in body)
 
--- the greatest end of these items
+-- the greatest end of the items
 abbrev pub end_behind : List ItemData → ℕ
 end_behind items = greatest (map (λ (i : ItemData). end_of (span_of i)) items)
 

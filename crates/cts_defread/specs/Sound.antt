@@ -14,7 +14,7 @@ use Rattle.cts_defread.specs.declared.drafted.Drafted.{Drafted}
 use Rattle.cts_defread.specs.Causes.{has_state, has_set, has_bound, has_all_states, has_all_segments, is_wrong_kind, is_too_large_in, is_bad_order, is_bad_format}
 use Rattle.cts_defread.specs.Standing.{packets_of}
 
--- what a packet or a command keeps, with limits in these sets
+-- what a packet or a command keeps, with limits in the sets
 abbrev pub keeps_kind : List (List ℕ) → PacketKind → PacketData → Bool
 keeps_kind sets Telemetry p = is_telemetry sets p
 keeps_kind sets Command p = is_command p

@@ -103,7 +103,7 @@ abbrev pub preset_or : ItemKind → Option Preset → Preset
 preset_or kind None = no_value kind
 preset_or kind (Some preset) = preset
 
--- The item of a definition with this order of bytes, behind items that end here.
+-- The item of a definition with this order of bytes, after items that end at bit `end`.
 abbrev pub item_at : Order → ℕ → ItemLine → List Line → ItemData
 item_at order end head body = record {
   name = head.name;
@@ -125,7 +125,7 @@ item_at order end head body = record {
 
 -- ---- definitions
 
--- the greatest end of these items, from one that is reached already
+-- the greatest end of the items, from one that is reached already
 abbrev pub end_from : ℕ → List ItemData → ℕ
 end_from end [] = end
 end_from end (i ∷ items) = end_from (max end (end_of (span_of i))) items
@@ -192,7 +192,7 @@ are_same_kind Command k = not (is_telemetry k)
 abbrev pub packets_of : PacketKind → List Drafted → List PacketData
 packets_of kind packets = map (λ (d : Drafted). d.packet) (filter (λ (d : Drafted). are_same_kind kind d.kind) packets)
 
--- the definitions of these packets, commands and limits sets
+-- the definitions of the packets, commands and limits sets
 abbrev pub definitions_in : List Drafted → List (List ℕ) → DefinitionsData
 definitions_in packets sets = record {
   telemetry = packets_of Telemetry packets;

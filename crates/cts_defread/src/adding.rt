@@ -46,7 +46,7 @@ fn know_state(states: &mut BTreeSet<Bytes>, taken: bool, name: &Bytes) -> Result
     Ok(())
 }
 
-// Puts a limits set behind the others, unless it is one of them.
+// Puts a limits set after the others, unless it is one of them.
 fn know_set(sets: &mut BTreeSet<Name>, names: &mut Vec<Name>, name: &Name) -> Result<(), Memory>
     requires { Knows (slice_cmp nat_cmp) sets.old names.old.items }
     ensures known { OnOk result (Knows (slice_cmp nat_cmp) sets.new names.new.items) }

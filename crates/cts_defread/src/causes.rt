@@ -10,7 +10,7 @@ use cts_base::Memory;
 use cts_defline::{DefCause, Line};
 use cts_reader::first_that_holds;
 
-/// These causes in the order in which they are tried, behind those of the words.
+/// The causes in the order in which they are tried, after those of the words.
 const ORDER: [DefCause; 11] = [
     DefCause::WrongKind,
     DefCause::IdNotWhole,

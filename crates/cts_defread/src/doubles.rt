@@ -88,7 +88,7 @@ fn is_bound_there(bound: Decimal, item: Option<&Item>) -> bool
 }
 
 impl Draft {
-    // Whether a packet, or a command, has these names.
+    // Whether a packet, or a command, has the names.
     fn has_names(&self, head: &PacketLine) -> Result<bool, Memory>
         requires { IsKept self.now }
         ensures { IfOk result (λ b. b ≡ list_any (has_names head.now.kind head.now.target head.now.name) self.now.packets.items) }

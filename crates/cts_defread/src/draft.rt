@@ -36,7 +36,7 @@ pub(crate) struct Draft {
     pub item_count: u32,
     /// Where the next appended item begins, in bits.
     pub end: u32,
-    /// Whether the open definition has an item of size 0 or below, behind which nothing is appended.
+    /// Whether the open definition has an item of size 0 or below, after which nothing is appended.
     pub is_open_ended: bool,
     /// Whether the open definition has an item of size 0.
     pub is_to_the_end: bool,

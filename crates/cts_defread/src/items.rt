@@ -43,7 +43,7 @@ fn preset_or(alloc: Global, kind: ItemKind, preset: Option<Preset>) -> Preset
     }
 }
 
-/// The item that a statement adds to a definition with this order of bytes, behind items that end here.
+/// The item that a statement adds to a definition with this order of bytes, after items that end at bit `end`.
 pub(crate) fn new_item(alloc: Global, order: Order, end: u32, head: ItemLine) -> Item
     requires { IsSoundItem (item_at order end head []) }
     ensures { result ≡ item_at order end head [] }

@@ -2,7 +2,7 @@
 ghost use Rattle.cts_defread.specs.Defined.{DefinitionsAreOfTheirLines};
 ghost use Rattle.cts_defread.specs.Laws.{RefusesTheFirst, TakesTheOthers, StatementsSayLines, OneForEachHead, OneForEachItem, ItemsHaveTheirOffsets};
 
-/// Statements are refused at the first one with a cause behind those before it, by its first cause. Where there is none,
+/// Statements are refused at the first one with a cause after those before it, by its first cause. Where there is none,
 /// each statement says one line.
 pub fn first_statement_is_refused()
     ensures refused { RefusesTheFirst }
@@ -20,7 +20,7 @@ pub fn definitions_are_in_order()
 {}
 
 /// Definitions that were read have one packet or command for each line that opens one, in their order, with its target, name
-/// and kind; its items are those of the lines behind it, each with what its own line says and what the lines behind that one
+/// and kind; its items are those of the lines after it, each with what its own line says and what the lines after that one
 /// say of it. Of a conversion by one polynomial, units, format and overflow the last line counts. The limits sets are DEFAULT
 /// and those that are named.
 pub fn definitions_are_of_their_lines()

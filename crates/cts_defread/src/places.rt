@@ -48,7 +48,7 @@ fn is_misplaced_near(kind: ItemKind, order: Order, offset: i32, size: i32) -> bo
     span.is_misplaced()
 }
 
-// Whether so many bits at the place are whole bytes of a machine's number.
+// Whether the bits at the place are whole bytes of a machine's number.
 fn is_whole(end: u32, size: i128) -> bool
     ensures { result ≡ int_lt (pos 0) size && is_whole end (unsigned_abs size) }
 {
@@ -106,7 +106,7 @@ impl Draft {
         )
     }
 
-    // Whether it is appended behind an item that goes to the packet's end, or up to some bits before it.
+    // Whether it is appended after an item that goes to the packet's end, or up to some bits before it.
     fn is_behind_open_end(&self, head: &ItemLine) -> bool
         requires { IsKept self.now }
         ensures { result ≡ is_behind_open_end self.now.packets.items head.now }
@@ -130,7 +130,7 @@ impl Draft {
         self.is_command() && (self.offset(head.offset) < 0 || head.size < 0)
     }
 
-    // Whether it is a parameter behind one that goes to the end.
+    // Whether it is a parameter after one that goes to the end.
     fn is_behind_rest_in_command(&self, head: &ItemLine) -> bool
         requires { IsKept self.now }
         ensures { result ≡ is_behind_rest_in_command self.now.packets.items head.now }

@@ -39,7 +39,7 @@ pub(crate) fn is_bad_id(line: &Line) -> bool
     }
 }
 
-// Whether so many bytes have room in a text or block of this size.
+// Whether the bytes have room in a text or block of the size.
 fn has_room(size: i128, count: usize) -> bool
     ensures { result ≡ has_room size count }
 {

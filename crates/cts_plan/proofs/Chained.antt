@@ -15,7 +15,7 @@ use Rattle.cts_plan.specs.Standing.{spec_with, use_of}
 use Rattle.cts_plan.specs.Completing.{Refused, first_step_fault, fault_of}
 use Rattle.cts_plan.proofs.Lists.{both, and_true, neither, any_snoc}
 
--- ---- none reads behind one that reads packets
+-- ---- none reads after one that reads packets
 
 one_more : (p a r q : Bool) → not (p && a) ≡ true → (r && (p || q)) ≡ false → not (p && (a || r)) ≡ true
 one_more false a r q last fits = refl
@@ -98,7 +98,7 @@ uses_last d targets (s ∷ ss) =
 not_above : (n : ℕ) → nat_lt 4 n ≡ false → nat_le n 4 ≡ true
 not_above n e = grind arith
 
--- a chain that is not too long, and in which none reads behind one that reads packets
+-- a chain that is not too long, and in which none reads after one that reads packets
 pub sound_chain : (d : DefinitionsData) (targets : List (List ℕ)) (ss : List StepData) → nat_lt 4 (length (whole_chain ss)) ≡ false → IsTrue (are_packets_last ss)
     → IsTrue (is_chain (map (use_of d targets) (whole_chain ss)))
 sound_chain d targets ss few last =

@@ -52,7 +52,7 @@ pub all_snoc : {X : Type 0} (P : X → Type 0) (xs : List X) (x : X) → AllByRe
 all_snoc P [] x h px = (px, tt)
 all_snoc P (y ∷ xs) x h px = (h.0, all_snoc P xs x h.1 px)
 
--- none is equal to one that is put behind them
+-- none is equal to one that is put after them
 pub distinct_snoc : {X : Type 0} (e : X → X → Bool) (xs : List X) (x : X) → IsDistinct e xs → list_any (λ y. e y x) xs ≡ false → IsDistinct e (xs ++ x ∷ [])
 unfolding IsDistinct
 distinct_snoc e [] x h none = (tt, tt)
@@ -70,7 +70,7 @@ pub nothing_left : {X : Type 0} (xs : List X) → length xs ≡ 0 → xs ≡ []
 nothing_left [] e = refl
 nothing_left (x ∷ xs) e = absurd (omega arith)
 
--- one of those that are left is moved behind the others
+-- one of those that are left is moved after the others
 pub moved : {X : Type 0} (done left rest new all : List X) (x : X) → done ++ left ≡ all → left ≡ x ∷ rest → new ≡ done ++ x ∷ [] → new ++ rest ≡ all
 moved done left rest new all x so_far split pushed =
     ap (λ ys. ys ++ rest) pushed ∙ append_assoc done (x ∷ []) rest ∙ ap (λ ys. done ++ ys) (sym split) ∙ so_far

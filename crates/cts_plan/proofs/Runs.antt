@@ -58,7 +58,7 @@ next d old new all i s lt item so_far none stepped =
     } in
     subst (λ (b : List Statement). IsReading d new b (drop (i + 1) all) all) front reading
 
--- behind the last statement
+-- after the last statement
 pub all_read : (d : DefinitionsData) (draft : Draft) (all : List Statement) (i : ℕ) → length all ≤ i → IsReading d draft (take i all) (drop i all) all → IsReading d draft all [] all
 all_read d draft all i enough so_far =
     subst (λ (r : List Statement). IsReading d draft all r all) (drop_all i all enough)

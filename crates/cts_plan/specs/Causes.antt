@@ -66,7 +66,7 @@ abbrev pub is_wrong_protocol_count : Option Kind → List (List ℕ) → Bool
 is_wrong_protocol_count None ws = false
 is_wrong_protocol_count (Some kind) ws = nat_lt (length ws) (required kind) || nat_lt (length (parameter_fields kind)) (length ws)
 
--- behind a file name that is not in the table, words are not counted
+-- after a file name that is not in the table, words are not counted
 abbrev pub is_file_unknown : Keyword → List (List ℕ) → Bool
 is_file_unknown keyword.Interface ws = is_none (role_of keyword.Interface ws)
 is_file_unknown keyword.Router ws = is_none (role_of keyword.Router ws)
@@ -159,7 +159,7 @@ abbrev pub is_chain_too_long : Draft → Line → Bool
 is_chain_too_long s (line.Detail (detail.Step step)) = nat_le 4 (length (chain_in s.current))
 is_chain_too_long s _ = false
 
--- a reading protocol behind one that reads packets
+-- a reading protocol after one that reads packets
 abbrev pub is_not_last : Draft → Line → Bool
 is_not_last s (line.Detail (detail.Step step)) = step_reads step && list_any step_reads_packets (chain_in s.current)
 is_not_last s _ = false

@@ -24,7 +24,7 @@ abbrev pub is_bad_min_id : FixedData → List StartData → Bool
 is_bad_min_id f starts =
     f.min_id == 0 || nat_lt (f.discard + f.min_id) (length f.sync) || not (list_all (is_start_within f.min_id) starts)
 
--- a packet of these targets whose length is not known
+-- a packet of the targets whose length is not known
 abbrev pub have_variable : List (List ℕ) → List PacketData → Bool
 have_variable targets packets = list_any (λ (p : PacketData). is_of targets p && p.variable) packets
 
@@ -34,7 +34,7 @@ cause_of_fixed targets packets f =
     else if have_variable targets packets then Some VariableLength
     else None
 
--- what is wrong with a protocol of an interface or router with these targets
+-- what is wrong with a protocol of an interface or router with the targets
 abbrev pub cause_of_spec : DefinitionsData → List (List ℕ) → SpecData → Option SiteCause
 cause_of_spec d targets (spec.Fixed f) = cause_of_fixed targets (packets_of d f.telemetry) f
 cause_of_spec d targets s = None
@@ -48,7 +48,7 @@ first_step_fault d targets [] = None
 first_step_fault d targets (s ∷ ss) = or_else (step_fault d targets s) (first_step_fault d targets ss)
 
 -- What is wrong with the interface or router of this line: with the protocol that is added, its chain is too long, or the
--- first of its FIXED protocols is wrong for these targets.
+-- first of its FIXED protocols is wrong for the targets.
 abbrev pub fault_of : DefinitionsData → List (List ℕ) → ℕ → List StepData → Option Refused
 fault_of d targets n steps =
     if nat_lt 4 (length (whole_chain steps)) then Some (n, ChainTooLong)

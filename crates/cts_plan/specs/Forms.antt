@@ -50,7 +50,7 @@ opening_fields (Some Client) =
     field.Name ∷ field.Text ∷ field.Text ∷ field.PortOrNil ∷ field.PortOrNil ∷ field.Timeout ∷ field.Timeout ∷ []
 opening_fields (Some Server) = field.Name ∷ field.Text ∷ field.PortOrNil ∷ field.PortOrNil ∷ field.Timeout ∷ field.Timeout ∷ []
 
--- the words behind the keyword, before a protocol
+-- the words after the keyword, before a protocol
 unfoldable pub head_fields : Keyword → List (List ℕ) → List Field
 head_fields keyword.Title ws = field.Text ∷ []
 head_fields keyword.Port ws = field.ApiWord ∷ field.Port ∷ []
@@ -86,14 +86,14 @@ abbrev pub takes_protocol : Keyword → List (List ℕ) → Bool
 takes_protocol keyword.Protocol ws = true
 takes_protocol k ws = is_some (role_of k ws)
 
--- a protocol's name stands behind the head
+-- a protocol's name stands after the head
 abbrev pub has_protocol : Keyword → List (List ℕ) → Bool
 has_protocol k ws = takes_protocol k ws && nat_lt (length (head_fields k ws)) (length ws)
 
 unfoldable pub protocol_of : Keyword → List (List ℕ) → Option Kind
 protocol_of k ws = if has_protocol k ws then kind_of (word ws (length (head_fields k ws))) else None
 
--- the words behind the protocol's name
+-- the words after the protocol's name
 unfoldable pub parameters : Keyword → List (List ℕ) → List (List ℕ)
 parameters k ws = drop (length (head_fields k ws) + 1) ws
 

@@ -18,7 +18,7 @@ use Rattle.cts_plan.specs.Causes.{is_router_named, maps, is_in}
 
 -- ---- what is true of all that stands
 
--- an interface of this name and these targets: the site has room for it, no other has the name, and each target is known and
+-- an interface of the name and the targets: the site has room for it, no other has the name, and each target is known and
 -- no other's
 pub record IsNewInterface (d : DefinitionsData) (interfaces : List InterfaceData) (own : List ℕ) (its : List (List ℕ)) : Type 0 where
   pub few : nat_le 16 (length interfaces) ≡ false
@@ -26,7 +26,7 @@ pub record IsNewInterface (d : DefinitionsData) (interfaces : List InterfaceData
   pub targets : IsDistinct is_same (targets_of interfaces ++ its)
   pub known : list_all (is_known_target d) its ≡ true
 
--- a router of this name and these routes: the site has room for it, no other has the name, and each route is an interface
+-- a router of the name and the routes: the site has room for it, no other has the name, and each route is an interface
 pub record IsNewRouter (interfaces : List InterfaceData) (routers : List RouterData) (own : List ℕ) (its : List ℕ) : Type 0 where
   pub few : nat_le 4 (length routers) ≡ false
   pub name : list_any (is_router_named own) routers ≡ false

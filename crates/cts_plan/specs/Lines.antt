@@ -103,7 +103,7 @@ preidentified_of ws = Preidentified (record { sync = pattern_of (word ws 0); max
 abbrev pub step_with : ℕ → Way → SpecData → StepData
 step_with n way spec = record { line = n; used = record { spec = spec; reads = way_reads way; writes = way_writes way } }
 
--- the protocol of a statement of this number, used this way, with these parameters
+-- the protocol of a statement of the line, used that way, with the parameters
 abbrev pub step_of : ℕ → Way → Kind → List (List ℕ) → Option StepData
 step_of n way kind.Burst ws = Some (step_with n way (burst_of ws))
 step_of n way kind.Fixed ws = Some (step_with n way (Fixed (fixed_of ws)))

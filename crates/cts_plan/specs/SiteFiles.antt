@@ -19,7 +19,7 @@ use Rattle.cts_plan.specs.Completing.{Refused, due}
 
 -- ---- statements
 
--- a known keyword, and the words behind it
+-- a known keyword, and the words after it
 abbrev pub with_words : List (List ℕ) → Option Keyword → Option (Keyword × List (List ℕ))
 with_words ws None = None
 with_words ws (Some k) = Some (k, ws)
@@ -54,7 +54,7 @@ abbrev pub with_line : ℕ → Option (Keyword × List (List ℕ)) → Draft →
 with_line n None stands = stands
 with_line n (Some p) stands = place (line_of n p.0 p.1) (ready (Some p) stands)
 
--- what stands behind one more statement
+-- what stands after one more statement
 abbrev pub step : Draft → Statement → Draft
 step stands s = with_line s.line (parts s.words) stands
 
@@ -62,7 +62,7 @@ abbrev pub behind : Draft → List Statement → Draft
 behind stands [] = stands
 behind stands (s ∷ rest) = behind (step stands s) rest
 
--- what stands after these statements
+-- what stands after the statements
 abbrev pub after : DefinitionsData → List Statement → Draft
 after d statements = behind (start d) statements
 
@@ -92,6 +92,6 @@ at_end d before = due (after d before)
 abbrev pub site_in : Draft → SiteData
 site_in stands = completed stands.site stands.current
 
--- The site that the statements say with these definitions, or the line and the cause of the first refusal.
+-- The site that the statements say, with the definitions of its packets, or the line and the cause of the first refusal.
 abbrev pub site_of : DefinitionsData → List Statement → Result SiteData Refused
 site_of d statements = said_of (refusal d) (at_end d) (λ all. site_in (after d all)) statements

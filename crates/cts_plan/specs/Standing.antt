@@ -23,11 +23,11 @@ start d = record { site = record { definitions = d; interfaces = []; routers = [
 
 -- ---- a chain
 
--- how the packets of these targets begin
+-- how the packets of the targets begin
 abbrev pub starts_of : List (List ℕ) → List PacketData → List StartData
 starts_of targets packets = map start_of (of_targets targets packets)
 
--- FIXED looks among the packets of these targets
+-- FIXED looks among the packets of the targets
 abbrev pub spec_with : DefinitionsData → List (List ℕ) → SpecData → SpecData
 spec_with d targets (spec.Fixed f) = spec.Fixed (record f { starts = starts_of targets (packets_of d f.telemetry) })
 spec_with d targets s = s
@@ -35,7 +35,7 @@ spec_with d targets s = s
 abbrev pub use_of : DefinitionsData → List (List ℕ) → StepData → UseData
 use_of d targets s = record { spec = spec_with d targets s.used.spec; reads = s.used.reads; writes = s.used.writes }
 
--- the protocols of an interface or router with these targets
+-- the protocols of an interface or router with the targets
 abbrev pub chain_of : DefinitionsData → List (List ℕ) → List StepData → List UseData
 chain_of d targets steps = map (use_of d targets) (whole_chain steps)
 

@@ -34,7 +34,7 @@ step_reads s = s.used.reads
 abbrev pub step_reads_packets : StepData → Bool
 step_reads_packets s = reads_packets s.used
 
--- no protocol reads behind one that reads packets
+-- no protocol reads after one that reads packets
 abbrev pub are_packets_last : List StepData → Bool
 are_packets_last [] = true
 are_packets_last (s ∷ ss) = not (step_reads_packets s && list_any step_reads ss) && are_packets_last ss

@@ -74,7 +74,7 @@ natural_in least most None = None
 natural_in least most (Some z) =
     if is_negative z || nat_lt (unsigned_abs z) least || nat_lt most (unsigned_abs z) then None else Some (unsigned_abs z)
 
--- the whole number that the word writes, where it lies between these two
+-- the whole number that the word writes, where it lies between `least` and `most`
 abbrev pub natural : ℕ → ℕ → List ℕ → Option ℕ
 natural least most word = natural_in least most (whole_of word)
 
@@ -120,7 +120,7 @@ delay_of word = delay_in (decimal_of word)
 
 -- ---- patterns
 
--- what stands behind a lower-case `0x`
+-- what follows a lower-case `0x`
 abbrev pub hex_digits : List ℕ → Option (List ℕ)
 hex_digits word =
     if nat_le 2 (length word) && slice_index word 0 == 48 && slice_index word 1 == 120 then Some (drop 2 word) else None

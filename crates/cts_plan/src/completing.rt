@@ -41,7 +41,7 @@ fn is_of(targets: &Targets, packet: &Packet) -> bool
     targets.has(&packet.target)
 }
 
-// How the packets of these targets begin.
+// How the packets of the targets begin.
 fn starts_of(alloc: Global, targets: &Targets, packets: &[Packet]) -> Result<List<Start>, Memory>
     ensures value { IfOk result (λ starts. starts ≡ starts_of targets.now packets.now) }
     ensures placed { IfOk result (λ starts. IsTrue (list_all has_places starts)) }
@@ -113,7 +113,7 @@ fn cause_of_fixed(
     }
 }
 
-// FIXED of the packets of these targets, or why it is refused at this line.
+// FIXED of the packets of the targets, or why it is refused at its line.
 fn fixed_use(
     alloc: Global,
     definitions: &Definitions,
@@ -198,7 +198,7 @@ fn uses_of(
     Ok(uses)
 }
 
-// Whether one of these protocols cuts what is read.
+// Whether one of the protocols cuts what is read.
 fn any_reads(steps: &[Step]) -> bool
     ensures { result ≡ list_any step_reads steps.now }
 {
@@ -230,7 +230,7 @@ fn add_unless(reads: bool, alloc: Global, uses: &mut List<ProtoUse>) -> Result<(
     Ok(())
 }
 
-// The protocols of an interface or router of this line, with the one that is added where none reads.
+// The protocols of an interface or router of the line, with the one that is added where none reads.
 fn chain_of(
     alloc: Global,
     definitions: &Definitions,
@@ -298,7 +298,7 @@ fn targets_at(interfaces: &[Interface], number: u32) -> &[Name]
     }
 }
 
-// Puts copies of some targets behind others.
+// Puts copies of some targets after others.
 fn append(targets: &mut List<Name>, more: &[Name]) -> Result<(), Memory>
     ensures { OnOk result (targets.new ≡ targets.old ++ more.now) }
 {
@@ -308,7 +308,7 @@ fn append(targets: &mut List<Name>, more: &[Name]) -> Result<(), Memory>
     Ok(())
 }
 
-// The targets of the interfaces of these numbers.
+// The targets of the interfaces of the numbers.
 fn routed_targets(
     alloc: Global,
     interfaces: &[Interface],
@@ -323,7 +323,7 @@ fn routed_targets(
     Ok(targets)
 }
 
-// The protocols of a router of this line with these routes.
+// The protocols of a router of the line with the routes.
 fn router_chain(
     alloc: Global,
     site: &Site,

@@ -34,9 +34,9 @@ pub enum SiteCause {
     EmptySync,
     /// More than four protocols, with the BURST that is added where none reads.
     ChainTooLong,
-    /// A protocol reads behind a FIXED or PREIDENTIFIED that reads.
+    /// A protocol reads after a FIXED or PREIDENTIFIED that reads.
     NotLast,
-    /// FIXED cannot tell its packets by so few bytes, or its sync pattern is longer than what it discards and these.
+    /// FIXED cannot tell its packets by its MinIdSize bytes, or its sync pattern is longer than what it discards and those.
     MinIdSize,
     /// FIXED has a packet whose length is not fixed.
     VariableLength,

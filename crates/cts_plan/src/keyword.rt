@@ -206,7 +206,7 @@ fn opening_fields(role: Option<Role>) -> &'static [Field]
     }
 }
 
-/// The words behind the keyword, before a protocol.
+/// The words after the keyword, before a protocol.
 #[tactic(auto, unfolding(crate::specs::Forms::head_fields))]
 pub fn head_fields(keyword: Keyword, words: &[Bytes]) -> &'static [Field]
     ensures { result.now ≡ head_fields keyword words.now }
@@ -284,7 +284,7 @@ fn takes_protocol(keyword: Keyword, words: &[Bytes]) -> bool
     }
 }
 
-/// Whether a protocol's name stands behind the head.
+/// Whether a protocol's name stands after the head.
 pub fn has_protocol(keyword: Keyword, words: &[Bytes]) -> bool
     ensures { result ≡ has_protocol keyword words.now }
 {
@@ -303,7 +303,7 @@ pub fn protocol_of(keyword: Keyword, words: &[Bytes]) -> Option<Kind>
     }
 }
 
-/// The words behind the protocol's name.
+/// The words after the protocol's name.
 #[tactic(auto, unfolding(crate::specs::Forms::parameters))]
 pub fn parameters(keyword: Keyword, words: &[Bytes]) -> &[Bytes]
     ensures { result.now ≡ parameters keyword words.now }
@@ -394,7 +394,7 @@ pub enum Check {
 }
 
 impl Check {
-    /// Whether a word fails it at this field.
+    /// Whether a word fails it at the field.
     fn fails(self, field: Field, word: &[u8]) -> bool
         ensures { result ≡ fails self field word.now }
     {
@@ -406,7 +406,7 @@ impl Check {
         }
     }
 
-    // Whether one of these words fails it at its field.
+    // Whether one of the words fails it at its field.
     fn any_fails(self, fields: &[Field], words: &[Bytes]) -> bool
         ensures { result ≡ list_any (λ p. fails self p.0 p.1) (zip fields.now words.now) }
     {

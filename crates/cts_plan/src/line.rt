@@ -84,7 +84,7 @@ fn name_of(alloc: Global, word: &[u8]) -> Result<Option<Name>, Memory>
     }
 }
 
-// The protocol of a statement of this line, used this way, which needs no packets.
+// The protocol of a statement of the line, used that way, which needs no packets.
 fn step_with(line: u32, way: Way, spec: ProtoSpec) -> Step
     requires fixed { is_fixed (spec_data spec) ≡ false }
     requires sound { IsTrue (is_sound_spec (spec_data spec)) }
@@ -182,7 +182,7 @@ fn length_place(words: &[Bytes]) -> Option<Place>
     )
 }
 
-/// Whether these parameters of LENGTH have a place that no field has.
+/// Whether the parameters of LENGTH have a place that no field has.
 pub fn is_bad_length(words: &[Bytes]) -> bool
     ensures { result ≡ is_bad_length words.now }
 {
@@ -266,7 +266,7 @@ fn preidentified_of(alloc: Global, line: u32, way: Way, words: &[Bytes]) -> Resu
     ))
 }
 
-// The protocol of a statement of this line, used this way, with these parameters.
+// The protocol of a statement of the line, used that way, with the parameters.
 fn step_of(
     alloc: Global,
     line: u32,

@@ -8,7 +8,7 @@ use cts_base::{Bytes, Decimal, List, Memory, Name};
 use std::alloc::Global;
 use std::marker::Model;
 
-/// At most four protocols, none of which reads behind one that reads packets.
+/// At most four protocols, none of which reads after one that reads packets.
 #[derive(Drop)]
 pub struct Chain {
     steps: List<Step>,

@@ -22,7 +22,7 @@ use cts_reader::unless_refused;
 use cts_words::Statement;
 use std::alloc::Global;
 
-/// The keyword, and the words behind it.
+/// The keyword, and the words after it.
 fn parts(words: &[Bytes]) -> Option<(Keyword, &[Bytes])>
     ensures { option_map (λ p. (p.0, p.1.now)) result ≡ parts words.now }
 {
@@ -103,7 +103,7 @@ impl Draft {
     }
 }
 
-/// The site that the statements say with these definitions.
+/// The site that the statements say, with the definitions of its packets.
 ///
 /// # Errors
 ///

@@ -42,7 +42,7 @@ fn set_of(alloc: Global, names: &[Name]) -> Result<BTreeSet<Name>, Memory>
 }
 
 impl Targets {
-    /// These targets.
+    /// The targets of the names.
     pub fn of(alloc: Global, names: List<Name>) -> Result<Targets, Memory>
         ensures { IfOk result (λ targets. targets ≡ names) }
     {

@@ -145,7 +145,7 @@ pub fn kind_of(word: &[u8]) -> Option<Kind>
     }
 }
 
-/// The whole number that a word writes, where it lies between these two.
+/// The whole number that a word writes, where it lies between `least` and `most`.
 pub fn natural(least: u64, most: u64, word: &[u8]) -> Option<u64>
     ensures value { result ≡ natural least most word.now }
     ensures least { IfSome result (λ n. least ≤ n) }
@@ -245,7 +245,7 @@ pub fn delay_of(word: &[u8]) -> Option<Decimal>
     }
 }
 
-/// What stands behind a lower-case `0x`.
+/// What follows a lower-case `0x`.
 fn hex_digits(word: &[u8]) -> Option<&[u8]>
     ensures { option_map (λ d. d.now) result ≡ hex_digits word.now }
 {

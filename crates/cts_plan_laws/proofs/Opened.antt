@@ -181,7 +181,7 @@ opened_in is n (Some p) o e = opened_at is n p.0 p.1 o e
 pub opened_new : (is : List InterfaceData) (t : Statement) (o : Opener) → opener t ≡ Some o → IsOpened is (o, []) (opened_by o)
 opened_new is t o e = opened_in is t.line (parts t.words) o e
 
--- ---- statements behind one that opens
+-- ---- statements after one that opens
 
 -- the interface or router that is read has these statements, and all that is complete stays
 record IsThrough (o : Opener) (body : List Statement) (s : Draft) (new : Draft) : Type 0 where

@@ -190,6 +190,6 @@ line_by : (n : ℕ) (p : Option (Keyword × List (List ℕ))) (s : Draft) → wi
 line_by n None s = ap (draft_with s.site) (same_current s.site.interfaces s.current)
 line_by n (Some p) s = place_by (line_of n p.0 p.1) (ready (Some p) s) ∙ ap (λ r. placed_by r (ready (Some p) s)) (reads_as n p.0 p.1)
 
--- What stands behind one more statement, by what it says.
+-- What stands after one more statement, by what it says.
 pub step_by : (s : Draft) (t : Statement) → step s t ≡ placed_by (says_of t) (ready (parts t.words) s)
 step_by s t = line_by t.line (parts t.words) s

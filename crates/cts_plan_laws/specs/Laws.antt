@@ -19,7 +19,7 @@ use Rattle.cts_plan_laws.specs.SiteLaws.{target, route, logging, waiting, is_don
 
 -- ---- the first refusal
 
--- Statements are refused exactly where one of them is refused behind those before it, and by the first such one, or where
+-- Statements are refused exactly where one of them is refused after those before it, and by the first such one, or where
 -- none of them is and their end is.
 abbrev pub RefusesTheFirst : Type 0
 RefusesTheFirst = (d : DefinitionsData) (all : List Statement) (r : Refused) → (site_of d all ≡ Err r) ↔ IsFirstRefusal (refusal d) (at_end d) all (Some r)
@@ -34,7 +34,7 @@ StatementsSayLines = (d : DefinitionsData) (before : List Statement) (s : Statem
 
 -- ---- interfaces and routers by their statements
 
--- An interface that is read has what its own statement and those behind it say.
+-- An interface that is read has what its own statement and those after it say.
 pub record IsInterfaceDraft (g : Opener × List Statement) (i : InterfaceDraftData) : Type 0 where
   pub line : i.line ≡ g.0.line
   pub name : i.name ≡ g.0.name
@@ -47,7 +47,7 @@ pub record IsInterfaceDraft (g : Opener × List Statement) (i : InterfaceDraftDa
   pub reconnect : i.reconnect ≡ not (list_any is_dont_reconnect g.1)
   pub logged : i.logged ≡ last_said logging true g.1
 
--- A router that is read over these interfaces has what its own statement and those behind it say.
+-- A router that is read over the interfaces has what its own statement and those after it say.
 pub record IsRouterDraft (interfaces : List InterfaceData) (g : Opener × List Statement) (r : RouterDraftData) : Type 0 where
   pub line : r.line ≡ g.0.line
   pub name : r.name ≡ g.0.name
@@ -64,7 +64,7 @@ IsOpened interfaces g (current.Router r) = (opens_router g.0.keyword ≡ true) �
 abbrev pub OpenNothing : List Statement → Type 0
 OpenNothing statements = AllByRecursion (λ (s : Statement). opens (parts s.words) ≡ false) statements
 
--- Statements behind one that opens an interface or router belong to it, up to the next that opens one. All others are
+-- Statements after one that opens an interface or router belong to it, up to the next that opens one. All others are
 -- complete, and stand as they did before it.
 pub record IsLast (d : DefinitionsData) (before : List Statement) (s : Statement) (o : Opener) (body : List Statement) : Type 0 where
   pub current : IsOpened (after d (before ++ s ∷ body)).site.interfaces (o, body) (after d (before ++ s ∷ body)).current

@@ -69,7 +69,7 @@ pub record IsPreidentified (ws : List (List ℕ)) (p : PreidentifiedData) : Type
   pub sync : IsRead some_pattern [] (slice_get ws 0) p.sync
   pub max : IsRead some_max None (slice_get ws 1) p.max
 
--- the protocol has the parameters that these words write
+-- the protocol has the parameters that the words write
 abbrev pub HasParameters : List (List ℕ) → SpecData → Type 0
 HasParameters ws (Burst b) = IsBurst ws b
 HasParameters ws (Fixed f) = IsFixed ws f
@@ -77,7 +77,7 @@ HasParameters ws (Length l) = IsLength ws l
 HasParameters ws (Terminated t) = IsTerminated ws t
 HasParameters ws (Preidentified p) = IsPreidentified ws p
 
--- A protocol of this kind, used this way, with the parameters of these words.
+-- A protocol of this kind, used this way, with the parameters of the words.
 pub record IsUse (way : Way) (kind : Kind) (ws : List (List ℕ)) (u : UseData) : Type 0 where
   pub same_kind : kind_of u.spec ≡ kind
   pub parameters : HasParameters ws u.spec

@@ -24,7 +24,7 @@ abbrev pub of_parts : {X : Type 0} → (Keyword → List (List ℕ) → Option X
 of_parts says None = None
 of_parts says (Some p) = says p.0 p.1
 
--- what a statement says of something, by its keyword and the words behind it
+-- what a statement says of something, by its keyword and the words after it
 abbrev pub said : {X : Type 0} → (Keyword → List (List ℕ) → Option X) → Statement → Option X
 said says s = of_parts says (parts s.words)
 
@@ -89,7 +89,7 @@ desk_count _ ws = None
 
 -- ---- interfaces and routers with their statements
 
--- An INTERFACE or ROUTER statement: its number, its keyword, the name that it gives, and the words behind the keyword.
+-- An INTERFACE or ROUTER statement: its number, its keyword, the name that it gives, and the words after the keyword.
 pub record Opener : Type 0 where
   pub line : ℕ
   pub keyword : Keyword
@@ -105,7 +105,7 @@ opener_by n k ws = if opening k then option_map (opener_with n k ws) (name_of (w
 abbrev pub opener : Statement → Option Opener
 opener s = said (opener_by s.line) s
 
--- each interface and router: the statement that opens it, and those behind that up to the next that opens one
+-- each interface and router: the statement that opens it, and those after that up to the next that opens one
 abbrev pub groups : List Statement → List (Opener × List Statement)
 groups statements = blocks opener statements
 
@@ -145,7 +145,7 @@ pub record IsInterface (d : DefinitionsData) (g : Opener × List Statement) (i :
   pub delay : i.delay ≡ last_said waiting five_seconds g.1
   pub logged : i.logged ≡ last_said logging true g.1
 
--- A router over these interfaces has what its own statements say.
+-- A router over the interfaces has what its own statements say.
 pub record IsRouter (d : DefinitionsData) (interfaces : List InterfaceData) (g : Opener × List Statement) (r : RouterData) : Type 0 where
   pub name : r.name ≡ g.0.name
   pub port : r.port ≡ port_or_one (word g.0.words (port_at (role_of g.0.keyword g.0.words)))
@@ -175,7 +175,7 @@ SitesAreOfTheirStatements = (d : DefinitionsData) (all : List Statement) (s : Si
 abbrev pub SitesAreSound : Type 0
 SitesAreSound = (d : DefinitionsData) (all : List Statement) (s : SiteData) → site_of d all ≡ Ok s → IsSoundSite s
 
--- An INTERFACE or ROUTER statement gives a name and a port, and the words behind a protocol fit its parameters.
+-- An INTERFACE or ROUTER statement gives a name and a port, and the words after a protocol fit its parameters.
 pub record Fits (k : Keyword) (ws : List (List ℕ)) : Type 0 where
   pub named : opening k ≡ true → (name : List ℕ) × (name_of (word ws 0) ≡ Some name)
   pub ported : opening k ≡ true → (port : ℕ) × (port_of (word ws (port_at (role_of k ws))) ≡ Some port)

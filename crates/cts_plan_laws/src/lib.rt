@@ -7,7 +7,7 @@ ghost use Rattle.cts_plan_laws.specs.Laws.{RefusesTheFirst, TakesTheOthers, Stat
 ghost use Rattle.cts_plan_laws.specs.Parameters.{ParametersAreOfTheirWords};
 ghost use Rattle.cts_plan_laws.specs.SiteLaws.{SitesAreOfTheirStatements, SitesAreSound, StatementsFit};
 
-/// Statements are refused at the first one that is refused behind those before it, and at their end where none is and the
+/// Statements are refused at the first one that is refused after those before it, and at their end where none is and the
 /// last interface or router is. Where nothing is refused, each statement says one line, and they say the site of all that
 /// stands.
 pub fn first_statement_is_refused()
@@ -18,7 +18,7 @@ pub fn first_statement_is_refused()
 
 /// There is one interface or router for each statement that opens one, in their order, with its name, host and port. What
 /// is read has that statement's number, name, kind, host and port, and its protocols, targets, routes and settings are those
-/// of that statement and of the ones behind it up to the next that opens one, in their order.
+/// of that statement and of the ones after it up to the next that opens one, in their order.
 pub fn connections_are_of_their_statements()
     ensures heads { ConnectionsAreOfTheirStatements }
     ensures bodies { ConnectionsHaveTheirStatements }
@@ -31,8 +31,8 @@ pub fn parameters_are_of_their_words()
 {}
 
 /// A site has an interface for each INTERFACE statement and a router for each ROUTER statement, in their order, with the
-/// name, host and port of that statement, and with the protocols, targets, routes and settings of the statements behind it.
-/// The words of each of these statements are right for their places, and each statement that opens one gives a name.
+/// name, host and port of that statement, and with the protocols, targets, routes and settings of the statements after it.
+/// The words of each of those statements are right for their places, and each statement that opens one gives a name.
 pub fn sites_are_of_their_statements()
     ensures said { SitesAreOfTheirStatements }
     ensures fit { StatementsFit }

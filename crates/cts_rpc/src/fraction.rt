@@ -34,7 +34,7 @@ fn any_member_fraction(members: &Map<String, Value>) -> bool
     found
 }
 
-/// Whether one of these values has such a number.
+/// Whether one of the values has such a number.
 #[cycle(walk)]
 pub(crate) fn any_fraction(items: &Vec<Value>) -> bool
     ensures { result ≡ items_have_float (items_view items.now.items) }

@@ -82,7 +82,7 @@ fn method_of(alloc: Global, member: Option<&Value>) -> Result<Bytes, Memory>
     }
 }
 
-// The params, where they are none or in order and without such a number.
+// The params, where they are none or in order and without a number that has a fraction.
 fn accepted(alloc: Global, params: Option<Value>) -> Option<List<Value>>
     ensures { IsTaken result (option_map view params) }
 {

@@ -1,4 +1,4 @@
--- The lines of a piece of the history: each entry with its number, and directly behind it its events.
+-- The lines of a piece of the history: each entry with its number, and directly after it its events.
 use Rattle.std.specs.Prelude.{ℕ, List, [], ◌∷◌, ◌++◌, length}
 use Rattle.cts_entry.specs.declared.entry.Entry.{Entry}
 use Rattle.cts_def.specs.Sites.{SiteData}
@@ -10,8 +10,8 @@ use Rattle.cts_script.specs.Lines.{entry_line}
 abbrev pub entry_lines : SiteData → ℕ → Entry → List LimitsEvent → List ℕ
 entry_lines site n e events = entry_line site n e ++ event_lines site events
 
--- The lines of entries that stand behind a history. An entry's number is the length of the history before it, and its
--- events are those that it has behind that history.
+-- The lines of entries that stand after a history. An entry's number is the length of the history before it, and its
+-- events are those that it has after that history.
 abbrev pub lines_behind : SiteData → (List Entry → Entry → List LimitsEvent) → List Entry → List Entry → List ℕ
 lines_behind site events history [] = []
 lines_behind site events history (e ∷ entries) =

@@ -1,5 +1,5 @@
 //! The printed lines of the history's entries, in the format of this project's own transcript: the number, the time, the maker and what
-//! the entry says, with one space between each two words; and behind each entry the lines of its limits events. What an event gives
+//! the entry says, with one space between each two words; and after each entry the lines of its limits events. What an event gives
 //! besides its entries has a line too.
 #![tactic(auto)]
 

@@ -14,7 +14,7 @@ use cts_def::Site;
 use cts_entry::Entry;
 use std::alloc::Global;
 
-/// The line of entry number `n`, and directly behind it the line of each of its limits events. Each line has its line
+/// The line of entry number `n`, and directly after it the line of each of its limits events. Each line has its line
 /// end. A number that names nothing in the site has no text. `Memory` where no memory was found for the lines.
 pub fn entry_lines(
     alloc: Global,

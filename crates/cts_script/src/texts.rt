@@ -1,4 +1,4 @@
-// Words and numbers, put behind what a line has so far.
+// Words and numbers, put after what a line has so far.
 ghost use Rattle.std.specs.Prelude.{◌≡◌, ◌++◌, ◌∷◌, OnOk};
 ghost use Rattle.std.specs.Fmt.{decimal, signed_decimal};
 ghost use Rattle.hex.specs.Hex.{encode_lower};

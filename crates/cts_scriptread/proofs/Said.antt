@@ -165,7 +165,7 @@ event_said site keyword.Call words h = call_said words h.0 h.1.1.0
 event_said site keyword.Drain words h = drain_said site words h.0 h.1.0 h.1.1.0
 event_said site keyword.Stop words h = stop_said words h.0
 
--- The words behind a keyword say an event, where no cause is found.
+-- The words after a keyword say an event, where no cause is found.
 pub says_event : (site : SiteData) (k : Keyword) (words : List (List ℕ)) → find (λ c. holds site c k words) order ≡ None → is_some (event_of site k words) ≡ true
 says_event site k words none = event_said site k words (none_passes (λ c. holds site c k words) order none)
 
@@ -173,6 +173,6 @@ cause_of : (site : SiteData) (k : Keyword) (words : List (List ℕ)) (o : Option
 cause_of site k words None is none = absurd (let said = says_event site k words is in cc)
 cause_of site k words (Some c) is none = refl
 
--- The words behind a keyword that say no event have a cause.
+-- The words after a keyword that say no event have a cause.
 pub has_cause : (site : SiteData) (k : Keyword) (words : List (List ℕ)) → event_of site k words ≡ None → is_some (find (λ c. holds site c k words) order) ≡ true
 has_cause site k words none = cause_of site k words (find (λ c. holds site c k words) order) refl none

@@ -53,7 +53,7 @@ is_against site UnknownWhy = is_unknown_why
 
 -- ---- a line
 
--- the cause holds of the words behind a keyword
+-- the cause holds of the words after a keyword
 abbrev pub holds : SiteData → ScriptCause → Keyword → List (List ℕ) → Bool
 holds site UnknownKeyword keyword words = false
 holds site WrongCount keyword words = not (has_form keyword words)

@@ -1,4 +1,4 @@
--- The event that a line says, by its keyword and the words behind it.
+-- The event that a line says, by its keyword and the words after it.
 use Rattle.std.specs.Prelude.{ℕ, List, [], ◌∷◌, Option, Some, None, option_map, option_and_then, if◌then◌else◌}
 use Rattle.cts_def.specs.Sites.{SiteData}
 use Rattle.cts_entry.specs.declared.event.Event.{Event}
@@ -35,7 +35,7 @@ abbrev pub call_in : List (List ℕ) → Option Event
 call_in (desk ∷ text ∷ []) = option_map (λ d. event.Call d text) (number_of desk)
 call_in _ = None
 
--- the logs or a slot take so many entries
+-- the logs or a slot take `count` entries
 abbrev pub drain_of : SiteData → List ℕ → ℕ → Option Event
 drain_of site who count = if is_log who then Some (event.DrainLog count) else option_map (λ slot. event.DrainSlot slot count) (slot_named site who)
 

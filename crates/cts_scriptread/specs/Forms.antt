@@ -1,4 +1,4 @@
--- The table of lines: the keywords, and what the words behind each have to be.
+-- The table of lines: the keywords, and what the words after each have to be.
 use Rattle.std.specs.Prelude.{ℕ, Bool, ◌==◌, List, [], ◌∷◌, length, codes, Option, Some, None}
 use Rattle.cts_reader.specs.Words.{keyword_in}
 use Rattle.cts_scriptread.specs.declared.form.Field.{Field}
@@ -21,7 +21,7 @@ keywords =
 unfoldable pub keyword_of : List ℕ → Option Keyword
 keyword_of word = keyword_in keywords word
 
--- what each word behind a keyword has to be
+-- what each word after a keyword has to be
 abbrev pub fields : Keyword → List Field
 fields keyword.Time = field.Number ∷ field.Number ∷ []
 fields keyword.Open = field.Who ∷ []
@@ -32,7 +32,7 @@ fields keyword.Call = field.Number ∷ field.Text ∷ []
 fields keyword.Drain = field.Drained ∷ field.Count ∷ []
 fields keyword.Stop = []
 
--- the words behind a keyword are as many as those of its row
+-- the words after a keyword are as many as those of its row
 abbrev pub has_form : Keyword → List (List ℕ) → Bool
 has_form keyword words = length words == length (fields keyword)
 
@@ -42,7 +42,7 @@ abbrev pub with_words : List (List ℕ) → Option Keyword → Option (Keyword �
 with_words words None = None
 with_words words (Some keyword) = Some (keyword, words)
 
--- the keyword of a line, if its first word is one, and the words behind it
+-- the keyword of a line, if its first word is one, and the words after it
 abbrev pub parts : List (List ℕ) → Option (Keyword × List (List ℕ))
 parts [] = None
 parts (word ∷ words) = with_words words (keyword_of word)

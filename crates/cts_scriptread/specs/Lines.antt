@@ -13,7 +13,7 @@ use Rattle.cts_scriptread.specs.Words.{is_piece_size}
 
 -- ---- words
 
--- the line is this keyword, in any case, and these words behind it
+-- the line is this keyword, in any case, and the given words after it
 pub record IsLine (keyword : List ℕ) (behind words : List (List ℕ)) : Type 0 where
   pub first : List ℕ
   pub parts : words ≡ first ∷ behind

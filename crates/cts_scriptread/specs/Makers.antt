@@ -31,7 +31,7 @@ side_of end =
 abbrev pub slot_number : ℕ → ℕ → ℕ
 slot_number side router = first_slot + 2 * router + side
 
--- a slot is named by its router, and `/0` or `/1` behind it
+-- a slot is named by its router, and `/0` or `/1` after it
 unfoldable pub slot_named : SiteData → List ℕ → Option ℕ
 slot_named site word =
     let name_length = length word - 2 in

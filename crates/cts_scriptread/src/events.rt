@@ -14,7 +14,7 @@ use cts_def::{Site, Time};
 use cts_entry::Event;
 use std::alloc::Global;
 
-/// The event that the words behind a keyword say, if they are those of a line.
+/// The event that the words after a keyword say, if they are those of a line.
 pub fn event_of(
     alloc: Global,
     site: &Site,

@@ -1,4 +1,4 @@
-//! The table of lines: the keywords, and what the words behind each have to be.
+//! The table of lines: the keywords, and what the words after each have to be.
 
 ghost use Rattle.std.specs.Prelude.{◌≡◌, option_map};
 ghost use Rattle.cts_scriptread.specs.Forms.{fields, has_form, keyword_of, parts};
@@ -91,7 +91,7 @@ fn keyword_of(word: &[u8]) -> Option<Keyword>
     keyword_in(&KEYWORDS, word)
 }
 
-/// What each word behind a keyword has to be.
+/// What each word after a keyword has to be.
 pub fn fields(keyword: Keyword) -> &'static [Field]
     ensures { result.now ≡ fields keyword }
 {
@@ -107,14 +107,14 @@ pub fn fields(keyword: Keyword) -> &'static [Field]
     }
 }
 
-/// Whether the words behind a keyword are as many as those of its row.
+/// Whether the words after a keyword are as many as those of its row.
 pub fn has_form(keyword: Keyword, words: &[Bytes]) -> bool
     ensures { result ≡ has_form keyword words.now }
 {
     words.len() == fields(keyword).len()
 }
 
-/// The keyword of a line, if its first word is one, and the words behind it.
+/// The keyword of a line, if its first word is one, and the words after it.
 pub fn parts(words: &[Bytes]) -> Option<(Keyword, &[Bytes])>
     ensures { option_map (λ p. (p.0, p.1.now)) result ≡ parts words.now }
 {

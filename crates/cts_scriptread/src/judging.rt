@@ -114,7 +114,7 @@ fn causes() -> &'static [ScriptCause]
     &ORDER
 }
 
-/// The first cause for which the words behind a keyword are refused.
+/// The first cause for which the words after a keyword are refused.
 pub fn first_cause(site: &Site, keyword: Keyword, words: &[Bytes]) -> Option<ScriptCause>
     ensures { result ≡ find (λ c. holds site.now c keyword words.now) order }
 {

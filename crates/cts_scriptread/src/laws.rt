@@ -17,7 +17,7 @@ pub fn events_are_of_their_lines()
 {}
 
 /// A word names an interface, a slot or either exactly where the site has one of this name: the word is its name in any case, or
-/// the name of a router with `/0` or `/1` behind it.
+/// the name of a router with `/0` or `/1` after it.
 pub fn names_are_those_of_the_site()
     ensures makers { MakersAreNamed }
     ensures interfaces { InterfacesAreNamed }

@@ -67,7 +67,7 @@ fn is_digit(digit: u8) -> bool
     digit.is_ascii_hexdigit()
 }
 
-/// Whether a piece may have so many bytes.
+/// Whether a piece may have `size` bytes.
 pub fn is_piece_size(size: usize) -> bool
     ensures { result ≡ is_piece_size size }
 {

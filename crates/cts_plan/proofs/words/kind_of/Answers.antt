@@ -6,7 +6,7 @@ first : {X : Type 0} (b : Bool) (x rest : X) → b ≡ true → x ≡ cond b x r
 first true x rest e = refl
 first false x rest e = absurd cc
 
--- one of those behind it
+-- one of those after it
 later : {X : Type 0} (b : Bool) (x y rest : X) → b ≡ false → y ≡ rest → y ≡ cond b x rest
 later true x y rest e h = absurd cc
 later false x y rest e h = h
