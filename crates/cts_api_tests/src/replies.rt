@@ -428,7 +428,7 @@ fn a_call_is_answered_as_its_body_is(rt: HostRuntime) -> Result<(), Fail> {
     rows_end_so::<ReadCalls>(rt.alloc(), READ)
 }
 
-/// The longest body that a request may have: a call behind white space.
+/// The longest body that a request may have: a call after white space.
 fn longest_body(alloc: Global) -> Result<Vec<u8>, Fail> {
     let call = b"{\"jsonrpc\":\"2.0\",\"method\":\"get_limits_set\",\"id\":1}";
     let mut body = vec![in alloc; b' '; 1_048_576 - call.len()]?;

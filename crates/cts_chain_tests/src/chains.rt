@@ -93,7 +93,7 @@ fn lost(alloc: Global, chain: &mut Chain) -> Result<String, Fail>
     Ok(format!(in alloc; "{:?} {} {}", loss.held, loss.skipped, loss.empty)?)
 }
 
-/// Feeds the pieces one after another, appends the packets that they give, and answers why there are no more behind the last one.
+/// Feeds the pieces one after another, appends the packets that they give, and answers why there are no more after the last one.
 fn feed_all(
     alloc: Global,
     chain: &mut Chain,
@@ -179,7 +179,7 @@ fn all_cuts_of_a_connection_give_the_same(rt: HostRuntime) -> Result<(), Fail> {
     Ok(())
 }
 
-/// All ways to cut the row's connection behind its first seven bytes give the same.
+/// All ways to cut the row's connection after its first seven bytes give the same.
 fn all_cuts_hold(alloc: Global, row: &str) -> Result<(), Fail> {
     for cuts in 0..128 {
         cuts_hold(alloc, row, cuts)?;
@@ -187,7 +187,7 @@ fn all_cuts_hold(alloc: Global, row: &str) -> Result<(), Fail> {
     Ok(())
 }
 
-/// The row's connection gives what it should where it is cut behind byte `k` for each bit `k` of `cuts` that is set.
+/// The row's connection gives what it should where it is cut after byte `k` for each bit `k` of `cuts` that is set.
 fn cuts_hold(alloc: Global, row: &str, cuts: u32) -> Result<(), Fail> {
     let (protocols, rest) = cut(row, '|')?;
     let (bytes, wanted) = cut(rest, '|')?;

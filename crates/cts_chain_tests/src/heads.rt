@@ -1,7 +1,7 @@
 // Heads that are written and read.
 use crate::read::{label_of, name_of};
 use cts_def::Time;
-use cts_rows::{Answers, cut, digits_of, rows_hold, same};
+use cts_rows::{Answers, cut, digits_of, rows_end_so, same};
 use cts_spell::{Head, encode_head, read_head};
 use std::alloc::Global;
 use std::test::Fail;
@@ -37,11 +37,11 @@ fn a_head_is_written_in_big_endian(rt: HostRuntime) -> Result<(), Fail> {
 
 /// What is read of heads with names of these lengths.
 const HEADS: &str = "\
-4294967295 999999 9 10 11 12 16 4294967295|*1|*1
-4294967295 999999 9 13 14 16 20 4294967295|*4|*2
-4294967295 999999 9 264 265 266 270 4294967295|*255|*1
-4294967295 999999 9 10 11 266 270 4294967295|*1|*255
-4294967295 999999 9 264 265 520 524 4294967295|*255|*255";
+*1|*1|4294967295 999999 9 10 11 12 16 4294967295
+*4|*2|4294967295 999999 9 13 14 16 20 4294967295
+*255|*1|4294967295 999999 9 264 265 266 270 4294967295
+*1|*255|4294967295 999999 9 10 11 266 270 4294967295
+*255|*255|4294967295 999999 9 264 265 520 524 4294967295";
 
 /// What is read of a head with names of a row's lengths, of which no part is read.
 struct Heads;
@@ -94,5 +94,5 @@ fn part_is_read(bytes: &[u8]) -> bool {
 
 #[test]
 fn heads_are_read_whole_or_not(rt: HostRuntime) -> Result<(), Fail> {
-    rows_hold::<Heads>(rt.alloc(), HEADS)
+    rows_end_so::<Heads>(rt.alloc(), HEADS)
 }

@@ -1,4 +1,4 @@
-// What a protocol holds behind what it gave: the bytes that may still matter, and no others.
+// What a protocol holds after what it gave: the bytes that may still matter, and no others.
 ghost use Rattle.std.specs.Prelude.{◌≡◌, true, IfOk, OnOk};
 
 use crate::read::{bytes_in, shown, site_with};
@@ -10,7 +10,7 @@ use cts_stream::Length;
 use std::alloc::Global;
 use std::test::Fail;
 
-/// A LENGTH, pieces, and behind each piece what is given, then `More` or the error, and what is held.
+/// A LENGTH, pieces, and after each piece what is given, then `More` or the error, and what is held.
 const ROWS: &str = "\
 LENGTH 16 16 0 1 BIG_ENDIAN 0 0x1acf|001a1a|More 1a;
 LENGTH 16 16 0 1 BIG_ENDIAN 0 0x1acf|001a1a cf0006aabb|More 1a;1acf0006aabb More ;
@@ -41,7 +41,7 @@ fn told_of_interface(alloc: Global, interface: &Interface, pieces: &str) -> Resu
     told_of_pieces(alloc, used, pieces)
 }
 
-/// What a LENGTH gives of the pieces between blanks, and holds behind each of them.
+/// What a LENGTH gives of the pieces between blanks, and holds after each of them.
 fn told_of_pieces(alloc: Global, used: &ProtoUse, pieces: &str) -> Result<String, Fail> {
     let mut protocol = configured(alloc, used)?;
     let pieces = pieces.split(' ').collect::<Vec<&str>>(alloc)?;
@@ -119,7 +119,7 @@ fn drain<P: Protocol>(
     }
 }
 
-/// Appends bytes, and a mark behind them.
+/// Appends bytes, and a mark after them.
 fn show(alloc: Global, bytes: &[u8], out: &mut String, mark: char) -> Result<(), Fail> {
     let text = shown(alloc, bytes)?;
     out.push_str(text.as_str())?;

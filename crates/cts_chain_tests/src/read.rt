@@ -36,7 +36,7 @@ pub fn site_of(alloc: Global, definitions: &str, site: &str) -> Result<Site, Fai
 const DEFINITIONS: &str =
     "TELEMETRY T A BIG_ENDIAN;APPEND_ID_ITEM K 8 UINT 1;APPEND_ITEM V 16 UINT";
 
-/// The site with one interface of the target that has these protocol words, and those of the lines behind `;`.
+/// The site with one interface of the target that has these protocol words, and those of the lines after `;`.
 pub fn site_with(alloc: Global, protocols: &str) -> Result<Site, Fail> {
     let site = format!(in alloc;
         "INTERFACE I tcpip_client_interface.rb localhost 8080 8080 10.0 nil {protocols};TARGET T"
@@ -44,7 +44,7 @@ pub fn site_with(alloc: Global, protocols: &str) -> Result<Site, Fail> {
     site_of(alloc, DEFINITIONS, site.as_str())
 }
 
-/// The bytes of pairs of hexadecimal digits, or as many bytes 1 as stand behind `*`.
+/// The bytes of pairs of hexadecimal digits, or as many bytes 1 as stand after `*`.
 pub fn bytes_in(alloc: Global, digits: &str) -> Result<Vec<u8>, Fail> {
     match digits.strip_prefix("*") {
         Some(count) => ones(alloc, count),
@@ -57,7 +57,7 @@ fn ones(alloc: Global, count: &str) -> Result<Vec<u8>, Fail> {
     Ok(vec![in alloc; 1; count.parse::<usize>()?]?)
 }
 
-/// A name as it stands, or as many letters N as stand behind `*`.
+/// A name as it stands, or as many letters N as stand after `*`.
 pub fn name_of(alloc: Global, text: &str) -> Result<String, Fail> {
     match text.strip_prefix("*") {
         Some(count) => Ok("N".repeat(alloc, count.parse::<usize>()?)?),

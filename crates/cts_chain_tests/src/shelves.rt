@@ -102,7 +102,7 @@ fn built_or_not(alloc: Global, shelf: &mut Shelf, interface: &Interface) -> Resu
 const THREE: &str =
     "LENGTH;PROTOCOL WRITE LENGTH;PROTOCOL READ LENGTH;PROTOCOL READ TERMINATED 0x0a 0x0a";
 
-/// What is told of this chain before and behind one more box of LENGTH, and whether a box of BURST is left.
+/// What is told of this chain before and after one more box of LENGTH, and whether a box of BURST is left.
 fn told_of_three(alloc: Global) -> Result<String, Fail> {
     let site = site_with(alloc, THREE)?;
     told_of_interface(alloc, interface_of(&site)?)

@@ -1,7 +1,7 @@
 // What sites have of their lines, and how the packets of their targets begin.
 use crate::read::site_of;
 use cts_def::{Interface, ProtoSpec, ProtoUse, Router, Site, Start};
-use cts_rows::{Answers, as_text, rows_hold};
+use cts_rows::{Answers, as_text, rows_end_so};
 use std::alloc::Global;
 use std::test::Fail;
 
@@ -16,10 +16,10 @@ COMMAND TOOL CUT BIG_ENDIAN;APPEND_PARAMETER TEXT 0 STRING 'a'";
 /// Interfaces with their ports, the number of their targets, and how the packets begin that a FIXED knows: the length, and the one
 /// id field with its number. Then routers so, with the interfaces that they route; and how many packets and commands there are.
 const WHOLE: &str =
-    "A 8080 2;B 8081 1;R 2950 [1, 0];4 2|TITLE 'Demo';INTERFACE A tcpip_client_interface.rb localhost 8080 8080 10.0 nil LENGTH 0 16 0 1 BIG_ENDIAN 2 nil nil true;  TARGET INST;  TARGET BARE;INTERFACE b tcpip_client_interface.rb localhost 8081 8081 10.0 nil TERMINATED 0x0A 0x0A;  TARGET AUX;ROUTER R tcpip_server_interface.rb 2950 2950 10.0 nil PREIDENTIFIED;  ROUTE B;  ROUTE A";
+    "TITLE 'Demo';INTERFACE A tcpip_client_interface.rb localhost 8080 8080 10.0 nil LENGTH 0 16 0 1 BIG_ENDIAN 2 nil nil true;  TARGET INST;  TARGET BARE;INTERFACE b tcpip_client_interface.rb localhost 8081 8081 10.0 nil TERMINATED 0x0A 0x0A;  TARGET AUX;ROUTER R tcpip_server_interface.rb 2950 2950 10.0 nil PREIDENTIFIED;  ROUTE B;  ROUTE A|A 8080 2;B 8081 1;R 2950 [1, 0];4 2";
 
 const FIXED: &str =
-    "I 1 1 (3 8 8 Big 1 false) (4 8 16 Little -2 true);R 2 [0] (4 0 32 Big 7 false);4 2|INTERFACE I tcpip_client_interface.rb h 1 1 nil nil FIXED 3;TARGET INST;ROUTER R tcpip_server_interface.rb 2 2 nil nil FIXED 4 0 nil false;ROUTE I";
+    "INTERFACE I tcpip_client_interface.rb h 1 1 nil nil FIXED 3;TARGET INST;ROUTER R tcpip_server_interface.rb 2 2 nil nil FIXED 4 0 nil false;ROUTE I|I 1 1 (3 8 8 Big 1 false) (4 8 16 Little -2 true);R 2 [0] (4 0 32 Big 7 false);4 2";
 
 /// What the site of a row's lines has.
 struct Sites;
@@ -33,12 +33,12 @@ impl Answers for Sites {
 
 #[test]
 fn a_whole_site_has_its_lines(rt: HostRuntime) -> Result<(), Fail> {
-    rows_hold::<Sites>(rt.alloc(), WHOLE)
+    rows_end_so::<Sites>(rt.alloc(), WHOLE)
 }
 
 #[test]
 fn fixed_knows_how_its_packets_begin(rt: HostRuntime) -> Result<(), Fail> {
-    rows_hold::<Sites>(rt.alloc(), FIXED)
+    rows_end_so::<Sites>(rt.alloc(), FIXED)
 }
 
 fn site_text(alloc: Global, site: &Site) -> Result<String, Fail> {

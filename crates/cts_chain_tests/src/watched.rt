@@ -1,4 +1,4 @@
-// A box of the tests' own, which passes each call on and tells how many bytes are held behind each `next`.
+// A box of the tests' own, which passes each call on and tells how many bytes are held after each `next`.
 ghost use Rattle.std.specs.Prelude.{IfOk};
 ghost use Rattle.cts_chain.specs.Shapes.{IsIdle};
 
@@ -16,7 +16,7 @@ use std::sync::Arc;
 use std::sync::atomic::{AtomicU64, Ordering};
 use std::test::Fail;
 
-/// A protocol, and how many bytes it held behind the last `next`.
+/// A protocol, and how many bytes it held after the last `next`.
 #[derive(Drop)]
 struct Watched<P: Protocol> {
     inner: P,

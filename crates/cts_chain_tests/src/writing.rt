@@ -10,7 +10,7 @@ use cts_rows::{Answers, bytes_of, cut, rows_end_so};
 use std::alloc::Global;
 use std::test::Fail;
 
-/// Protocols, bytes, and the frames in which they are put behind a byte ee, or why they are not, and what then stands there.
+/// Protocols, bytes, and the frames in which they are put after a byte ee, or why they are not, and what then stands there.
 const WRITTEN: &str = "\
 BURST 1 nil true;PROTOCOL WRITE BURST 2 0xaa true|07|ee00aa0007
 BURST;PROTOCOL WRITE TERMINATED 0x0a 0x0a|07|ee070a
@@ -70,7 +70,7 @@ fn greatest_frames_are_written(rt: HostRuntime) -> Result<(), Fail> {
     rows_end_so::<Written>(rt.alloc(), GREATEST)
 }
 
-/// What the chain writes behind a byte ee, with its refusal in front where it has one.
+/// What the chain writes after a byte ee, with its refusal in front where it has one.
 fn written_by(alloc: Global, chain: &Chain, bytes: &[u8]) -> Result<String, Fail>
     requires { IsChain (⟦<Chain as Chained>⟧.shape chain.now) }
 {

@@ -1,7 +1,7 @@
 // What no clause says: how a packet that was read begins.
 use crate::read::definitions_of;
 use cts_def::{Definitions, Packet};
-use cts_rows::{Answers, debug_of, rows_hold};
+use cts_rows::{Answers, debug_of, rows_end_so};
 use std::alloc::Global;
 use std::test::Fail;
 
@@ -27,7 +27,7 @@ fn start_of(alloc: Global, definitions: &Definitions) -> Result<String, Fail> {
 }
 
 const ITEMS: &str = "\
-Some((Place { offset: 8, bits: 16, order: Little }, -2, true))|TELEMETRY T P BIG_ENDIAN;ID_ITEM ID 8 16 INT -2 '' LITTLE_ENDIAN";
+TELEMETRY T P BIG_ENDIAN;ID_ITEM ID 8 16 INT -2 '' LITTLE_ENDIAN|Some((Place { offset: 8, bits: 16, order: Little }, -2, true))";
 
 struct Items;
 
@@ -42,11 +42,11 @@ impl Answers for Items {
 
 #[test]
 fn an_item_has_its_id_field(rt: HostRuntime) -> Result<(), Fail> {
-    rows_hold::<Items>(rt.alloc(), ITEMS)
+    rows_end_so::<Items>(rt.alloc(), ITEMS)
 }
 
 const STARTS: &str = "\
-Start { ids: List { items: [(Place { offset: 8, bits: 16, order: Little }, -2, true)] }, length: 3 }|TELEMETRY T P BIG_ENDIAN;ID_ITEM ID 8 16 INT -2 '' LITTLE_ENDIAN";
+TELEMETRY T P BIG_ENDIAN;ID_ITEM ID 8 16 INT -2 '' LITTLE_ENDIAN|Start { ids: List { items: [(Place { offset: 8, bits: 16, order: Little }, -2, true)] }, length: 3 }";
 
 struct Starts;
 
@@ -61,5 +61,5 @@ impl Answers for Starts {
 
 #[test]
 fn a_start_has_the_id_fields(rt: HostRuntime) -> Result<(), Fail> {
-    rows_hold::<Starts>(rt.alloc(), STARTS)
+    rows_end_so::<Starts>(rt.alloc(), STARTS)
 }

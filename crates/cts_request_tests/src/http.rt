@@ -5,7 +5,7 @@ ghost use Rattle.cts_http.specs.Texts.{is_refusal};
 
 use crate::parts::bytes_of_parts;
 use cts_http::{HttpStep, Reader, refusal, requests, response};
-use cts_rows::{Answers, as_text, bytes_by_number, debug_of, rows_hold, same};
+use cts_rows::{Answers, as_text, bytes_by_number, debug_of, rows_end_so, same};
 use std::alloc::Global;
 use std::test::Fail;
 
@@ -84,11 +84,11 @@ impl Answers for Cuts {
 
 /// A request, and what is answered to it.
 const FOUND: &str =
-    "again:{\"jsonrpc\":\"2.0\",\"method\":\"get_limits_set\",\"id\":1}|POST / HTTP/1.1\r;Content-Length: 50\r;\r;{\"jsonrpc\":\"2.0\",\"method\":\"get_limits_set\",\"id\":1}";
+    "POST / HTTP/1.1\r;Content-Length: 50\r;\r;{\"jsonrpc\":\"2.0\",\"method\":\"get_limits_set\",\"id\":1}|again:{\"jsonrpc\":\"2.0\",\"method\":\"get_limits_set\",\"id\":1}";
 
 #[test]
 fn requests_are_found_however_they_are_cut(rt: HostRuntime) -> Result<(), Fail> {
-    rows_hold::<Cuts>(rt.alloc(), FOUND)
+    rows_end_so::<Cuts>(rt.alloc(), FOUND)
 }
 
 const CALL: &[u8] =
@@ -119,7 +119,7 @@ fn several_requests_come_on_one_connection(rt: HostRuntime) -> Result<(), Fail> 
     same(found.as_str(), "(50, 150, [123])", "two requests")
 }
 
-/// A bad piece is refused, and a call behind it too.
+/// A bad piece is refused, and a call after it too.
 fn refuses_for_good(reader: &mut Reader) -> Result<(), Fail>
     requires { reader.old.closed ≡ false }
 {
@@ -145,49 +145,49 @@ fn a_refusal_stays(rt: HostRuntime) -> Result<(), Fail> {
 
 /// Answers to requests, whose line feeds are `;`.
 const HEADS: &str = "\
-Refuse(501)|POST / HTTP/1.1\r;Transfer-Encoding: chunked\r;\r;
-Refuse(405)|GET / HTTP/1.1\r;\r;
-Refuse(411)|POST / HTTP/1.1\r;\r;
-Refuse(400)|POST / HTTP/1.1\r;Content-Length: x\r;\r;
-Refuse(400)|POST / HTTP/1.1\r;Content-Length:\r;\r;
-Refuse(400)|GET / HTTP/1.1\r;Content-Length: -1\r;\r;
-Refuse(400)|POST / HTTP/1.1\r;Content-Length: +1\r;\r;
-Refuse(400)|POST / HTTP/1.1\r;X: a\0b\r;Content-Length: 0\r;\r;
-again:{}|POST / HTTP/1.1;Content-Length: 2;;{}
-More|POST / HTTP/1.1;Content-Length: 2;;{
-Refuse(413)|POST / HTTP/1.1\r;Content-Length: 999999999999999999999999999999\r;\r;
-Refuse(413)|POST / HTTP/1.1\r;Content-Length: 1048577\r;\r;
-More|POST / HTTP/1.1\r;Content-Length: 1048576\r;\r;
-More|POST / HTTP/1.1\r;Content-Length: 0\r;
-again:|POST / HTTP/1.1\r;Content-Length: 0\r;content-length:  00 \r;\r;
-again:|\r;\r;POST any HTTP/1.1\r;Content-Length: 0\r;\r;
-Refuse(400)|POST / HTTP/1.1\r;Content-Length: 0\r;Content-Length: 1\r;\r;
-Refuse(400)|POST / HTTP/2.0
-last:|POST / HTTP/1.0\r;Content-Length: 0\r;\r;
-last:|POST / HTTP/1.1\r;Connection: keep-alive,\tclose\r;Content-Length: 0\r;\r;
-again:|POST / HTTP/1.1\r;Connection: closed\r;Content-Length: 0\r;\r;
-Refuse(405)|post / HTTP/1.1\r;Content-Length: 0\r;\r;
-Refuse(501)|POST / HTTP/1.1\r;Content-Length: 0\r;Transfer-Encoding: chunked\r;\r;
-Refuse(400)|POST / HTTP/1.1\r;Content-Length: x\r;Transfer-Encoding: chunked\r;\r;
-Refuse(400)|POST / HTTP/1.1\r;X: a\r; b\r;Content-Length: 0\r;\r;
-Refuse(400)|POST / HTTP/1.1\r;X : a\r;Content-Length: 0\r;\r;
-Refuse(400)|POST / HTTP/1.1\r;: a\r;Content-Length: 0\r;\r;
-Refuse(400)|POST / HTTP/1.1\r;X: a\rb\r;Content-Length: 0\r;\r;
-Refuse(400)|POST / HTTP/1.1\r;Content-Length: 5, 5\r;\r;
-again:{}|POST / HTTP/1.1\r;Content-Length: 2\r;Content-Length: 2\r;\r;{}
-last:|POST / HTTP/1.0\r;Connection: keep-alive\r;Content-Length: 0\r;\r;
-again:|POST http://host:80/a?b HTTP/1.1\r;Content-Length: 0\r;\r;
-again:|POST * HTTP/1.1\r;Content-Length: 0\r;\r;
-again:{}|POST / HTTP/1.1\r;Expect: 100-continue\r;Content-Length: 2\r;\r;{}
-More|POST / HTTP/1.1\r;Expect: 100-continue\r;Content-Length: 2\r;\r;";
+POST / HTTP/1.1\r;Transfer-Encoding: chunked\r;\r;|Refuse(501)
+GET / HTTP/1.1\r;\r;|Refuse(405)
+POST / HTTP/1.1\r;\r;|Refuse(411)
+POST / HTTP/1.1\r;Content-Length: x\r;\r;|Refuse(400)
+POST / HTTP/1.1\r;Content-Length:\r;\r;|Refuse(400)
+GET / HTTP/1.1\r;Content-Length: -1\r;\r;|Refuse(400)
+POST / HTTP/1.1\r;Content-Length: +1\r;\r;|Refuse(400)
+POST / HTTP/1.1\r;X: a\0b\r;Content-Length: 0\r;\r;|Refuse(400)
+POST / HTTP/1.1;Content-Length: 2;;{}|again:{}
+POST / HTTP/1.1;Content-Length: 2;;{|More
+POST / HTTP/1.1\r;Content-Length: 999999999999999999999999999999\r;\r;|Refuse(413)
+POST / HTTP/1.1\r;Content-Length: 1048577\r;\r;|Refuse(413)
+POST / HTTP/1.1\r;Content-Length: 1048576\r;\r;|More
+POST / HTTP/1.1\r;Content-Length: 0\r;|More
+POST / HTTP/1.1\r;Content-Length: 0\r;content-length:  00 \r;\r;|again:
+\r;\r;POST any HTTP/1.1\r;Content-Length: 0\r;\r;|again:
+POST / HTTP/1.1\r;Content-Length: 0\r;Content-Length: 1\r;\r;|Refuse(400)
+POST / HTTP/2.0|Refuse(400)
+POST / HTTP/1.0\r;Content-Length: 0\r;\r;|last:
+POST / HTTP/1.1\r;Connection: keep-alive,\tclose\r;Content-Length: 0\r;\r;|last:
+POST / HTTP/1.1\r;Connection: closed\r;Content-Length: 0\r;\r;|again:
+post / HTTP/1.1\r;Content-Length: 0\r;\r;|Refuse(405)
+POST / HTTP/1.1\r;Content-Length: 0\r;Transfer-Encoding: chunked\r;\r;|Refuse(501)
+POST / HTTP/1.1\r;Content-Length: x\r;Transfer-Encoding: chunked\r;\r;|Refuse(400)
+POST / HTTP/1.1\r;X: a\r; b\r;Content-Length: 0\r;\r;|Refuse(400)
+POST / HTTP/1.1\r;X : a\r;Content-Length: 0\r;\r;|Refuse(400)
+POST / HTTP/1.1\r;: a\r;Content-Length: 0\r;\r;|Refuse(400)
+POST / HTTP/1.1\r;X: a\rb\r;Content-Length: 0\r;\r;|Refuse(400)
+POST / HTTP/1.1\r;Content-Length: 5, 5\r;\r;|Refuse(400)
+POST / HTTP/1.1\r;Content-Length: 2\r;Content-Length: 2\r;\r;{}|again:{}
+POST / HTTP/1.0\r;Connection: keep-alive\r;Content-Length: 0\r;\r;|last:
+POST http://host:80/a?b HTTP/1.1\r;Content-Length: 0\r;\r;|again:
+POST * HTTP/1.1\r;Content-Length: 0\r;\r;|again:
+POST / HTTP/1.1\r;Expect: 100-continue\r;Content-Length: 2\r;\r;{}|again:{}
+POST / HTTP/1.1\r;Expect: 100-continue\r;Content-Length: 2\r;\r;|More";
 
 #[test]
 fn each_request_has_its_answer_however_it_is_cut(rt: HostRuntime) -> Result<(), Fail> {
-    rows_hold::<Cuts>(rt.alloc(), HEADS)
+    rows_end_so::<Cuts>(rt.alloc(), HEADS)
 }
 
 /// A target with a byte ff.
-const TARGET: &str = "Refuse(400)|1*POST /\u{ff} HTTP/1.1\r;Content-Length: 0\r;\r;";
+const TARGET: &str = "1*POST /\u{ff} HTTP/1.1\r;Content-Length: 0\r;\r;|Refuse(400)";
 
 /// What is answered to a text of repeated parts at once.
 struct Whole;
@@ -201,25 +201,25 @@ impl Answers for Whole {
 
 #[test]
 fn a_target_is_text(rt: HostRuntime) -> Result<(), Fail> {
-    rows_hold::<Whole>(rt.alloc(), TARGET)
+    rows_end_so::<Whole>(rt.alloc(), TARGET)
 }
 
 /// Answers to heads of 16,384 bytes and of 16,385, with their end and without it, and to heads of 64 fields and of 65.
 const BOUNDS: &str = "\
-again:|1*POST / HTTP/1.1\r;Content-Length: 0\r;X: |16341*a|1*\r;\r;
-Refuse(431)|1*POST / HTTP/1.1\r;Content-Length: 0\r;X: |16342*a|1*\r;\r;
-More|1*POST / HTTP/1.1\r;Content-Length: 0\r;X: |16345*a
-Refuse(431)|1*POST / HTTP/1.1\r;Content-Length: 0\r;X: |16346*a
-again:|1*POST / HTTP/1.1\r;Content-Length: 0\r;|63*A: b\r;|1*\r;
-Refuse(431)|1*POST / HTTP/1.1\r;Content-Length: 0\r;|64*A: b\r;|1*\r;
-More|8192*\r;
-Refuse(431)|8192*\r;|1*\r
-Refuse(431)|20000*\r;
-last:{|1*POST / HTTP/1.0\r;Content-Length: 1\r;\r;{POST / HTTP/2.0\0";
+1*POST / HTTP/1.1\r;Content-Length: 0\r;X: |16341*a|1*\r;\r;|again:
+1*POST / HTTP/1.1\r;Content-Length: 0\r;X: |16342*a|1*\r;\r;|Refuse(431)
+1*POST / HTTP/1.1\r;Content-Length: 0\r;X: |16345*a|More
+1*POST / HTTP/1.1\r;Content-Length: 0\r;X: |16346*a|Refuse(431)
+1*POST / HTTP/1.1\r;Content-Length: 0\r;|63*A: b\r;|1*\r;|again:
+1*POST / HTTP/1.1\r;Content-Length: 0\r;|64*A: b\r;|1*\r;|Refuse(431)
+8192*\r;|More
+8192*\r;|1*\r|Refuse(431)
+20000*\r;|Refuse(431)
+1*POST / HTTP/1.0\r;Content-Length: 1\r;\r;{POST / HTTP/2.0\0|last:{";
 
 #[test]
 fn heads_are_bounded(rt: HostRuntime) -> Result<(), Fail> {
-    rows_hold::<Whole>(rt.alloc(), BOUNDS)
+    rows_end_so::<Whole>(rt.alloc(), BOUNDS)
 }
 
 /// How many requests the bytes of a text of repeated parts have, and how they end.
@@ -233,18 +233,18 @@ impl Answers for Counted {
 }
 
 const ENDINGS: &str = "\
-(0, More)|0*
-(0, More)|1*POST / HTTP/1.1
-(100, More)|100*POST / HTTP/1.1\r;Content-Length: 2\r;\r;{}
-(2, More)|2*POST / HTTP/1.1\r;Content-Length: 2\r;\r;{}|1*POST / HTTP/1.1\r;Content-Length: 2\r;\r;{
-(2, Refuse(405))|2*POST / HTTP/1.1\r;Content-Length: 2\r;\r;{}|1*GET / HTTP/1.1\r;\r;
-(1, Request { last: true })|1*POST / HTTP/1.0\r;Content-Length: 2\r;\r;{}
-(3, Request { last: true })|2*POST / HTTP/1.1\r;Content-Length: 2\r;\r;{}|2*POST / HTTP/1.0\r;Content-Length: 2\r;\r;{}
-(0, Refuse(431))|16385*\r;";
+0*|(0, More)
+1*POST / HTTP/1.1|(0, More)
+100*POST / HTTP/1.1\r;Content-Length: 2\r;\r;{}|(100, More)
+2*POST / HTTP/1.1\r;Content-Length: 2\r;\r;{}|1*POST / HTTP/1.1\r;Content-Length: 2\r;\r;{|(2, More)
+2*POST / HTTP/1.1\r;Content-Length: 2\r;\r;{}|1*GET / HTTP/1.1\r;\r;|(2, Refuse(405))
+1*POST / HTTP/1.0\r;Content-Length: 2\r;\r;{}|(1, Request { last: true })
+2*POST / HTTP/1.1\r;Content-Length: 2\r;\r;{}|2*POST / HTTP/1.0\r;Content-Length: 2\r;\r;{}|(3, Request { last: true })
+16385*\r;|(0, Refuse(431))";
 
 #[test]
 fn every_list_of_bytes_has_its_requests(rt: HostRuntime) -> Result<(), Fail> {
-    rows_hold::<Counted>(rt.alloc(), ENDINGS)
+    rows_end_so::<Counted>(rt.alloc(), ENDINGS)
 }
 
 /// How many bytes are more to come before the last of the bytes of a text of repeated parts, which come one by one, and what
@@ -290,11 +290,11 @@ fn comes(reader: &mut Reader, byte: u8) -> Result<(), Fail>
 
 /// A longest head and a body of 100,000 bytes.
 const ONE_BY_ONE: &str =
-    "(116384, false, 100000)|1*POST / HTTP/1.1\r;Content-Length: 100000\r;X: |16336*a|1*\r;\r;|100000*b";
+    "1*POST / HTTP/1.1\r;Content-Length: 100000\r;X: |16336*a|1*\r;\r;|100000*b|(116384, false, 100000)";
 
 #[test]
 fn a_body_comes_byte_by_byte(rt: HostRuntime) -> Result<(), Fail> {
-    rows_hold::<Bytewise>(rt.alloc(), ONE_BY_ONE)
+    rows_end_so::<Bytewise>(rt.alloc(), ONE_BY_ONE)
 }
 
 /// A response is written over what stood there.

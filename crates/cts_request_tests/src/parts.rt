@@ -3,7 +3,7 @@ use cts_rows::{bytes_by_number, cut, number};
 use std::alloc::Global;
 use std::test::Fail;
 
-/// The bytes of these parts, which have bars between. Each stands behind how often it comes, and a `*`.
+/// The bytes of these parts, which have bars between. Each stands after how often it comes, and a `*`.
 pub fn bytes_of_parts(alloc: Global, parts: &str) -> Result<Vec<u8>, Fail> {
     let text = repeated(alloc, parts)?;
     bytes_by_number(alloc, text.as_str())

@@ -1,6 +1,8 @@
 // What no clause says: bodies from outside with what they ask, and that texts are made where there is memory.
 use crate::parts::bytes_of_parts;
-use cts_rows::{Answers, bytes_by_number, display_of, field, number, readable_of, rows_hold, same};
+use cts_rows::{
+    Answers, bytes_by_number, display_of, field, number, readable_of, rows_end_so, same,
+};
 use cts_rpc::{Call, RpcFault, error_text, read, result_text};
 use serde_json::Value;
 use std::alloc::Global;
@@ -32,87 +34,86 @@ impl Answers for Bodies {
     }
 }
 
-/// The letter that is wanted, and a body.
-const BODIES: &str = r#"C|{"jsonrpc":"2.0","method":"get_limits_set","id":1}
-c|{"jsonrpc":"2.0","method":"cmd","params":["INST COLLECT with DURATION 10"]}
-C|{"jsonrpc":"2.0","method":"m","params":[[{"a":-9223372036854775808}]],"id":"x"}
-C|{"jsonrpc":"2.0","method":"m","id":18446744073709551615,"more":1.5}
-c|{"jsonrpc":"1.0","jsonrpc":"2.0","method":7,"method":"m"}
-c|{"jsonrpc":"2.0","method":"m","params":[{"a":1.5,"a":2}]}
-C|{"jsonrpc":"2.0","method":"\u0000","params":["\u0000\ud83d\ude00"],"id":"\u0000"}
-C|{"jsonrpc": "2.0", "method": "subtract", "params": [42, 23], "id": 1}
-c|{"jsonrpc": "2.0", "method": "update", "params": [1,2,3,4,5]}
-C|{"jsonrpc": "2.0", "method": "foobar", "id": "1"}
-p|{
-p|
-p|{"jsonrpc": "2.0", "method": "foobar, "params": "bar", "baz]
-p|{"jsonrpc":"2.0","method":"m"}x
-p|{"jsonrpc":"2.0","method":"\ud800"}
-p|{"jsonrpc":"2.0","method":"m","params":[1e400]}
-p|{"jsonrpc":"2.0","method":"m","params":[01]}
-r|1
-r|null
-r|[]
-r|[1]
-r|{"jsonrpc": "2.0", "method": 1, "params": "bar"}
-r|[{"jsonrpc":"2.0","method":"m"}]
-r|[{"jsonrpc":"2.0","method":"m","id":1},{"jsonrpc":"2.0","method":"m","id":2}]
-r|{}
-r|{"method":"m"}
-r|{"jsonrpc":2.0,"method":"m"}
-r|{"jsonrpc":"2","method":"m","id":1}
-r|{"jsonrpc":"2.0"}
-r|{"a":[1.5]}
-r|{"jsonrpc":"2.0","method":null}
-r|{"jsonrpc":"2.0","method":"m","params":null,"id":1}
-r|{"jsonrpc":"2.0","method":"m","params":"a"}
-r|{"jsonrpc":"2.0","method":"m","id":1.0}
-r|{"jsonrpc":"2.0","method":"m","id":-0}
-r|{"jsonrpc":"2.0","method":"m","id":true}
-r|{"jsonrpc":"2.0","method":"m","id":[]}
-r|{"jsonrpc":"2.0","method":"m","params":{},"id":{}}
-A|{"jsonrpc":"2.0","method":"m","params":{},"id":1}
-a|{"jsonrpc":"2.0","method":"no such","params":{"a":1}}
-A|{"jsonrpc": "2.0", "method": "subtract", "params": {"subtrahend": 23, "minuend": 42}, "id": 3}
-A|{"jsonrpc":"2.0","method":"m","params":[1.5],"id":null}
-A|{"jsonrpc":"2.0","method":"m","params":[[],{"a":[1e2]}],"id":1}
-a|{"jsonrpc":"2.0","method":"m","params":[-0]}
-a|{"jsonrpc":"2.0","method":"m","params":[1.0]}
-a|{"jsonrpc":"2.0","method":"m","params":[-9223372036854775809]}
-a|{"jsonrpc":"2.0","method":"m","params":[18446744073709551616]}"#;
+/// A body, and the letter that is wanted.
+const BODIES: &str = r#"{"jsonrpc":"2.0","method":"get_limits_set","id":1}|C
+{"jsonrpc":"2.0","method":"cmd","params":["INST COLLECT with DURATION 10"]}|c
+{"jsonrpc":"2.0","method":"m","params":[[{"a":-9223372036854775808}]],"id":"x"}|C
+{"jsonrpc":"2.0","method":"m","id":18446744073709551615,"more":1.5}|C
+{"jsonrpc":"1.0","jsonrpc":"2.0","method":7,"method":"m"}|c
+{"jsonrpc":"2.0","method":"m","params":[{"a":1.5,"a":2}]}|c
+{"jsonrpc":"2.0","method":"\u0000","params":["\u0000\ud83d\ude00"],"id":"\u0000"}|C
+{"jsonrpc": "2.0", "method": "subtract", "params": [42, 23], "id": 1}|C
+{"jsonrpc": "2.0", "method": "update", "params": [1,2,3,4,5]}|c
+{"jsonrpc": "2.0", "method": "foobar", "id": "1"}|C
+{|p
+|p
+{"jsonrpc": "2.0", "method": "foobar, "params": "bar", "baz]|p
+{"jsonrpc":"2.0","method":"m"}x|p
+{"jsonrpc":"2.0","method":"\ud800"}|p
+{"jsonrpc":"2.0","method":"m","params":[1e400]}|p
+{"jsonrpc":"2.0","method":"m","params":[01]}|p
+1|r
+null|r
+[]|r
+[1]|r
+{"jsonrpc": "2.0", "method": 1, "params": "bar"}|r
+[{"jsonrpc":"2.0","method":"m"}]|r
+[{"jsonrpc":"2.0","method":"m","id":1},{"jsonrpc":"2.0","method":"m","id":2}]|r
+{}|r
+{"method":"m"}|r
+{"jsonrpc":2.0,"method":"m"}|r
+{"jsonrpc":"2","method":"m","id":1}|r
+{"jsonrpc":"2.0"}|r
+{"a":[1.5]}|r
+{"jsonrpc":"2.0","method":null}|r
+{"jsonrpc":"2.0","method":"m","params":null,"id":1}|r
+{"jsonrpc":"2.0","method":"m","params":"a"}|r
+{"jsonrpc":"2.0","method":"m","id":1.0}|r
+{"jsonrpc":"2.0","method":"m","id":-0}|r
+{"jsonrpc":"2.0","method":"m","id":true}|r
+{"jsonrpc":"2.0","method":"m","id":[]}|r
+{"jsonrpc":"2.0","method":"m","params":{},"id":{}}|r
+{"jsonrpc":"2.0","method":"m","params":{},"id":1}|A
+{"jsonrpc":"2.0","method":"no such","params":{"a":1}}|a
+{"jsonrpc": "2.0", "method": "subtract", "params": {"subtrahend": 23, "minuend": 42}, "id": 3}|A
+{"jsonrpc":"2.0","method":"m","params":[1.5],"id":null}|A
+{"jsonrpc":"2.0","method":"m","params":[[],{"a":[1e2]}],"id":1}|A
+{"jsonrpc":"2.0","method":"m","params":[-0]}|a
+{"jsonrpc":"2.0","method":"m","params":[1.0]}|a
+{"jsonrpc":"2.0","method":"m","params":[-9223372036854775809]}|a
+{"jsonrpc":"2.0","method":"m","params":[18446744073709551616]}|a"#;
 
 #[test]
 fn bodies_are_calls_or_say_why_not(rt: HostRuntime) -> Result<(), Fail> {
-    rows_hold::<Bodies>(rt.alloc(), BODIES)
+    rows_end_so::<Bodies>(rt.alloc(), BODIES)
 }
 
 /// The same of bodies whose bytes are the numbers of characters: blanks and a tab around a call, a method with a byte ff, with the
-/// control bytes 00, 09 and 1f, which stand in a text as `\u` and digits alone, with 7f, which may stand as it is, and a call behind a
+/// control bytes 00, 09 and 1f, which stand in a text as `\u` and digits alone, with 7f, which may stand as it is, and a call after a
 /// byte order mark.
-const BYTES: &str = "\
-C| {\"id\":null,\"method\":\"\",\"jsonrpc\":\"2.0\",\"params\":[]} \t
-p|{\"jsonrpc\":\"2.0\",\"method\":\"\u{ff}\"}
-p|{\"jsonrpc\":\"2.0\",\"method\":\"a\0\"}
-p|{\"jsonrpc\":\"2.0\",\"method\":\"a\t\"}
-p|{\"jsonrpc\":\"2.0\",\"method\":\"m\",\"params\":[\"\u{1f}\"]}
-c|{\"jsonrpc\":\"2.0\",\"method\":\"\u{7f}\"}
-p|\u{ef}\u{bb}\u{bf}{\"jsonrpc\":\"2.0\",\"method\":\"m\"}";
+const BYTES: &str = "\x20{\"id\":null,\"method\":\"\",\"jsonrpc\":\"2.0\",\"params\":[]} \t|C
+{\"jsonrpc\":\"2.0\",\"method\":\"\u{ff}\"}|p
+{\"jsonrpc\":\"2.0\",\"method\":\"a\0\"}|p
+{\"jsonrpc\":\"2.0\",\"method\":\"a\t\"}|p
+{\"jsonrpc\":\"2.0\",\"method\":\"m\",\"params\":[\"\u{1f}\"]}|p
+{\"jsonrpc\":\"2.0\",\"method\":\"\u{7f}\"}|c
+\u{ef}\u{bb}\u{bf}{\"jsonrpc\":\"2.0\",\"method\":\"m\"}|p";
 
 #[test]
 fn a_body_is_text(rt: HostRuntime) -> Result<(), Fail> {
-    rows_hold::<Bodies>(rt.alloc(), BYTES)
+    rows_end_so::<Bodies>(rt.alloc(), BYTES)
 }
 
 /// Bodies whose params are 126 arrays in one another, and 127; 125 objects in one array, and 126; 126 objects, and 127; and a member
 /// without a meaning that nests as deep.
-const DEPTHS: &str = r#"c|1*{"jsonrpc":"2.0","method":"m","params":|126*[|126*]|1*}
-p|1*{"jsonrpc":"2.0","method":"m","params":|127*[|127*]|1*}
-c|1*{"jsonrpc":"2.0","method":"m","params":[|125*{"a":|1*1|125*}|1*]}
-p|1*{"jsonrpc":"2.0","method":"m","params":[|126*{"a":|1*1|126*}|1*]}
-a|1*{"jsonrpc":"2.0","method":"m","params":|126*{"a":|1*1|126*}|1*}
-p|1*{"jsonrpc":"2.0","method":"m","params":|127*{"a":|1*1|127*}|1*}
-C|1*{"jsonrpc":"2.0","method":"m","id":1,"more":|63*[{"a":|1*1|63*}]|1*}
-p|1*{"jsonrpc":"2.0","method":"m","id":1,"more":|64*[{"a":|1*1|64*}]|1*}"#;
+const DEPTHS: &str = r#"1*{"jsonrpc":"2.0","method":"m","params":|126*[|126*]|1*}|c
+1*{"jsonrpc":"2.0","method":"m","params":|127*[|127*]|1*}|p
+1*{"jsonrpc":"2.0","method":"m","params":[|125*{"a":|1*1|125*}|1*]}|c
+1*{"jsonrpc":"2.0","method":"m","params":[|126*{"a":|1*1|126*}|1*]}|p
+1*{"jsonrpc":"2.0","method":"m","params":|126*{"a":|1*1|126*}|1*}|a
+1*{"jsonrpc":"2.0","method":"m","params":|127*{"a":|1*1|127*}|1*}|p
+1*{"jsonrpc":"2.0","method":"m","id":1,"more":|63*[{"a":|1*1|63*}]|1*}|C
+1*{"jsonrpc":"2.0","method":"m","id":1,"more":|64*[{"a":|1*1|64*}]|1*}|p"#;
 
 /// What a body of repeated parts asks.
 struct Depths;
@@ -126,7 +127,7 @@ impl Answers for Depths {
 
 #[test]
 fn arrays_and_objects_nest_at_most_127_deep(rt: HostRuntime) -> Result<(), Fail> {
-    rows_hold::<Depths>(rt.alloc(), DEPTHS)
+    rows_end_so::<Depths>(rt.alloc(), DEPTHS)
 }
 
 const TLM: &[u8] =
@@ -151,18 +152,18 @@ fn a_call_has_its_parts(rt: HostRuntime) -> Result<(), Fail> {
     same(found.as_str(), wanted, "a call")
 }
 
-/// The text of a response, its id, and its result; also of those with a fraction, which no body of a request hands on.
+/// The id of a response, its result, and its text; also of those with a fraction, which no body of a request hands on.
 const RESULTS: &str =
-    r#"Ok('{"id":1.5,"jsonrpc":"2.0","result":[-0.0,{"a":1e+300}]}')|1.5|result|[-0,{"a":1e300}]
-Ok('{"id":1,"jsonrpc":"2.0","result":"DEFAULT"}')|1|result|"DEFAULT"
-Ok('{"id":null,"jsonrpc":"2.0","result":["INST","COLLECT",{"DURATION":10}]}')|null|result|["INST","COLLECT",{"DURATION":10}]"#;
+    r#"1.5|result|[-0,{"a":1e300}]|Ok('{"id":1.5,"jsonrpc":"2.0","result":[-0.0,{"a":1e+300}]}')
+1|result|"DEFAULT"|Ok('{"id":1,"jsonrpc":"2.0","result":"DEFAULT"}')
+null|result|["INST","COLLECT",{"DURATION":10}]|Ok('{"id":null,"jsonrpc":"2.0","result":["INST","COLLECT",{"DURATION":10}]}')"#;
 
-/// The text of a response, its id, and the code and the message of its error. In both texts each character is the byte of its
+/// The id of a response, the code and the message of its error, and its text. In both texts each character is the byte of its
 /// number, and in the message `;` is a line feed.
 const ERRORS: &str = "\
-Ok('{\"error\":{\"code\":-32700,\"message\":\"Parse error\"},\"id\":null,\"jsonrpc\":\"2.0\"}')|null|-32700|Parse error
-Ok('{\"error\":{\"code\":-32002,\"message\":\"Unknown parameter: \\\"\\u0001\x7f\u{c3}\u{a9}\\\\\\n\"},\"id\":1,\"jsonrpc\":\"2.0\"}')|1|-32002|Unknown parameter: \"\x01\x7f\u{c3}\u{a9}\\;
-Ok('{\"error\":{\"code\":-9223372036854775808,\"message\":\"\"},\"id\":1,\"jsonrpc\":\"2.0\"}')|1|-9223372036854775808|";
+null|-32700|Parse error|Ok('{\"error\":{\"code\":-32700,\"message\":\"Parse error\"},\"id\":null,\"jsonrpc\":\"2.0\"}')
+1|-32002|Unknown parameter: \"\x01\x7f\u{c3}\u{a9}\\;|Ok('{\"error\":{\"code\":-32002,\"message\":\"Unknown parameter: \\\"\\u0001\x7f\u{c3}\u{a9}\\\\\\n\"},\"id\":1,\"jsonrpc\":\"2.0\"}')
+1|-9223372036854775808||Ok('{\"error\":{\"code\":-9223372036854775808,\"message\":\"\"},\"id\":1,\"jsonrpc\":\"2.0\"}')";
 
 /// The response to an id.
 struct Replies;
@@ -201,6 +202,6 @@ fn json_of(alloc: Global, text: &str) -> Result<Value, Fail> {
 
 #[test]
 fn texts_of_responses(rt: HostRuntime) -> Result<(), Fail> {
-    rows_hold::<Replies>(rt.alloc(), RESULTS)?;
-    rows_hold::<Replies>(rt.alloc(), ERRORS)
+    rows_end_so::<Replies>(rt.alloc(), RESULTS)?;
+    rows_end_so::<Replies>(rt.alloc(), ERRORS)
 }

@@ -5,7 +5,7 @@ use cts_base::Bytes;
 use cts_cmd::{Built, Checks, Refused, build, parse};
 use cts_conv::ValueKind;
 use cts_def::Definitions;
-use cts_rows::{Answers, cut, debug_of, readable_of, rows_hold};
+use cts_rows::{Answers, cut, debug_of, readable_of, rows_end_so};
 use std::alloc::Global;
 use std::test::Fail;
 
@@ -30,63 +30,63 @@ COMMAND T C BIG_ENDIAN;\
 PARAMETER N 8 8 UINT 0 255 1;\
 PARAMETER REST 0 0 BLOCK ''";
 
-/// What is answered, `all` or `none` of the checks, and the text.
+/// `all` or `none` of the checks, the text, and what is answered.
 const COLLECTS: &str = "\
-Built { command: 0, bytes: Bytes { held: [7, 0, 10] } }|all|INST COLLECT with DURATION 10
-Built { command: 0, bytes: Bytes { held: [7, 0, 10] } }|all|inst collect WITH duration 0x0A
-Built { command: 0, bytes: Bytes { held: [7, 0, 5] } }|all|INST COLLECT
-Built { command: 0, bytes: Bytes { held: [9, 0, 1] } }|none|INST COLLECT with OPCODE 9, DURATION 1
-OutOfRange { name: 'DURATION', value: 11, min: 0, max: 10 }|all|INST COLLECT with DURATION 11
-Built { command: 0, bytes: Bytes { held: [7, 0, 11] } }|none|INST COLLECT with DURATION 11
-Overflow('DURATION')|none|INST COLLECT with DURATION 70000
-Overflow('DURATION')|none|INST COLLECT with DURATION -1
-OutOfRange { name: 'DURATION', value: 70000, min: 0, max: 10 }|all|INST COLLECT with DURATION 70000
-Twice('DURATION')|all|INST COLLECT with DURATION 1, DURATION 2
-WrongType('DURATION')|all|INST COLLECT with DURATION x
-WrongType('DURATION')|all|INST COLLECT with DURATION '5'
-UnknownParameter('x')|all|INST COLLECT with DURATION 1, x 2, y 3, DURATION 4
-UnknownCommand|all|INST OTHER with x 2
-UnknownTarget|all|AUX COLLECT
-Refused { place: 26, cause: NoValue }|all|INST COLLECT with DURATION";
+all|INST COLLECT with DURATION 10|Built { command: 0, bytes: Bytes { held: [7, 0, 10] } }
+all|inst collect WITH duration 0x0A|Built { command: 0, bytes: Bytes { held: [7, 0, 10] } }
+all|INST COLLECT|Built { command: 0, bytes: Bytes { held: [7, 0, 5] } }
+none|INST COLLECT with OPCODE 9, DURATION 1|Built { command: 0, bytes: Bytes { held: [9, 0, 1] } }
+all|INST COLLECT with DURATION 11|OutOfRange { name: 'DURATION', value: 11, min: 0, max: 10 }
+none|INST COLLECT with DURATION 11|Built { command: 0, bytes: Bytes { held: [7, 0, 11] } }
+none|INST COLLECT with DURATION 70000|Overflow('DURATION')
+none|INST COLLECT with DURATION -1|Overflow('DURATION')
+all|INST COLLECT with DURATION 70000|OutOfRange { name: 'DURATION', value: 70000, min: 0, max: 10 }
+all|INST COLLECT with DURATION 1, DURATION 2|Twice('DURATION')
+all|INST COLLECT with DURATION x|WrongType('DURATION')
+all|INST COLLECT with DURATION '5'|WrongType('DURATION')
+all|INST COLLECT with DURATION 1, x 2, y 3, DURATION 4|UnknownParameter('x')
+all|INST OTHER with x 2|UnknownCommand
+all|AUX COLLECT|UnknownTarget
+all|INST COLLECT with DURATION|Refused { place: 26, cause: NoValue }";
 
 const FIELD_ROWS: &str = "\
-Built { command: 0, bytes: Bytes { held: [31, 0, 97, 98, 0, 1, 2] } }|all|T A with M OFF
-Built { command: 0, bytes: Bytes { held: [39, 0, 97, 98, 0, 1, 2] } }|none|T A with M off, N 18, S 100
-Built { command: 0, bytes: Bytes { held: [248, 0, 97, 98, 0, 1, 2] } }|none|T A with M 0, N -1, S -100
-Built { command: 0, bytes: Bytes { held: [31, 1, 97, 98, 0, 1, 2] } }|none|T A with M ARM
-Hazardous|all|T A with M ARM
-Hazardous|all|T A with M 1
-Built { command: 0, bytes: Bytes { held: [31, 2, 97, 98, 0, 1, 2] } }|all|T A with M 2
-UnknownState('M')|all|T A with M ON
-WrongType('S')|all|T A with M ON, S x
-Missing('M')|all|T A with N 1
-Built { command: 0, bytes: Bytes { held: [31, 0, 97, 98, 99, 1, 2] } }|all|T A with M 0, NAME abcd
-Built { command: 0, bytes: Bytes { held: [31, 0, 0, 0, 0, 1, 2] } }|all|T A with M 0, NAME ''
-WrongType('NAME')|all|T A with M 0, NAME 5
-Built { command: 0, bytes: Bytes { held: [31, 0, 97, 98, 0, 255, 0] } }|all|T A with M 0, RAW '0xff'
-WrongType('RAW')|all|T A with M 0, RAW 0xff
-Overflow('RAW')|all|T A with M 0, RAW '0xfff'
-Built { command: 0, bytes: Bytes { held: [31, 0, 97, 98, 0, 120, 0] } }|all|T A with M 0, RAW 'x'
-Built { command: 0, bytes: Bytes { held: [31, 0, 97, 98, 0, 1, 2, 10, 11, 12] } }|all|T A with M 0, REST '0x0a0b0c'
-Hazardous|all|T B
-Built { command: 1, bytes: Bytes { held: [2, 1] } }|none|T B
-Built { command: 1, bytes: Bytes { held: [1, 0] } }|none|T B with W 1
-Built { command: 2, bytes: Bytes { held: [0, 1] } }|all|T C
-Built { command: 2, bytes: Bytes { held: [0, 9, 10, 11] } }|all|T C with REST '0x0a0b', N 9";
+all|T A with M OFF|Built { command: 0, bytes: Bytes { held: [31, 0, 97, 98, 0, 1, 2] } }
+none|T A with M off, N 18, S 100|Built { command: 0, bytes: Bytes { held: [39, 0, 97, 98, 0, 1, 2] } }
+none|T A with M 0, N -1, S -100|Built { command: 0, bytes: Bytes { held: [248, 0, 97, 98, 0, 1, 2] } }
+none|T A with M ARM|Built { command: 0, bytes: Bytes { held: [31, 1, 97, 98, 0, 1, 2] } }
+all|T A with M ARM|Hazardous
+all|T A with M 1|Hazardous
+all|T A with M 2|Built { command: 0, bytes: Bytes { held: [31, 2, 97, 98, 0, 1, 2] } }
+all|T A with M ON|UnknownState('M')
+all|T A with M ON, S x|WrongType('S')
+all|T A with N 1|Missing('M')
+all|T A with M 0, NAME abcd|Built { command: 0, bytes: Bytes { held: [31, 0, 97, 98, 99, 1, 2] } }
+all|T A with M 0, NAME ''|Built { command: 0, bytes: Bytes { held: [31, 0, 0, 0, 0, 1, 2] } }
+all|T A with M 0, NAME 5|WrongType('NAME')
+all|T A with M 0, RAW '0xff'|Built { command: 0, bytes: Bytes { held: [31, 0, 97, 98, 0, 255, 0] } }
+all|T A with M 0, RAW 0xff|WrongType('RAW')
+all|T A with M 0, RAW '0xfff'|Overflow('RAW')
+all|T A with M 0, RAW 'x'|Built { command: 0, bytes: Bytes { held: [31, 0, 97, 98, 0, 120, 0] } }
+all|T A with M 0, REST '0x0a0b0c'|Built { command: 0, bytes: Bytes { held: [31, 0, 97, 98, 0, 1, 2, 10, 11, 12] } }
+all|T B|Hazardous
+none|T B|Built { command: 1, bytes: Bytes { held: [2, 1] } }
+none|T B with W 1|Built { command: 1, bytes: Bytes { held: [1, 0] } }
+all|T C|Built { command: 2, bytes: Bytes { held: [0, 1] } }
+all|T C with REST '0x0a0b', N 9|Built { command: 2, bytes: Bytes { held: [0, 9, 10, 11] } }";
 
-/// What a telemetry item reads in the bytes of a command of A at the place of one of its parameters, the item, and the text.
+/// A telemetry item, a command text of A, and what the item reads in the command's bytes at the place of one of its parameters.
 const READ_BACK: &str = "\
-15|ITEM I 0 4 UINT|T A with M 0, N 15
--2|ITEM I 4 4 INT|T A with M 0, S -2
-1|ITEM I 8 8 UINT|T A with M 1
-ab|ITEM I 16 24 STRING|T A with M 0
-a|ITEM I 16 24 STRING|T A with M 0, NAME a
-abc|ITEM I 16 24 STRING|T A with M 0, NAME abcd
-0x0102|ITEM I 40 16 BLOCK|T A with M 0
-0xff00|ITEM I 40 16 BLOCK|T A with M 0, RAW '0xff'
-0x7879|ITEM I 40 16 BLOCK|T A with M 0, RAW xy
-0x|ITEM I 56 0 BLOCK|T A with M 0
-0x0a0b0c|ITEM I 56 0 BLOCK|T A with M 0, REST '0x0a0b0c'";
+ITEM I 0 4 UINT|T A with M 0, N 15|15
+ITEM I 4 4 INT|T A with M 0, S -2|-2
+ITEM I 8 8 UINT|T A with M 1|1
+ITEM I 16 24 STRING|T A with M 0|ab
+ITEM I 16 24 STRING|T A with M 0, NAME a|a
+ITEM I 16 24 STRING|T A with M 0, NAME abcd|abc
+ITEM I 40 16 BLOCK|T A with M 0|0x0102
+ITEM I 40 16 BLOCK|T A with M 0, RAW '0xff'|0xff00
+ITEM I 40 16 BLOCK|T A with M 0, RAW xy|0x7879
+ITEM I 56 0 BLOCK|T A with M 0|0x
+ITEM I 56 0 BLOCK|T A with M 0, REST '0x0a0b0c'|0x0a0b0c";
 
 /// The number and the bytes of the command that is built, or why it is not.
 fn told(alloc: Global, answer: Result<Built, Refused>) -> Result<String, Fail> {
@@ -125,7 +125,7 @@ impl Answers for Collects {
 
 #[test]
 fn commands_of_the_demo_are_built(rt: HostRuntime) -> Result<(), Fail> {
-    rows_hold::<Collects>(rt.alloc(), COLLECTS)
+    rows_end_so::<Collects>(rt.alloc(), COLLECTS)
 }
 
 struct Fields;
@@ -138,7 +138,7 @@ impl Answers for Fields {
 
 #[test]
 fn fields_hold_what_is_given_for_them(rt: HostRuntime) -> Result<(), Fail> {
-    rows_hold::<Fields>(rt.alloc(), FIELD_ROWS)
+    rows_end_so::<Fields>(rt.alloc(), FIELD_ROWS)
 }
 
 /// The bytes of the command that is built of a text, without checks.
@@ -173,5 +173,5 @@ impl Answers for ReadBack {
 
 #[test]
 fn fields_are_read_back(rt: HostRuntime) -> Result<(), Fail> {
-    rows_hold::<ReadBack>(rt.alloc(), READ_BACK)
+    rows_end_so::<ReadBack>(rt.alloc(), READ_BACK)
 }

@@ -4,7 +4,7 @@ use cts_base::Bytes;
 use cts_conv::ValueKind;
 use cts_def::{Ident, Loss, SERVER, Site, Time};
 use cts_entry::Why;
-use cts_rows::{Answers, bytes_of, debug_of, field, number, rows_hold, same};
+use cts_rows::{Answers, bytes_of, debug_of, field, number, rows_end_so, same};
 use cts_table::{Hall, HallFault};
 use std::alloc::Global;
 use std::sync::Arc;
@@ -27,18 +27,18 @@ pub const LOSS: Loss = Loss {
     empty: 0,
 };
 
-/// Names of a target, a packet and an item, and what is answered for them behind packets A of two and of four bytes.
+/// Names of a target, a packet and an item, and what is answered for them after packets A of two and of four bytes.
 const LOOKUPS: &str = "\
-Ok(Whole(1286))|T|A|V
-Ok(Whole(1286))|t|a|v
-Ok(Whole(1))|T|A|K
-Ok(Whole(2))|T|A|received_count
-Ok(Whole(0))|T|B|RECEIVED_COUNT
-Err(NeverReceived)|T|B|K
-Err(UnknownTarget)|X|B|K
-Err(UnknownPacket)|T|X|K
-Err(UnknownItem)|T|A|X
-Err(UnknownItem)|T|B|X";
+T|A|V|Ok(Whole(1286))
+t|a|v|Ok(Whole(1286))
+T|A|K|Ok(Whole(1))
+T|A|received_count|Ok(Whole(2))
+T|B|RECEIVED_COUNT|Ok(Whole(0))
+T|B|K|Err(NeverReceived)
+X|B|K|Err(UnknownTarget)
+T|X|K|Err(UnknownPacket)
+T|A|X|Err(UnknownItem)
+T|B|X|Err(UnknownItem)";
 
 /// A hall of these limits in which the one interface is connected.
 fn connected(alloc: Global, entries: u64, bytes: u64) -> Result<Hall, Fail> {
@@ -85,7 +85,7 @@ pub fn receives(alloc: Global, hall: &mut Hall, ident: Ident, digits: &str) -> R
 }
 
 /// A hall of these limits, in which the one interface received the packets between blanks: each is the number of its definition,
-/// or `?`, in front of `:`, and digits behind it.
+/// or `?`, in front of `:`, and digits after it.
 fn hall_behind(alloc: Global, entries: u64, bytes: u64, packets: &str) -> Result<Hall, Fail> {
     let mut hall = connected(alloc, entries, bytes)?;
     for packet in packets.split(' ') {
@@ -129,13 +129,13 @@ impl Answers for Lookups {
 
 #[test]
 fn values_are_looked_up(rt: HostRuntime) -> Result<(), Fail> {
-    rows_hold::<Lookups>(rt.alloc(), LOOKUPS)
+    rows_end_so::<Lookups>(rt.alloc(), LOOKUPS)
 }
 
 /// The last packet of each definition that was received.
 const CURRENT: &str = "\
-Some([1, 5, 6, 7])|0
-None|1";
+0|Some([1, 5, 6, 7])
+1|None";
 
 struct Current;
 
@@ -148,7 +148,7 @@ impl Answers for Current {
 
 #[test]
 fn the_last_packet_is_the_current_one(rt: HostRuntime) -> Result<(), Fail> {
-    rows_hold::<Current>(rt.alloc(), CURRENT)
+    rows_end_so::<Current>(rt.alloc(), CURRENT)
 }
 
 /// How many packets A and how many that nothing defines came, were short and were long, and how many commands.
@@ -167,7 +167,7 @@ fn short_and_long_packets_are_counted(rt: HostRuntime) -> Result<(), Fail> {
     same(found.as_str(), wanted, "the counts")
 }
 
-/// The connection ends behind a Stop, where there is none and the interface is connected.
+/// The connection ends after a Stop, where there is none and the interface is connected.
 pub fn ends(hall: &mut Hall) {
     if hall.stopped() || hall.site().interfaces.as_slice().is_empty() {
         return;

@@ -3,7 +3,7 @@ use crate::read::{definitions_of, only_packet};
 use cts_base::Bytes;
 use cts_cmd::{Given, Refused, inject, parse};
 use cts_def::Packet;
-use cts_rows::{Answers, bytes_of, cut, digits_of, readable_of, rows_hold};
+use cts_rows::{Answers, bytes_of, cut, digits_of, readable_of, rows_end_so};
 use std::alloc::Global;
 use std::test::Fail;
 
@@ -18,35 +18,35 @@ ITEM LAST -16 16 UINT;\
 ITEM TAIL -8 8 BLOCK;\
 ITEM REST 40 0 BLOCK";
 
-/// The bytes afterwards or the refusal, the bytes that stand or `-` for none, and the members as a command text.
+/// The bytes that stand or `-` for none, the members as a command text, and the bytes afterwards or the refusal.
 const ROWS: &str = "\
-5000000000|-|T P with N 5
-0007000000|-|T P with c 7
-0f01000000|0f01|T P with C 1
-5f01000000|0f01|T P with N 5
-5f01020304050607|0f01020304050607|T P with N 5
-0000000102|-|T P with LAST 258
-0001020304050102|0001020304050607|T P with LAST 258
-0001610000|0001020304|T P with NAME 'a'
-0000616263|-|T P with NAME 'abcd'
-00010203ff|0001020304|T P with TAIL '0xff'
-0001020304050600|0001020304050607|T P with TAIL ''
-6000000000|-|T P with N 5, N 6
-0000000102|-|T P with TAIL '0xff', LAST 258
-00000001ff|-|T P with LAST 258, TAIL '0xff'
-0700000000|-|T P with S 100
-08ffffffff|ffffffffff|T P with S -100, N 0
-0001000000|-|T P with C 257
-00ff000000|-|T P with C -1
-UnknownParameter('x')|-|T P with NAME 5, N 16, x 1, y 2
-WrongType('NAME')|-|T P with N 16, name 5, C ON
-WrongType('C')|-|T P with C ON
-WrongType('N')|-|T P with N '5'
-WrongType('NAME')|-|T P with NAME '€'
-WrongType('REST')|-|T P with REST '0x01'
-Overflow('N')|-|T P with LAST 65535, n 16, TAIL '0x0102'
-Overflow('N')|-|T P with N -1
-Overflow('TAIL')|-|T P with TAIL '0x0102'";
+-|T P with N 5|5000000000
+-|T P with c 7|0007000000
+0f01|T P with C 1|0f01000000
+0f01|T P with N 5|5f01000000
+0f01020304050607|T P with N 5|5f01020304050607
+-|T P with LAST 258|0000000102
+0001020304050607|T P with LAST 258|0001020304050102
+0001020304|T P with NAME 'a'|0001610000
+-|T P with NAME 'abcd'|0000616263
+0001020304|T P with TAIL '0xff'|00010203ff
+0001020304050607|T P with TAIL ''|0001020304050600
+-|T P with N 5, N 6|6000000000
+-|T P with TAIL '0xff', LAST 258|0000000102
+-|T P with LAST 258, TAIL '0xff'|00000001ff
+-|T P with S 100|0700000000
+ffffffffff|T P with S -100, N 0|08ffffffff
+-|T P with C 257|0001000000
+-|T P with C -1|00ff000000
+-|T P with NAME 5, N 16, x 1, y 2|UnknownParameter('x')
+-|T P with N 16, name 5, C ON|WrongType('NAME')
+-|T P with C ON|WrongType('C')
+-|T P with N '5'|WrongType('N')
+-|T P with NAME '€'|WrongType('NAME')
+-|T P with REST '0x01'|WrongType('REST')
+-|T P with LAST 65535, n 16, TAIL '0x0102'|Overflow('N')
+-|T P with N -1|Overflow('N')
+-|T P with TAIL '0x0102'|Overflow('TAIL')";
 
 fn told(alloc: Global, answer: Result<Bytes, Refused>) -> Result<String, Fail> {
     match answer {
@@ -83,5 +83,5 @@ impl Answers for Injections {
 
 #[test]
 fn raw_values_are_written_over_packets(rt: HostRuntime) -> Result<(), Fail> {
-    rows_hold::<Injections>(rt.alloc(), ROWS)
+    rows_end_so::<Injections>(rt.alloc(), ROWS)
 }

@@ -1,4 +1,4 @@
-// Limits over a hall: events, states, sets and settings behind packets and what a desk says.
+// Limits over a hall: events, states, sets and settings after packets and what a desk says.
 ghost use Rattle.std.specs.Prelude.{◌≡◌};
 ghost use Rattle.cts_entry.specs.Legal.{has_ended};
 
@@ -6,7 +6,7 @@ use crate::halls::{NOW, ends, hall_of, receives};
 use cts_base::{Bytes, Decimal, Name};
 use cts_def::{Color, FIRST_DESK, Ident, Limits};
 use cts_entry::{Entry, What};
-use cts_rows::{Answers, as_text, bytes_of, cut, debug_of, number, part, rows_hold, same};
+use cts_rows::{Answers, as_text, bytes_of, cut, debug_of, number, part, rows_end_so, same};
 use cts_table::{Hall, NoRoute};
 use std::alloc::Global;
 use std::test::Fail;
@@ -19,25 +19,25 @@ LIMITS DEFAULT 3 ENABLED -80 -70 60 80;\
 TELEMETRY T C BIG_ENDIAN;APPEND_ID_ITEM K 8 UINT 3;APPEND_ITEM W 8 UINT;\
 STATE ON 1 RED;STATE OFF 0";
 
-/// Events at the entries from this one on, and what happened: a packet P or one put in its place I, a set chosen S, sampling
+/// The entry from which events are asked, what happened, and the events: a packet P or one put in its place I, a set chosen S, sampling
 /// turned on or off E, the limits of the set NIGHT given in a set with persistence 2 L.
 const EVENTS: &str = "\
-[LimitsEvent { at: 1, packet: 0, item: 1, before: Stale, after: RedHigh }, LimitsEvent { at: 3, packet: 0, item: 1, before: RedHigh, after: Green }]|0|P 0 010500;S NIGHT;P 0 010500
-[LimitsEvent { at: 3, packet: 0, item: 1, before: RedHigh, after: Green }]|2|P 0 010500;S NIGHT;P 0 010500
-[LimitsEvent { at: 1, packet: 1, item: 1, before: Stale, after: Green }, LimitsEvent { at: 7, packet: 1, item: 1, before: Green, after: RedHigh }]|0|P 1 0200;P 1 025a;P 1 025a;P 1 0200;P 1 025a;P 1 025a;P 1 025a
-[LimitsEvent { at: 1, packet: 1, item: 1, before: Stale, after: Green }]|0|P 1 0200;P 1 025a;P 1 025a;P 1 0200;P 1 025a;P 1 025a
-[LimitsEvent { at: 1, packet: 0, item: 1, before: Stale, after: RedHigh }, LimitsEvent { at: 6, packet: 0, item: 1, before: RedHigh, after: Green }]|0|P 0 010500;S NIGHT;E 0 off;P 0 010500;E 0 on;I 0 010500
-[LimitsEvent { at: 1, packet: 0, item: 1, before: Stale, after: RedHigh }, LimitsEvent { at: 5, packet: 0, item: 1, before: RedHigh, after: Green }]|0|P 0 010500;S DAWN;L 0 DAWN;P 0 010500;P 0 010500
-[LimitsEvent { at: 1, packet: 0, item: 1, before: Stale, after: RedHigh }]|0|P 0 010500;S DAWN;P 0 010500
-[LimitsEvent { at: 1, packet: 2, item: 1, before: Stale, after: StateRed }]|0|P 2 0301;P 2 0300;P 2 0302
-[]|0|P 2 0300";
+0|P 0 010500;S NIGHT;P 0 010500|[LimitsEvent { at: 1, packet: 0, item: 1, before: Stale, after: RedHigh }, LimitsEvent { at: 3, packet: 0, item: 1, before: RedHigh, after: Green }]
+2|P 0 010500;S NIGHT;P 0 010500|[LimitsEvent { at: 3, packet: 0, item: 1, before: RedHigh, after: Green }]
+0|P 1 0200;P 1 025a;P 1 025a;P 1 0200;P 1 025a;P 1 025a;P 1 025a|[LimitsEvent { at: 1, packet: 1, item: 1, before: Stale, after: Green }, LimitsEvent { at: 7, packet: 1, item: 1, before: Green, after: RedHigh }]
+0|P 1 0200;P 1 025a;P 1 025a;P 1 0200;P 1 025a;P 1 025a|[LimitsEvent { at: 1, packet: 1, item: 1, before: Stale, after: Green }]
+0|P 0 010500;S NIGHT;E 0 off;P 0 010500;E 0 on;I 0 010500|[LimitsEvent { at: 1, packet: 0, item: 1, before: Stale, after: RedHigh }, LimitsEvent { at: 6, packet: 0, item: 1, before: RedHigh, after: Green }]
+0|P 0 010500;S DAWN;L 0 DAWN;P 0 010500;P 0 010500|[LimitsEvent { at: 1, packet: 0, item: 1, before: Stale, after: RedHigh }, LimitsEvent { at: 5, packet: 0, item: 1, before: RedHigh, after: Green }]
+0|P 0 010500;S DAWN;P 0 010500|[LimitsEvent { at: 1, packet: 0, item: 1, before: Stale, after: RedHigh }]
+0|P 2 0301;P 2 0300;P 2 0302|[LimitsEvent { at: 1, packet: 2, item: 1, before: Stale, after: StateRed }]
+0|P 2 0300|[]";
 
 /// Two commands, of which the interface takes one.
 const COMMANDS: &str = "\
 COMMAND T GO BIG_ENDIAN;APPEND_PARAMETER N 8 UINT 0 9 1;\
 COMMAND U GO BIG_ENDIAN;APPEND_PARAMETER N 8 UINT 0 9 1";
 
-/// So many ones.
+/// Ones, as many as are asked for.
 fn ones(number: i32) -> Decimal {
     Decimal {
         parts: i128::from(number) * 1_000_000_000_000,
@@ -127,7 +127,7 @@ fn step(alloc: Global, hall: &mut Hall, text: &str) -> Result<(), Fail> {
     step_of(alloc, hall, part(text, 0), number(text, 1)?, part(text, 2))
 }
 
-/// A hall behind these steps, of which the first entry is that the interface was opened.
+/// A hall after these steps, of which the first entry is that the interface was opened.
 fn hall_behind(alloc: Global, steps: &str) -> Result<Hall, Fail> {
     let mut hall = hall_of(alloc, DEFINITIONS, 100, 100)?;
     for text in steps.split(';') {
@@ -149,7 +149,7 @@ impl Answers for Events {
 
 #[test]
 fn states_change_at_their_entries(rt: HostRuntime) -> Result<(), Fail> {
-    rows_hold::<Events>(rt.alloc(), EVENTS)
+    rows_end_so::<Events>(rt.alloc(), EVENTS)
 }
 
 /// How many sets are known, which of three are, and the states of two items.
@@ -185,10 +185,10 @@ fn the_set_that_was_chosen_is_the_current_one(rt: HostRuntime) -> Result<(), Fai
 
 /// The limits of an item of a packet in a set.
 const USED: &str = "\
-Some(LimitsUsed { own: true, limits: Limits { red_low: Decimal { parts: 0 }, yellow_low: Decimal { parts: 10000000000000 }, yellow_high: Decimal { parts: 2000000000000000 }, red_high: Decimal { parts: 3000000000000000 }, green: None }, persistence: 2, enabled: false })|1 1 dawn
-Some(LimitsUsed { own: false, limits: Limits { red_low: Decimal { parts: -80000000000000 }, yellow_low: Decimal { parts: -70000000000000 }, yellow_high: Decimal { parts: 60000000000000 }, red_high: Decimal { parts: 80000000000000 }, green: None }, persistence: 2, enabled: false })|1 1 NIGHT
-None|1 0 DAWN
-None|2 1 DEFAULT";
+1 1 dawn|Some(LimitsUsed { own: true, limits: Limits { red_low: Decimal { parts: 0 }, yellow_low: Decimal { parts: 10000000000000 }, yellow_high: Decimal { parts: 2000000000000000 }, red_high: Decimal { parts: 3000000000000000 }, green: None }, persistence: 2, enabled: false })
+1 1 NIGHT|Some(LimitsUsed { own: false, limits: Limits { red_low: Decimal { parts: -80000000000000 }, yellow_low: Decimal { parts: -70000000000000 }, yellow_high: Decimal { parts: 60000000000000 }, red_high: Decimal { parts: 80000000000000 }, green: None }, persistence: 2, enabled: false })
+1 0 DAWN|None
+2 1 DEFAULT|None";
 
 struct Used;
 
@@ -205,12 +205,12 @@ impl Answers for Used {
 
 #[test]
 fn the_limits_of_a_set_or_of_default_are_used(rt: HostRuntime) -> Result<(), Fail> {
-    rows_hold::<Used>(rt.alloc(), USED)
+    rows_end_so::<Used>(rt.alloc(), USED)
 }
 
 type Route = Result<u32, NoRoute>;
 
-/// Where each command goes, and where the first one goes behind the end of the connection.
+/// Where each command goes, and where the first one goes after the end of the connection.
 fn told_of_routes(mut hall: Hall) -> (Route, Route, Route, Route) {
     let (first, second, third) = (hall.route(0), hall.route(1), hall.route(2));
     ends(&mut hall);
