@@ -17,7 +17,7 @@ pub fn response(front: u64, length: Option<u64>, out: &mut [u8; 160]) -> usize
     let mut second = Buffer::new();
     let front = first.format(front).as_bytes();
     match length {
-        Some(n) => put(
+        Some(n) => put_pieces(
             out,
             &[
                 b"HTTP/1.1 200 OK\r\nContent-Type: application/json-rpc\r\nContent-Length: ",
@@ -27,7 +27,7 @@ pub fn response(front: u64, length: Option<u64>, out: &mut [u8; 160]) -> usize
                 b"\r\n\r\n",
             ],
         ),
-        None => put(
+        None => put_pieces(
             out,
             &[
                 b"HTTP/1.1 204 No Content\r\nX-Cts-Front: ",
@@ -39,7 +39,7 @@ pub fn response(front: u64, length: Option<u64>, out: &mut [u8; 160]) -> usize
 }
 
 // Puts the pieces one after another.
-fn put(out: &mut [u8; 160], pieces: &[&[u8]]) -> usize
+fn put_pieces(out: &mut [u8; 160], pieces: &[&[u8]]) -> usize
     requires room { length (flat_map (λ p. p.now) pieces.now) ≤ 160 }
     ensures { Writes (flat_map (λ p. p.now) pieces.now) out.old out.new result }
 {
@@ -62,7 +62,7 @@ pub fn refusal(status: u16, out: &mut [u8; 160]) -> usize
     let phrase = phrase_of(code);
     let mut digits = Buffer::new();
     let allow = allow_line(status);
-    put(
+    put_pieces(
         out,
         &[
             b"HTTP/1.1 ",
