@@ -8,13 +8,13 @@ use Rattle.cts_cmd.specs.declared.text_fault.TextCause.{TextCause}
 use Rattle.cts_cmd.specs.declared.text_fault.TextCause.TheVariants.{NoTarget, NoCommand, NoWith, NoName, NoValue, OpenQuote, NoComma}
 use Rattle.cts_cmd.specs.declared.text_fault.TextFault.{TextFault}
 use Rattle.cts_cmd.specs.declared.text_fault.TextFault.TheVariants.{Refused, Memory}
-use Rattle.cts_cmd.specs.Words.{is_over, is_white, IsBehindWhite, IsWordFirst}
+use Rattle.cts_cmd.specs.Words.{is_over, is_white, IsAfterWhite, IsWordFirst}
 use Rattle.cts_cmd.specs.Laws.{IsReadInOneWay}
 use Rattle.cts_cmd.specs.Texts.{AreParams, AreParamsFirst, Fails, FailsAt, FailsInParams, FailsInTail, IsCommandText, IsHead, IsOrMemory, IsRead, IsTail, IsWith}
 use Rattle.cts_cmd.proofs.Firsts.{behind_unique, word_unique}
 use Rattle.cts_cmd.proofs.Unique.{not_both, params_fail_unique, params_or_fail, params_unique, word_not_over}
 
-no_word : (text w rest here : List ℕ) → IsWordFirst is_white text w rest → IsBehindWhite text here → here ≡ [] → ⊥
+no_word : (text w rest here : List ℕ) → IsWordFirst is_white text w rest → IsAfterWhite text here → here ≡ [] → ⊥
 no_word text w rest here s behind end = word_not_over is_white text w rest here s behind (ap (is_over is_white) end)
 
 with_unique : (text xs ys : List ℕ) → IsWith text xs → IsWith text ys → xs ≡ ys
@@ -27,7 +27,7 @@ tail_unique (p ∷ ps) [] text s t = absurd (no_word text s.1.0 s.0 [] s.1.1 t r
 tail_unique (p ∷ ps) (q ∷ qs) text s t = params_unique (p ∷ ps) (q ∷ qs) t.0 (subst (AreParams (p ∷ ps)) (with_unique text s.0 t.0 s.1 t.1) s.2) t.2
 
 abbrev IsNoWith : TextCause → List ℕ → List ℕ → Type 0
-IsNoWith c text here = (c ≡ NoWith) × (word : List ℕ) × (rest : List ℕ) × IsBehindWhite text here × IsWordFirst is_white text word rest × (spells word (codes "WITH") ≡ false)
+IsNoWith c text here = (c ≡ NoWith) × (word : List ℕ) × (rest : List ℕ) × IsAfterWhite text here × IsWordFirst is_white text word rest × (spells word (codes "WITH") ≡ false)
 
 abbrev AreBadParams : TextCause → List ℕ → List ℕ → Type 0
 AreBadParams c text here = (rest : List ℕ) × IsWith text rest × FailsInParams c rest here
@@ -89,10 +89,10 @@ request_unique text r s a b =
     same_request r.target s.target r.command s.command r.params s.params head.0 head.1 params
 
 abbrev IsNoTarget : TextCause → List ℕ → List ℕ → Type 0
-IsNoTarget c text here = (c ≡ NoTarget) × IsBehindWhite text here × (here ≡ [])
+IsNoTarget c text here = (c ≡ NoTarget) × IsAfterWhite text here × (here ≡ [])
 
 abbrev IsNoCommand : TextCause → List ℕ → List ℕ → Type 0
-IsNoCommand c text here = (c ≡ NoCommand) × (target : List ℕ) × (gap : List ℕ) × IsWordFirst is_white text target gap × IsBehindWhite gap here × (here ≡ [])
+IsNoCommand c text here = (c ≡ NoCommand) × (target : List ℕ) × (gap : List ℕ) × IsWordFirst is_white text target gap × IsAfterWhite gap here × (here ≡ [])
 
 abbrev IsBadTail : TextCause → List ℕ → List ℕ → Type 0
 IsBadTail c text here = (target : List ℕ) × (command : List ℕ) × (rest : List ℕ) × IsHead text target command rest × FailsInTail c rest here
@@ -109,7 +109,7 @@ cause NoComma text here f = inr (inr f)
 cause NoValue text here f = inr (inr f)
 cause OpenQuote text here f = inr (inr f)
 
-no_second : (text target command rest other gap here : List ℕ) → IsHead text target command rest → IsWordFirst is_white text other gap → IsBehindWhite gap here → here ≡ [] → ⊥
+no_second : (text target command rest other gap here : List ℕ) → IsHead text target command rest → IsWordFirst is_white text other gap → IsAfterWhite gap here → here ≡ [] → ⊥
 no_second text target command rest other gap here s t behind end =
     let same = word_unique is_white text target other s.gap gap s.first t in
     no_word gap command rest here (subst (λ g. IsWordFirst is_white g command rest) same.1 s.second) behind end

@@ -10,7 +10,7 @@ use Rattle.cts_cmd.specs.declared.request.Given.TheVariants.{Text}
 use Rattle.cts_cmd.specs.declared.request.Request.{Request}
 use Rattle.cts_cmd.specs.declared.text_fault.TextCause.{TextCause}
 use Rattle.cts_cmd.specs.declared.text_fault.TextCause.TheVariants.{NoTarget, NoCommand, NoWith, NoName, NoValue, OpenQuote, NoComma}
-use Rattle.cts_cmd.specs.Words.{is_over, is_white, is_comma, is_quote, is_white_or_comma, begins_with_quote, IsBehindWhite, IsWordFirst}
+use Rattle.cts_cmd.specs.Words.{is_over, is_white, is_comma, is_quote, is_white_or_comma, begins_with_quote, IsAfterWhite, IsWordFirst}
 use Rattle.cts_cmd.specs.Texts.{given_by, AreParams, Fails, FailsFirst, FailsInParams, FailsInTail, FailsValue, IsHead, IsParamFirst, IsTail, IsValueFirst, IsWith}
 use Rattle.cts_cmd.specs.Laws.{IsFault, IsRequest}
 use Rattle.cts_cmd.proofs.Runs.{behind_run, none_passes, over_behind, parts_at, passes_before, word_run}
@@ -21,7 +21,7 @@ use Rattle.cts_cmd.proofs.Failing.{fails_within, params_fail, tail_fails, value_
 -- ---- words
 
 abbrev HasBehind : List ℕ → Type 0
-HasBehind text = (here : List ℕ) × IsBehindWhite text here
+HasBehind text = (here : List ℕ) × IsAfterWhite text here
 
 behind_here : (text : List ℕ) → HasBehind text
 behind_here text = (drop (position_or_len (λ c. not (is_white c)) text) text, behind_run text)
@@ -30,9 +30,9 @@ abbrev HasWord : (ℕ → Bool) → List ℕ → Type 0
 HasWord p text = (word : List ℕ) × (rest : List ℕ) × IsWordFirst p text word rest
 
 abbrev IsOverThere : (ℕ → Bool) → List ℕ → Type 0
-IsOverThere p text = (here : List ℕ) × IsBehindWhite text here × (is_over p here ≡ true)
+IsOverThere p text = (here : List ℕ) × IsAfterWhite text here × (is_over p here ≡ true)
 
-word_so : (p : ℕ → Bool) (text here : List ℕ) (n : ℕ) → IsBehindWhite text here → n ≡ position_or_len p here → HasWord p text ⊎ IsOverThere p text
+word_so : (p : ℕ → Bool) (text here : List ℕ) (n : ℕ) → IsAfterWhite text here → n ≡ position_or_len p here → HasWord p text ⊎ IsOverThere p text
 word_so p text here zero b is = inr (here, b, subst (λ m. is_over p (drop m here) ≡ true) (sym is) (over_behind p here))
 word_so p text here (suc n) b is =
     inl (take (suc n) here, drop (suc n) here, word_run p text here (suc n) b is (omega arith) (subst (λ m. m ≤ length here) (sym is) (prefix_len-le-length (λ x. not (p x)) here)))
@@ -48,25 +48,25 @@ HasValue text = (given : Given) × (rest : List ℕ) × IsValueFirst text given 
 abbrev HasNoValue : List ℕ → Type 0
 HasNoValue text = (cause : TextCause) × (here : List ℕ) × FailsValue cause text here
 
-quoted_so : (text tail : List ℕ) (q : ℕ) → IsBehindWhite text (q ∷ tail) → is_quote q ≡ true
+quoted_so : (text tail : List ℕ) (q : ℕ) → IsAfterWhite text (q ∷ tail) → is_quote q ≡ true
     → (position_or_len (λ c. c == q) tail < length tail) ⊎ (length tail ≤ position_or_len (λ c. c == q) tail) → HasValue text ⊎ HasNoValue text
 quoted_so text tail q b quote (inl lt) =
     let n = position_or_len (λ c. c == q) tail in
     let word = take n tail in
     let rest = drop (n + 1) tail in
-    let there : IsBehindWhite text (q ∷ (word ++ q ∷ rest)) = subst (λ (t : List ℕ). IsBehindWhite text (q ∷ t)) (parts_at q tail lt) b in
+    let there : IsAfterWhite text (q ∷ (word ++ q ∷ rest)) = subst (λ (t : List ℕ). IsAfterWhite text (q ∷ t)) (parts_at q tail lt) b in
     inl (Text word, rest, inl (word, record { quote = q; behind = there; begin = quote; bytes = passes_before (λ c. c == q) tail }, refl))
 quoted_so text tail q b quote (inr ge) =
     inr (OpenQuote, q ∷ tail, (b, record { quote = q; word = tail; parts = refl; begin = quote; bytes = none_passes (λ c. c == q) tail ge }))
 
-bare_so : (text here : List ℕ) → IsBehindWhite text here → begins_with_quote here ≡ false → HasWord is_white_or_comma here ⊎ IsOverThere is_white_or_comma here → HasValue text ⊎ HasNoValue text
+bare_so : (text here : List ℕ) → IsAfterWhite text here → begins_with_quote here ≡ false → HasWord is_white_or_comma here ⊎ IsOverThere is_white_or_comma here → HasValue text ⊎ HasNoValue text
 bare_so text here b bare (inl w) =
     inl (given_by w.0, w.1, inr (w.0, word_here is_white_or_comma text here w.0 w.1 b w.2, word_begins is_white_or_comma text here w.0 w.1 b w.2 ∙ bare, refl))
 bare_so text here b bare (inr o) =
     let same = behind_unique here o.0 here o.1 (behind_itself text here b) in
     inr (NoValue, here, (b, comma_there here b.black (subst (λ h. is_over is_white_or_comma h ≡ true) same o.2)))
 
-value_at : (text here : List ℕ) → IsBehindWhite text here → HasValue text ⊎ HasNoValue text
+value_at : (text here : List ℕ) → IsAfterWhite text here → HasValue text ⊎ HasNoValue text
 value_at text [] b = inr (NoValue, [], (b, refl))
 value_at text (c ∷ tail) b =
     elim (cases_Bool (is_quote c)) [
@@ -102,21 +102,21 @@ HasParams text = (params : List (List ℕ × Given)) × AreParams params text
 abbrev HasBadParams : List ℕ → Type 0
 HasBadParams text = (cause : TextCause) × (here : List ℕ) × FailsInParams cause text here
 
-joined : (text behind next : List ℕ) (p : List ℕ × Given) (ps : List (List ℕ × Given)) → IsParamFirst text p behind → IsBehindWhite behind (44 ∷ next) → AreParams ps next → HasParams text
+joined : (text behind next : List ℕ) (p : List ℕ × Given) (ps : List (List ℕ × Given)) → IsParamFirst text p behind → IsAfterWhite behind (44 ∷ next) → AreParams ps next → HasParams text
 joined text behind next p [] is comma more = absurd more
 joined text behind next p (q ∷ ps) is comma more = (p ∷ (q ∷ ps), (behind, next, is, comma, more))
 
-more_so : (text behind next : List ℕ) (p : List ℕ × Given) → IsParamFirst text p behind → IsBehindWhite behind (44 ∷ next) → HasParams next ⊎ HasBadParams next → HasParams text ⊎ HasBadParams text
+more_so : (text behind next : List ℕ) (p : List ℕ × Given) → IsParamFirst text p behind → IsAfterWhite behind (44 ∷ next) → HasParams next ⊎ HasBadParams next → HasParams text ⊎ HasBadParams text
 more_so text behind next p is comma (inl s) = inl (joined text behind next p s.0 is comma s.1)
 more_so text behind next p is comma (inr f) = inr (f.0, f.1, (p ∷ f.2.0, f.2.1, (behind, next, is, comma, f.2.2), f.2.3))
 
-next_so : (text behind here : List ℕ) (p : List ℕ × Given) → IsParamFirst text p behind → IsBehindWhite behind here
+next_so : (text behind here : List ℕ) (p : List ℕ × Given) → IsParamFirst text p behind → IsAfterWhite behind here
     → ((next : List ℕ) → length next < length text → HasParams next ⊎ HasBadParams next) → HasParams text ⊎ HasBadParams text
 next_so text behind [] p is b again = inl (p ∷ [], (behind, is, b))
 next_so text behind (c ∷ next) p is b again =
     elim (cases_Bool (is_comma c)) [
       | inl comma ↦
-          let there : IsBehindWhite behind (44 ∷ next) = subst (λ (x : ℕ). IsBehindWhite behind (x ∷ next)) (eqb-true c 44 comma) b in
+          let there : IsAfterWhite behind (44 ∷ next) = subst (λ (x : ℕ). IsAfterWhite behind (x ∷ next)) (eqb-true c 44 comma) b in
           more_so text behind next p is there (again next (next_within text p behind next is there))
       | inr other ↦ inr (NoComma, c ∷ next, ([], text, refl, (p, behind, is, b, other)))
     ]
@@ -154,7 +154,7 @@ tail_so text (inl w) =
       | inl is ↦ with_so text w.1 (w.0, w.2, is) (params_or_not w.1)
       | inr other ↦ let b = behind_here text in inr (NoWith, b.0, (w.0, w.1, b.1, w.2, other))
     ]
-tail_so text (inr o) = inl ([], subst (IsBehindWhite text) (nothing_there o.0 o.1.black o.2) o.1)
+tail_so text (inr o) = inl ([], subst (IsAfterWhite text) (nothing_there o.0 o.1.black o.2) o.1)
 
 place_of : (text here : List ℕ) (cause : TextCause) → Fails cause text here → IsFault text
 place_of text here cause f = (length text - length here, cause, (here, f, (let less = fails_within cause text here f in omega (arith, less))))

@@ -7,7 +7,7 @@ ghost use Rattle.cts_cmd.specs.Seen.{StopsBy};
 ghost use Rattle.cts_cmd.specs.Texts.{Fails, FailsAt, FailsInTail, IsCommandText, IsOrMemory, IsRead, IsTail};
 
 use crate::param::{Missing, Stopped, params};
-use crate::words::{Stop, behind_white, word_first};
+use crate::words::{Stop, after_white, word_first};
 use crate::{Given, Request, TextCause, TextFault};
 use cts_base::{Bytes, List, spells};
 use std::alloc::Global;
@@ -23,7 +23,7 @@ fn tail(alloc: Global, text: &[u8]) -> Result<Vec<(Bytes, Given)>, Stopped<'_>>
             if !spells(word, b"WITH") {
                 return Err(Stopped::Missing(Missing {
                     cause: TextCause::NoWith,
-                    here: behind_white(text),
+                    here: after_white(text),
                 }));
             }
             params(alloc, rest)

@@ -3,7 +3,6 @@ ghost use Rattle.std.specs.Prelude.{◌≡◌};
 ghost use Rattle.cts_cmd.specs.declared.refused.Refused.TheVariants.{Memory as NoMemory};
 
 use cts_base::{Bytes, Memory};
-use std::alloc::{AllocError, AllocFailed};
 
 /// Why a command is refused, in the order in which the checks are made. A name is that of the definition, in upper case, but
 /// for that of an unknown parameter, which is as given.
@@ -47,22 +46,6 @@ impl From<Memory> for Refused {
     ghost from_gives = { λ _ e. e ≡ NoMemory };
 
     fn from(_: Memory) -> Refused {
-        Refused::Memory
-    }
-}
-
-impl From<AllocError> for Refused {
-    ghost from_gives = { λ _ e. e ≡ NoMemory };
-
-    fn from(_: AllocError) -> Refused {
-        Refused::Memory
-    }
-}
-
-impl<T: Drop> From<AllocFailed<T>> for Refused {
-    ghost from_gives = { λ _ e. e ≡ NoMemory };
-
-    fn from(_: AllocFailed<T>) -> Refused {
         Refused::Memory
     }
 }

@@ -3,7 +3,6 @@ ghost use Rattle.std.specs.Prelude.{◌≡◌};
 ghost use Rattle.cts_cmd.specs.declared.text_fault.TextFault.TheVariants.{Memory as NoMemory};
 
 use cts_base::Memory;
-use std::alloc::{AllocError, AllocFailed};
 
 /// What a command text lacks.
 #[derive(Clone, Copy, Debug, PartialEq, Eq)]
@@ -43,22 +42,6 @@ impl From<Memory> for TextFault {
     ghost from_gives = { λ _ e. e ≡ NoMemory };
 
     fn from(_: Memory) -> TextFault {
-        TextFault::Memory
-    }
-}
-
-impl From<AllocError> for TextFault {
-    ghost from_gives = { λ _ e. e ≡ NoMemory };
-
-    fn from(_: AllocError) -> TextFault {
-        TextFault::Memory
-    }
-}
-
-impl<T: Drop> From<AllocFailed<T>> for TextFault {
-    ghost from_gives = { λ _ e. e ≡ NoMemory };
-
-    fn from(_: AllocFailed<T>) -> TextFault {
         TextFault::Memory
     }
 }

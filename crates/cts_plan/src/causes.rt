@@ -391,7 +391,7 @@ fn causes() -> &'static [SiteCause]
 }
 
 /// The first cause that holds.
-pub fn first_cause(
+pub(crate) fn first_cause(
     draft: &Draft,
     keyword: Keyword,
     words: &[Bytes],

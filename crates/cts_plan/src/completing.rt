@@ -361,7 +361,11 @@ fn router_of(alloc: Global, site: &Site, draft: RouterDraft) -> Result<Router, S
 }
 
 /// Adds an interface that is complete, or says why it is refused.
-pub fn add_interface(alloc: Global, site: &mut Site, draft: InterfaceDraft) -> Result<(), SiteFault>
+pub(crate) fn add_interface(
+    alloc: Global,
+    site: &mut Site,
+    draft: InterfaceDraft,
+) -> Result<(), SiteFault>
     requires new { IsNewInterface site.old.definitions site.old.interfaces draft.name draft.targets }
     ensures settled { Settles result (fault_in site.old (current.Interface draft)) }
     ensures added { OnOk result (site.new ≡ completed site.old (current.Interface draft)) }
@@ -372,7 +376,11 @@ pub fn add_interface(alloc: Global, site: &mut Site, draft: InterfaceDraft) -> R
 }
 
 /// Adds a router that is complete, or says why it is refused.
-pub fn add_router(alloc: Global, site: &mut Site, draft: RouterDraft) -> Result<(), SiteFault>
+pub(crate) fn add_router(
+    alloc: Global,
+    site: &mut Site,
+    draft: RouterDraft,
+) -> Result<(), SiteFault>
     requires new { IsNewRouter site.old.interfaces site.old.routers draft.name draft.routes }
     ensures settled { Settles result (fault_in site.old (current.Router draft)) }
     ensures added { OnOk result (site.new ≡ completed site.old (current.Router draft)) }

@@ -40,7 +40,7 @@ fn change_interface(site: &Site, draft: &mut InterfaceDraft, detail: Detail) -> 
 }
 
 /// The number of the interface of this name, counted from 0.
-pub fn number_of(interfaces: &[Interface], name: &Name) -> u32
+pub(crate) fn number_of(interfaces: &[Interface], name: &Name) -> u32
     requires few { length interfaces.now ≤ 16 }
     ensures { result ≡ number_of interfaces.now name.now }
 {
@@ -110,7 +110,7 @@ fn set_desks(site: &mut Site, desks: u32)
 
 impl Draft {
     /// The draft before the first statement.
-    pub fn new(alloc: Global, definitions: Definitions) -> Draft
+    pub(crate) fn new(alloc: Global, definitions: Definitions) -> Draft
         ensures { result ≡ start definitions }
     {
         Draft {
@@ -126,7 +126,7 @@ impl Draft {
     }
 
     /// Completes what is read, or says why it is refused. After an error the draft is of no use.
-    pub fn complete(&mut self, alloc: Global) -> Result<(), SiteFault>
+    pub(crate) fn complete(&mut self, alloc: Global) -> Result<(), SiteFault>
         requires { KeepsRules self.old }
         ensures settled { Settles result (due self.old) }
         ensures closed { OnOk result (self.new ≡ closed self.old) }
@@ -146,7 +146,7 @@ impl Draft {
     }
 
     /// Adds what a statement without a cause says. After `Memory` the draft is of no use.
-    pub fn add(&mut self, line: Line) -> Result<(), Memory>
+    pub(crate) fn add(&mut self, line: Line) -> Result<(), Memory>
         requires fits { Fits line self.old }
         ensures { OnOk result (self.new ≡ place line self.old) }
     {
@@ -162,7 +162,7 @@ impl Draft {
     }
 
     /// The site, with what is complete.
-    pub fn into_site(self) -> Site
+    pub(crate) fn into_site(self) -> Site
         ensures { result ≡ self.site }
     {
         let Draft { site, current: _ } = self;

@@ -149,14 +149,14 @@ const KEYWORDS: [Spelled<Keyword>; 12] = [
 ];
 
 /// The keyword that a word is, in any case.
-pub fn keyword_of(word: &[u8]) -> Option<Keyword>
+pub(crate) fn keyword_of(word: &[u8]) -> Option<Keyword>
     ensures { result ≡ keyword_of word.now }
 {
     keyword_in(&KEYWORDS, word)
 }
 
 /// What the file name makes of a statement, where it stands in the table for its keyword.
-pub fn role_of(keyword: Keyword, words: &[Bytes]) -> Option<Role>
+pub(crate) fn role_of(keyword: Keyword, words: &[Bytes]) -> Option<Role>
     ensures { result ≡ role_of keyword words.now }
 {
     let file = word(words, 1);
@@ -208,7 +208,7 @@ fn opening_fields(role: Option<Role>) -> &'static [Field]
 
 /// The words after the keyword, before a protocol.
 #[tactic(auto, unfolding(crate::specs::Forms::head_fields))]
-pub fn head_fields(keyword: Keyword, words: &[Bytes]) -> &'static [Field]
+pub(crate) fn head_fields(keyword: Keyword, words: &[Bytes]) -> &'static [Field]
     ensures { result.now ≡ head_fields keyword words.now }
 {
     match keyword {
@@ -228,7 +228,7 @@ pub fn head_fields(keyword: Keyword, words: &[Bytes]) -> &'static [Field]
 }
 
 /// The parameters of a protocol, in order.
-pub fn parameter_fields(kind: Kind) -> &'static [Field]
+pub(crate) fn parameter_fields(kind: Kind) -> &'static [Field]
     ensures { result.now ≡ parameter_fields kind }
 {
     match kind {
@@ -265,7 +265,7 @@ pub fn parameter_fields(kind: Kind) -> &'static [Field]
 }
 
 /// How many parameters are required.
-pub fn required(kind: Kind) -> usize
+pub(crate) fn required(kind: Kind) -> usize
     ensures { result ≡ required kind }
 {
     match kind {
@@ -285,7 +285,7 @@ fn takes_protocol(keyword: Keyword, words: &[Bytes]) -> bool
 }
 
 /// Whether a protocol's name stands after the head.
-pub fn has_protocol(keyword: Keyword, words: &[Bytes]) -> bool
+pub(crate) fn has_protocol(keyword: Keyword, words: &[Bytes]) -> bool
     ensures { result ≡ has_protocol keyword words.now }
 {
     takes_protocol(keyword, words) && head_fields(keyword, words).len() < words.len()
@@ -293,7 +293,7 @@ pub fn has_protocol(keyword: Keyword, words: &[Bytes]) -> bool
 
 /// The protocol of a statement, if it has one of the five.
 #[tactic(auto, unfolding(crate::specs::Forms::protocol_of))]
-pub fn protocol_of(keyword: Keyword, words: &[Bytes]) -> Option<Kind>
+pub(crate) fn protocol_of(keyword: Keyword, words: &[Bytes]) -> Option<Kind>
     ensures { result ≡ protocol_of keyword words.now }
 {
     if has_protocol(keyword, words) {
@@ -305,7 +305,7 @@ pub fn protocol_of(keyword: Keyword, words: &[Bytes]) -> Option<Kind>
 
 /// The words after the protocol's name.
 #[tactic(auto, unfolding(crate::specs::Forms::parameters))]
-pub fn parameters(keyword: Keyword, words: &[Bytes]) -> &[Bytes]
+pub(crate) fn parameters(keyword: Keyword, words: &[Bytes]) -> &[Bytes]
     ensures { result.now ≡ parameters keyword words.now }
 {
     match words.get(head_fields(keyword, words).len() + 1..) {
@@ -325,7 +325,7 @@ fn fields_of(kind: Option<Kind>) -> &'static [Field]
 
 impl Field {
     /// Whether a word is a fixed word that is none of the field's choices.
-    pub fn is_other_choice(self, word: &[u8]) -> bool
+    pub(crate) fn is_other_choice(self, word: &[u8]) -> bool
         ensures { result ≡ is_other_choice self word.now }
     {
         match self {
@@ -339,7 +339,7 @@ impl Field {
     }
 
     /// Whether a word is no name where one is asked for.
-    pub fn is_bad_name(self, word: &[u8]) -> bool
+    pub(crate) fn is_bad_name(self, word: &[u8]) -> bool
         ensures { result ≡ is_bad_name self word.now }
     {
         match self {
@@ -349,7 +349,7 @@ impl Field {
     }
 
     /// Whether a word is a number or pattern of another form, or out of its bounds.
-    pub fn is_no_number(self, word: &[u8]) -> bool
+    pub(crate) fn is_no_number(self, word: &[u8]) -> bool
         ensures { result ≡ is_no_number self word.now }
     {
         match self {
@@ -369,7 +369,7 @@ impl Field {
     }
 
     /// Whether a word is a sync `0x`, or a read termination of no bytes.
-    pub fn is_empty_sync(self, word: &[u8]) -> bool
+    pub(crate) fn is_empty_sync(self, word: &[u8]) -> bool
         ensures { result ≡ is_empty_sync self word.now }
     {
         match self {
@@ -417,7 +417,7 @@ impl Check {
     }
 
     /// Whether a word of a statement fails it.
-    pub fn fails_in(self, keyword: Keyword, words: &[Bytes]) -> bool
+    pub(crate) fn fails_in(self, keyword: Keyword, words: &[Bytes]) -> bool
         ensures { result ≡ any_field (fails self) keyword words.now }
     {
         self.any_fails(head_fields(keyword, words), words)

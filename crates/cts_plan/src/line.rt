@@ -183,7 +183,7 @@ fn length_place(words: &[Bytes]) -> Option<Place>
 }
 
 /// Whether the parameters of LENGTH have a place that no field has.
-pub fn is_bad_length(words: &[Bytes]) -> bool
+pub(crate) fn is_bad_length(words: &[Bytes]) -> bool
     ensures { result ≡ is_bad_length words.now }
 {
     length_place(words).is_none()
@@ -311,7 +311,7 @@ fn is_server(role: Option<Role>) -> bool
 }
 
 /// Which word is the port for writing; that for reading is the next.
-pub fn port_at(role: Option<Role>) -> usize
+pub(crate) fn port_at(role: Option<Role>) -> usize
     ensures value { result ≡ port_at role }
     ensures within { result ≤ 3 }
 {
@@ -457,7 +457,12 @@ fn delay_line(words: &[Bytes]) -> Line
 }
 
 /// What the words of a statement say.
-pub fn line_of(alloc: Global, line: u32, keyword: Keyword, words: &[Bytes]) -> Result<Line, Memory>
+pub(crate) fn line_of(
+    alloc: Global,
+    line: u32,
+    keyword: Keyword,
+    words: &[Bytes],
+) -> Result<Line, Memory>
     ensures { IfOk result (λ l. l ≡ line_of line keyword words.now) }
 {
     match keyword {

@@ -28,7 +28,7 @@ impl Model for Chain {
 
 impl Chain {
     /// No protocol.
-    pub fn new(alloc: Global) -> Chain
+    pub(crate) fn new(alloc: Global) -> Chain
         ensures { result ≡ [] }
     {
         Chain {
@@ -37,7 +37,7 @@ impl Chain {
     }
 
     /// Adds a protocol.
-    pub fn push(&mut self, step: Step) -> Result<(), Memory>
+    pub(crate) fn push(&mut self, step: Step) -> Result<(), Memory>
         requires room { nat_le 4 (length self.old) ≡ false }
         requires last { (step_reads step && list_any step_reads_packets self.old) ≡ false }
         ensures { OnOk result (self.new ≡ self.old ++ step ∷ []) }
@@ -47,14 +47,14 @@ impl Chain {
     }
 
     /// The protocols, in their order.
-    pub fn as_slice(&self) -> &[Step]
+    pub(crate) fn as_slice(&self) -> &[Step]
         ensures { result.now ≡ self.now }
     {
         self.steps.as_slice()
     }
 
     /// The protocols, with their memory.
-    pub fn into_steps(self) -> List<Step>
+    pub(crate) fn into_steps(self) -> List<Step>
         ensures { result ≡ self }
     {
         let Chain { steps } = self;

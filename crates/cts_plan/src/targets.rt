@@ -43,7 +43,7 @@ fn set_of(alloc: Global, names: &[Name]) -> Result<BTreeSet<Name>, Memory>
 
 impl Targets {
     /// The targets of the names.
-    pub fn of(alloc: Global, names: List<Name>) -> Result<Targets, Memory>
+    pub(crate) fn of(alloc: Global, names: List<Name>) -> Result<Targets, Memory>
         ensures { IfOk result (λ targets. targets ≡ names) }
     {
         let known = set_of(alloc, names.as_slice())?;
@@ -51,14 +51,14 @@ impl Targets {
     }
 
     /// Whether this is one of them.
-    pub fn has(&self, name: &Name) -> bool
+    pub(crate) fn has(&self, name: &Name) -> bool
         ensures { result ≡ list_any (is_same name.now) self.now }
     {
         self.known.contains(name)
     }
 
     /// The targets in order, with their memory.
-    pub fn into_names(self) -> List<Name>
+    pub(crate) fn into_names(self) -> List<Name>
         ensures { result ≡ self }
     {
         let Targets { names, known: _ } = self;

@@ -31,7 +31,7 @@ pub enum Way {
 
 impl Way {
     /// Whether it is used on what is read.
-    pub fn reads(self) -> bool
+    pub(crate) fn reads(self) -> bool
         ensures { result ≡ way_reads self }
     {
         match self {
@@ -41,7 +41,7 @@ impl Way {
     }
 
     /// Whether it is used on what is written.
-    pub fn writes(self) -> bool
+    pub(crate) fn writes(self) -> bool
         ensures { result ≡ way_writes self }
     {
         match self {
@@ -52,7 +52,7 @@ impl Way {
 }
 
 /// The word at a place, empty where there is none.
-pub fn word(words: &[Bytes], at: usize) -> &[u8]
+pub(crate) fn word(words: &[Bytes], at: usize) -> &[u8]
     ensures { result.now ≡ word words.now at }
 {
     match words.get(at) {
@@ -62,14 +62,14 @@ pub fn word(words: &[Bytes], at: usize) -> &[u8]
 }
 
 /// Whether a word is `nil`.
-pub fn is_nil(word: &[u8]) -> bool
+pub(crate) fn is_nil(word: &[u8]) -> bool
     ensures { result ≡ is_nil word.now }
 {
     word == b"nil".as_slice()
 }
 
 /// The flag that a word writes, in any case.
-pub fn flag_of(word: &[u8]) -> Option<bool>
+pub(crate) fn flag_of(word: &[u8]) -> Option<bool>
     ensures { result ≡ flag_of word.now }
 {
     if spells(word, b"TRUE") {
@@ -82,7 +82,7 @@ pub fn flag_of(word: &[u8]) -> Option<bool>
 }
 
 /// The order of bytes that a word names.
-pub fn order_of(word: &[u8]) -> Option<Order>
+pub(crate) fn order_of(word: &[u8]) -> Option<Order>
     ensures { result ≡ order_of word.now }
 {
     if word == b"BIG_ENDIAN".as_slice() {
@@ -95,7 +95,7 @@ pub fn order_of(word: &[u8]) -> Option<Order>
 }
 
 /// Which way a word says that a protocol is used.
-pub fn way_of(word: &[u8]) -> Option<Way>
+pub(crate) fn way_of(word: &[u8]) -> Option<Way>
     ensures { result ≡ way_of word.now }
 {
     if word == b"READ".as_slice() {
@@ -117,7 +117,7 @@ fn is_one_of(short: &[u8], class: &[u8], file: &[u8], word: &[u8]) -> bool
 }
 
 /// The protocol that a word names, in any case.
-pub fn kind_of(word: &[u8]) -> Option<Kind>
+pub(crate) fn kind_of(word: &[u8]) -> Option<Kind>
     ensures { result ≡ kind_of word.now }
 {
     if is_one_of(b"BURST", b"BURSTPROTOCOL", b"BURST_PROTOCOL.RB", word) {
@@ -146,7 +146,7 @@ pub fn kind_of(word: &[u8]) -> Option<Kind>
 }
 
 /// The whole number that a word writes, where it lies between `least` and `most`.
-pub fn natural(least: u64, most: u64, word: &[u8]) -> Option<u64>
+pub(crate) fn natural(least: u64, most: u64, word: &[u8]) -> Option<u64>
     ensures value { result ≡ natural least most word.now }
     ensures least { IfSome result (λ n. least ≤ n) }
     ensures most { IfSome result (λ n. n ≤ most) }
@@ -163,7 +163,7 @@ pub fn natural(least: u64, most: u64, word: &[u8]) -> Option<u64>
 }
 
 /// The port that a word writes.
-pub fn port_of(word: &[u8]) -> Option<u16>
+pub(crate) fn port_of(word: &[u8]) -> Option<u16>
     ensures value { result ≡ port_of word.now }
     ensures some { IfSome result (λ n. 1 ≤ n) }
 {
@@ -172,7 +172,7 @@ pub fn port_of(word: &[u8]) -> Option<u16>
 }
 
 /// How many desks a word asks for.
-pub fn desks_of(word: &[u8]) -> Option<u32>
+pub(crate) fn desks_of(word: &[u8]) -> Option<u32>
     ensures value { result ≡ desks_of word.now }
     ensures least { IfSome result (λ n. 1 ≤ n) }
     ensures most { IfSome result (λ n. n ≤ 4) }
@@ -182,7 +182,7 @@ pub fn desks_of(word: &[u8]) -> Option<u32>
 }
 
 /// A number of bytes within the greatest frame.
-pub fn size_of(word: &[u8]) -> Option<u32>
+pub(crate) fn size_of(word: &[u8]) -> Option<u32>
     ensures value { result ≡ size_of word.now }
     ensures most { IfSome result (λ n. n ≤ 1048576) }
 {
@@ -191,7 +191,7 @@ pub fn size_of(word: &[u8]) -> Option<u32>
 }
 
 /// An offset or a size in bits.
-pub fn bits_of(word: &[u8]) -> Option<u32>
+pub(crate) fn bits_of(word: &[u8]) -> Option<u32>
     ensures value { result ≡ bits_of word.now }
     ensures most { IfSome result (λ n. n ≤ 8388608) }
 {
@@ -200,7 +200,7 @@ pub fn bits_of(word: &[u8]) -> Option<u32>
 }
 
 /// How many bytes one count stands for.
-pub fn per_count_of(word: &[u8]) -> Option<u32>
+pub(crate) fn per_count_of(word: &[u8]) -> Option<u32>
     ensures value { result ≡ per_count_of word.now }
     ensures least { IfSome result (λ n. 1 ≤ n) }
     ensures most { IfSome result (λ n. n ≤ 65535) }
@@ -210,14 +210,14 @@ pub fn per_count_of(word: &[u8]) -> Option<u32>
 }
 
 /// The greatest count.
-pub fn max_of(word: &[u8]) -> Option<u64>
+pub(crate) fn max_of(word: &[u8]) -> Option<u64>
     ensures { result ≡ max_of word.now }
 {
     natural(0, u64::MAX, word)
 }
 
 /// A whole number of 32 bits.
-pub fn signed_of(word: &[u8]) -> Option<i32>
+pub(crate) fn signed_of(word: &[u8]) -> Option<i32>
     ensures { result ≡ signed_of word.now }
 {
     let number = read_whole(word)?;
@@ -228,14 +228,14 @@ pub fn signed_of(word: &[u8]) -> Option<i32>
 }
 
 /// Whether a word is a decimal.
-pub fn is_decimal(word: &[u8]) -> bool
+pub(crate) fn is_decimal(word: &[u8]) -> bool
     ensures { result ≡ is_decimal word.now }
 {
     read_decimal(word).is_ok()
 }
 
 /// The seconds that a word writes, not below 0.
-pub fn delay_of(word: &[u8]) -> Option<Decimal>
+pub(crate) fn delay_of(word: &[u8]) -> Option<Decimal>
     ensures value { result ≡ delay_of word.now }
     ensures sign { IfSome result (λ d. is_negative d.parts ≡ false) }
 {
@@ -278,7 +278,7 @@ fn are_byte_digits(digits: Option<&[u8]>) -> bool
 }
 
 /// Whether a word is a pattern of at most 64 bytes, or `nil`.
-pub fn is_pattern_word(word: &[u8]) -> bool
+pub(crate) fn is_pattern_word(word: &[u8]) -> bool
     ensures { result ≡ is_pattern_word word.now }
 {
     is_nil(word) || are_byte_digits(hex_digits(word))
@@ -302,7 +302,7 @@ fn bytes_of(alloc: Global, digits: &[u8]) -> Result<Bytes, Memory>
 }
 
 /// The bytes of a pattern, none of `nil`. A word that is no pattern gives none.
-pub fn pattern_of(alloc: Global, word: &[u8]) -> Result<Bytes, Memory>
+pub(crate) fn pattern_of(alloc: Global, word: &[u8]) -> Result<Bytes, Memory>
     ensures value { IfOk result (λ b. b ≡ pattern_of word.now) }
     ensures few { IfOk result (λ b. length b ≤ 64) }
 {
@@ -313,7 +313,7 @@ pub fn pattern_of(alloc: Global, word: &[u8]) -> Result<Bytes, Memory>
 }
 
 /// Whether a word is `0x` without digits.
-pub fn is_empty_pattern(word: &[u8]) -> bool
+pub(crate) fn is_empty_pattern(word: &[u8]) -> bool
     ensures { result ≡ is_empty_pattern word.now }
 {
     word == b"0x".as_slice()

@@ -8,7 +8,11 @@ use cts_base::Memory;
 use cts_def::{Color, Site, item_name, packet_names};
 
 /// The lines of events, one after the other.
-pub fn put_events(out: &mut Vec<u8>, site: &Site, events: &[LimitsEvent]) -> Result<(), Memory>
+pub(crate) fn put_events(
+    out: &mut Vec<u8>,
+    site: &Site,
+    events: &[LimitsEvent],
+) -> Result<(), Memory>
     ensures { OnOk result (out.new.items ≡ out.old.items ++ event_lines site.now events.now) }
 {
     for event in events {

@@ -11,7 +11,7 @@ use cts_def::Limits;
 use std::alloc::Global;
 
 /// A space, a set's name, the persistence, and whether the limits are watched.
-pub fn put_watch_words(
+pub(crate) fn put_watch_words(
     out: &mut Vec<u8>,
     set: &[u8],
     persistence: u32,
@@ -32,7 +32,11 @@ fn state(enabled: bool) -> &'static [u8]
 }
 
 /// A space and the limits.
-pub fn put_limits_words(alloc: Global, out: &mut Vec<u8>, limits: &Limits) -> Result<(), Memory>
+pub(crate) fn put_limits_words(
+    alloc: Global,
+    out: &mut Vec<u8>,
+    limits: &Limits,
+) -> Result<(), Memory>
     ensures { OnOk result (out.new.items ≡ out.old.items ++ 32 ∷ limits_text limits.now) }
 {
     put_decimal_word(alloc, out, limits.red_low)?;

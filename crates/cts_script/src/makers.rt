@@ -7,7 +7,7 @@ use cts_base::Memory;
 use cts_def::{FIRST_DESK, FIRST_SLOT, SCRIBE, Site, interface_name, router_name};
 
 /// A space and the maker.
-pub fn put_maker_word(out: &mut Vec<u8>, site: &Site, by: u32) -> Result<(), Memory>
+pub(crate) fn put_maker_word(out: &mut Vec<u8>, site: &Site, by: u32) -> Result<(), Memory>
     ensures { OnOk result (out.new.items ≡ out.old.items ++ 32 ∷ maker_text site.now by) }
 {
     if by < FIRST_SLOT {

@@ -8,7 +8,7 @@ use cts_base::Memory;
 use itoa::Buffer;
 
 /// The text as it is.
-pub fn put_text(out: &mut Vec<u8>, text: &[u8]) -> Result<(), Memory>
+pub(crate) fn put_text(out: &mut Vec<u8>, text: &[u8]) -> Result<(), Memory>
     ensures { OnOk result (out.new.items ≡ out.old.items ++ text.now) }
 {
     out.extend_from_slice(text)?;
@@ -16,7 +16,7 @@ pub fn put_text(out: &mut Vec<u8>, text: &[u8]) -> Result<(), Memory>
 }
 
 /// A space and the text.
-pub fn put_word(out: &mut Vec<u8>, text: &[u8]) -> Result<(), Memory>
+pub(crate) fn put_word(out: &mut Vec<u8>, text: &[u8]) -> Result<(), Memory>
     ensures { OnOk result (out.new.items ≡ out.old.items ++ 32 ∷ text.now) }
 {
     out.push(b' ')?;
@@ -24,7 +24,7 @@ pub fn put_word(out: &mut Vec<u8>, text: &[u8]) -> Result<(), Memory>
 }
 
 /// The number without leading zeros.
-pub fn put_number(out: &mut Vec<u8>, number: u64) -> Result<(), Memory>
+pub(crate) fn put_number(out: &mut Vec<u8>, number: u64) -> Result<(), Memory>
     ensures { OnOk result (out.new.items ≡ out.old.items ++ decimal number) }
 {
     let mut buffer = Buffer::new();
@@ -32,7 +32,7 @@ pub fn put_number(out: &mut Vec<u8>, number: u64) -> Result<(), Memory>
 }
 
 /// A space and the number.
-pub fn put_number_word(out: &mut Vec<u8>, number: u64) -> Result<(), Memory>
+pub(crate) fn put_number_word(out: &mut Vec<u8>, number: u64) -> Result<(), Memory>
     ensures { OnOk result (out.new.items ≡ out.old.items ++ 32 ∷ decimal number) }
 {
     out.push(b' ')?;
@@ -40,7 +40,7 @@ pub fn put_number_word(out: &mut Vec<u8>, number: u64) -> Result<(), Memory>
 }
 
 /// A space and the number, with its sign where it is negative.
-pub fn put_signed_word(out: &mut Vec<u8>, number: i128) -> Result<(), Memory>
+pub(crate) fn put_signed_word(out: &mut Vec<u8>, number: i128) -> Result<(), Memory>
     ensures { OnOk result (out.new.items ≡ out.old.items ++ 32 ∷ signed_decimal number) }
 {
     let mut buffer = Buffer::new();
@@ -48,7 +48,7 @@ pub fn put_signed_word(out: &mut Vec<u8>, number: i128) -> Result<(), Memory>
 }
 
 /// A space and the bytes in hexadecimal, or a dash for none.
-pub fn put_hex_word(out: &mut Vec<u8>, bytes: &[u8]) -> Result<(), Memory>
+pub(crate) fn put_hex_word(out: &mut Vec<u8>, bytes: &[u8]) -> Result<(), Memory>
     ensures { OnOk result (out.new.items ≡ out.old.items ++ 32 ∷ hex_or_dash bytes.now) }
 {
     if bytes.is_empty() {

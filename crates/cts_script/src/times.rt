@@ -8,7 +8,7 @@ use cts_def::Time;
 use itoa::Buffer;
 
 /// A space, the seconds, a point and the micros.
-pub fn put_time_word(out: &mut Vec<u8>, time: Time) -> Result<(), Memory>
+pub(crate) fn put_time_word(out: &mut Vec<u8>, time: Time) -> Result<(), Memory>
     ensures { OnOk result (out.new.items ≡ out.old.items ++ 32 ∷ time_text time) }
 {
     put_number_word(out, u64::from(time.seconds))?;

@@ -12,7 +12,7 @@ use cts_entry::{NotSent, What};
 use std::alloc::Global;
 
 /// A space and what an entry says.
-pub fn put_what_words(
+pub(crate) fn put_what_words(
     alloc: Global,
     out: &mut Vec<u8>,
     site: &Site,
@@ -33,12 +33,8 @@ pub fn put_what_words(
             unsent,
         } => put_closed_words(out, *why, loss, *unposted, *unsent),
         What::Command { command, bytes, .. } => {
-            put_bytes_words(
-                out,
-                b"COMMAND",
-                command_names(site, *command),
-                bytes.as_slice(),
-            )
+            let names = command_names(site, *command);
+            put_bytes_words(out, b"COMMAND", names, bytes.as_slice())
         }
         What::SetLimits {
             packet,
@@ -59,12 +55,8 @@ pub fn put_what_words(
         } => put_item_words(out, switch(*enabled), site, *packet, *item),
         What::LimitsSetIs { set } => put_pair_words(out, b"LIMITSSET", set.as_slice()),
         What::Injected { packet, bytes } => {
-            put_bytes_words(
-                out,
-                b"INJECTED",
-                packet_names(site, *packet),
-                bytes.as_slice(),
-            )
+            let names = packet_names(site, *packet);
+            put_bytes_words(out, b"INJECTED", names, bytes.as_slice())
         }
         What::Unrouted { why, bytes } => put_unrouted_words(out, *why, bytes.as_slice()),
         What::Stop => put_word(out, b"STOP"),

@@ -42,7 +42,7 @@ fn put_cause_words(out: &mut Vec<u8>, cause: BadCause) -> Result<(), Memory>
 }
 
 /// A space, why a connection was closed, and what was lost with it.
-pub fn put_closed_words(
+pub(crate) fn put_closed_words(
     out: &mut Vec<u8>,
     why: Why,
     loss: &Loss,

@@ -29,7 +29,7 @@ fn value_of(digit: u8) -> u8
 
 /// The bytes that a text of hexadecimal digits writes, two digits a byte, in either case; none where a byte of it is no digit, or
 /// their number is odd.
-pub fn decoded(alloc: Global, text: &[u8]) -> Result<Option<Vec<u8>>, Memory>
+pub(crate) fn decoded(alloc: Global, text: &[u8]) -> Result<Option<Vec<u8>>, Memory>
     ensures { IfOk result (λ bytes. option_map (λ b. b.items) bytes ≡ result_ok (decode_of text.now)) }
 {
     if text.len() % 2 != 0 {

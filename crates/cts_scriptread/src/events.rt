@@ -15,7 +15,7 @@ use cts_entry::Event;
 use std::alloc::Global;
 
 /// The event that the words after a keyword say, if they are those of a line.
-pub fn event_of(
+pub(crate) fn event_of(
     alloc: Global,
     site: &Site,
     keyword: Keyword,

@@ -92,7 +92,7 @@ fn keyword_of(word: &[u8]) -> Option<Keyword>
 }
 
 /// What each word after a keyword has to be.
-pub fn fields(keyword: Keyword) -> &'static [Field]
+pub(crate) fn fields(keyword: Keyword) -> &'static [Field]
     ensures { result.now ≡ fields keyword }
 {
     match keyword {
@@ -108,14 +108,14 @@ pub fn fields(keyword: Keyword) -> &'static [Field]
 }
 
 /// Whether the words after a keyword are as many as those of its row.
-pub fn has_form(keyword: Keyword, words: &[Bytes]) -> bool
+pub(crate) fn has_form(keyword: Keyword, words: &[Bytes]) -> bool
     ensures { result ≡ has_form keyword words.now }
 {
     words.len() == fields(keyword).len()
 }
 
 /// The keyword of a line, if its first word is one, and the words after it.
-pub fn parts(words: &[Bytes]) -> Option<(Keyword, &[Bytes])>
+pub(crate) fn parts(words: &[Bytes]) -> Option<(Keyword, &[Bytes])>
     ensures { option_map (λ p. (p.0, p.1.now)) result ≡ parts words.now }
 {
     let (first, rest) = words.split_first()?;

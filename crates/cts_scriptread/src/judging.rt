@@ -115,7 +115,7 @@ fn causes() -> &'static [ScriptCause]
 }
 
 /// The first cause for which the words after a keyword are refused.
-pub fn first_cause(site: &Site, keyword: Keyword, words: &[Bytes]) -> Option<ScriptCause>
+pub(crate) fn first_cause(site: &Site, keyword: Keyword, words: &[Bytes]) -> Option<ScriptCause>
     ensures { result ≡ find (λ c. holds site.now c keyword words.now) order }
 {
     first_that_holds(causes(), |cause| holds(site, cause, keyword, words))

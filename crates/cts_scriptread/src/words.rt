@@ -33,7 +33,7 @@ fn natural(most: u64, word: &[u8]) -> Option<u64>
 
 /// The whole number of 32 bits that a word writes.
 #[tactic(auto, unfolding(crate::specs::Words::number_of))]
-pub fn number_of(word: &[u8]) -> Option<u32>
+pub(crate) fn number_of(word: &[u8]) -> Option<u32>
     ensures { result ≡ number_of word.now }
 {
     let number = natural(4_294_967_295, word)?;
@@ -42,14 +42,14 @@ pub fn number_of(word: &[u8]) -> Option<u32>
 
 /// The whole number of 64 bits that a word writes.
 #[tactic(auto, unfolding(crate::specs::Words::count_of))]
-pub fn count_of(word: &[u8]) -> Option<u64>
+pub(crate) fn count_of(word: &[u8]) -> Option<u64>
     ensures { result ≡ count_of word.now }
 {
     natural(18_446_744_073_709_551_615, word)
 }
 
 /// Whether a word is hexadecimal digits, two for each byte.
-pub fn are_byte_digits(word: &[u8]) -> bool
+pub(crate) fn are_byte_digits(word: &[u8]) -> bool
     ensures { result ≡ are_byte_digits word.now }
 {
     word.len() % 2 == 0 && are_digits(word)
@@ -68,14 +68,14 @@ fn is_digit(digit: u8) -> bool
 }
 
 /// Whether a piece may have `size` bytes.
-pub fn is_piece_size(size: usize) -> bool
+pub(crate) fn is_piece_size(size: usize) -> bool
     ensures { result ≡ is_piece_size size }
 {
     1 <= size && size <= MOST_BYTES
 }
 
 /// The piece that the digits of a word write, if they write one.
-pub fn piece_of(alloc: Global, word: &[u8]) -> Result<Option<Bytes>, Memory>
+pub(crate) fn piece_of(alloc: Global, word: &[u8]) -> Result<Option<Bytes>, Memory>
     ensures { IfOk result (λ piece. piece ≡ piece_of word.now) }
 {
     if !is_piece_size(word.len() / 2) {
@@ -88,7 +88,7 @@ pub fn piece_of(alloc: Global, word: &[u8]) -> Result<Option<Bytes>, Memory>
 }
 
 /// Why a connection ends.
-pub fn why_of(word: &[u8]) -> Option<Why>
+pub(crate) fn why_of(word: &[u8]) -> Option<Why>
     ensures { result ≡ why_of word.now }
 {
     if word == b"PEER".as_slice() {
@@ -105,7 +105,7 @@ pub fn why_of(word: &[u8]) -> Option<Why>
 }
 
 /// Whether a word stands for the logs.
-pub fn is_log(word: &[u8]) -> bool
+pub(crate) fn is_log(word: &[u8]) -> bool
     ensures { result ≡ is_log word.now }
 {
     word == b"LOG".as_slice()

@@ -2,7 +2,7 @@ use Rattle.std.proofs.Common.{◌≡◌, ℕ, ◌<◌, true, get_or, rules, arit
 use Rattle.std.proofs.lemmas.Grind.{common_steps}
 use Rattle.cts_def.specs.Items.{is_to_the_end}
 use Rattle.cts_cmd.proofs.Parts.{end_from}
-use Rattle.cts_cmd.proofs.write.put_text.Goals as goal
+use Rattle.cts_cmd.proofs.write.write_or_append.Goals as goal
 
 pub returns-then-item-eq0-clause-written : goal.returns-then-item-eq0-clause-written
 returns-then-item-eq0-clause-written c =

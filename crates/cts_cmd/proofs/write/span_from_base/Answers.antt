@@ -4,7 +4,7 @@ use Rattle.std.proofs.lemmas.Int.{to_z-of_z}
 use Rattle.cts_def.specs.Items.{ItemData, span_of}
 use Rattle.cts_def.specs.Spans.{is_misplaced}
 use Rattle.cts_cmd.proofs.Behind.{behind, placed_behind}
-use Rattle.cts_cmd.proofs.write.span_behind.Goals as goal
+use Rattle.cts_cmd.proofs.write.span_from_base.Goals as goal
 
 pub returns-then-item-lt0-clause-placed : goal.returns-then-item-lt0-clause-placed
 returns-then-item-lt0-clause-placed c =
