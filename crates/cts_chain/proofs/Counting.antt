@@ -2,17 +2,16 @@
 use Rattle.std.proofs.Common.{◌≡◌, ◌≤◌, ℕ, ◌+◌, ◌<◌, ◌^◌, Bool, true, false, List, [], ◌∷◌, ◌++◌, cond, refl, sym, ◌∙◌, ap, subst, append_assoc, arith, Some, None}
 use Rattle.std.specs.Prelude.{nat_lt}
 use Rattle.std.proofs.lemmas.Bool.Decides.{nat_tests}
-use Rattle.std.proofs.lemmas.List.{map-append}
+use Rattle.std.proofs.lemmas.Grind.{flat_map-append}
+use Rattle.std.proofs.lemmas.List.{append-nil, map-append}
 use Rattle.cts_def.specs.declared.proto_spec.Kind.{Kind}
 use Rattle.cts_def.specs.declared.proto_spec.Kind.TheVariants as kind
 use Rattle.cts_def.specs.Protocols.{UseData}
-use Rattle.cts_def.specs.Sites.{InterfaceData}
 use Rattle.cts_proto.specs.Meaning.{Meaning}
 use Rattle.cts_proto.specs.Stock.{stocked, counted}
-use Rattle.cts_chain.specs.declared.build.ChainFault.{ChainFault}
-use Rattle.cts_chain.specs.declared.build.ChainFault.TheVariants.{ShelfEmpty, Memory}
+use Rattle.cts_chain.specs.declared.build.ChainFault.TheVariants.{ShelfEmpty}
 use Rattle.cts_chain.specs.declared.stock.Needs.{Needs}
-use Rattle.cts_chain.specs.Builds.{AreFresh, FaultIs, FirstTaken, IsFresh, LeavesStock, Taken, chains_in, use_specs, uses_in}
+use Rattle.cts_chain.specs.Builds.{AllCanBeBuilt, AreFresh, CanBeBuilt, FaultIs, IsFresh, Taken, all_uses, use_specs}
 use Rattle.cts_chain.specs.Shapes.{ChainData}
 use Rattle.cts_chain.specs.Stocking.{needed, needs_at, first_short, first_short_by, is_short_by}
 use Rattle.cts_chain.proofs.Planning.{needed_append}
@@ -74,8 +73,32 @@ count_decides s n h = grind (arith, nat_tests)
 pub needed_then : (k : Kind) (xs ys : List UseData) → needed k (use_specs (xs ++ ys)) ≡ needed k (use_specs xs) + needed k (use_specs ys)
 needed_then k xs ys = ap (needed k) (map-append (λ (u : UseData). u.spec) xs ys) ∙ needed_append k (use_specs xs) (use_specs ys)
 
-pub needed_first : (k : Kind) (all rest : List InterfaceData) (x : InterfaceData) → all ≡ x ∷ rest → needed k (use_specs (uses_in all)) ≡ needed k (use_specs x.chain) + needed k (use_specs (uses_in rest))
-needed_first k all rest x e = ap (λ (is : List InterfaceData). needed k (use_specs (uses_in is))) e ∙ needed_then k x.chain (uses_in rest)
+-- those of chains one behind the other
+pub uses_then : (xs ys : List (List UseData)) → all_uses (xs ++ ys) ≡ all_uses xs ++ all_uses ys
+uses_then xs ys = flat_map-append (λ (uses : List UseData). uses) xs ys
+
+uses_one : (uses : List UseData) → all_uses (uses ∷ []) ≡ uses
+uses_one uses = append-nil uses
+
+-- the first chain and the rest
+pub needed_first : (k : Kind) (all rest : List (List UseData)) (x : List UseData) → all ≡ x ∷ rest → needed k (use_specs (all_uses all)) ≡ needed k (use_specs x) + needed k (use_specs (all_uses rest))
+needed_first k all rest x e = ap (λ (us : List (List UseData)). needed k (use_specs (all_uses us))) e ∙ needed_then k x (all_uses rest)
+
+-- the chains in front, and the last one
+needed_last : (k : Kind) (all front : List (List UseData)) (x : List UseData) → all ≡ front ++ x ∷ [] → needed k (use_specs (all_uses all)) ≡ needed k (use_specs (all_uses front)) + needed k (use_specs x)
+needed_last k all front x e =
+    ap (λ (us : List (List UseData)). needed k (use_specs (all_uses us))) e
+    ∙ (ap (λ (us : List UseData). needed k (use_specs us)) (uses_then front (x ∷ []) ∙ ap (λ (us : List UseData). all_uses front ++ us) (uses_one x)) ∙ needed_then k (all_uses front) x)
+
+pub can_first : (all rest : List (List UseData)) (x : List UseData) → all ≡ x ∷ rest → AllCanBeBuilt all → CanBeBuilt x × AllCanBeBuilt rest
+can_first all rest x e h = subst AllCanBeBuilt e h
+
+can_split : (front : List (List UseData)) (x : List UseData) → AllCanBeBuilt (front ++ x ∷ []) → AllCanBeBuilt front × CanBeBuilt x
+can_split [] x h = (tt, h.0)
+can_split (y ∷ front) x h = let more = can_split front x h.1 in ((h.0, more.0), more.1)
+
+pub can_last : (all front : List (List UseData)) (x : List UseData) → all ≡ front ++ x ∷ [] → AllCanBeBuilt all → AllCanBeBuilt front × CanBeBuilt x
+can_last all front x e h = can_split front x (subst AllCanBeBuilt e h)
 
 fresh_last : (uses : List (List UseData)) (cs : List ChainData) (us : List UseData) (c : ChainData) → AreFresh uses cs → IsFresh us c → AreFresh (uses ++ us ∷ []) (cs ++ c ∷ [])
 fresh_last [] [] us c a f = (f, tt)
@@ -83,41 +106,21 @@ fresh_last (u ∷ uses) (d ∷ cs) us c a f = (a.0, fresh_last uses cs us c a.1 
 fresh_last [] (d ∷ cs) us c a f = absurd a
 fresh_last (u ∷ uses) [] us c a f = absurd a
 
--- the shelf holds enough for the first one
-pub enough_first : (all rest : List InterfaceData) (x : InterfaceData) (old : List Meaning) → all ≡ x ∷ rest → ((k : Kind) → needed k (use_specs (uses_in all)) ≤ stocked k old) → (k : Kind) → needed k (use_specs x.chain) ≤ stocked k old
-enough_first all rest x old e h k = omega (arith, h k, needed_first k all rest x e)
+-- the shelf holds enough for those in front
+pub enough_front : (all front : List (List UseData)) (x : List UseData) (old : List Meaning) → all ≡ front ++ x ∷ [] → ((k : Kind) → needed k (use_specs (all_uses all)) ≤ stocked k old) → (k : Kind) → needed k (use_specs (all_uses front)) ≤ stocked k old
+enough_front all front x old e h k = omega (arith, h k, needed_last k all front x e)
 
--- and then for the rest
-pub enough_rest : (all rest : List InterfaceData) (x : InterfaceData) (old mid : List Meaning) → all ≡ x ∷ rest → ((k : Kind) → needed k (use_specs (uses_in all)) ≤ stocked k old) → Taken old x.chain mid
-    → (k : Kind) → needed k (use_specs (uses_in rest)) ≤ stocked k mid
-enough_rest all rest x old mid e h t k = omega (arith, h k, t k, needed_first k all rest x e)
+-- and then for the last one
+pub enough_last : (all front : List (List UseData)) (x : List UseData) (old mid : List Meaning) → all ≡ front ++ x ∷ [] → ((k : Kind) → needed k (use_specs (all_uses all)) ≤ stocked k old) → Taken old (all_uses front) mid
+    → (k : Kind) → needed k (use_specs x) ≤ stocked k mid
+enough_last all front x old mid e h t k = omega (arith, h k, t k, needed_last k all front x e)
 
-pub taken_first : (all rest : List InterfaceData) (x : InterfaceData) (old mid new : List Meaning) → all ≡ x ∷ rest → Taken old x.chain mid → Taken mid (uses_in rest) new → Taken old (uses_in all) new
-taken_first all rest x old mid new e t u k = omega (arith, t k, u k, needed_first k all rest x e)
+pub taken_last : (all front : List (List UseData)) (x : List UseData) (old mid new : List Meaning) → all ≡ front ++ x ∷ [] → Taken old (all_uses front) mid → Taken mid x new → Taken old (all_uses all) new
+taken_last all front x old mid new e t u k = omega (arith, t k, u k, needed_last k all front x e)
 
--- one chain more, and then the rest
-pub fresh_first : (all rest : List InterfaceData) (x : InterfaceData) (uses : List (List UseData)) (old mid new : List ChainData) (c : ChainData) → all ≡ x ∷ rest → AreFresh uses old → IsFresh x.chain c → mid ≡ old ++ c ∷ []
-    → ((us : List (List UseData)) → AreFresh us mid → AreFresh (us ++ chains_in rest) new) → AreFresh (uses ++ chains_in all) new
-fresh_first all rest x uses old mid new c e a f m h =
-    let more = h (uses ++ x.chain ∷ []) (subst (AreFresh (uses ++ x.chain ∷ [])) (sym m) (fresh_last uses old x.chain c a f)) in
-    subst (λ (us : List (List UseData)). AreFresh us new) (append_assoc uses (x.chain ∷ []) (chains_in rest) ∙ ap (λ (is : List InterfaceData). uses ++ chains_in is) (sym e)) more
-
--- ---- what is taken, where memory is wanted: before the first chain, behind it, or later
-pub gone_before : (all : List InterfaceData) (old new : List Meaning) → new ≡ old → FirstTaken old all new
-gone_before all old new e = record { first = []; after = all; parts = refl; taken = λ k. omega (arith, ap (stocked k) e) }
-
-pub gone_behind : (all rest : List InterfaceData) (x : InterfaceData) (old new : List Meaning) → all ≡ x ∷ rest → Taken old x.chain new → FirstTaken old all new
-gone_behind all rest x old new e t = record { first = x ∷ []; after = rest; parts = e; taken = taken_first (x ∷ []) [] x old new new refl t (λ k. omega arith) }
-
-pub gone_later : (all rest : List InterfaceData) (x : InterfaceData) (old mid new : List Meaning) → all ≡ x ∷ rest → Taken old x.chain mid → FirstTaken mid rest new → FirstTaken old all new
-gone_later all rest x old mid new e t f = record {
-  first = x ∷ f.first;
-  after = f.after;
-  parts = e ∙ ap (λ (is : List InterfaceData). x ∷ is) f.parts;
-  taken = taken_first (x ∷ f.first) f.first x old mid new refl t f.taken;
-}
-
--- nothing was taken yet
-pub untouched : (old : List Meaning) (all : List InterfaceData) (e : ChainFault) → LeavesStock old all e old
-untouched old all (ShelfEmpty k n s) = refl
-untouched old all Memory = record { first = []; after = all; parts = refl; taken = λ k. omega arith }
+-- those in front were built, and then the last one
+pub fresh_built : (all front : List (List UseData)) (x : List UseData) (uses : List (List UseData)) (mid new : List ChainData) (c : ChainData) → all ≡ front ++ x ∷ [] → AreFresh (uses ++ front) mid → IsFresh x c → new ≡ mid ++ c ∷ []
+    → AreFresh (uses ++ all) new
+fresh_built all front x uses mid new c e a f n =
+    subst (AreFresh (uses ++ all)) (sym n)
+    (subst (λ (us : List (List UseData)). AreFresh us (mid ++ c ∷ [])) (append_assoc uses front (x ∷ []) ∙ ap (λ (us : List (List UseData)). uses ++ us) (sym e)) (fresh_last (uses ++ front) mid x c a f))

@@ -3,10 +3,10 @@ ghost use Rattle.std.specs.Prelude.{◌≡◌, ◌≤◌, ◌*◌, length, map, 
 ghost use Rattle.cts_def.specs.declared.proto_spec.Kind.{Kind as KindOf};
 ghost use Rattle.cts_def.specs.Protocols.{UseData, kind_of, spec_data};
 ghost use Rattle.cts_proto.specs.Stock.{number_of, one_if_same, stocked};
-ghost use Rattle.cts_chain.specs.Builds.{use_specs, uses_in};
+ghost use Rattle.cts_chain.specs.Builds.{AllCanBeBuilt, all_uses, use_specs};
 ghost use Rattle.cts_chain.specs.Stocking.{needed as needed_of, needs_at, is_short_by, first_short_by};
 
-use cts_def::{Interface, Kind, ProtoSpec, ProtoUse};
+use cts_def::{Kind, ProtoSpec, ProtoUse};
 use cts_proto::{Shelf, Stocked};
 
 /// How many boxes of each kind are needed.
@@ -64,25 +64,18 @@ fn needed(uses: &[ProtoUse], wanted: Kind) -> u32
     one_if(kind(&first.spec), wanted) + more
 }
 
-/// How many protocols of the chain of an interface are of this kind.
-fn needed_by(interface: &Interface, wanted: Kind) -> u32
-    ensures count { result ≡ needed_of wanted (use_specs interface.now.chain) }
-    ensures few { result ≤ 4 }
+/// How many protocols of all these chains are of this kind.
+fn needed_by_all(chains: &[&[ProtoUse]], wanted: Kind) -> u32
+    requires count { length chains.now ≤ 24 }
+    requires chains { AllCanBeBuilt (map (λ uses. uses.now) chains.now) }
+    ensures count { result ≡ needed_of wanted (use_specs (all_uses (map (λ uses. uses.now) chains.now))) }
+    ensures few { result ≤ 4 * length chains.now }
 {
-    needed(interface.chain.as_slice(), wanted)
-}
-
-/// How many protocols of the chains of all these interfaces are of this kind.
-fn needed_by_all(interfaces: &[Interface], wanted: Kind) -> u32
-    requires { length interfaces.now ≤ 16 }
-    ensures count { result ≡ needed_of wanted (use_specs (uses_in interfaces.now)) }
-    ensures few { result ≤ 4 * length interfaces.now }
-{
-    let Some((first, rest)) = interfaces.split_first() else {
+    let Some((first, rest)) = chains.split_first() else {
         return 0;
     };
     let more = needed_by_all(rest, wanted);
-    needed_by(first, wanted) + more
+    needed(first, wanted) + more
 }
 
 impl Needs {
@@ -100,17 +93,18 @@ impl Needs {
         }
     }
 
-    /// What the chains of all these interfaces need.
-    pub fn of_interfaces(interfaces: &[Interface]) -> Needs
-        requires { length interfaces.now ≤ 16 }
-        ensures { (k : KindOf) → needs_at result k ≡ needed_of k (use_specs (uses_in interfaces.now)) }
+    /// What all these chains need.
+    pub fn of_chains(chains: &[&[ProtoUse]]) -> Needs
+        requires count { length chains.now ≤ 24 }
+        requires chains { AllCanBeBuilt (map (λ uses. uses.now) chains.now) }
+        ensures { (k : KindOf) → needs_at result k ≡ needed_of k (use_specs (all_uses (map (λ uses. uses.now) chains.now))) }
     {
         Needs {
-            bursts: needed_by_all(interfaces, Kind::Burst),
-            fixed: needed_by_all(interfaces, Kind::Fixed),
-            lengths: needed_by_all(interfaces, Kind::Length),
-            terminated: needed_by_all(interfaces, Kind::Terminated),
-            preidentified: needed_by_all(interfaces, Kind::Preidentified),
+            bursts: needed_by_all(chains, Kind::Burst),
+            fixed: needed_by_all(chains, Kind::Fixed),
+            lengths: needed_by_all(chains, Kind::Length),
+            terminated: needed_by_all(chains, Kind::Terminated),
+            preidentified: needed_by_all(chains, Kind::Preidentified),
         }
     }
 

@@ -29,7 +29,7 @@ fn take_box(shelf: &mut Shelf, spec: ProtoSpec) -> Boxed
 }
 
 /// Puts an item behind the others, for which there is room.
-fn push_within<T: Drop>(items: &mut Vec<T>, item: T)
+pub(crate) fn push_within<T: Drop>(items: &mut Vec<T>, item: T)
     requires { vec_len items.old < vec_capacity items.old }
     ensures items { items.new.items ≡ items.old.items ++ item ∷ [] }
     ensures len { vec_len items.new ≡ vec_len items.old + 1 }

@@ -8,8 +8,9 @@ use Rattle.cts_def.specs.Sites.{SiteData}
 use Rattle.cts_ident.specs.Identification.{identified, identified_command}
 use Rattle.cts_frame.specs.Framing.{plain}
 use Rattle.cts_core.specs.States.{is_line}
-use Rattle.cts_core.specs.Environments.{site_environment, ident_of}
+use Rattle.cts_core.specs.Environments.{environment_of, ident_of}
 use Rattle.cts_entry.specs.Workers.{is_slot}
+use Rattle.cts_table.specs.declared.basis.Basis.{Basis}
 use Rattle.cts_core.specs.Built.{is_built_site}
 
 pub and_tells : (a b : Bool) → (a && b) ≡ true → (a ≡ true) × (b ≡ true)
@@ -30,14 +31,14 @@ no_slot site by built =
     none_below : (n : ℕ) → nat_lt n 0 ≡ false
     none_below n = grind (arith, nat_tests)
 
-pub line_is : (site : SiteData) (by : ℕ) → is_built_site site ≡ true → is_line (site_environment site) by ≡ nat_lt by (length site.interfaces)
-line_is site by built = ap (λ (b : Bool). b || nat_lt by (length site.interfaces)) (no_slot site by built)
+pub line_is : (base : Basis) (by : ℕ) → is_built_site base.site ≡ true → is_line (environment_of base) by ≡ nat_lt by (length base.site.interfaces)
+line_is base by built = ap (λ (b : Bool). b || nat_lt by (length base.site.interfaces)) (no_slot base.site by built)
 
 -- what is enabled of a line is so of an interface
-pub enabled_line : (site : SiteData) (by : ℕ) (b : Bool) → is_built_site site ≡ true → (is_line (site_environment site) by && b) ≡ true → (by < length site.interfaces) × (b ≡ true)
-enabled_line site by b built t =
-    let parts = and_tells (nat_lt by (length site.interfaces)) b (ap (λ (line : Bool). line && b) (sym (line_is site by built)) ∙ t) in
-    (ltb-true by (length site.interfaces) parts.0, parts.1)
+pub enabled_line : (base : Basis) (by : ℕ) (b : Bool) → is_built_site base.site ≡ true → (is_line (environment_of base) by && b) ≡ true → (by < length base.site.interfaces) × (b ≡ true)
+enabled_line base by b built t =
+    let parts = and_tells (nat_lt by (length base.site.interfaces)) b (ap (λ (line : Bool). line && b) (sym (line_is base by built)) ∙ t) in
+    (ltb-true by (length base.site.interfaces) parts.0, parts.1)
 
 pub below : (n m : ℕ) → n < m → nat_lt n m ≡ true
 below n m h = grind (arith, nat_tests)

@@ -29,9 +29,8 @@ use Rattle.cts_table.specs.declared.basis.Basis.{Basis}
 use Rattle.cts_table.specs.Keeping.{rules_of, IsIdent, AllOfSite}
 use Rattle.cts_table.specs.States.{Shown, CanAdd}
 use Rattle.cts_core.specs.Built.{is_built_site}
-use Rattle.cts_core.specs.Environments.{site_environment, ident_by, ident_of}
+use Rattle.cts_core.specs.Environments.{environment_of, site_environment, ident_by, ident_of}
 use Rattle.cts_core.specs.Kept.{CanAddAll, GivesRoom, is_within}
-use Rattle.cts_core.specs.States.{Environment}
 use Rattle.cts_chain.specs.Chains.{last_fault}
 use Rattle.cts_frame.specs.Packets.{capped}
 use Rattle.cts_core.specs.Takings.{AllIdle, CanPost, Posts, Takes, entries_of, lost}
@@ -42,7 +41,7 @@ use Rattle.cts_frame.proofs.Fronts.{le_tells}
 use Rattle.cts_core.specs.declared.fault.WorldFault.{WorldFault}
 use Rattle.cts_core.specs.declared.fault.WorldFault.TheVariants.{NotEnabled, Full, Memory}
 use Rattle.cts_core.proofs.Building.{and_tells, below, ident_is}
-use Rattle.cts_core.proofs.Legality.{Lasting, lasting_append, none_ended, packets_follow}
+use Rattle.cts_core.proofs.Following.{Lasting, lasting_append, none_ended, packets_follow}
 use Rattle.cts_core.proofs.Postings.{connected_kept, packets_count, packets_length, tells_maker, tells_no_other}
 use Rattle.cts_entry.proofs.Appending.{connected-append}
 
@@ -248,13 +247,8 @@ packets_of_site site by now before [] m few = tt
 packets_of_site site by now before (o ∷ packets) m few =
     (record { maker = interface_makes site by (below by (length site.interfaces) m); said = ident_in site by o o.heading m few refl }, packets_of_site site by now (before ++ _ ∷ []) packets m few)
 
--- what the rules of a hall ask is what those of its site's environment ask, with the hall's limits
-environment_of : Basis → Environment
-environment_of b = record (site_environment b.site) { most_entries = b.entries; most_bytes = b.bytes }
-
 pub packets_can : (s : Shown) (by : ℕ) (now : Time) (packets : List Output) → by < length s.basis.site.interfaces → by < 16 → is_connected by s.entries ≡ true → Lasting s.entries
     → entries_in (entries_of s.basis.site by now packets) ≤ s.spare_entries → bytes_in (entries_of s.basis.site by now packets) ≤ s.spare_bytes → CanAddAll s (entries_of s.basis.site by now packets)
-unfolding environment_of
 packets_can s by now packets m narrow on last few small =
     let env = environment_of s.basis in
     let line = below by (length s.basis.site.interfaces) m in
@@ -299,7 +293,7 @@ pub not_posted : (time : Time) (k new : Shown) (connections : List HeldConnectio
     → GivesRoom k n m (Err fault) new → Posts by (held_with time k connections) entries why (Err fault) (held_with time new connections)
 not_posted time k new connections by entries why n m NotEnabled same g = absurd g
 not_posted time k new connections by entries why n m (Full counted size) same g = (sym same ∙ g.0, g.1, g.2, ap (λ (x : Shown). held_with time x connections) g.3)
-not_posted time k new connections by entries why n m Memory same g = ap (λ (x : Shown). held_with time x connections) g
+not_posted time k new connections by entries why n m Memory same g = (sym same ∙ g.0, ap (λ (x : Shown). held_with time x connections) g.1)
 
 -- a connection that was fed a piece may post what was taken
 pub can_post : (w mid : Held) (by : ℕ) (piece : List ℕ) (entries : List Entry) (why : Option Why) (test : Bool) → length w.basis.site.interfaces ≤ 16 → IsOpen w by test → Takes by w piece entries why mid → CanPost by mid entries why

@@ -10,7 +10,6 @@ use Rattle.cts_entry.proofs.Queuing.{since-append, refused-append}
 use Rattle.cts_frame.specs.Packets.{capped}
 use Rattle.cts_core.specs.States.{Environment, State, passed, ahead, unsent}
 use Rattle.cts_core.specs.Cursors.{IsPassed}
-use Rattle.cts_core.specs.Laws.{CursorIsPlace}
 use Rattle.cts_told.specs.Routing.{spell, queue, walk}
 use Rattle.cts_told.proofs.Walks.{walk-append, queue-append, queue_walk, walk_none}
 
@@ -88,6 +87,3 @@ passed_none env t by none first = record {
   cursor_is = first ∙ sym (ap length (walk_none env.routing by));
   count_is = refl;
 }
-
-pub cursor_is_place : (env : Environment) → CursorIsPlace env
-cursor_is_place env s by place count p = (ahead_is env s by place count p, unsent_is env s by place count p)

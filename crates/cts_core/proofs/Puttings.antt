@@ -18,9 +18,9 @@ use Rattle.cts_table.specs.declared.basis.Basis.{Basis}
 use Rattle.cts_told.specs.Routing.{queue, spell, walk}
 use Rattle.cts_told.proofs.Walks.{queue_walk}
 use Rattle.cts_core.specs.Cursors.{IsPassed}
-use Rattle.cts_core.specs.Environments.{site_environment, writers_at}
+use Rattle.cts_core.specs.Environments.{environment_of, site_environment, writers_at}
 use Rattle.cts_core.specs.States.{State, ahead, is_enabled, put_next}
-use Rattle.cts_core.specs.Worlds.{Held, HeldConnection, HeldCursor, IsSoundHeld, Represents, commands_of, connection_at}
+use Rattle.cts_core.specs.Worlds.{Held, HeldConnection, HeldCursor, IsSoundHeld, RepresentsWithin, commands_of, connection_at}
 use Rattle.cts_core.specs.Writings.{IsNext, Puts, can_write, entries_ahead, spell_by}
 use Rattle.cts_core.proofs.Building.{and_false, and_tells}
 use Rattle.cts_core.proofs.CursorSteps.{queue_is, walk_is}
@@ -71,17 +71,17 @@ and_same true b c h = h refl
 and_same false b c h = refl
 
 -- what may be written is what is enabled
-pub can_write_is : (site : SiteData) (w : Held) (s : State) (by count : ℕ) → Represents site w s → can_write w by count ≡ is_enabled (site_environment site) s (Write by count)
-can_write_is site w s by count h =
+pub can_write_is : (base : Basis) (w : Held) (s : State) (by count : ℕ) → RepresentsWithin base w s → can_write w by count ≡ is_enabled (environment_of base) s (Write by count)
+can_write_is base w s by count h =
     let c = connection_at w.connections by in
     let ahead_of : List Entry → ℕ = λ l. length (commands_of by (drop c.cursor.place l)) in
     ap (λ (b : Basis). nat_lt by (length b.site.interfaces) && (c.connected && nat_le count (ahead_of w.history))) h.basis
-    ∙ and_same (nat_lt by (length site.interfaces)) (c.connected && nat_le count (ahead_of w.history)) (is_connected by s.history && nat_le count (length (ahead (site_environment site) s by))) (λ t.
-    let m : by < length site.interfaces = ltb-true by (length site.interfaces) t in
+    ∙ and_same (nat_lt by (length base.site.interfaces)) (c.connected && nat_le count (ahead_of w.history)) (is_connected by s.history && nat_le count (length (ahead (environment_of base) s by))) (λ t.
+    let m : by < length base.site.interfaces = ltb-true by (length base.site.interfaces) t in
     let mine = h.connections by m in
     ap (λ (b : Bool). b && nat_le count (ahead_of w.history)) mine.connected
-    ∙ and_same (is_connected by s.history) (nat_le count (ahead_of w.history)) (nat_le count (length (ahead (site_environment site) s by))) (λ on.
-    ap (λ (l : List Entry). nat_le count (ahead_of l)) h.history ∙ ap (λ (l : List Entry). nat_le count (length l)) (sym (ahead_commands site s by c.cursor m (mine.passed on)))))
+    ∙ and_same (is_connected by s.history) (nat_le count (ahead_of w.history)) (nat_le count (length (ahead (environment_of base) s by))) (λ on.
+    ap (λ (l : List Entry). nat_le count (ahead_of l)) h.history ∙ ap (λ (l : List Entry). nat_le count (length l)) (sym (ahead_commands base.site s by c.cursor m (mine.passed on)))))
 
 -- the next commands are those among the next entries
 next_commands : (by count next : ℕ) (rest : List Entry) → length (commands_of by (take next rest)) ≡ count → take count (commands_of by rest) ≡ commands_of by (take next rest)

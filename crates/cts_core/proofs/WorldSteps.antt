@@ -27,22 +27,21 @@ use Rattle.cts_frame.specs.Framing.{Framing, Output, plain}
 use Rattle.cts_frame.specs.Cuts.{Pieces}
 use Rattle.cts_frame.specs.Packets.{IsPackets, loss_of, Fault, fault_of}
 use Rattle.cts_frame.proofs.Chainings.{interface_framings}
-use Rattle.cts_core.specs.States.{State, is_piece, is_enabled, is_line, has_room, takes_room, unsent, may_close, opening, put_next}
+use Rattle.cts_core.specs.States.{State, is_piece, is_enabled, is_line, has_room, takes_memory, takes_room, unsent, may_close, opening, put_next}
 use Rattle.cts_core.specs.Runs.{Did, Does, silent, Appends, Receives, after, pieces_for, passed_for, closed_entry, closing}
 use Rattle.cts_core.proofs.Chaining.{all_renewed, begins, begins_anew, plain_more, same_framings}
 use Rattle.cts_core.proofs.CursorSteps.{PassesOn, passes, passed_opened, waits, waiting_kept}
 use Rattle.cts_core.proofs.Keeping.{pieces_turned, pieces_grow, pieces_stay, cursor_grows, cursor_turned}
 use Rattle.cts_told.proofs.Walks.{posted_packets}
-use Rattle.cts_core.specs.Environments.{basis_of, site_environment, writers_at}
+use Rattle.cts_core.specs.Environments.{environment_of, site_environment, writers_at}
 use Rattle.cts_api.specs.Points.{point_of}
 use Rattle.cts_api.specs.Replies.{IsReply, Reply as Answer, text_of}
 use Rattle.cts_core.proofs.Replying.{reply_quiet}
-use Rattle.cts_entry.specs.Legal.{most_bytes as bytes_limit, most_entries as entries_limit}
 use Rattle.cts_core.specs.Kept.{GivesRoom, is_within}
 use Rattle.cts_table.specs.States.{Shown}
 use Rattle.cts_table.specs.declared.basis.Basis.{Basis}
 use Rattle.cts_core.specs.Takings.{IsClosed, IsOpened, IsRenewed, Posts, Settles, Takes, TakesPiece, blamed, entries_of, lost}
-use Rattle.cts_core.specs.Worlds.{Held, HeldConnection, HeldCursor, commands_of, waiting, IsSoundHeld, IsUnmoved, Represents, Steps, IsConnection, changed, connection_at, first_held, held_with, no_chain, shut}
+use Rattle.cts_core.specs.Worlds.{Held, HeldConnection, HeldCursor, commands_of, waiting, IsSoundHeld, IsUnmoved, HadRoom, RepresentsWithin, Steps, IsConnection, changed, connection_at, first_held, held_with, no_chain, shut}
 use Rattle.cts_core.specs.declared.fault.WorldFault.{WorldFault}
 use Rattle.cts_core.specs.declared.fault.WorldFault.TheVariants.{NotEnabled as RefusedEvent, Full, Memory}
 use Rattle.cts_core.specs.Built.{is_built_site}
@@ -58,58 +57,58 @@ and_same false b c h = refl
 
 -- ---- an event that is not done
 
-stays : (site : SiteData) (w new : Held) (s : State) → new ≡ w → Represents site w s → Represents site new s
-stays site w new s same h = subst (λ (x : Held). Represents site x s) (sym same) h
+stays : (base : Basis) (w new : Held) (s : State) → new ≡ w → RepresentsWithin base w s → RepresentsWithin base new s
+stays base w new s same h = subst (λ (x : Held). RepresentsWithin base x s) (sym same) h
 
 -- nothing is changed, so what the hall shows is not
 pub unmoved : (w new : Held) → new ≡ w → IsUnmoved w new
 unmoved w new same = record { history = ap (λ (x : Held). x.history) same; time = ap (λ (x : Held). x.time) same; basis = ap (λ (x : Held). x.basis) same }
 
-pub not_enabled : (site : SiteData) (w new : Held) (s : State) (event : Event) (test : Bool) → test ≡ is_enabled (site_environment site) s event → test ≡ false → new ≡ w → Represents site w s → Steps site s event w (Err RefusedEvent) new
-not_enabled site w new s event test same off kept h = (sym same ∙ off, kept, stays site w new s kept h)
+pub not_enabled : (base : Basis) (w new : Held) (s : State) (event : Event) (test : Bool) → test ≡ is_enabled (environment_of base) s event → test ≡ false → new ≡ w → RepresentsWithin base w s → Steps base s event w (Err RefusedEvent) new
+not_enabled base w new s event test same off kept h = (sym same ∙ off, kept, stays base w new s kept h)
 
-pub wants_memory : (site : SiteData) (w new : Held) (s : State) (event : Event) → IsUnmoved w new → Steps site s event w (Err Memory) new
-wants_memory site w new s event kept = kept
+pub wants_memory : (base : Basis) (w new : Held) (s : State) (event : Event) → IsUnmoved w new → is_enabled (environment_of base) s event ≡ true → takes_memory event ≡ true → HadRoom base s event → Steps base s event w (Err Memory) new
+wants_memory base w new s event kept on takes room = (kept, record { enabled = on; takes = takes; room = room })
 
 -- what is left of the limits is what the definition says
-room_is : (site : SiteData) (w : Held) (s : State) (entries : List Entry) (n m : ℕ) → entries_in entries ≡ n → bytes_in entries ≡ m → Represents site w s → is_within w.basis w.history n m ≡ has_room (site_environment site) s entries
-room_is site w s entries n m e b h =
+room_is : (base : Basis) (w : Held) (s : State) (entries : List Entry) (n m : ℕ) → entries_in entries ≡ n → bytes_in entries ≡ m → RepresentsWithin base w s → is_within w.basis w.history n m ≡ has_room (environment_of base) s entries
+room_is base w s entries n m e b h =
     let count : entries_in w.history + n ≡ entries_in (s.history ++ entries) = omega (arith, ap entries_in h.history, entries_grow s.history entries n e) in
     let size : bytes_in w.history + m ≡ bytes_in (s.history ++ entries) = omega (arith, ap bytes_in h.history, bytes_grow s.history entries m b) in
     ap (λ (k : Basis). is_within k w.history n m) h.basis
-    ∙ (ap (λ (k : ℕ). nat_le k entries_limit && nat_le (bytes_in w.history + m) bytes_limit) count ∙ ap (λ (k : ℕ). nat_le (entries_in (s.history ++ entries)) entries_limit && nat_le k bytes_limit) size)
+    ∙ (ap (λ (k : ℕ). nat_le k base.entries && nat_le (bytes_in w.history + m) base.bytes) count ∙ ap (λ (k : ℕ). nat_le (entries_in (s.history ++ entries)) base.entries && nat_le k base.bytes) size)
 
-finds_full : (site : SiteData) (w new : Held) (s : State) (event : Event) (entries : List Entry) (n m counted size : ℕ) → is_enabled (site_environment site) s event ≡ true → takes_room event ≡ true → Appends (site_environment site) s event silent entries
-    → entries_in entries ≡ n → bytes_in entries ≡ m → is_within w.basis w.history n m ≡ false → counted ≡ entries_in w.history → size ≡ bytes_in w.history → IsUnmoved w new → Represents site w s → Steps site s event w (Err (Full counted size)) new
-finds_full site w new s event entries n m counted size t takes appends e b full c k kept h =
-    ((t, takes, (entries, appends, sym (room_is site w s entries n m e b h) ∙ full)), c ∙ ap entries_in h.history, k ∙ ap bytes_in h.history, kept)
+finds_full : (base : Basis) (w new : Held) (s : State) (event : Event) (entries : List Entry) (n m counted size : ℕ) → is_enabled (environment_of base) s event ≡ true → takes_room event ≡ true → Appends (environment_of base) s event silent entries
+    → entries_in entries ≡ n → bytes_in entries ≡ m → is_within w.basis w.history n m ≡ false → counted ≡ entries_in w.history → size ≡ bytes_in w.history → IsUnmoved w new → RepresentsWithin base w s → Steps base s event w (Err (Full counted size)) new
+finds_full base w new s event entries n m counted size t takes appends e b full c k kept h =
+    ((t, takes, (entries, appends, sym (room_is base w s entries n m e b h) ∙ full)), c ∙ ap entries_in h.history, k ∙ ap bytes_in h.history, kept)
 
 -- ---- which events are enabled
 
 -- a test of a line of a built site is one of an interface
-line_test : (site : SiteData) (by : ℕ) (a b : Bool) → is_built_site site ≡ true → (by < length site.interfaces → a ≡ b) → (nat_lt by (length site.interfaces) && a) ≡ (is_line (site_environment site) by && b)
-line_test site by a b built same =
-    and_same (nat_lt by (length site.interfaces)) a b (λ t. same (ltb-true by (length site.interfaces) t)) ∙ ap (λ (connection : Bool). connection && b) (sym (line_is site by built))
+line_test : (base : Basis) (by : ℕ) (a b : Bool) → is_built_site base.site ≡ true → (by < length base.site.interfaces → a ≡ b) → (nat_lt by (length base.site.interfaces) && a) ≡ (is_line (environment_of base) by && b)
+line_test base by a b built same =
+    and_same (nat_lt by (length base.site.interfaces)) a b (λ t. same (ltb-true by (length base.site.interfaces) t)) ∙ ap (λ (connection : Bool). connection && b) (sym (line_is base by built))
 
-pub may_open_is : (site : SiteData) (w : Held) (s : State) (by : ℕ) → is_built_site site ≡ true → Represents site w s
-    → (nat_lt by (length w.basis.site.interfaces) && (not (connection_at w.connections by).connected && not (is_stopped w.history))) ≡ is_enabled (site_environment site) s (Opens by)
-may_open_is site w s by built h =
+pub may_open_is : (base : Basis) (w : Held) (s : State) (by : ℕ) → is_built_site base.site ≡ true → RepresentsWithin base w s
+    → (nat_lt by (length w.basis.site.interfaces) && (not (connection_at w.connections by).connected && not (is_stopped w.history))) ≡ is_enabled (environment_of base) s (Opens by)
+may_open_is base w s by built h =
     ap (λ (b : Basis). nat_lt by (length b.site.interfaces) && (not (connection_at w.connections by).connected && not (is_stopped w.history))) h.basis
-    ∙ line_test site by (not (connection_at w.connections by).connected && not (is_stopped w.history)) (not (is_connected by s.history) && not (is_stopped s.history)) built (λ m.
+    ∙ line_test base by (not (connection_at w.connections by).connected && not (is_stopped w.history)) (not (is_connected by s.history) && not (is_stopped s.history)) built (λ m.
     ap (λ (c : Bool). not c && not (is_stopped w.history)) (h.connections by m).connected ∙ ap (λ (l : List Entry). not (is_connected by s.history) && not (is_stopped l)) h.history)
 
-pub may_finish_is : (site : SiteData) (w : Held) (s : State) (by : ℕ) (why : Why) → is_built_site site ≡ true → Represents site w s
-    → (nat_lt by (length w.basis.site.interfaces) && ((connection_at w.connections by).connected && may_close w.history why)) ≡ is_enabled (site_environment site) s (Finish by why)
-may_finish_is site w s by why built h =
+pub may_finish_is : (base : Basis) (w : Held) (s : State) (by : ℕ) (why : Why) → is_built_site base.site ≡ true → RepresentsWithin base w s
+    → (nat_lt by (length w.basis.site.interfaces) && ((connection_at w.connections by).connected && may_close w.history why)) ≡ is_enabled (environment_of base) s (Finish by why)
+may_finish_is base w s by why built h =
     ap (λ (b : Basis). nat_lt by (length b.site.interfaces) && ((connection_at w.connections by).connected && may_close w.history why)) h.basis
-    ∙ line_test site by ((connection_at w.connections by).connected && may_close w.history why) (is_connected by s.history && may_close s.history why) built (λ m.
+    ∙ line_test base by ((connection_at w.connections by).connected && may_close w.history why) (is_connected by s.history && may_close s.history why) built (λ m.
     ap (λ (c : Bool). c && may_close w.history why) (h.connections by m).connected ∙ ap (λ (l : List Entry). is_connected by s.history && may_close l why) h.history)
 
-pub may_receive_is : (site : SiteData) (w : Held) (s : State) (by : ℕ) (piece : List ℕ) → is_built_site site ≡ true → Represents site w s
-    → (nat_lt by (length w.basis.site.interfaces) && ((connection_at w.connections by).connected && is_piece piece)) ≡ is_enabled (site_environment site) s (Piece by piece)
-may_receive_is site w s by piece built h =
+pub may_receive_is : (base : Basis) (w : Held) (s : State) (by : ℕ) (piece : List ℕ) → is_built_site base.site ≡ true → RepresentsWithin base w s
+    → (nat_lt by (length w.basis.site.interfaces) && ((connection_at w.connections by).connected && is_piece piece)) ≡ is_enabled (environment_of base) s (Piece by piece)
+may_receive_is base w s by piece built h =
     ap (λ (b : Basis). nat_lt by (length b.site.interfaces) && ((connection_at w.connections by).connected && is_piece piece)) h.basis
-    ∙ line_test site by ((connection_at w.connections by).connected && is_piece piece) (is_connected by s.history && is_piece piece) built (λ m. ap (λ (c : Bool). c && is_piece piece) (h.connections by m).connected)
+    ∙ line_test base by ((connection_at w.connections by).connected && is_piece piece) (is_connected by s.history && is_piece piece) built (λ m. ap (λ (c : Bool). c && is_piece piece) (h.connections by m).connected)
 
 -- ---- the connections after an event
 
@@ -173,20 +172,20 @@ first_connection site cs by few f m =
     interface_uses : (site : SiteData) (by : ℕ) → by < first_slot → uses_at site by ≡ slice_index_or (interface_chains site) by []
     interface_uses site by h = rw (below by first_slot h) refl
 
-pub stands_first : (site : SiteData) (w : Held) (cs : List ChainData) → length site.interfaces ≤ 16 → AreFresh (interface_chains site) cs → w ≡ first_held site entries_limit bytes_limit cs → Represents site w opening
-stands_first site w cs few f e = subst (λ (x : Held). Represents site x opening) (sym e) (record {
+pub stands_first : (base : Basis) (w : Held) (cs : List ChainData) → length base.site.interfaces ≤ 16 → AreFresh (interface_chains base.site) cs → w ≡ first_held base.site base.entries base.bytes cs → RepresentsWithin base w opening
+stands_first base w cs few f e = subst (λ (x : Held). RepresentsWithin base x opening) (sym e) (record {
   history = refl;
   time = refl;
   basis = refl;
-  count = length-map cs shut ∙ (fresh_count (interface_chains site) cs f ∙ length-map site.interfaces (λ (i : InterfaceData). i.chain));
-  connections = λ by m. first_connection site cs by few f m;
+  count = length-map cs shut ∙ (fresh_count (interface_chains base.site) cs f ∙ length-map base.site.interfaces (λ (i : InterfaceData). i.chain));
+  connections = λ by m. first_connection base.site cs by few f m;
 })
 
 -- ---- the clock and the Stop
 
-pub time_set : (site : SiteData) (w : Held) (s : State) (time : Time) → time.micros < 1000000 → Represents site w s
-    → (did : Did) × Does (site_environment site) s (SetTime time) did × (Posted ≡ did.effect) × Represents site (record w { time = time }) (after s (SetTime time) did)
-time_set site w s time m h =
+pub time_set : (base : Basis) (w : Held) (s : State) (time : Time) → time.micros < 1000000 → RepresentsWithin base w s
+    → (did : Did) × Does (environment_of base) s (SetTime time) did × (Posted ≡ did.effect) × RepresentsWithin base (record w { time = time }) (after s (SetTime time) did)
+time_set base w s time m h =
     let did : Did = record { entries = []; effect = Posted } in
     let all : s.history ≡ s.history ++ [] = sym (append-nil s.history) in (
       did,
@@ -197,7 +196,7 @@ time_set site w s time m h =
         time = refl;
         basis = h.basis;
         count = h.count;
-        connections = λ k m. connection_kept site s (after s (SetTime time) did) k (connection_at w.connections k) (ap (is_connected k) (sym all)) (pieces_stay k (SetTime time) [] s.pieces refl refl) (passes site s (SetTime time) did k refl refl) (h.connections k m);
+        connections = λ k m. connection_kept base.site s (after s (SetTime time) did) k (connection_at w.connections k) (ap (is_connected k) (sym all)) (pieces_stay k (SetTime time) [] s.pieces refl refl) (passes base.site s (SetTime time) did k refl refl) (h.connections k m);
       },
     )
 
@@ -205,17 +204,17 @@ stop_tells_none : (k : ℕ) (b : Bool) → (if b then connects StopEntry else No
 stop_tells_none k true = refl
 stop_tells_none k false = refl
 
-pub stopped : (site : SiteData) (w new : Held) (s : State) → is_stopped w.history ≡ false → new ≡ record w { history = w.history ++ record { by = server; time = w.time; what = StopEntry } ∷ [] } → Represents site w s
-    → (did : Did) × Does (site_environment site) s Stop did × (Posted ≡ did.effect) × Represents site new (after s Stop did)
-stopped site w new s off n h =
+pub stopped : (base : Basis) (w new : Held) (s : State) → is_stopped w.history ≡ false → new ≡ record w { history = w.history ++ record { by = server; time = w.time; what = StopEntry } ∷ [] } → RepresentsWithin base w s
+    → (did : Did) × Does (environment_of base) s Stop did × (Posted ≡ did.effect) × RepresentsWithin base new (after s Stop did)
+stopped base w new s off n h =
     let entry : Entry = record { by = server; time = s.time; what = StopEntry } in
     let did : Did = record { entries = entry ∷ []; effect = Posted } in
-    let whole : Represents site (record w { history = w.history ++ record { by = server; time = w.time; what = StopEntry } ∷ [] }) (after s Stop did) = record {
+    let whole : RepresentsWithin base (record w { history = w.history ++ record { by = server; time = w.time; what = StopEntry } ∷ [] }) (after s Stop did) = record {
       history = ap (λ (l : List Entry). l ++ record { by = server; time = w.time; what = StopEntry } ∷ []) h.history ∙ ap (λ (now : Time). s.history ++ record { by = server; time = now; what = StopEntry } ∷ []) h.time;
       time = h.time;
       basis = h.basis;
       count = h.count;
-      connections = λ k m. connection_kept site s (after s Stop did) k (connection_at w.connections k) (connected_kept k s.history (entry ∷ []) (stop_tells_none k (31 == k))) (pieces_stay k Stop (entry ∷ []) s.pieces (stop_tells_none k (31 == k)) refl) (passes site s Stop did k (stop_tells_none k (31 == k)) refl) (h.connections k m);
+      connections = λ k m. connection_kept base.site s (after s Stop did) k (connection_at w.connections k) (connected_kept k s.history (entry ∷ []) (stop_tells_none k (31 == k))) (pieces_stay k Stop (entry ∷ []) s.pieces (stop_tells_none k (31 == k)) refl) (passes base.site s Stop did k (stop_tells_none k (31 == k)) refl) (h.connections k m);
     } in (
       did,
       record {
@@ -227,7 +226,7 @@ stopped site w new s off n h =
         effect = refl;
       },
       refl,
-      subst (λ (x : Held). Represents site x (after s Stop did)) (sym n) whole,
+      subst (λ (x : Held). RepresentsWithin base x (after s Stop did)) (sym n) whole,
     )
 
 -- ---- one entry of a maker
@@ -240,25 +239,25 @@ others_kept by s entry e k other = connected_kept k s.history (entry ∷ []) (te
 maker_told : (by : ℕ) (s : State) (entry : Entry) (on : Bool) → entry.by ≡ by → connects entry.what ≡ Some on → on ≡ is_connected by (s.history ++ entry ∷ [])
 maker_told by s entry on e t = sym (connected-append by s.history (entry ∷ []) ∙ ap (λ (o : Option Bool). unwrap_or (or_earlier o (latest (connects_maker by) s.history)) false) (tells_maker by entry e ∙ t))
 
-pub opens : (site : SiteData) (w new : Held) (s : State) (by : ℕ) → is_built_site site ≡ true → IsOpened by w new → is_enabled (site_environment site) s (Opens by) ≡ true → is_within w.basis w.history 1 0 ≡ true → Represents site w s
-    → (did : Did) × Does (site_environment site) s (Opens by) did × (Posted ≡ did.effect) × Represents site new (after s (Opens by) did)
-opens site w new s by built n t fits h =
-    let m : by < length site.interfaces = (enabled_line site by _ built t).0 in
+pub opens : (base : Basis) (w new : Held) (s : State) (by : ℕ) → is_built_site base.site ≡ true → IsOpened by w new → is_enabled (environment_of base) s (Opens by) ≡ true → is_within w.basis w.history 1 0 ≡ true → RepresentsWithin base w s
+    → (did : Did) × Does (environment_of base) s (Opens by) did × (Posted ≡ did.effect) × RepresentsWithin base new (after s (Opens by) did)
+opens base w new s by built n t fits h =
+    let m : by < length base.site.interfaces = (enabled_line base by _ built t).0 in
     let entry : Entry = record { by = by; time = s.time; what = Opened } in
     let did : Did = record { entries = entry ∷ []; effect = Posted } in
     let moved : State = after s (Opens by) did in
     let same : w.history ++ record { by = by; time = w.time; what = Opened } ∷ [] ≡ moved.history =
     ap (λ (l : List Entry). l ++ record { by = by; time = w.time; what = Opened } ∷ []) h.history ∙ ap (λ (now : Time). s.history ++ record { by = by; time = now; what = Opened } ∷ []) h.time in
-    let mine : IsConnection site moved by n.0 =
-    begins_anew site s moved by true (connection_at w.connections by) n.0 n.1 (h.connections by m) (maker_told by s entry true refl refl) (pieces_turned by (Opens by) (entry ∷ []) s.pieces true (tells_maker by entry refl))
-    (λ stands. passed_opened site moved by s.history entry n.0.cursor refl refl refl (cursor_turned by (Opens by) (entry ∷ []) s.cursor true (tells_maker by entry refl))
+    let mine : IsConnection base.site moved by n.0 =
+    begins_anew base.site s moved by true (connection_at w.connections by) n.0 n.1 (h.connections by m) (maker_told by s entry true refl refl) (pieces_turned by (Opens by) (entry ∷ []) s.pieces true (tells_maker by entry refl))
+    (λ stands. passed_opened base.site moved by s.history entry n.0.cursor refl refl refl (cursor_turned by (Opens by) (entry ∷ []) s.cursor true (tells_maker by entry refl))
     (n.2 ∙ ap (λ (l : List Entry). record { place = length l; refused = 0 }) (ap (λ (x : Held). x.history) n.3 ∙ same))) in
-    let whole : Represents site (changed by w (record { by = by; time = w.time; what = Opened } ∷ []) n.0) moved = record {
+    let whole : RepresentsWithin base (changed by w (record { by = by; time = w.time; what = Opened } ∷ []) n.0) moved = record {
       history = same;
       time = h.time;
       basis = h.basis;
-      count = set_count w.connections (length site.interfaces) by n.0 h.count;
-      connections = connections_set site s moved w.connections (length site.interfaces) by n.0 h.count m h.connections mine (others_kept by s entry refl) (λ k other. pieces_stay k (Opens by) (entry ∷ []) s.pieces (tells_no_other k entry other) refl) (λ k other. passes site s (Opens by) did k (tells_no_other k entry other) refl);
+      count = set_count w.connections (length base.site.interfaces) by n.0 h.count;
+      connections = connections_set base.site s moved w.connections (length base.site.interfaces) by n.0 h.count m h.connections mine (others_kept by s entry refl) (λ k other. pieces_stay k (Opens by) (entry ∷ []) s.pieces (tells_no_other k entry other) refl) (λ k other. passes base.site s (Opens by) did k (tells_no_other k entry other) refl);
     } in (
       did,
       record {
@@ -266,21 +265,25 @@ opens site w new s by built n t fits h =
         answer = silent;
         answered = refl;
         appends = refl;
-        room = λ takes. sym (room_is site w s (entry ∷ []) 1 0 refl refl h) ∙ fits;
+        room = λ takes. sym (room_is base w s (entry ∷ []) 1 0 refl refl h) ∙ fits;
         effect = refl;
       },
       refl,
-      subst (λ (x : Held). Represents site x moved) (sym n.3) whole,
+      subst (λ (x : Held). RepresentsWithin base x moved) (sym n.3) whole,
     )
 
 -- there is no room for an Opened, or no memory for it
-pub open_refused : (site : SiteData) (time : Time) (k new : Shown) (connections : List HeldConnection) (s : State) (by : ℕ) (fault : WorldFault) → is_enabled (site_environment site) s (Opens by) ≡ true → GivesRoom k 1 0 (Err fault) new
-    → Represents site (held_with time k connections) s → Steps site s (Opens by) (held_with time k connections) (Err fault) (held_with time new connections)
-open_refused site time k new connections s by RefusedEvent t g h = absurd g
-open_refused site time k new connections s by (Full counted size) t g h =
+pub open_refused : (base : Basis) (time : Time) (k new : Shown) (connections : List HeldConnection) (s : State) (by : ℕ) (fault : WorldFault) → is_enabled (environment_of base) s (Opens by) ≡ true → GivesRoom k 1 0 (Err fault) new
+    → RepresentsWithin base (held_with time k connections) s → Steps base s (Opens by) (held_with time k connections) (Err fault) (held_with time new connections)
+open_refused base time k new connections s by RefusedEvent t g h = absurd g
+open_refused base time k new connections s by (Full counted size) t g h =
     let w = held_with time k connections in
-    finds_full site w (held_with time new connections) s (Opens by) (record { by = by; time = s.time; what = Opened } ∷ []) 1 0 counted size t refl refl refl refl g.0 g.1 g.2 (unmoved w (held_with time new connections) (ap (λ (x : Shown). held_with time x connections) g.3)) h
-open_refused site time k new connections s by Memory t g h = unmoved (held_with time k connections) (held_with time new connections) (ap (λ (x : Shown). held_with time x connections) g)
+    finds_full base w (held_with time new connections) s (Opens by) (record { by = by; time = s.time; what = Opened } ∷ []) 1 0 counted size t refl refl refl refl g.0 g.1 g.2 (unmoved w (held_with time new connections) (ap (λ (x : Shown). held_with time x connections) g.3)) h
+open_refused base time k new connections s by Memory t g h =
+    let w = held_with time k connections in
+    let entry : Entry = record { by = by; time = s.time; what = Opened } in
+    wants_memory base w (held_with time new connections) s (Opens by) (unmoved w (held_with time new connections) (ap (λ (x : Shown). held_with time x connections) g.1)) t refl
+    (λ entries is. ap (has_room (environment_of base) s) is ∙ (sym (room_is base w s (entry ∷ []) 1 0 refl refl h) ∙ g.0))
 
 -- ---- a connection ends
 
@@ -296,29 +299,29 @@ none_passed : {P : Type 0} (off : Bool) → off ≡ false → off ≡ true → P
 none_passed true h k = absurd (cc h)
 none_passed false h k = absurd (cc k)
 
-pub finished : (site : SiteData) (w new : Held) (s : State) (by : ℕ) (why : Why) → is_built_site site ≡ true → IsClosed by w why new → is_enabled (site_environment site) s (Finish by why) ≡ true → Represents site w s
-    → (did : Did) × Does (site_environment site) s (Finish by why) did × (Posted ≡ did.effect) × Represents site new (after s (Finish by why) did)
-finished site w new s by why built n t h =
-    let line = enabled_line site by _ built t in
-    let m : by < length site.interfaces = line.0 in
+pub finished : (base : Basis) (w new : Held) (s : State) (by : ℕ) (why : Why) → is_built_site base.site ≡ true → IsClosed by w why new → is_enabled (environment_of base) s (Finish by why) ≡ true → RepresentsWithin base w s
+    → (did : Did) × Does (environment_of base) s (Finish by why) did × (Posted ≡ did.effect) × RepresentsWithin base new (after s (Finish by why) did)
+finished base w new s by why built n t h =
+    let line = enabled_line base by _ built t in
+    let m : by < length base.site.interfaces = line.0 in
     let on : is_connected by s.history ≡ true = (and_tells (is_connected by s.history) (may_close s.history why) line.1).0 in
     let old = connection_at w.connections by in
     let mine = h.connections by m in
-    let all = given_by site s by old mine in
-    let left = unsent (site_environment site) s by in
+    let all = given_by base.site s by old mine in
+    let left = unsent (environment_of base) s by in
     let entry = closed_entry s.time by why left all.cuts in
     let did : Did = record { entries = entry ∷ []; effect = Posted } in
     let moved : State = after s (Finish by why) did in
     let told : false ≡ is_connected by moved.history = maker_told by s entry false refl refl in
-    let waits_is : waiting by w.history old.cursor ≡ left = ap (λ (l : List Entry). waiting by l old.cursor) h.history ∙ sym (waits site s by old.cursor m (mine.passed on)) in
-    let whole : Represents site (changed by w (lost by w.time w.history old why ∷ []) n.0) moved = record {
+    let waits_is : waiting by w.history old.cursor ≡ left = ap (λ (l : List Entry). waiting by l old.cursor) h.history ∙ sym (waits base.site s by old.cursor m (mine.passed on)) in
+    let whole : RepresentsWithin base (changed by w (lost by w.time w.history old why ∷ []) n.0) moved = record {
       history = ap (λ (l : List Entry). l ++ lost by w.time w.history old why ∷ []) h.history ∙ ap (λ (x : Entry). s.history ++ x ∷ []) (closed_entry_is by w.time s.time w.history why old left all.cuts h.time all.loss_is waits_is);
       time = h.time;
       basis = h.basis;
-      count = set_count w.connections (length site.interfaces) by n.0 h.count;
-      connections = connections_set site s moved w.connections (length site.interfaces) by n.0 h.count m h.connections
-          (begins_anew site s moved by false old n.0 n.1 mine told (pieces_turned by (Finish by why) (entry ∷ []) s.pieces false (tells_maker by entry refl)) (λ stands. none_passed (is_connected by moved.history) (sym told) stands))
-          (others_kept by s entry refl) (λ k other. pieces_stay k (Finish by why) (entry ∷ []) s.pieces (tells_no_other k entry other) refl) (λ k other. passes site s (Finish by why) did k (tells_no_other k entry other) refl);
+      count = set_count w.connections (length base.site.interfaces) by n.0 h.count;
+      connections = connections_set base.site s moved w.connections (length base.site.interfaces) by n.0 h.count m h.connections
+          (begins_anew base.site s moved by false old n.0 n.1 mine told (pieces_turned by (Finish by why) (entry ∷ []) s.pieces false (tells_maker by entry refl)) (λ stands. none_passed (is_connected by moved.history) (sym told) stands))
+          (others_kept by s entry refl) (λ k other. pieces_stay k (Finish by why) (entry ∷ []) s.pieces (tells_no_other k entry other) refl) (λ k other. passes base.site s (Finish by why) did k (tells_no_other k entry other) refl);
     } in (
       did,
       record {
@@ -335,7 +338,7 @@ finished site w new s by why built n t h =
         effect = refl;
       },
       refl,
-      subst (λ (x : Held). Represents site x moved) (sym n.2) whole,
+      subst (λ (x : Held). RepresentsWithin base x moved) (sym n.2) whole,
     )
 
 -- ---- What a piece brings
@@ -353,13 +356,13 @@ record IsFed (site : SiteData) (w : Held) (s : State) (by : ℕ) (piece : List �
   stands : StagesStand c.chain.stages (map plain (s.pieces by ++ piece ∷ [])) (before.packets ++ taken.packets)
   all : AreOf c.chain.stages (s.pieces by ++ piece ∷ []) (before.packets ++ taken.packets)
 
-is_fed : (site : SiteData) (w mid : Held) (s : State) (by : ℕ) (piece : List ℕ) (entries : List Entry) (why : Option Why) → is_built_site site ≡ true → is_enabled (site_environment site) s (Piece by piece) ≡ true → Represents site w s
-    → (k : Takes by w piece entries why mid) → IsFed site w s by piece entries why k.0
-is_fed site w mid s by piece entries why built t h k =
-    let line = enabled_line site by _ built t in
-    let m : by < length site.interfaces = line.0 in
+is_fed : (base : Basis) (w mid : Held) (s : State) (by : ℕ) (piece : List ℕ) (entries : List Entry) (why : Option Why) → is_built_site base.site ≡ true → is_enabled (environment_of base) s (Piece by piece) ≡ true → RepresentsWithin base w s
+    → (k : Takes by w piece entries why mid) → IsFed base.site w s by piece entries why k.0
+is_fed base w mid s by piece entries why built t h k =
+    let line = enabled_line base by _ built t in
+    let m : by < length base.site.interfaces = line.0 in
     let before = h.connections by m in
-    let taken : TakesPiece site by w.time (connection_at w.connections by).chain piece entries why k.0.chain = subst (λ (b : Basis). TakesPiece b.site by w.time (connection_at w.connections by).chain piece entries why k.0.chain) h.basis k.3 in
+    let taken : TakesPiece base.site by w.time (connection_at w.connections by).chain piece entries why k.0.chain = subst (λ (b : Basis). TakesPiece b.site by w.time (connection_at w.connections by).chain piece entries why k.0.chain) h.basis k.3 in
     let stands = subst (λ (ins : List Output). StagesStand k.0.chain.stages ins (before.packets ++ taken.packets)) (plain_more (s.pieces by) piece) (taken.stands (map plain (s.pieces by)) before.packets before.stands) in
     record {
       there = m;
@@ -392,12 +395,12 @@ tail_weighs by now n cuts (Some f) = refl
 posts : SiteData → ℕ → Time → ℕ → List Output → List Pieces → Option Fault → List Entry
 posts site by now n packets cuts fault = entries_of site by now packets ++ tail_of by now n cuts fault
 
-posts_received : (site : SiteData) (w : Held) (s : State) (by : ℕ) (piece : List ℕ) (entries : List Entry) (why : Option Why) (c : HeldConnection) → Represents site w s → (k : IsFed site w s by piece entries why c)
-    → Receives (site_environment site) s by piece (posts site by s.time (unsent (site_environment site) s by) k.taken.packets k.all.cuts (fault_of k.all.cuts))
+posts_received : (base : Basis) (w : Held) (s : State) (by : ℕ) (piece : List ℕ) (entries : List Entry) (why : Option Why) (c : HeldConnection) → RepresentsWithin base w s → (k : IsFed base.site w s by piece entries why c)
+    → Receives (environment_of base) s by piece (posts base.site by s.time (unsent (environment_of base) s by) k.taken.packets k.all.cuts (fault_of k.all.cuts))
 unfolding posts tail_of
-posts_received site w s by piece entries why c h k =
+posts_received base w s by piece entries why c h k =
     let old = connection_at w.connections by in
-    let first = given_by site s by old k.before in
+    let first = given_by base.site s by old k.before in
     let packets = k.taken.packets in
     record {
       earlier = first.cuts;
@@ -406,12 +409,12 @@ posts_received site w s by piece entries why c h k =
       cuts = k.all.cuts;
       packets = packets;
       after = subst (λ (chain : List Framing). IsPackets chain (s.pieces by ++ piece ∷ []) k.all.cuts (k.before.packets ++ packets)) k.framings k.all.packets_are;
-      entries_are = ap (λ (l : List Entry). l ++ closing s.time by (unsent (site_environment site) s by) k.all.cuts (fault_of k.all.cuts)) (sym (posted_packets (site_environment site).routing s.history s.time by packets (below by (length site.interfaces) k.there)));
+      entries_are = ap (λ (l : List Entry). l ++ closing s.time by (unsent (environment_of base) s by) k.all.cuts (fault_of k.all.cuts)) (sym (posted_packets (environment_of base).routing s.history s.time by packets (below by (length base.site.interfaces) k.there)));
     }
 
 -- they are the entries that were taken, and what stands behind them counts nothing
-entries_at : (site : SiteData) (w : Held) (s : State) (by : ℕ) (packets : List Output) (entries : List Entry) → entries ≡ entries_of site by w.time packets → Represents site w s → entries ≡ entries_of site by s.time packets
-entries_at site w s by packets entries e h = e ∙ ap (λ (now : Time). entries_of site by now packets) h.time
+entries_at : (base : Basis) (w : Held) (s : State) (by : ℕ) (packets : List Output) (entries : List Entry) → entries ≡ entries_of base.site by w.time packets → RepresentsWithin base w s → entries ≡ entries_of base.site by s.time packets
+entries_at base w s by packets entries e h = e ∙ ap (λ (now : Time). entries_of base.site by now packets) h.time
 
 posts_count : (site : SiteData) (by : ℕ) (now : Time) (n : ℕ) (packets : List Output) (cuts : List Pieces) (fault : Option Fault) (entries : List Entry) → entries ≡ entries_of site by now packets → entries_in (posts site by now n packets cuts fault) ≡ entries_in entries
 unfolding posts
@@ -444,15 +447,15 @@ passed_same : (site : SiteData) (w : Held) (s : State) (by : ℕ) (piece : List 
 passed_same site w s by piece entries why c k = subst (λ (x : HeldCursor). IsPassed (site_environment site) s by x.place x.refused) (sym k.cursor) (k.before.passed k.on)
 
 -- the packets are in the history, and no stage has failed
-stands_whole : (site : SiteData) (w : Held) (s : State) (by : ℕ) (piece : List ℕ) (entries : List Entry) (why : Option Why) (c : HeldConnection) → Represents site w s → (k : IsFed site w s by piece entries why c)
-    → (did : Did) → did.entries ≡ entries → fault_of k.all.cuts ≡ None → Represents site (changed by w entries c) (after s (Piece by piece) did)
-stands_whole site w s by piece entries why c h k did d e =
+stands_whole : (base : Basis) (w : Held) (s : State) (by : ℕ) (piece : List ℕ) (entries : List Entry) (why : Option Why) (c : HeldConnection) → RepresentsWithin base w s → (k : IsFed base.site w s by piece entries why c)
+    → (did : Did) → did.entries ≡ entries → fault_of k.all.cuts ≡ None → RepresentsWithin base (changed by w entries c) (after s (Piece by piece) did)
+stands_whole base w s by piece entries why c h k did d e =
     let moved : State = after s (Piece by piece) did in
     let packets = k.taken.packets in
-    let mine_are = entries_at site w s by packets entries k.taken.entries_are h in
-    let none : (j : ℕ) → latest (connects_maker j) did.entries ≡ None = λ j. ap (latest (connects_maker j)) (d ∙ mine_are) ∙ packets_connect_none site j by s.time packets in
+    let mine_are = entries_at base w s by packets entries k.taken.entries_are h in
+    let none : (j : ℕ) → latest (connects_maker j) did.entries ≡ None = λ j. ap (latest (connects_maker j)) (d ∙ mine_are) ∙ packets_connect_none base.site j by s.time packets in
     let kept : (j : ℕ) → is_connected j (s.history ++ did.entries) ≡ is_connected j s.history = λ j. connected_kept j s.history did.entries (none j) in
-    let mine : IsConnection site moved by c = record {
+    let mine : IsConnection base.site moved by c = record {
       connected = k.flag ∙ (k.before.connected ∙ sym (kept by));
       framings = k.framings;
       writing = k.writing;
@@ -460,47 +463,47 @@ stands_whole site w s by piece entries why c h k did d e =
       stands = subst (λ (pieces : List (List ℕ)). StagesStand c.chain.stages (map plain pieces) (k.before.packets ++ packets)) (sym (pieces_grow by (Piece by piece) did.entries s.pieces (none by) ∙ ap (λ (l : List (List ℕ)). s.pieces by ++ l) (piece_of_maker by piece))) k.stands;
       settled = k.taken.settled;
       unfailed = k.all.fault_is ∙ e;
-      passed = λ stands. passes site s (Piece by piece) did by (none by) refl c.cursor.place c.cursor.refused (passed_same site w s by piece entries why c k);
+      passed = λ stands. passes base.site s (Piece by piece) did by (none by) refl c.cursor.place c.cursor.refused (passed_same base.site w s by piece entries why c k);
     } in
     record {
       history = ap (λ (l : List Entry). l ++ entries) h.history ∙ ap (λ (l : List Entry). s.history ++ l) (sym d);
       time = h.time;
       basis = h.basis;
-      count = set_count w.connections (length site.interfaces) by c h.count;
-      connections = connections_set site s moved w.connections (length site.interfaces) by c h.count k.there h.connections mine (λ j other. kept j) (λ j other. pieces_stay j (Piece by piece) did.entries s.pieces (none j) (piece_of_other j by piece other)) (λ j other. passes site s (Piece by piece) did j (none j) refl);
+      count = set_count w.connections (length base.site.interfaces) by c h.count;
+      connections = connections_set base.site s moved w.connections (length base.site.interfaces) by c h.count k.there h.connections mine (λ j other. kept j) (λ j other. pieces_stay j (Piece by piece) did.entries s.pieces (none j) (piece_of_other j by piece other)) (λ j other. passes base.site s (Piece by piece) did j (none j) refl);
     }
 
 -- a stage has failed, and the connection is closed
-stands_bad : (site : SiteData) (w : Held) (s : State) (by : ℕ) (piece : List ℕ) (entries : List Entry) (why : Option Why) (c : HeldConnection) → Represents site w s → (k : IsFed site w s by piece entries why c)
-    → (did : Did) (reason : Why) → did.entries ≡ entries ++ closed_entry s.time by reason (unsent (site_environment site) s by) k.all.cuts ∷ [] → (shutting : HeldConnection) → IsRenewed false c shutting
-    → Represents site (record w { history = (w.history ++ entries) ++ lost by w.time (w.history ++ entries) c reason ∷ []; connections = set w.connections by shutting }) (after s (Piece by piece) did)
-stands_bad site w s by piece entries why c h k did reason d shutting r =
+stands_bad : (base : Basis) (w : Held) (s : State) (by : ℕ) (piece : List ℕ) (entries : List Entry) (why : Option Why) (c : HeldConnection) → RepresentsWithin base w s → (k : IsFed base.site w s by piece entries why c)
+    → (did : Did) (reason : Why) → did.entries ≡ entries ++ closed_entry s.time by reason (unsent (environment_of base) s by) k.all.cuts ∷ [] → (shutting : HeldConnection) → IsRenewed false c shutting
+    → RepresentsWithin base (record w { history = (w.history ++ entries) ++ lost by w.time (w.history ++ entries) c reason ∷ []; connections = set w.connections by shutting }) (after s (Piece by piece) did)
+stands_bad base w s by piece entries why c h k did reason d shutting r =
     let moved : State = after s (Piece by piece) did in
     let packets = k.taken.packets in
-    let mine_are = entries_at site w s by packets entries k.taken.entries_are h in
-    let left = unsent (site_environment site) s by in
+    let mine_are = entries_at base w s by packets entries k.taken.entries_are h in
+    let left = unsent (environment_of base) s by in
     let tail = closed_entry s.time by reason left k.all.cuts in
-    let bad : did.entries ≡ entries_of site by s.time packets ++ tail ∷ [] = d ∙ ap (λ (l : List Entry). l ++ tail ∷ []) mine_are in
-    let behind : w.history ++ entries ≡ s.history ++ entries_of site by s.time packets = ap (λ (l : List Entry). l ++ entries) h.history ∙ ap (λ (l : List Entry). s.history ++ l) mine_are in
-    let passed = passed_same site w s by piece entries why c k in
+    let bad : did.entries ≡ entries_of base.site by s.time packets ++ tail ∷ [] = d ∙ ap (λ (l : List Entry). l ++ tail ∷ []) mine_are in
+    let behind : w.history ++ entries ≡ s.history ++ entries_of base.site by s.time packets = ap (λ (l : List Entry). l ++ entries) h.history ∙ ap (λ (l : List Entry). s.history ++ l) mine_are in
+    let passed = passed_same base.site w s by piece entries why c k in
     let waits_is : waiting by (w.history ++ entries) c.cursor ≡ left =
-    ap (λ (l : List Entry). waiting by l c.cursor) behind ∙ (waiting_kept site s by s.time packets c.cursor passed ∙ sym (waits site s by c.cursor k.there passed)) in
+    ap (λ (l : List Entry). waiting by l c.cursor) behind ∙ (waiting_kept base.site s by s.time packets c.cursor passed ∙ sym (waits base.site s by c.cursor k.there passed)) in
     let last : lost by w.time (w.history ++ entries) c reason ≡ tail = closed_entry_is by w.time s.time (w.history ++ entries) reason c left k.all.cuts h.time k.all.loss_is waits_is in
-    let tells : (j : ℕ) → latest (connects_maker j) did.entries ≡ connects_maker j tail = λ j. ap (latest (connects_maker j)) bad ∙ packets_then site j by s.time packets tail in
+    let tells : (j : ℕ) → latest (connects_maker j) did.entries ≡ connects_maker j tail = λ j. ap (latest (connects_maker j)) bad ∙ packets_then base.site j by s.time packets tail in
     let others : (j : ℕ) → j ≢ by → latest (connects_maker j) did.entries ≡ None = λ j other. tells j ∙ tells_no_other j tail other in
     let off : false ≡ is_connected by (s.history ++ did.entries) =
     sym (connected-append by s.history did.entries ∙ ap (λ (t : Option Bool). unwrap_or (or_earlier t (latest (connects_maker by) s.history)) false) (tells by ∙ tells_maker by tail refl)) in
-    let mine : IsConnection site moved by shutting =
-    begins site moved by shutting (r.connected_is ∙ off) (same_framings c.chain shutting.chain r.same ∙ k.framings) (r.same.writers ∙ k.writing) (pieces_turned by (Piece by piece) did.entries s.pieces false (tells by ∙ tells_maker by tail refl))
+    let mine : IsConnection base.site moved by shutting =
+    begins base.site moved by shutting (r.connected_is ∙ off) (same_framings c.chain shutting.chain r.same ∙ k.framings) (r.same.writers ∙ k.writing) (pieces_turned by (Piece by piece) did.entries s.pieces false (tells by ∙ tells_maker by tail refl))
     (all_renewed c.chain.stages shutting.chain.stages r.renewed) (renewed_stands c.chain.stages shutting.chain.stages r.renewed) (λ stands. none_passed (is_connected by moved.history) (sym off) stands) in
     record {
       history = ap (λ (l : List Entry). (l ++ entries) ++ lost by w.time (w.history ++ entries) c reason ∷ []) h.history
           ∙ (append_assoc s.history entries (lost by w.time (w.history ++ entries) c reason ∷ []) ∙ (ap (λ (x : Entry). s.history ++ (entries ++ x ∷ [])) last ∙ ap (λ (l : List Entry). s.history ++ l) (sym d)));
       time = h.time;
       basis = h.basis;
-      count = set_count w.connections (length site.interfaces) by shutting h.count;
-      connections = connections_set site s moved w.connections (length site.interfaces) by shutting h.count k.there h.connections mine
-          (λ j other. connected_kept j s.history did.entries (others j other)) (λ j other. pieces_stay j (Piece by piece) did.entries s.pieces (others j other) (piece_of_other j by piece other)) (λ j other. passes site s (Piece by piece) did j (others j other) refl);
+      count = set_count w.connections (length base.site.interfaces) by shutting h.count;
+      connections = connections_set base.site s moved w.connections (length base.site.interfaces) by shutting h.count k.there h.connections mine
+          (λ j other. connected_kept j s.history did.entries (others j other)) (λ j other. pieces_stay j (Piece by piece) did.entries s.pieces (others j other) (piece_of_other j by piece other)) (λ j other. passes base.site s (Piece by piece) did j (others j other) refl);
     }
 
 -- what is held with a connection set twice
@@ -514,66 +517,67 @@ set_twice w by entries c shutting reason new m r n =
           ∙ ap (λ (cs : List HeldConnection). record w { history = (w.history ++ entries) ++ lost by w.time (w.history ++ entries) c reason ∷ []; connections = cs }) (set-set w.connections by c shutting)),
     )
 
-stands_settled : (site : SiteData) (w new : Held) (s : State) (by : ℕ) (piece : List ℕ) (entries : List Entry) (why : Option Why) (c : HeldConnection) → Represents site w s → (k : IsFed site w s by piece entries why c)
+stands_settled : (base : Basis) (w new : Held) (s : State) (by : ℕ) (piece : List ℕ) (entries : List Entry) (why : Option Why) (c : HeldConnection) → RepresentsWithin base w s → (k : IsFed base.site w s by piece entries why c)
     → (fault : Option Fault) → fault_of k.all.cuts ≡ fault → Settles by (changed by w entries c) (blamed fault) new
-    → (did : Did) → did.entries ≡ entries ++ tail_of by s.time (unsent (site_environment site) s by) k.all.cuts fault → Represents site new (after s (Piece by piece) did)
+    → (did : Did) → did.entries ≡ entries ++ tail_of by s.time (unsent (environment_of base) s by) k.all.cuts fault → RepresentsWithin base new (after s (Piece by piece) did)
 unfolding tail_of
-stands_settled site w new s by piece entries why c h k None e settles did d =
-    subst (λ (x : Held). Represents site x (after s (Piece by piece) did)) (sym settles) (stands_whole site w s by piece entries why c h k did (d ∙ append-nil entries) e)
-stands_settled site w new s by piece entries why c h k (Some fault) e settles did d =
+stands_settled base w new s by piece entries why c h k None e settles did d =
+    subst (λ (x : Held). RepresentsWithin base x (after s (Piece by piece) did)) (sym settles) (stands_whole base w s by piece entries why c h k did (d ∙ append-nil entries) e)
+stands_settled base w new s by piece entries why c h k (Some fault) e settles did d =
     let reason : Why = BadFrame fault.stage fault.cause in
     let both = set_twice w by entries c settles.0 reason new (omega (arith, h.count, k.there)) settles.1 settles.2 in
-    subst (λ (x : Held). Represents site x (after s (Piece by piece) did)) (sym both.1) (stands_bad site w s by piece entries why c h k did reason d settles.0 both.0)
+    subst (λ (x : Held). RepresentsWithin base x (after s (Piece by piece) did)) (sym both.1) (stands_bad base w s by piece entries why c h k did reason d settles.0 both.0)
 
-received : (site : SiteData) (w new : Held) (s : State) (by : ℕ) (piece : List ℕ) (entries : List Entry) (why : Option Why) (c : HeldConnection) → is_enabled (site_environment site) s (Piece by piece) ≡ true → Represents site w s → (k : IsFed site w s by piece entries why c)
+received : (base : Basis) (w new : Held) (s : State) (by : ℕ) (piece : List ℕ) (entries : List Entry) (why : Option Why) (c : HeldConnection) → is_enabled (environment_of base) s (Piece by piece) ≡ true → RepresentsWithin base w s → (k : IsFed base.site w s by piece entries why c)
     → is_within w.basis w.history (entries_in entries) (bytes_in entries) ≡ true → Settles by (changed by w entries c) why new
-    → (did : Did) × Does (site_environment site) s (Piece by piece) did × (Posted ≡ did.effect) × Represents site new (after s (Piece by piece) did)
+    → (did : Did) × Does (environment_of base) s (Piece by piece) did × (Posted ≡ did.effect) × RepresentsWithin base new (after s (Piece by piece) did)
 unfolding posts
-received site w new s by piece entries why c t h k room settles =
+received base w new s by piece entries why c t h k room settles =
     let packets = k.taken.packets in
     let cuts = k.all.cuts in
     let fault = fault_of cuts in
-    let left = unsent (site_environment site) s by in
-    let mine_are = entries_at site w s by packets entries k.taken.entries_are h in
-    let did : Did = record { entries = posts site by s.time left packets cuts fault; effect = Posted } in
+    let left = unsent (environment_of base) s by in
+    let mine_are = entries_at base w s by packets entries k.taken.entries_are h in
+    let did : Did = record { entries = posts base.site by s.time left packets cuts fault; effect = Posted } in
     let blame : why ≡ blamed fault = k.taken.why_is ∙ ap blamed k.all.fault_is in (
       did,
       record {
         enabled = t;
         answer = silent;
         answered = refl;
-        appends = posts_received site w s by piece entries why c h k;
-        room = λ takes. sym (room_is site w s did.entries (entries_in entries) (bytes_in entries) (posts_count site by s.time left packets cuts fault entries mine_are) (posts_size site by s.time left packets cuts fault entries mine_are) h) ∙ room;
+        appends = posts_received base w s by piece entries why c h k;
+        room = λ takes. sym (room_is base w s did.entries (entries_in entries) (bytes_in entries) (posts_count base.site by s.time left packets cuts fault entries mine_are) (posts_size base.site by s.time left packets cuts fault entries mine_are) h) ∙ room;
         effect = refl;
       },
       refl,
-      stands_settled site w new s by piece entries why c h k fault refl (subst (λ (o : Option Why). Settles by (changed by w entries c) o new) blame settles) did (ap (λ (l : List Entry). l ++ tail_of by s.time left cuts fault) (sym mine_are)),
+      stands_settled base w new s by piece entries why c h k fault refl (subst (λ (o : Option Why). Settles by (changed by w entries c) o new) blame settles) did (ap (λ (l : List Entry). l ++ tail_of by s.time left cuts fault) (sym mine_are)),
     )
 
 -- ---- a piece as the world takes it: it goes through the chain, and its packets are posted
 
-pub piece_done : (site : SiteData) (w mid new : Held) (s : State) (by : ℕ) (piece : List ℕ) (entries : List Entry) (why : Option Why) → is_built_site site ≡ true → is_enabled (site_environment site) s (Piece by piece) ≡ true
-    → Takes by w piece entries why mid → Posts by mid entries why (Ok tt) new → Represents site w s → Steps site s (Piece by piece) w (Ok Posted) new
-piece_done site w mid new s by piece entries why built t k q h =
+pub piece_done : (base : Basis) (w mid new : Held) (s : State) (by : ℕ) (piece : List ℕ) (entries : List Entry) (why : Option Why) → is_built_site base.site ≡ true → is_enabled (environment_of base) s (Piece by piece) ≡ true
+    → Takes by w piece entries why mid → Posts by mid entries why (Ok tt) new → RepresentsWithin base w s → Steps base s (Piece by piece) w (Ok Posted) new
+piece_done base w mid new s by piece entries why built t k q h =
     let p = subst (λ (x : Held). Posts by x entries why (Ok tt) new) k.4 q in
-    received site w new s by piece entries why k.0 t h (is_fed site w mid s by piece entries why built t h k) p.0 p.1
+    received base w new s by piece entries why k.0 t h (is_fed base w mid s by piece entries why built t h k) p.0 p.1
 
-refused : (site : SiteData) (w new : Held) (s : State) (by : ℕ) (piece : List ℕ) (entries : List Entry) (why : Option Why) (c : HeldConnection) (fault : WorldFault) → is_enabled (site_environment site) s (Piece by piece) ≡ true → Represents site w s
-    → IsFed site w s by piece entries why c → Posts by (record w { connections = set w.connections by c }) entries why (Err fault) new → Steps site s (Piece by piece) w (Err fault) new
-refused site w new s by piece entries why c RefusedEvent t h k p = absurd p
-refused site w new s by piece entries why c (Full counted size) t h k p =
-    let mine_are = entries_at site w s by k.taken.packets entries k.taken.entries_are h in
+refused : (base : Basis) (w new : Held) (s : State) (by : ℕ) (piece : List ℕ) (entries : List Entry) (why : Option Why) (c : HeldConnection) (fault : WorldFault) → is_enabled (environment_of base) s (Piece by piece) ≡ true → RepresentsWithin base w s
+    → IsFed base.site w s by piece entries why c → Posts by (record w { connections = set w.connections by c }) entries why (Err fault) new → Steps base s (Piece by piece) w (Err fault) new
+refused base w new s by piece entries why c RefusedEvent t h k p = absurd p
+refused base w new s by piece entries why c (Full counted size) t h k p =
+    let mine_are = entries_at base w s by k.taken.packets entries k.taken.entries_are h in
     let fault = fault_of k.all.cuts in
-    let left = unsent (site_environment site) s by in
-    finds_full site w new s (Piece by piece) (posts site by s.time left k.taken.packets k.all.cuts fault) (entries_in entries) (bytes_in entries) counted size t refl (posts_received site w s by piece entries why c h k)
-    (posts_count site by s.time left k.taken.packets k.all.cuts fault entries mine_are) (posts_size site by s.time left k.taken.packets k.all.cuts fault entries mine_are) p.0 p.1 p.2
+    let left = unsent (environment_of base) s by in
+    finds_full base w new s (Piece by piece) (posts base.site by s.time left k.taken.packets k.all.cuts fault) (entries_in entries) (bytes_in entries) counted size t refl (posts_received base w s by piece entries why c h k)
+    (posts_count base.site by s.time left k.taken.packets k.all.cuts fault entries mine_are) (posts_size base.site by s.time left k.taken.packets k.all.cuts fault entries mine_are) p.0 p.1 p.2
     (record { history = ap (λ (x : Held). x.history) p.3; time = ap (λ (x : Held). x.time) p.3; basis = ap (λ (x : Held). x.basis) p.3 }) h
-refused site w new s by piece entries why c Memory t h k p = record { history = ap (λ (x : Held). x.history) p; time = ap (λ (x : Held). x.time) p; basis = ap (λ (x : Held). x.basis) p }
+refused base w new s by piece entries why c Memory t h k p =
+    wants_memory base w new s (Piece by piece) (record { history = ap (λ (x : Held). x.history) p.1; time = ap (λ (x : Held). x.time) p.1; basis = ap (λ (x : Held). x.basis) p.1 }) t refl tt
 
-pub piece_refused : (site : SiteData) (w mid new : Held) (s : State) (by : ℕ) (piece : List ℕ) (entries : List Entry) (why : Option Why) (fault : WorldFault) → is_built_site site ≡ true → is_enabled (site_environment site) s (Piece by piece) ≡ true
-    → Takes by w piece entries why mid → Posts by mid entries why (Err fault) new → Represents site w s → Steps site s (Piece by piece) w (Err fault) new
-piece_refused site w mid new s by piece entries why fault built t k p h =
-    refused site w new s by piece entries why k.0 fault t h (is_fed site w mid s by piece entries why built t h k) (subst (λ (x : Held). Posts by x entries why (Err fault) new) k.4 p)
+pub piece_refused : (base : Basis) (w mid new : Held) (s : State) (by : ℕ) (piece : List ℕ) (entries : List Entry) (why : Option Why) (fault : WorldFault) → is_built_site base.site ≡ true → is_enabled (environment_of base) s (Piece by piece) ≡ true
+    → Takes by w piece entries why mid → Posts by mid entries why (Err fault) new → RepresentsWithin base w s → Steps base s (Piece by piece) w (Err fault) new
+piece_refused base w mid new s by piece entries why fault built t k p h =
+    refused base w new s by piece entries why k.0 fault t h (is_fed base w mid s by piece entries why built t h k) (subst (λ (x : Held). Posts by x entries why (Err fault) new) k.4 p)
 
 -- ---- what is written to a device
 
@@ -608,41 +612,41 @@ connection_wrote site w s by count next bytes c did m on mine within many wrote 
       passed = λ stands. subst (λ (specs : List SpecData). IsPassed (site_environment site) moved by (old.cursor.place + next) (old.cursor.refused + refusals (spell_by site specs) some)) (sym mine.writing) further;
     })
 
-pub wrote : (site : SiteData) (w new : Held) (s : State) (by count next : ℕ) (bytes : List ℕ) → IsNext w by count next → PutsNext by w next bytes new → Represents site w s → Steps site s (Write by count) w (Ok (Written by bytes)) new
-wrote site w new s by count next bytes n k h =
-    let t : is_enabled (site_environment site) s (Write by count) ≡ true = sym (can_write_is site w s by count h) ∙ n.enabled in
-    let line = and_tells (nat_lt by (length site.interfaces)) _ t in
-    let m : by < length site.interfaces = ltb-true by (length site.interfaces) line.0 in
+pub wrote : (base : Basis) (w new : Held) (s : State) (by count next : ℕ) (bytes : List ℕ) → IsNext w by count next → PutsNext by w next bytes new → RepresentsWithin base w s → Steps base s (Write by count) w (Ok (Written by bytes)) new
+wrote base w new s by count next bytes n k h =
+    let t : is_enabled (environment_of base) s (Write by count) ≡ true = sym (can_write_is base w s by count h) ∙ n.enabled in
+    let line = and_tells (nat_lt by (length base.site.interfaces)) _ t in
+    let m : by < length base.site.interfaces = ltb-true by (length base.site.interfaces) line.0 in
     let on : is_connected by s.history ≡ true = (and_tells (is_connected by s.history) _ line.1).0 in
     let old = connection_at w.connections by in
     let mine = h.connections by m in
     let within = subst (λ (l : List Entry). next ≤ length (entries_ahead old l)) h.history n.within in
     let many = subst (λ (l : List Entry). length (commands_of by (take next (entries_ahead old l))) ≡ count) h.history n.count_is in
-    let put : Wrote site by old s.history next bytes k.0 = subst (λ (l : List Entry). Wrote site by old l next bytes k.0) h.history (subst (λ (b : Basis). Wrote b.site by old w.history next bytes k.0) h.basis k.1) in
-    let did : Did = record { entries = []; effect = Written by (put_next (site_environment site) s by count) } in
+    let put : Wrote base.site by old s.history next bytes k.0 = subst (λ (l : List Entry). Wrote base.site by old l next bytes k.0) h.history (subst (λ (b : Basis). Wrote b.site by old w.history next bytes k.0) h.basis k.1) in
+    let did : Did = record { entries = []; effect = Written by (put_next (environment_of base) s by count) } in
     let moved : State = after s (Write by count) did in
     let all : s.history ≡ s.history ++ [] = sym (append-nil s.history) in
-    let gives : bytes ≡ put_next (site_environment site) s by count =
-    put.bytes_are ∙ (ap (λ (specs : List SpecData). spelled (spell_by site specs) (commands_of by (take next (entries_ahead old s.history)))) mine.writing ∙ sym (put_is site s by count next old.cursor m (mine.passed on) many)) in
-    let whole : Represents site (record w { connections = set w.connections by k.0 }) moved = record {
+    let gives : bytes ≡ put_next (environment_of base) s by count =
+    put.bytes_are ∙ (ap (λ (specs : List SpecData). spelled (spell_by base.site specs) (commands_of by (take next (entries_ahead old s.history)))) mine.writing ∙ sym (put_is base.site s by count next old.cursor m (mine.passed on) many)) in
+    let whole : RepresentsWithin base (record w { connections = set w.connections by k.0 }) moved = record {
       history = h.history ∙ all;
       time = h.time;
       basis = h.basis;
-      count = set_count w.connections (length site.interfaces) by k.0 h.count;
-      connections = connections_set site s moved w.connections (length site.interfaces) by k.0 h.count m h.connections (connection_wrote site w s by count next bytes k.0 did m on mine within many put refl) (λ j other. ap (is_connected j) (sym all))
-          (λ j other. pieces_stay j (Write by count) [] s.pieces refl refl) (λ j other. passes site s (Write by count) did j refl (written_of_other j by count other));
+      count = set_count w.connections (length base.site.interfaces) by k.0 h.count;
+      connections = connections_set base.site s moved w.connections (length base.site.interfaces) by k.0 h.count m h.connections (connection_wrote base.site w s by count next bytes k.0 did m on mine within many put refl) (λ j other. ap (is_connected j) (sym all))
+          (λ j other. pieces_stay j (Write by count) [] s.pieces refl refl) (λ j other. passes base.site s (Write by count) did j refl (written_of_other j by count other));
     } in (
       did,
       record { enabled = t; answer = silent; answered = refl; appends = refl; room = λ takes. absurd (cc takes); effect = refl },
       ap (Written by) gives,
-      subst (λ (x : Held). Represents site x moved) (sym k.2) whole,
+      subst (λ (x : Held). RepresentsWithin base x moved) (sym k.2) whole,
     )
 
 -- ---- the site that is held
 
 -- it is the one that is stood for
-pub built_of : (site : SiteData) (w : Held) (s : State) → IsSoundHeld w → Represents site w s → is_built_site site ≡ true
-built_of site w s sound h = subst (λ (b : Basis). is_built_site b.site ≡ true) h.basis sound.built
+pub built_of : (base : Basis) (w : Held) (s : State) → IsSoundHeld w → RepresentsWithin base w s → is_built_site base.site ≡ true
+built_of base w s sound h = subst (λ (b : Basis). is_built_site b.site ≡ true) h.basis sound.built
 
 -- ---- room in the hall
 
@@ -652,35 +656,35 @@ room_made time k new connections n m g = ap (λ (x : Shown). held_with time x co
 
 -- ---- a desk is asked
 
-pub has_desk_is : (site : SiteData) (w : Held) (s : State) (desk : ℕ) (body : List ℕ) → Represents site w s → nat_lt desk w.basis.site.desks ≡ is_enabled (site_environment site) s (Call desk body)
-has_desk_is site w s desk body h = ap (λ (b : Basis). nat_lt desk b.site.desks) h.basis
+pub has_desk_is : (base : Basis) (w : Held) (s : State) (desk : ℕ) (body : List ℕ) → RepresentsWithin base w s → nat_lt desk w.basis.site.desks ≡ is_enabled (environment_of base) s (Call desk body)
+has_desk_is base w s desk body h = ap (λ (b : Basis). nat_lt desk b.site.desks) h.basis
 
 -- what a desk replies behind what is held it replies behind the state
-reply_here : (site : SiteData) (w : Held) (s : State) (by : ℕ) (body : List ℕ) (a : Answer) → Represents site w s → IsReply (point_of w.basis w.history) by w.time body a → IsReply (point_of (basis_of site) s.history) by s.time body a
-reply_here site w s by body a h r = subst (λ (b : Basis). IsReply (point_of b s.history) by s.time body a) h.basis (subst (λ (l : List Entry). IsReply (point_of w.basis l) by s.time body a) h.history (subst (λ (now : Time). IsReply (point_of w.basis w.history) by now body a) h.time r))
+reply_here : (base : Basis) (w : Held) (s : State) (by : ℕ) (body : List ℕ) (a : Answer) → RepresentsWithin base w s → IsReply (point_of w.basis w.history) by w.time body a → IsReply (point_of base s.history) by s.time body a
+reply_here base w s by body a h r = subst (λ (b : Basis). IsReply (point_of b s.history) by s.time body a) h.basis (subst (λ (l : List Entry). IsReply (point_of w.basis l) by s.time body a) h.history (subst (λ (now : Time). IsReply (point_of w.basis w.history) by now body a) h.time r))
 
-pub called : (site : SiteData) (w new : Held) (s : State) (desk : ℕ) (body : List ℕ) (front : ℕ) (text : Option (List ℕ)) (a : Answer) → nat_lt desk w.basis.site.desks ≡ true → front ≡ length w.history → text ≡ text_of a
-    → IsReply (point_of w.basis w.history) (first_desk + desk) w.time body a → new ≡ record w { history = w.history ++ a.entries } → Represents site w s → Steps site s (Call desk body) w (Ok (Reply desk front text)) new
-called site w new s desk body front text a there at says is n h =
+pub called : (base : Basis) (w new : Held) (s : State) (desk : ℕ) (body : List ℕ) (front : ℕ) (text : Option (List ℕ)) (a : Answer) → nat_lt desk w.basis.site.desks ≡ true → front ≡ length w.history → text ≡ text_of a
+    → IsReply (point_of w.basis w.history) (first_desk + desk) w.time body a → new ≡ record w { history = w.history ++ a.entries } → RepresentsWithin base w s → Steps base s (Call desk body) w (Ok (Reply desk front text)) new
+called base w new s desk body front text a there at says is n h =
     let did : Did = record { entries = a.entries; effect = Reply desk (length s.history) (text_of a) } in
     let moved : State = after s (Call desk body) did in
     let none : (k : ℕ) → latest (connects_maker k) a.entries ≡ None = reply_quiet (point_of w.basis w.history) (first_desk + desk) w.time body a is in
-    let whole : Represents site (record w { history = w.history ++ a.entries }) moved = record {
+    let whole : RepresentsWithin base (record w { history = w.history ++ a.entries }) moved = record {
       history = ap (λ (l : List Entry). l ++ a.entries) h.history;
       time = h.time;
       basis = h.basis;
       count = h.count;
-      connections = λ k m. connection_kept site s moved k (connection_at w.connections k) (connected_kept k s.history a.entries (none k)) (pieces_stay k (Call desk body) a.entries s.pieces (none k) refl) (passes site s (Call desk body) did k (none k) refl) (h.connections k m);
+      connections = λ k m. connection_kept base.site s moved k (connection_at w.connections k) (connected_kept k s.history a.entries (none k)) (pieces_stay k (Call desk body) a.entries s.pieces (none k) refl) (passes base.site s (Call desk body) did k (none k) refl) (h.connections k m);
     } in (
       did,
       record {
-        enabled = sym (has_desk_is site w s desk body h) ∙ there;
+        enabled = sym (has_desk_is base w s desk body h) ∙ there;
         answer = a;
-        answered = reply_here site w s (first_desk + desk) body a h is;
+        answered = reply_here base w s (first_desk + desk) body a h is;
         appends = refl;
         room = λ takes. absurd (cc takes);
         effect = refl;
       },
       ap (λ (k : ℕ). Reply desk k text) (at ∙ ap length h.history) ∙ ap (Reply desk (length s.history)) says,
-      subst (λ (x : Held). Represents site x moved) (sym n) whole,
+      subst (λ (x : Held). RepresentsWithin base x moved) (sym n) whole,
     )

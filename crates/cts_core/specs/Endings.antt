@@ -1,6 +1,8 @@
 -- What a world holds, whether it goes on, and what it answers for good.
-use Rattle.std.specs.Prelude.{◌≡◌, ℕ, Option, None, Some, Result, Ok, Err}
+use Rattle.std.specs.Prelude.{◌≡◌, ℕ, ◌+◌, Option, None, Some, Result, Ok, Err}
+use Rattle.cts_entry.specs.declared.event.Event.{Event}
 use Rattle.cts_entry.specs.declared.event.Effect.{Effect}
+use Rattle.cts_core.specs.Runs.{drained}
 use Rattle.cts_core.specs.States.{State}
 use Rattle.cts_core.specs.Worlds.{Held}
 use Rattle.cts_core.specs.declared.fault.WorldFault.{WorldFault}
@@ -23,6 +25,11 @@ GoesOn w = w.ended ≡ None
 -- its logs have passed as many entries as the state's
 abbrev pub HasPassed : WorldData → State → Type 0
 HasPassed w s = w.log_cursor ≡ s.log_cursor
+
+-- how many entries the logs have passed after an event: those that it drained more, where it was done, and else as many as before
+abbrev pub LogPasses : State → Event → Result Effect WorldFault → WorldData → Type 0
+LogPasses s event (Ok effect) new = new.log_cursor ≡ s.log_cursor + drained event
+LogPasses s event (Err fault) new = new.log_cursor ≡ s.log_cursor
 
 -- what a world answers for good after this answer: that its history is full, or that memory ran out
 abbrev pub lasting : Result Effect WorldFault → Option WorldFault

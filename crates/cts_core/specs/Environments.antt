@@ -1,4 +1,4 @@
--- What a site gives to events: the environment in which they are done.
+-- What a site, with the limits of its history, gives to events: the environment in which they are done.
 use Rattle.std.specs.Prelude.{◌+◌, ℕ, false, Bool, ◌==◌, ◌&&◌, nat_lt, List, filter, map, slice_index_or, Option, Some, None, if◌then◌else◌}
 use Rattle.std.specs.List.{list_any}
 use Rattle.cts_chain.specs.Builds.{use_specs, writes}
@@ -22,12 +22,6 @@ use Rattle.cts_frame.specs.Chains.{framings_at, uses_at}
 use Rattle.cts_frame.specs.Framing.{Heading, Output}
 use Rattle.cts_log.specs.Logged.{laid_out}
 use Rattle.cts_def.specs.Names.{packet_names as names_of_packet, command_names}
-
--- ---- makers
-
--- desks are counted from 0
-abbrev pub is_desk : SiteData → ℕ → Bool
-is_desk site desk = nat_lt desk site.desks
 
 -- ---- which definition an output is
 
@@ -72,32 +66,36 @@ spelling_at site by heading bytes = chain_spelling (writers_at site by) heading 
 
 -- ---- the environment
 
+-- a desk replies by what the site's history says
+abbrev pub IsAnswerOf : Basis → List Entry → ℕ → Time → List ℕ → Answer → Type 0
+IsAnswerOf base history desk now body a = IsReply (point_of base history) (first_desk + desk) now body a
+
+-- The environment that a site gives with these limits. Desks are counted from 0.
+abbrev pub environment_of : Basis → Environment
+environment_of base = record {
+  routing = record {
+    is_interface = is_interface base.site;
+    chain = framings_at base.site;
+    ident = ident_of base.site;
+    interface_of = interface_of base.site;
+    routes = is_routed base.site;
+    packet_names = packet_names base.site;
+    command_names = command_names base.site;
+    spelling = spelling_at base.site;
+  };
+  is_slot = is_slot base.site;
+  is_desk = λ desk. nat_lt desk base.site.desks;
+  is_logged = is_logged base.site;
+  layout = laid_out;
+  answers = IsAnswerOf base;
+  most_entries = base.entries;
+  most_bytes = base.bytes;
+}
+
 -- the limits of a server's history
 abbrev pub basis_of : SiteData → Basis
 basis_of site = record { site = site; entries = entries_limit; bytes = bytes_limit }
 
--- a desk replies by what the site's history says
-abbrev pub IsAnswerOf : SiteData → List Entry → ℕ → Time → List ℕ → Answer → Type 0
-IsAnswerOf site history desk now body a = IsReply (point_of (basis_of site) history) (first_desk + desk) now body a
-
--- The environment that a site gives.
+-- the environment of a server
 abbrev pub site_environment : SiteData → Environment
-site_environment site = record {
-  routing = record {
-    is_interface = is_interface site;
-    chain = framings_at site;
-    ident = ident_of site;
-    interface_of = interface_of site;
-    routes = is_routed site;
-    packet_names = packet_names site;
-    command_names = command_names site;
-    spelling = spelling_at site;
-  };
-  is_slot = is_slot site;
-  is_desk = is_desk site;
-  is_logged = is_logged site;
-  layout = laid_out;
-  answers = IsAnswerOf site;
-  most_entries = entries_limit;
-  most_bytes = bytes_limit;
-}
+site_environment site = environment_of (basis_of site)

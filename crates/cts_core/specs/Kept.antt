@@ -24,10 +24,11 @@ added_all s es = record s { entries = s.entries ++ es; spare_entries = s.spare_e
 abbrev pub is_within : Basis → List Entry → ℕ → ℕ → Bool
 is_within b history entries bytes = nat_le (entries_in history + entries) b.entries && nat_le (bytes_in history + bytes) b.bytes
 
--- What is answered where room is wanted. Only Ok changes anything, and that no entry.
+-- What is answered where room is wanted: Full exactly where a limit would be passed, so memory is wanted only where there is room.
+-- Only Ok changes anything, and that no entry.
 abbrev pub GivesRoom : Shown → ℕ → ℕ → Result (Unit {0}) WorldFault → Shown → Type 0
 GivesRoom s entries bytes (Ok done) new = (is_within s.basis s.entries entries bytes ≡ true) × (new ≡ with_room s entries bytes)
 GivesRoom s entries bytes (Err (Full counted size)) new =
     (is_within s.basis s.entries entries bytes ≡ false) × (counted ≡ entries_in s.entries) × (size ≡ bytes_in s.entries) × (new ≡ s)
-GivesRoom s entries bytes (Err Memory) new = new ≡ s
+GivesRoom s entries bytes (Err Memory) new = (is_within s.basis s.entries entries bytes ≡ true) × (new ≡ s)
 GivesRoom s entries bytes (Err NotEnabled) new = ⊥

@@ -21,9 +21,9 @@ use Rattle.cts_table.specs.Routes.{route_of}
 use Rattle.cts_table.specs.declared.basis.Basis.{Basis}
 use Rattle.cts_table.specs.declared.fault.NoRoute.{NoRoute}
 use Rattle.serde_json.specs.Data.{Data, Items}
-use Rattle.cts_core.specs.Environments.{basis_of, site_environment}
+use Rattle.cts_core.specs.Environments.{basis_of}
 use Rattle.cts_core.specs.Kept.{is_within}
-use Rattle.cts_core.specs.Runs.{Did, Ending, Runs, after}
+use Rattle.cts_core.specs.Runs.{Did, after}
 use Rattle.cts_core.specs.States.{State}
 
 -- what the params of a call ask of the method that has its name
@@ -93,8 +93,3 @@ abbrev pub AreJudged : SiteData → State → List Event → List Did → Type 0
 AreJudged site s [] dids = Unit {0}
 AreJudged site s (event ∷ events) [] = Unit {0}
 AreJudged site s (event ∷ events) (did ∷ dids) = IsJudgedEvent site s event did × AreJudged site (after s event did) events dids
-
--- In every run a command is refused exactly where its text asks for none, a check fails, its target has no interface, that interface
--- is not connected, or the history is full.
-abbrev pub CommandsAreJudged : Type 0
-CommandsAreJudged = (site : SiteData) (s : State) (events : List Event) (dids : List Did) (ending : Ending) → Runs (site_environment site) s events dids ending → AreJudged site s events dids

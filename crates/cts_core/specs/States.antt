@@ -118,3 +118,15 @@ takes_room (Call desk body) = false
 takes_room (DrainLog count) = false
 takes_room (DrainSlot by count) = false
 takes_room Stop = false
+
+-- the events that may want memory: a time sets a clock, and a Closed and a Stop have their places in the history
+abbrev pub takes_memory : Event → Bool
+takes_memory (SetTime time) = false
+takes_memory (Opens by) = true
+takes_memory (Piece by piece) = true
+takes_memory (Finish by why) = false
+takes_memory (Write by count) = true
+takes_memory (Call desk body) = true
+takes_memory (DrainLog count) = true
+takes_memory (DrainSlot by count) = true
+takes_memory Stop = false

@@ -105,5 +105,5 @@ abbrev pub Posts : ℕ → Held → List Entry → Option Why → Result (Unit {
 Posts by w entries why (Ok done) new = (is_within w.basis w.history (entries_in entries) (bytes_in entries) ≡ true) × Settles by (record w { history = w.history ++ entries }) why new
 Posts by w entries why (Err (Full counted size)) new =
     (is_within w.basis w.history (entries_in entries) (bytes_in entries) ≡ false) × (counted ≡ entries_in w.history) × (size ≡ bytes_in w.history) × (new ≡ w)
-Posts by w entries why (Err Memory) new = new ≡ w
+Posts by w entries why (Err Memory) new = (is_within w.basis w.history (entries_in entries) (bytes_in entries) ≡ true) × (new ≡ w)
 Posts by w entries why (Err NotEnabled) new = ⊥

@@ -7,17 +7,18 @@ use Rattle.cts_def.specs.Sites.{SiteData}
 use Rattle.cts_def.specs.declared.time.Time.{Time}
 use Rattle.cts_entry.specs.declared.entry.Entry.{Entry}
 use Rattle.cts_entry.specs.declared.event.Event.{Event}
+use Rattle.cts_entry.specs.declared.event.Event.TheVariants.{SetTime, Opens, Piece, Finish, Write, Call, DrainLog, DrainSlot, Stop}
 use Rattle.cts_entry.specs.declared.event.Effect.{Effect}
 use Rattle.cts_entry.specs.Histories.{is_connected, commands_to, entries_in, bytes_in}
 use Rattle.cts_frame.specs.Chains.{framings_at}
 use Rattle.cts_frame.specs.Framing.{Output, plain}
 use Rattle.cts_frame.specs.Packets.{capped}
-use Rattle.cts_core.specs.Environments.{site_environment, writers_at}
-use Rattle.cts_entry.specs.Legal.{is_ended, most_entries as entries_limit, most_bytes as bytes_limit}
+use Rattle.cts_core.specs.Environments.{basis_of, environment_of, site_environment, writers_at}
+use Rattle.cts_entry.specs.Legal.{is_ended, most_bytes as bytes_limit}
 use Rattle.cts_core.specs.Built.{is_built_site}
 use Rattle.cts_core.specs.Cursors.{IsPassed}
-use Rattle.cts_core.specs.Runs.{Did, Does, after, Refuses, NotEnabled, HistoryFull}
-use Rattle.cts_core.specs.States.{State}
+use Rattle.cts_core.specs.Runs.{Appends, Did, Does, after, Refuses, NotEnabled, HistoryFull, silent}
+use Rattle.cts_core.specs.States.{State, has_room, is_enabled, takes_memory}
 use Rattle.cts_core.specs.declared.fault.WorldFault.{WorldFault}
 use Rattle.cts_core.specs.declared.fault.WorldFault.TheVariants.{NotEnabled as RefusedEvent, Full, Memory}
 use Rattle.cts_table.specs.States.{Shown}
@@ -93,13 +94,18 @@ pub record IsConnection (site : SiteData) (s : State) (by : ℕ) (c : HeldConnec
   pub unfailed : last_fault 1 c.chain.stages ≡ None
   pub passed : is_connected by s.history ≡ true → IsPassed (site_environment site) s by c.cursor.place c.cursor.refused
 
--- What is held represents a state: the history and the time are the state's, and each interface has its connection.
-pub record Represents (site : SiteData) (w : Held) (s : State) : Type 0 where
+-- What is held, of this site and with these limits, represents a state: the history and the time are the state's, and each interface
+-- has its connection.
+pub record RepresentsWithin (base : Basis) (w : Held) (s : State) : Type 0 where
   pub history : w.history ≡ s.history
   pub time : w.time ≡ s.time
-  pub basis : w.basis ≡ record { site = site; entries = entries_limit; bytes = bytes_limit }
-  pub count : length w.connections ≡ length site.interfaces
-  pub connections : (by : ℕ) → by < length site.interfaces → IsConnection site s by (connection_at w.connections by)
+  pub basis : w.basis ≡ base
+  pub count : length w.connections ≡ length base.site.interfaces
+  pub connections : (by : ℕ) → by < length base.site.interfaces → IsConnection base.site s by (connection_at w.connections by)
+
+-- the same with the limits of a server
+abbrev pub Represents : SiteData → Held → State → Type 0
+Represents site = RepresentsWithin (basis_of site)
 
 -- ---- what an event makes of it
 
@@ -113,11 +119,30 @@ pub record IsUnmoved (old new : Held) : Type 0 where
   pub time : new.time ≡ old.time
   pub basis : new.basis ≡ old.basis
 
+-- The history had room for what an event appends, where that is known before memory is found: an Opened. What a piece brings is known
+-- only when a chain has taken it, and an answer of a desk has room by itself.
+abbrev pub HadRoom : Basis → State → Event → Type 0
+HadRoom base s (SetTime time) = Unit {0}
+HadRoom base s (Opens by) = (entries : List Entry) → Appends (environment_of base) s (Opens by) silent entries → has_room (environment_of base) s entries ≡ true
+HadRoom base s (Piece by piece) = Unit {0}
+HadRoom base s (Finish by why) = Unit {0}
+HadRoom base s (Write by count) = Unit {0}
+HadRoom base s (Call desk body) = Unit {0}
+HadRoom base s (DrainLog count) = Unit {0}
+HadRoom base s (DrainSlot by count) = Unit {0}
+HadRoom base s Stop = Unit {0}
+
+-- Want of memory is no way round another answer: the event was enabled, it is one that takes memory, and the history had room.
+pub record WantsMemory (base : Basis) (s : State) (event : Event) : Type 0 where
+  pub enabled : is_enabled (environment_of base) s event ≡ true
+  pub takes : takes_memory event ≡ true
+  pub room : HadRoom base s event
+
 -- What a step answers, and the state that the world stands for then: the one after the event, where it was done, and the same
 -- one as before, where it is not enabled, since nothing is changed. Where the history is full or memory ran out, nothing was
 -- appended and no clock set; what chains hold is given up.
-abbrev pub Steps : SiteData → State → Event → Held → Result Effect WorldFault → Held → Type 0
-Steps site s event w (Ok effect) new = (did : Did) × Does (site_environment site) s event did × (effect ≡ did.effect) × Represents site new (after s event did)
-Steps site s event w (Err RefusedEvent) new = Refuses (site_environment site) s event NotEnabled × (new ≡ w) × Represents site new s
-Steps site s event w (Err (Full entries bytes)) new = Refuses (site_environment site) s event HistoryFull × (entries ≡ entries_in s.history) × (bytes ≡ bytes_in s.history) × IsUnmoved w new
-Steps site s event w (Err Memory) new = IsUnmoved w new
+abbrev pub Steps : Basis → State → Event → Held → Result Effect WorldFault → Held → Type 0
+Steps base s event w (Ok effect) new = (did : Did) × Does (environment_of base) s event did × (effect ≡ did.effect) × RepresentsWithin base new (after s event did)
+Steps base s event w (Err RefusedEvent) new = Refuses (environment_of base) s event NotEnabled × (new ≡ w) × RepresentsWithin base new s
+Steps base s event w (Err (Full entries bytes)) new = Refuses (environment_of base) s event HistoryFull × (entries ≡ entries_in s.history) × (bytes ≡ bytes_in s.history) × IsUnmoved w new
+Steps base s event w (Err Memory) new = IsUnmoved w new × WantsMemory base s event

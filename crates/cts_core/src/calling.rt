@@ -11,13 +11,13 @@ use cts_entry::Effect;
 impl<C: Framer> Running<C> {
     ghost use Rattle.std.specs.Prelude.{◌≡◌, ◌≤◌, nat_lt};
     ghost use Rattle.cts_core.specs.States.{State};
-    ghost use Rattle.cts_core.specs.Worlds.{IsSoundHeld, Represents, Steps};
-    ghost use Rattle.cts_def.specs.Sites.{SiteData};
+    ghost use Rattle.cts_core.specs.Worlds.{IsSoundHeld, RepresentsWithin, Steps};
+    ghost use Rattle.cts_table.specs.declared.basis.Basis.{Basis};
     ghost use Rattle.cts_entry.specs.declared.event.Event.TheVariants as event;
 
     /// Asks a desk. Its response comes with the number of entries that stood before, and what it appends stands behind them.
     pub fn call(&mut self, desk: u32, body: &[u8]) -> Result<Effect, WorldFault>
-        ensures { (site : SiteData) (s : State) → Represents site self.old s → Steps site s (event.Call desk body.now) self.old result self.new }
+        ensures { (base : Basis) (s : State) → RepresentsWithin base self.old s → Steps base s (event.Call desk body.now) self.old result self.new }
     {
         if !self.has_desk(desk) {
             return Err(WorldFault::NotEnabled);

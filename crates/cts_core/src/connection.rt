@@ -1,5 +1,5 @@
 // The connection of one interface.
-ghost use Rattle.std.specs.Prelude.{◌≡◌, ◌<◌, ◌≤◌, true, false, [], drop, length, map, take, IfOk, MatchOption, OnErr};
+ghost use Rattle.std.specs.Prelude.{◌≡◌, ◌+◌, ◌<◌, ◌≤◌, true, false, [], drop, length, map, take, vec_len, vec_capacity, IfOk, MatchOption, OnErr};
 ghost use Rattle.cts_chain.specs.Chains.{loss_in};
 ghost use Rattle.cts_chain.specs.Shapes.{IsIdle};
 ghost use Rattle.cts_core.specs.Takings.{AllIdle, IsRenewed, TakesPiece};
@@ -54,16 +54,18 @@ impl<C: Framer> Connection<C> {
         }
     }
 
-    /// Connections with these chains, in order, of which none stands.
-    pub fn all_shut(alloc: Global, chains: Vec<C>) -> Result<Vec<Connection<C>>, Memory>
-        requires { AllIdle (map C.shape chains.items) }
-        ensures { IfOk result (λ v. v.items ≡ map shut (map C.shape chains.items)) }
+    /// Connections with these chains, in order, of which none stands, in the room for them. It takes no memory.
+    pub fn all_shut(chains: Vec<C>, room: Vec<Connection<C>>) -> Vec<Connection<C>>
+        requires idle { AllIdle (map C.shape chains.items) }
+        requires none { room.items ≡ [] }
+        requires room { vec_len room + length chains.items ≤ vec_capacity room }
+        ensures { result.items ≡ map shut (map C.shape chains.items) }
     {
-        let mut connections = Vec::with_capacity(alloc, chains.len())?;
+        let mut connections = room;
         for chain in chains {
-            connections.push(Connection::of(chain))?;
+            let _ = connections.push(Connection::of(chain));
         }
-        Ok(connections)
+        connections
     }
 
     /// Whether it stands.

@@ -1,5 +1,5 @@
-//! The server's core. Its definition: what each event does, and what a list of events does, with its laws and tests of what is
-//! enabled. And the core that runs events, of which each step is what the definition says: the `World`.
+//! The server's core. Its definition: what each event does, and what a list of events does, with tests of what is enabled; its laws
+//! are in `cts_core_laws`. And the core that runs events, of which each step is what the definition says: the `World`.
 #![tactic(auto)]
 
 mod built;
@@ -8,7 +8,6 @@ mod connection;
 mod enabling;
 mod fault;
 mod framer;
-mod laws;
 mod posting;
 mod running;
 mod world;
@@ -18,5 +17,4 @@ pub use built::{is_built_event, is_built_site};
 pub use enabling::{is_piece, may_close, takes_room};
 pub use fault::WorldFault;
 pub use framer::{Framer, Supplier};
-pub use laws::{commands, core_is_legal, core_is_logged, core_is_told, cursors, runs};
 pub use world::World;

@@ -1,6 +1,5 @@
 // What a running core holds, and what each event makes of it: the interfaces of a site, each with its chain of protocols.
 ghost use Rattle.std.specs.Prelude.{◌≡◌, ◌≤◌, length, nat_lt};
-ghost use Rattle.std.specs.Arc.{arc_value};
 
 use crate::connection::Connection;
 use crate::enabling::{is_piece, may_close};
@@ -13,7 +12,6 @@ use cts_entry::{Effect, Event, Why};
 use cts_table::Hall;
 use std::alloc::Global;
 use std::marker::Model;
-use std::sync::Arc;
 
 /// The history, and the connections of the interfaces.
 #[derive(Drop)]
@@ -38,43 +36,45 @@ impl<C: Framer> Model for Running<C> {
 }
 
 impl<C: Framer> Running<C> {
-    ghost use Rattle.std.specs.Prelude.{◌≡◌, ◌&&◌, ◌<◌, ◌≤◌, nat_lt, not, length, map, true, false, IfOk, MatchOption, OnErr, Option};
+    ghost use Rattle.std.specs.Prelude.{◌≡◌, ◌+◌, ◌&&◌, ◌<◌, ◌≤◌, nat_lt, not, [], length, map, true, false, vec_len, vec_capacity, IfOk, MatchOption, OnErr, Option};
     ghost use Rattle.cts_core.specs.Built.{is_built_event, is_built_site};
     ghost use Rattle.cts_core.specs.States.{State, is_piece, may_close};
     ghost use Rattle.cts_core.specs.Takings.{CanPost, IsClosed, Posts, Settles, Takes, blamed};
-    ghost use Rattle.cts_core.specs.Worlds.{IsSoundHeld, IsUnmoved, Represents, Steps, connection_at, first_held, waiting};
+    ghost use Rattle.cts_core.specs.Worlds.{IsSoundHeld, IsUnmoved, RepresentsWithin, Steps, connection_at, first_held, waiting};
     ghost use Rattle.cts_core.specs.Writings.{IsNext, PutsNext, can_write, entries_ahead};
     ghost use Rattle.cts_chain.specs.Builds.{AreFresh, chains_in};
     ghost use Rattle.cts_frame.specs.Packets.{Fault};
-    ghost use Rattle.cts_def.specs.Sites.{SiteData};
+    ghost use Rattle.cts_table.specs.declared.basis.Basis.{Basis};
     ghost use Rattle.cts_entry.specs.declared.event.Event.TheVariants as event;
     ghost use Rattle.cts_entry.specs.Histories.{is_connected, is_stopped};
-    ghost use Rattle.cts_entry.specs.Legal.{StopsAfter, most_entries as entries_limit, most_bytes as bytes_limit};
+    ghost use Rattle.cts_entry.specs.Legal.{StopsAfter, most_bytes as bytes_limit};
+    ghost use Rattle.cts_table.specs.States.{begun};
 
-    /// Nothing has happened on a site that is built. The chains are those of its interfaces, in order, to which nothing was fed.
+    /// Nothing has happened in a hall. The chains, to which nothing was fed, are those of the interfaces of its site, in order; there is
+    /// room for their connections. It takes no memory.
     pub fn new(
         alloc: Global,
-        site: Arc<Site>,
+        hall: Hall,
         chains: Vec<C>,
-        entries: u64,
-        bytes: u64,
-    ) -> Result<Running<C>, Memory>
-        requires built { is_built_site (arc_value site) ≡ true }
-        requires fresh { AreFresh (chains_in (arc_value site).interfaces) (map C.shape chains.items) }
-        requires entries { entries ≤ entries_limit }
-        requires bytes { bytes ≤ bytes_limit }
-        ensures held { IfOk result (λ running. running ≡ first_held (arc_value site) entries bytes (map C.shape chains.items)) }
+        connections: Vec<Connection<C>>,
+    ) -> Running<C>
+        requires begun { hall ≡ begun hall.basis.site hall.basis.entries hall.basis.bytes }
+        requires built { is_built_site hall.basis.site ≡ true }
+        requires fresh { AreFresh (chains_in hall.basis.site.interfaces) (map C.shape chains.items) }
+        requires small { hall.basis.bytes ≤ bytes_limit }
+        requires none { connections.items ≡ [] }
+        requires room { vec_len connections + length chains.items ≤ vec_capacity connections }
+        ensures { result ≡ first_held hall.basis.site hall.basis.entries hall.basis.bytes (map C.shape chains.items) }
     {
-        let connections = Connection::all_shut(alloc, chains)?;
-        Ok(Running {
+        Running {
             alloc,
             time: Time {
                 seconds: 0,
                 micros: 0,
             },
-            hall: Hall::with_limits(alloc, site, entries, bytes)?,
-            connections,
-        })
+            hall,
+            connections: Connection::all_shut(chains, connections),
+        }
     }
 
     /// The history with its site.
@@ -88,7 +88,7 @@ impl<C: Framer> Running<C> {
     /// Does one event, which has to be built. Where it is not done, nothing is changed.
     pub fn step(&mut self, event: &Event) -> Result<Effect, WorldFault>
         requires { is_built_event event.now ≡ true }
-        ensures { (site : SiteData) (s : State) → Represents site self.old s → Steps site s event.now self.old result self.new }
+        ensures { (base : Basis) (s : State) → RepresentsWithin base self.old s → Steps base s event.now self.old result self.new }
     {
         match event {
             Event::SetTime(time) => self.set_time(*time),
@@ -104,7 +104,7 @@ impl<C: Framer> Running<C> {
     }
 
     fn set_time(&mut self, time: Time) -> Result<Effect, WorldFault>
-        ensures { (site : SiteData) (s : State) → Represents site self.old s → Steps site s (event.SetTime time) self.old result self.new }
+        ensures { (base : Basis) (s : State) → RepresentsWithin base self.old s → Steps base s (event.SetTime time) self.old result self.new }
     {
         if !time.is_of_clock() {
             return Err(WorldFault::NotEnabled);
@@ -114,7 +114,7 @@ impl<C: Framer> Running<C> {
     }
 
     fn open(&mut self, by: u32) -> Result<Effect, WorldFault>
-        ensures { (site : SiteData) (s : State) → Represents site self.old s → Steps site s (event.Opens by) self.old result self.new }
+        ensures { (base : Basis) (s : State) → RepresentsWithin base self.old s → Steps base s (event.Opens by) self.old result self.new }
     {
         if !self.may_open(by) {
             return Err(WorldFault::NotEnabled);
@@ -128,7 +128,7 @@ impl<C: Framer> Running<C> {
     }
 
     fn finish(&mut self, by: u32, why: Why) -> Result<Effect, WorldFault>
-        ensures { (site : SiteData) (s : State) → Represents site self.old s → Steps site s (event.Finish by why) self.old result self.new }
+        ensures { (base : Basis) (s : State) → RepresentsWithin base self.old s → Steps base s (event.Finish by why) self.old result self.new }
     {
         if !self.may_finish(by, why) {
             return Err(WorldFault::NotEnabled);
@@ -138,7 +138,7 @@ impl<C: Framer> Running<C> {
     }
 
     fn receive(&mut self, by: u32, piece: &[u8]) -> Result<Effect, WorldFault>
-        ensures { (site : SiteData) (s : State) → Represents site self.old s → Steps site s (event.Piece by piece.now) self.old result self.new }
+        ensures { (base : Basis) (s : State) → RepresentsWithin base self.old s → Steps base s (event.Piece by piece.now) self.old result self.new }
     {
         if !self.may_receive(by, piece) {
             return Err(WorldFault::NotEnabled);
@@ -208,7 +208,7 @@ impl<C: Framer> Running<C> {
     }
 
     fn write(&mut self, by: u32, count: u64) -> Result<Effect, WorldFault>
-        ensures { (site : SiteData) (s : State) → Represents site self.old s → Steps site s (event.Write by count) self.old result self.new }
+        ensures { (base : Basis) (s : State) → RepresentsWithin base self.old s → Steps base s (event.Write by count) self.old result self.new }
     {
         let Some(next) = self.next(by, count) else {
             return Err(WorldFault::NotEnabled);
@@ -247,7 +247,7 @@ impl<C: Framer> Running<C> {
     }
 
     fn stop(&mut self) -> Result<Effect, WorldFault>
-        ensures { (site : SiteData) (s : State) → Represents site self.old s → Steps site s event.Stop self.old result self.new }
+        ensures { (base : Basis) (s : State) → RepresentsWithin base self.old s → Steps base s event.Stop self.old result self.new }
     {
         if self.hall.stopped() {
             return Err(WorldFault::NotEnabled);

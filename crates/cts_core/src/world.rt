@@ -1,18 +1,22 @@
 // The core that runs events, until its history is full or memory runs out.
-ghost use Rattle.std.specs.Prelude.{◌≡◌, ◌≤◌};
+ghost use Rattle.std.specs.Prelude.{◌≡◌, ◌≤◌, length, map, take};
 ghost use Rattle.std.specs.Arc.{arc_value};
+ghost use Rattle.cts_chain.specs.Builds.{AllCanBeBuilt, chains_in};
 ghost use Rattle.cts_core.specs.Endings.{lasting};
 
 use crate::fault::WorldFault;
 use crate::framer::{Framer, Supplier};
 use crate::running::Running;
 use cts_chain::ChainFault;
-use cts_def::Site;
+use cts_def::{Interface, ProtoUse, Site};
 use cts_entry::{Effect, Event, MOST_BYTES, MOST_ENTRIES};
 use cts_table::Hall;
 use std::alloc::Global;
 use std::marker::Model;
 use std::sync::Arc;
+
+// How many interfaces a site may have.
+const MOST_INTERFACES: usize = 16;
 
 /// The server's core: its history, and the connections of its interfaces with their chains of protocols.
 #[derive(Drop)]
@@ -34,25 +38,24 @@ impl<C: Framer> Model for World<C> {
 }
 
 impl<C: Framer> World<C> {
-    ghost use Rattle.std.specs.Prelude.{◌≡◌, ◌≤◌, length, true, None, Some, Err, IfErr, IfOk, List, OnOk};
-    ghost use Rattle.cts_chain.specs.Builds.{AreFresh, FaultIs, chains_in, use_specs, uses_in};
-    ghost use Rattle.cts_chain.specs.Shapes.{ChainData};
+    ghost use Rattle.std.specs.Prelude.{◌≡◌, ◌≤◌, true, None, Some, Err, IfErr, IfNone, IfOk, IfSome, OnErr, OnOk};
+    ghost use Rattle.cts_chain.specs.declared.build.ChainFault.TheVariants.{Memory as NoMemory};
+    ghost use Rattle.cts_chain.specs.Builds.{FaultIs, Taken, use_specs, uses_in};
     ghost use Rattle.cts_chain.specs.Stocking.{first_short};
     ghost use Rattle.cts_core.specs.Built.{is_built_event, is_built_site};
     ghost use Rattle.cts_core.specs.States.{State, opening};
-    ghost use Rattle.cts_core.specs.Endings.{GoesOn, HasPassed, held_in, lasting};
-    ghost use Rattle.cts_core.specs.Runs.{Did, after};
-    ghost use Rattle.cts_core.specs.Worlds.{Represents, Steps, first_held};
-    ghost use Rattle.cts_def.specs.Sites.{SiteData};
+    ghost use Rattle.cts_core.specs.Endings.{GoesOn, HasPassed, LogPasses, held_in, lasting};
+    ghost use Rattle.cts_core.specs.Worlds.{Represents, RepresentsWithin, Steps};
+    ghost use Rattle.cts_table.specs.declared.basis.Basis.{Basis};
     ghost use Rattle.cts_entry.specs.Legal.{most_entries as entries_limit, most_bytes as bytes_limit};
 
     /// A world of a site in which nothing has happened, with the limits of a server. The boxes of its chains are taken from the
-    /// shelf.
+    /// shelf, and after a refusal the shelf is as it was.
     ///
     /// # Errors
     ///
     /// `ShelfEmpty` with the first kind, in their order, of which all chains of the site together need more boxes than the shelf
-    /// holds, and `Memory`.
+    /// holds, and `Memory`, where no kind is short.
     pub fn new<B: Supplier<C>>(
         alloc: Global,
         site: Arc<Site>,
@@ -63,12 +66,18 @@ impl<C: Framer> World<C> {
         ensures going { IfOk result (λ world. GoesOn world) }
         ensures log { IfOk result (λ world. HasPassed world opening) }
         ensures enough { OnOk result (first_short (B.stock shelf.old) (use_specs (uses_in (arc_value site).interfaces)) ≡ None) }
+        ensures taken { OnOk result (Taken (B.stock shelf.old) (uses_in (arc_value site).interfaces) (B.stock shelf.new)) }
         ensures fault { IfErr result (λ e. FaultIs (B.stock shelf.old) (uses_in (arc_value site).interfaces) e) }
+        ensures kept { OnErr result (B.stock shelf.new ≡ B.stock shelf.old) }
     {
         World::with_limits(alloc, site, shelf, MOST_ENTRIES, MOST_BYTES)
     }
 
-    /// A world of a site in which nothing has happened, with these limits.
+    /// The same with these limits.
+    ///
+    /// # Errors
+    ///
+    /// Those of `new`.
     pub fn with_limits<B: Supplier<C>>(
         alloc: Global,
         site: Arc<Site>,
@@ -79,23 +88,41 @@ impl<C: Framer> World<C> {
         requires built { is_built_site (arc_value site) ≡ true }
         requires entries { entries ≤ entries_limit }
         requires bytes { bytes ≤ bytes_limit }
-        ensures held { IfOk result (λ world. (chains : List ChainData) × AreFresh (chains_in (arc_value site).interfaces) chains × (held_in world ≡ first_held (arc_value site) entries bytes chains)) }
-        ensures few { length (arc_value site).interfaces ≤ 16 }
+        ensures stands { IfOk result (λ world. RepresentsWithin (record { site = arc_value site; entries = entries; bytes = bytes }) (held_in world) opening) }
         ensures going { IfOk result (λ world. GoesOn world) }
         ensures log { IfOk result (λ world. HasPassed world opening) }
         ensures enough { OnOk result (first_short (B.stock shelf.old) (use_specs (uses_in (arc_value site).interfaces)) ≡ None) }
+        ensures taken { OnOk result (Taken (B.stock shelf.old) (uses_in (arc_value site).interfaces) (B.stock shelf.new)) }
         ensures fault { IfErr result (λ e. FaultIs (B.stock shelf.old) (uses_in (arc_value site).interfaces) e) }
+        ensures kept { OnErr result (B.stock shelf.new ≡ B.stock shelf.old) }
+    {
+        if let Some(fault) = World::<C>::shortage(&site, shelf) {
+            return Err(fault);
+        }
+        let count = site.interfaces.len();
+        let Ok(connections) = Vec::with_capacity(alloc, count) else {
+            return Err(ChainFault::Memory);
+        };
+        let Ok(hall) = Hall::with_limits(alloc, site, entries, bytes) else {
+            return Err(ChainFault::Memory);
+        };
+        let interfaces = hall.site().interfaces.as_slice();
+        let chains = shelf.build_all(alloc, &chains_of(interfaces)[..count])?;
+        Ok(World {
+            running: Running::new(alloc, hall, chains, connections),
+            ended: None,
+            log_cursor: 0,
+        })
+    }
+
+    /// The first kind, in their order, of which all chains of a site together need more boxes than the shelf holds, if there is one. It
+    /// takes no memory.
+    pub fn shortage<B: Supplier<C>>(site: &Site, shelf: &B) -> Option<ChainFault>
+        ensures short { IfSome result (λ e. (e ≡ NoMemory → ⊥) × FaultIs (B.stock shelf.now) (uses_in site.now.interfaces) e) }
+        ensures enough { IfNone result (first_short (B.stock shelf.now) (use_specs (uses_in site.now.interfaces)) ≡ None) }
     {
         let interfaces = site.interfaces.as_slice();
-        let chains = shelf.build_all(alloc, interfaces)?;
-        match Running::new(alloc, site, chains, entries, bytes) {
-            Ok(running) => Ok(World {
-                running,
-                ended: None,
-                log_cursor: 0,
-            }),
-            Err(_) => Err(ChainFault::Memory),
-        }
+        shelf.shortage(&chains_of(interfaces)[..interfaces.len()])
     }
 
     /// The history with its site.
@@ -118,8 +145,8 @@ impl<C: Framer> World<C> {
     /// every further event.
     pub fn step(&mut self, event: &Event) -> Result<Effect, WorldFault>
         requires { is_built_event event.now ≡ true }
-        ensures step { (site : SiteData) (s : State) → GoesOn self.old → Represents site (held_in self.old) s → Steps site s event.now (held_in self.old) result (held_in self.new) }
-        ensures log { (s : State) (did : Did) → HasPassed self.old s → HasPassed self.new (after s event.now did) }
+        ensures step { (base : Basis) (s : State) → GoesOn self.old → RepresentsWithin base (held_in self.old) s → Steps base s event.now (held_in self.old) result (held_in self.new) }
+        ensures log { (s : State) → HasPassed self.old s → LogPasses s event.now result self.new }
         ensures lasts { GoesOn self.old → self.new.ended ≡ lasting result }
         ensures ended { (fault : WorldFault) → self.old.ended ≡ Some fault → (result ≡ Err fault) × (self.new ≡ self.old) }
     {
@@ -145,4 +172,17 @@ fn lasting(done: &Result<Effect, WorldFault>) -> Option<WorldFault>
         }),
         Err(WorldFault::Memory) => Some(WorldFault::Memory),
     }
+}
+
+// The uses of the chain of each interface, in order, and then none.
+fn chains_of(interfaces: &[Interface]) -> [&[ProtoUse]; MOST_INTERFACES]
+    requires { length interfaces.now ≤ 16 }
+    ensures chains { map (λ uses. uses.now) (take (length interfaces.now) result) ≡ chains_in interfaces.now }
+    ensures can { AllCanBeBuilt (chains_in interfaces.now) }
+{
+    let mut chains: [&[ProtoUse]; MOST_INTERFACES] = [&[]; MOST_INTERFACES];
+    for (at, interface) in interfaces.iter().enumerate() {
+        chains[at] = interface.chain.as_slice();
+    }
+    chains
 }

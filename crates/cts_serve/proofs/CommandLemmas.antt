@@ -9,9 +9,9 @@ use Rattle.cts_def.specs.declared.proto_spec.Kind.{Kind}
 use Rattle.cts_entry.specs.declared.event.Event.{Event}
 use Rattle.cts_def.specs.Sites.{SiteData}
 use Rattle.cts_core.specs.States.{opening}
-use Rattle.cts_core.proofs.Judging.{run_judged}
-use Rattle.cts_core.proofs.OneRun.{has_run}
-use Rattle.cts_core.proofs.SiteSound.{site_sound}
+use Rattle.cts_core_laws.proofs.Judging.{run_judged}
+use Rattle.cts_core_laws.proofs.OneRun.{has_run}
+use Rattle.cts_core_laws.proofs.SiteSound.{site_sound}
 use Rattle.cts_outside.specs.Causes.{Rose, Steady}
 use Rattle.cts_outside.specs.Seen.{SinkSeen}
 use Rattle.cts_outside.proofs.Putting.{appended-nil}
@@ -20,7 +20,7 @@ use Rattle.cts_proto.specs.Stock.{stocked}
 use Rattle.cts_serve.specs.Command.{Outcome, fine, refusal, refusal_of, shelf_refusal, script_refusal, HasBoxes, first_refusal, replayed, replay_outcome, check_outcome, IsReplay, IsDone, IsOutcome, PutsFor, Answers, Completes}
 use Rattle.cts_serve.specs.Ending.{Ends, EndsCheck, EndsReplay, refused_as, usage_ending, memory_ending, unloaded_ending, unmade_ending}
 use Rattle.cts_serve.specs.Ending.Lines.{usage_line, memory_line, counts_line}
-use Rattle.cts_core.specs.Environments.{site_environment}
+use Rattle.cts_core.specs.Environments.{basis_of, site_environment}
 use Rattle.cts_serve.specs.Load.{IsNext, FailsToLoad, LoadsSite, unloaded, name_of, site_asked, events_asked}
 use Rattle.cts_serve.specs.Load.Fetching.{Takes}
 use Rattle.cts_serve.specs.Load.Judging.{judge_script, events_in}
@@ -47,7 +47,7 @@ module _ (stock : List Meaning) where
 
   replay_of : (site : SiteData) (script : List ℕ) (events : List (ℕ × Event)) → (o : Outcome) × IsReplay site script events o
   replay_of site script events =
-      let run = has_run (site_environment site) (site_sound site) opening (events_of events) in
+      let run = has_run (site_environment site) (site_sound (basis_of site)) opening (events_of events) in
       (replay_outcome site script events run.0 run.1, record { dids = run.0; ending = run.1; runs = run.2; commands = run_judged site opening (events_of events) run.0 run.1 run.2; outcome = refl })
 
   done_of : (files : List ℕ → Option (List ℕ)) (r : RequestData) (script : Option (List ℕ)) → (o : Outcome) × IsDone files r script o

@@ -6,10 +6,10 @@ use Rattle.cts_proto.specs.Meaning.{Meaning}
 use Rattle.cts_entry.specs.declared.event.Event.{Event}
 use Rattle.cts_core.specs.States.{opening}
 use Rattle.cts_core.specs.Runs.{Did, Ending}
-use Rattle.cts_core.proofs.OneRun.{has_one_run}
-use Rattle.cts_core.proofs.SiteSound.{site_sound}
+use Rattle.cts_core_laws.proofs.OneRun.{has_one_run}
+use Rattle.cts_core_laws.proofs.SiteSound.{site_sound}
 use Rattle.cts_def.specs.Sites.{SiteData}
-use Rattle.cts_core.specs.Environments.{site_environment}
+use Rattle.cts_core.specs.Environments.{basis_of, site_environment}
 use Rattle.std.specs.Prelude.{nat_lt}
 use Rattle.cts_serve.specs.Command.{Outcome, refusal, dumped, IsDumpBy, IsDumped, first_refusal, script_refusal, HasBoxes, replay_outcome, check_outcome, IsReplay, IsDone, IsOutcome, Answers, Completes}
 use Rattle.cts_serve.specs.Ending.{usage_ending, unfetched_ending, unloaded_ending, unmade_ending}
@@ -35,7 +35,7 @@ use Rattle.cts_serve.proofs.CommandLemmas.{some_outcome, third_is, refusal_is, n
 -- a script's events have one run, and so one outcome
 one_replay : (site : SiteData) (script : List ℕ) (events : List (ℕ × Event)) (o p : Outcome) → IsReplay site script events o → IsReplay site script events p → o ≡ p
 one_replay site script events o p h k =
-    let same = has_one_run (site_environment site) (site_sound site) opening (events_of events) h.dids k.dids h.ending k.ending h.runs k.runs in
+    let same = has_one_run (site_environment site) (site_sound (basis_of site)) opening (events_of events) h.dids k.dids h.ending k.ending h.runs k.runs in
     h.outcome ∙ (ap (λ (ds : List Did). replay_outcome site script events ds h.ending) same.0 ∙ (ap (λ (e : Ending). replay_outcome site script events k.dids e) same.1 ∙ sym k.outcome))
 
 one_done : (files : List ℕ → Option (List ℕ)) (r : RequestData) (script : Option (List ℕ)) (o p : Outcome) → IsDone files r script o → IsDone files r script p → o ≡ p

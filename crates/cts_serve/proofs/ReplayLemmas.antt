@@ -6,12 +6,12 @@ use Rattle.cts_entry.specs.declared.event.Event.{Event}
 use Rattle.cts_entry.specs.Histories.{entries_in, bytes_in}
 use Rattle.cts_core.specs.States.{State, opening}
 use Rattle.cts_core.specs.Runs.{Did, Does, after, Ending, Finished, NotEnabled, HistoryFull, Runs}
-use Rattle.cts_core.proofs.OneRun.{has_run}
-use Rattle.cts_core.proofs.SiteSound.{site_sound}
+use Rattle.cts_core_laws.proofs.OneRun.{has_run}
+use Rattle.cts_core_laws.proofs.SiteSound.{site_sound}
 use Rattle.cts_outside.specs.Seen.{SinkSeen}
 use Rattle.cts_outside.proofs.Putting.{appended-nil, whole_then, part_first, part_then}
 use Rattle.cts_def.specs.Sites.{SiteData}
-use Rattle.cts_core.specs.Environments.{site_environment}
+use Rattle.cts_core.specs.Environments.{basis_of, site_environment}
 use Rattle.cts_core.specs.Worlds.{Held, Represents}
 use Rattle.cts_serve.specs.Ending.Lines.{end_line}
 use Rattle.cts_serve.specs.Putting.{IsPut, FailsWithin}
@@ -130,7 +130,7 @@ body_front site events left w text p dids ending =
 pub wants : (site : SiteData) (events left : List (ℕ × Event)) (w : Held) (text : List ℕ) (p : IsProgress site events left w text) (old new : SinkSeen)
     → IsPut text old new → Replays site events (Err halt.Memory) old new
 wants site events left w text p old new h =
-    let r = has_run (site_environment site) (site_sound site) p.state (events_of left) in
+    let r = has_run (site_environment site) (site_sound (basis_of site)) p.state (events_of left) in
     record {
       dids = p.prior ++ r.0;
       ending = r.1;
@@ -141,14 +141,14 @@ wants site events left w text p old new h =
 -- memory was wanted before anything was done
 pub wants_first : (site : SiteData) (events : List (ℕ × Event)) (out : SinkSeen) → Replays site events (Err halt.Memory) out out
 wants_first site events out =
-    let r = has_run (site_environment site) (site_sound site) opening (events_of events) in
+    let r = has_run (site_environment site) (site_sound (basis_of site)) opening (events_of events) in
     record { dids = r.0; ending = r.1; runs = r.2; puts = (0, (refl, sym (appended-nil out.told))) }
 
 -- a put failed within the lines of an event that was done
 faulted : (site : SiteData) (events rest : List (ℕ × Event)) (x : ℕ × Event) (w : Held) (text : List ℕ) (p : IsProgress site events (x ∷ rest) w text) (did : Did) (old mid new : SinkSeen)
     → Does (site_environment site) p.state x.1 did → IsPut text old mid → FailsWithin (event_text site p.state.history did) mid new → Replays site events (Err halt.WriteFault) old new
 faulted site events rest x w text p did old mid new d m fails =
-    let r = has_run (site_environment site) (site_sound site) (after p.state x.1 did) (events_of rest) in
+    let r = has_run (site_environment site) (site_sound (basis_of site)) (after p.state x.1 did) (events_of rest) in
     let lines = event_text site p.state.history did in
     let more = transcript site (p.state.history ++ did.entries) r.0 ++ body_tail (p.prior ++ did ∷ r.0) r.1 in
     record {

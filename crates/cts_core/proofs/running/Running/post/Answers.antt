@@ -9,7 +9,7 @@ use Rattle.cts_core.specs.Takings.{CanPost, Posts, Settles}
 use Rattle.cts_core.specs.Worlds.{Held, IsSoundHeld, held_with}
 use Rattle.cts_core.proofs.Holding.{IsOpen, entries_count, not_posted, packets_can, packets_last, room_fits, room_same, sound_more, stands_at}
 use Rattle.cts_core.proofs.Postings.{packets_connect_none}
-use Rattle.cts_core.proofs.Legality.{Lasting}
+use Rattle.cts_core.proofs.Following.{Lasting}
 use Rattle.cts_core.proofs.running.Running.post.Goals as goal
 
 pub returns-in_err-make_room : goal.returns-in_err-make_room

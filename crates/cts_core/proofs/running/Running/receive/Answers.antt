@@ -10,7 +10,7 @@ pub returns-then-not-may_receive : goal.returns-then-not-may_receive
 returns-then-not-may_receive g c =
     let off : c.may_receive.result ≡ false = search rules in
     let w = c.args.self.now in
-    λ site s h. not_enabled site w w s (Piece c.args.by c.args.piece.now) c.may_receive.result (c.may_receive.ensures.test ∙ may_receive_is site w s c.args.by c.args.piece.now (built_of site w s c.may_receive.ensures.sound h) h) off refl h
+    λ base s h. not_enabled base w w s (Piece c.args.by c.args.piece.now) c.may_receive.result (c.may_receive.ensures.test ∙ may_receive_is base w s c.args.by c.args.piece.now (built_of base w s c.may_receive.ensures.sound h) h) off refl h
 
 pub take-requires : goal.take-requires
 take-requires g c = (is_open c.args.self.now c.args.by (is_piece c.args.piece.now) c.may_receive.ensures.sound (sym c.may_receive.ensures.test ∙ (search rules))).interface
@@ -26,14 +26,14 @@ returns-in_err-post g c =
     let w = c.args.self.now in
     let on : c.may_receive.result ≡ true = search rules in
     let p = err_from_is_err_and c.from_residual-in_err-post.result c.from_residual-in_err-post.ensures.1 in
-    rw (p.1, p.2) (λ site s h.
-    let built = built_of site w s c.may_receive.ensures.sound h in
-    piece_refused site w c.take.new.self c.post.new.self s c.args.by c.args.piece.now _ _ c.in_err-post.field-0.0 built (sym (may_receive_is site w s c.args.by c.args.piece.now built h) ∙ (sym c.may_receive.ensures.test ∙ on)) c.in_ok-taken.ensures.takes c.in_err-post.ensures h)
+    rw (p.1, p.2) (λ base s h.
+    let built = built_of base w s c.may_receive.ensures.sound h in
+    piece_refused base w c.take.new.self c.post.new.self s c.args.by c.args.piece.now _ _ c.in_err-post.field-0.0 built (sym (may_receive_is base w s c.args.by c.args.piece.now built h) ∙ (sym c.may_receive.ensures.test ∙ on)) c.in_ok-taken.ensures.takes c.in_err-post.ensures h)
 
 pub returns : goal.returns
 returns g c =
     let w = c.args.self.now in
     let on : c.may_receive.result ≡ true = search rules in
-    λ site s h.
-    let built = built_of site w s c.may_receive.ensures.sound h in
-    piece_done site w c.take.new.self c.post.new.self s c.args.by c.args.piece.now _ _ built (sym (may_receive_is site w s c.args.by c.args.piece.now built h) ∙ (sym c.may_receive.ensures.test ∙ on)) c.in_ok-taken.ensures.takes c.in_ok-post.ensures h
+    λ base s h.
+    let built = built_of base w s c.may_receive.ensures.sound h in
+    piece_done base w c.take.new.self c.post.new.self s c.args.by c.args.piece.now _ _ built (sym (may_receive_is base w s c.args.by c.args.piece.now built h) ∙ (sym c.may_receive.ensures.test ∙ on)) c.in_ok-taken.ensures.takes c.in_ok-post.ensures h
