@@ -1,14 +1,12 @@
 -- What the environment of a site is where the site is built.
-use Rattle.std.proofs.Common.{◌≡◌, ℕ, ◌<◌, Bool, true, false, ◌&&◌, ◌||◌, List, length, refl, sym, ◌∙◌, ap, arith}
-use Rattle.std.specs.Prelude.{nat_lt, nat_le, if◌then◌else◌}
+use Rattle.std.proofs.Common.{◌≡◌, ℕ, ◌<◌, Bool, true, false, ◌&&◌, ◌||◌, length, refl, sym, ◌∙◌, ap, arith}
+use Rattle.std.specs.Prelude.{nat_lt, nat_le}
 use Rattle.std.proofs.lemmas.Bool.{eqb-true, ltb-true}
 use Rattle.std.proofs.lemmas.Bool.Decides.{nat_tests}
 use Rattle.cts_def.specs.Makers.{first_slot, router_of}
 use Rattle.cts_def.specs.Sites.{SiteData}
-use Rattle.cts_ident.specs.Identification.{identified, identified_command}
-use Rattle.cts_frame.specs.Framing.{plain}
 use Rattle.cts_core.specs.States.{is_line}
-use Rattle.cts_core.specs.Environments.{environment_of, ident_of}
+use Rattle.cts_core.specs.Environments.{environment_of}
 use Rattle.cts_entry.specs.Workers.{is_slot}
 use Rattle.cts_table.specs.declared.basis.Basis.{Basis}
 use Rattle.cts_core.specs.Built.{is_built_site}
@@ -42,8 +40,3 @@ enabled_line base by b built t =
 
 pub below : (n m : ℕ) → n < m → nat_lt n m ≡ true
 below n m h = grind (arith, nat_tests)
-
--- ---- which packet some bytes are
-
-pub ident_is : (site : SiteData) (by : ℕ) (bytes : List ℕ) → by < length site.interfaces → ident_of site by (plain bytes) ≡ identified site by bytes
-ident_is site by bytes m = ap (λ (b : Bool). if b then identified site by bytes else identified_command site (router_of by) bytes) (below by (length site.interfaces) m)

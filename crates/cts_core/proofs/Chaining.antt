@@ -18,10 +18,12 @@ use Rattle.cts_chain.specs.Shapes.{ChainData, IsSameChain, writers}
 use Rattle.cts_chain.proofs.Planning.{framings_are}
 use Rattle.cts_chain.proofs.Settled.{renewed_stands}
 use Rattle.cts_core.specs.States.{State}
-use Rattle.cts_core.specs.Takings.{IsRenewed}
+use Rattle.cts_connection.specs.Connections.{IsRenewed}
 use Rattle.cts_core.specs.Cursors.{IsPassed}
-use Rattle.cts_core.specs.Environments.{site_environment, writers_at}
-use Rattle.cts_core.specs.Worlds.{HeldConnection, IsConnection}
+use Rattle.cts_core.specs.Environments.{site_environment}
+use Rattle.cts_connection.specs.Routings.{writers_at}
+use Rattle.cts_connection.specs.Connections.{HeldConnection}
+use Rattle.cts_core.specs.Worlds.{IsConnection}
 
 -- ---- no piece came
 

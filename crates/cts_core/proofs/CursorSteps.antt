@@ -1,27 +1,27 @@
 -- What a connection has passed of the history, when entries are appended.
-use Rattle.std.proofs.Common.{◌≡◌, ℕ, ◌+◌, ◌<◌, Bool, true, false, ◌&&◌, ◌||◌, List, [], ◌∷◌, ◌++◌, length, drop, filter, Option, Some, None, refl, sym, ◌∙◌, ap, subst, arith, append-nil, eq-eqb}
+use Rattle.std.proofs.Common.{◌≡◌, ℕ, ◌+◌, Bool, true, false, ◌&&◌, ◌||◌, List, [], ◌∷◌, ◌++◌, length, drop, Option, Some, None, refl, sym, ◌∙◌, ap, subst, arith, append-nil, eq-eqb}
 use Rattle.std.specs.Prelude.{◌==◌, if◌then◌else◌}
 use Rattle.std.specs.List.{list_any}
 use Rattle.std.proofs.lemmas.List.{drop-append-le}
-use Rattle.std.proofs.lemmas.List.Elements.{filter-append}
 use Rattle.cts_def.specs.Sites.{SiteData}
 use Rattle.cts_def.specs.declared.time.Time.{Time}
 use Rattle.cts_entry.specs.declared.entry.Entry.{Entry}
 use Rattle.cts_entry.specs.declared.event.Event.{Event}
 use Rattle.cts_entry.specs.declared.what.What.{What}
 use Rattle.cts_entry.specs.declared.what.What.TheVariants.{Opened, Packet, Closed, Command, SetLimits, Enable, LimitsSetIs, Injected, Unrouted, Stop, Ended}
-use Rattle.cts_entry.specs.Histories.{latest, or_earlier, connects, connects_maker, commands_to, is_opened, opens as is_opening, packets_from, since}
+use Rattle.cts_entry.specs.Histories.{latest, or_earlier, connects, connects_maker, is_opened, opens as is_opening, since}
 use Rattle.cts_entry.proofs.Queuing.{since_opened}
 use Rattle.cts_frame.specs.Framing.{Output}
 use Rattle.cts_frame.specs.Packets.{capped}
-use Rattle.cts_told.specs.Routing.{queue, walk}
+use Rattle.cts_told.specs.Routing.{queue}
+use Rattle.cts_told.proofs.Walks.{packets_queue, queue-append}
 use Rattle.cts_core.specs.Cursors.{IsPassed}
 use Rattle.cts_core.specs.Environments.{site_environment}
 use Rattle.cts_core.specs.Runs.{Did, after, passed_for}
 use Rattle.cts_core.specs.States.{State, unsent}
-use Rattle.cts_core.specs.Takings.{entries_of}
-use Rattle.cts_core.specs.Worlds.{HeldCursor, commands_of, waiting}
-use Rattle.cts_core.proofs.Building.{below}
+use Rattle.cts_connection.specs.Takings.{entries_of}
+use Rattle.cts_connection.specs.Routings.{site_routing}
+use Rattle.cts_connection.specs.Connections.{HeldCursor, waiting}
 use Rattle.cts_core.proofs.Keeping.{cursor_stays}
 use Rattle.cts_core.proofs.Passing.{passed_more, passed_none, unsent_is}
 
@@ -70,30 +70,17 @@ passed_opened site t by history opened k mine says grown first is =
 
 -- ---- what waits
 
--- the queue of an interface
-pub queue_is : (site : SiteData) (by : ℕ) (entries : List Entry) → by < length site.interfaces → queue (site_environment site).routing by entries ≡ commands_of by entries
-queue_is site by entries m =
-    ap (λ (b : Bool). filter (λ (e : Entry). if b then commands_to (λ (interface : ℕ). interface == by) e else packets_from ((site_environment site).routing.routes by) e) entries) (below by (length site.interfaces) m)
-
--- and what it goes through
-pub walk_is : (site : SiteData) (by : ℕ) (entries : List Entry) → by < length site.interfaces → walk (site_environment site).routing by entries ≡ commands_of by entries
-walk_is site by entries m = ap (λ (b : Bool). if b then queue (site_environment site).routing by entries else entries) (below by (length site.interfaces) m) ∙ queue_is site by entries m
-
 -- what a Closed says is unsent
-pub waits : (site : SiteData) (s : State) (by : ℕ) (k : HeldCursor) → by < length site.interfaces → IsPassed (site_environment site) s by k.place k.refused → unsent (site_environment site) s by ≡ waiting by s.history k
-waits site s by k m p = unsent_is (site_environment site) s by k.place k.refused p ∙ ap (λ (l : List Entry). capped (k.refused + length l)) (queue_is site by (drop k.place s.history) m)
+pub waits : (site : SiteData) (s : State) (by : ℕ) (k : HeldCursor) → IsPassed (site_environment site) s by k.place k.refused → unsent (site_environment site) s by ≡ waiting site by s.history k
+waits site s by k p = unsent_is (site_environment site) s by k.place k.refused p
 
--- packets are no commands
-
-packets_no_commands : (site : SiteData) (k by : ℕ) (now : Time) (packets : List Output) → commands_of k (entries_of site by now packets) ≡ []
-packets_no_commands site k by now [] = refl
-packets_no_commands site k by now (o ∷ packets) = packets_no_commands site k by now packets
-
-pub waiting_kept : (site : SiteData) (s : State) (by : ℕ) (now : Time) (packets : List Output) (k : HeldCursor) → IsPassed (site_environment site) s by k.place k.refused → waiting by (s.history ++ entries_of site by now packets) k ≡ waiting by s.history k
+-- a maker's own packets are not for its peer
+pub waiting_kept : (site : SiteData) (s : State) (by : ℕ) (now : Time) (packets : List Output) (k : HeldCursor) → IsPassed (site_environment site) s by k.place k.refused → waiting site by (s.history ++ entries_of site s.history by now packets) k ≡ waiting site by s.history k
 waiting_kept site s by now packets k p =
-    let more = entries_of site by now packets in
-    let left : commands_of by (drop k.place (s.history ++ more)) ≡ commands_of by (drop k.place s.history) =
-    ap (commands_of by) (drop-append-le k.place s.history more (omega (arith, p.place_is)))
-    ∙ (filter-append (commands_to (λ (interface : ℕ). interface == by)) (drop k.place s.history) more
-    ∙ (ap (λ (l : List Entry). commands_of by (drop k.place s.history) ++ l) (packets_no_commands site by by now packets) ∙ append-nil (commands_of by (drop k.place s.history)))) in
+    let g = site_routing site in
+    let more = entries_of site s.history by now packets in
+    let left : queue g by (drop k.place (s.history ++ more)) ≡ queue g by (drop k.place s.history) =
+    ap (queue g by) (drop-append-le k.place s.history more (omega (arith, p.place_is)))
+    ∙ (queue-append g by (drop k.place s.history) more
+    ∙ (ap (λ (l : List Entry). queue g by (drop k.place s.history) ++ l) (packets_queue g s.history now by packets) ∙ append-nil (queue g by (drop k.place s.history)))) in
     ap (λ (l : List Entry). capped (k.refused + length l)) left

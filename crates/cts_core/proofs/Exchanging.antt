@@ -1,12 +1,21 @@
 -- What a running core makes of what one of its connections takes or puts.
-use Rattle.std.proofs.Common.{◌≡◌, ℕ, ◌<◌, List, length, set, Option, Result, Ok, Err, OnErr, refl, sym, ◌∙◌, ap, subst}
+use Rattle.std.proofs.Common.{◌≡◌, ℕ, ◌<◌, false, true, List, [], ◌∷◌, ◌++◌, length, set, Option, Some, None, Result, Ok, Err, OnErr, refl, sym, ◌∙◌, ap, subst}
 use Rattle.std.specs.Prelude.{IfOk}
+use Rattle.std.proofs.lemmas.List.{set-get_or}
+use Rattle.cts_connection.specs.Connections.{HeldConnection, IsRenewed, connection_at, no_chain, shut}
+use Rattle.cts_connection.specs.Postings.{Closes, Opens, Posts as ConnectionPosts, closed_of, end_of}
+use Rattle.cts_connection.specs.Takings.{TakesPiece}
+use Rattle.cts_connection.specs.Writings.{Wrote}
 use Rattle.cts_def.specs.Sites.{SiteData}
+use Rattle.cts_def.specs.declared.time.Time.{Time}
 use Rattle.cts_entry.specs.declared.entry.Entry.{Entry}
 use Rattle.cts_entry.specs.declared.why.Why.{Why}
-use Rattle.cts_core.specs.Takings.{Takes, TakesPiece}
-use Rattle.cts_core.specs.Worlds.{Held, HeldConnection, IsSoundHeld, connection_at}
-use Rattle.cts_core.specs.Writings.{PutsNext, Wrote}
+use Rattle.cts_table.specs.States.{Shown}
+use Rattle.cts_table.specs.declared.fault.HallFault.{HallFault}
+use Rattle.cts_table.specs.declared.fault.HallFault.TheVariants.{Full as Crowded, Memory as Wanting}
+use Rattle.cts_core.specs.Takings.{Begins, IsClosed, Posts, Takes, lost, told_as}
+use Rattle.cts_core.specs.Worlds.{Held, IsSoundHeld, held_with}
+use Rattle.cts_core.specs.Writings.{PutsNext}
 use Rattle.cts_core.proofs.Holding.{sound_taken}
 
 module _ (w : Held) (by : ℕ) (old new : HeldConnection) (held : connection_at w.connections by ≡ old) where
@@ -19,29 +28,59 @@ module _ (w : Held) (by : ℕ) (old new : HeldConnection) (held : connection_at 
   sound_exchanged sound there same = sound_taken w by new sound there (same ∙ ap (λ (c : HeldConnection). c.connected) (sym held))
 
   -- a piece went through its chain
-  pub takes_is : {T E : Type 0} (entries : T → List Entry) (why : T → Option Why) (result : Result T E) (site : SiteData) (piece : List ℕ) → site ≡ w.basis.site → new.connected ≡ old.connected → new.cursor ≡ old.cursor
-      → IfOk result (λ t. TakesPiece site by w.time old.chain piece (entries t) (why t) new.chain) → IfOk result (λ t. Takes by w piece (entries t) (why t) exchanged)
-  takes_is entries why (Err e) site piece of_site connected cursor h = tt
-  takes_is entries why (Ok t) site piece of_site connected cursor h = (
+  pub takes_is : {T E : Type 0} (entries : T → List Entry) (unposted : T → ℕ) (why : T → Option Why) (result : Result T E) (piece : List ℕ) → new.connected ≡ old.connected → new.cursor ≡ old.cursor
+      → IfOk result (λ t. TakesPiece w.basis.site w.history by w.time old.chain piece (entries t) (unposted t) (why t) new.chain) → IfOk result (λ t. Takes by w piece (entries t) (unposted t) (why t) exchanged)
+  takes_is entries unposted why (Err e) piece connected cursor h = tt
+  takes_is entries unposted why (Ok t) piece connected cursor h = (
     new,
     connected ∙ ap (λ (c : HeldConnection). c.connected) (sym held),
     cursor ∙ ap (λ (c : HeldConnection). c.cursor) (sym held),
-    subst (λ (x : SiteData). TakesPiece x by w.time (connection_at w.connections by).chain piece (entries t) (why t) new.chain) of_site
-        (subst (λ (c : HeldConnection). TakesPiece site by w.time c.chain piece (entries t) (why t) new.chain) (sym held) h),
+    subst (λ (c : HeldConnection). TakesPiece w.basis.site w.history by w.time c.chain piece (entries t) (unposted t) (why t) new.chain) (sym held) h,
     refl,
   )
 
-  -- it has put commands, or not
+  -- it has put what is for its peer, or not
   pub wrote_stands : {T E : Type 0} (bytes : T → List ℕ) (result : Result T E) (site : SiteData) (history : List Entry) (next : ℕ) → IfOk result (λ t. Wrote site by old history next (bytes t) new) → OnErr result (new ≡ old) → new.connected ≡ old.connected
   wrote_stands bytes (Ok t) site history next ok err = ap (λ (c : HeldConnection). c.connected) ok.new_is
   wrote_stands bytes (Err e) site history next ok err = ap (λ (c : HeldConnection). c.connected) err
 
-  pub puts_is : {T E : Type 0} (bytes : T → List ℕ) (result : Result T E) (site : SiteData) (history : List Entry) (next : ℕ) → site ≡ w.basis.site → history ≡ w.history
-      → IfOk result (λ t. Wrote site by old history next (bytes t) new) → IfOk result (λ t. PutsNext by w next (bytes t) exchanged)
-  puts_is bytes (Err e) site history next of_site same h = tt
-  puts_is bytes (Ok t) site history next of_site same h = (
-    new,
-    subst (λ (x : SiteData). Wrote x by (connection_at w.connections by) w.history next (bytes t) new) of_site
-        (subst (λ (l : List Entry). Wrote site by (connection_at w.connections by) l next (bytes t) new) same (subst (λ (c : HeldConnection). Wrote site by c history next (bytes t) new) (sym held) h)),
-    refl,
-  )
+  pub puts_is : {T E : Type 0} (bytes : T → List ℕ) (result : Result T E) (next : ℕ) → IfOk result (λ t. Wrote w.basis.site by old w.history next (bytes t) new) → IfOk result (λ t. PutsNext by w next (bytes t) exchanged)
+  puts_is bytes (Err e) next h = tt
+  puts_is bytes (Ok t) next h = (new, subst (λ (c : HeldConnection). Wrote w.basis.site by c w.history next (bytes t) new) (sym held) h, refl)
+
+-- ---- what a connection appends
+
+module _ (time : Time) (k new : Shown) (cs : List HeldConnection) (by : ℕ) (c d : HeldConnection) (held : connection_at cs by ≡ c) where
+  -- nothing is changed
+  kept : new ≡ k → d ≡ c → held_with time new (set cs by d) ≡ held_with time k cs
+  kept same stays = λ i. held_with time (same i) ((ap (λ (x : HeldConnection). set cs by x) (stays ∙ sym held) ∙ set-get_or cs by (shut no_chain)) i)
+
+  -- the connection is opened, or not
+  pub begins_is : (result : Result (Unit {0}) HallFault) → Opens by time k c result new d → Begins by (held_with time k cs) (told_as result) (held_with time new (set cs by d))
+  begins_is (Ok tt) o = (o.0, (d, subst (λ (x : HeldConnection). IsRenewed true x d) (sym held) o.2, o.3, λ i. record { basis = o.1.basis i; time = time; history = o.1.entries i; connections = set cs by d }))
+  begins_is (Err (Crowded counted size)) o = (o.0, o.1, o.2, kept o.3 o.4)
+  begins_is (Err Wanting) o = (o.0, kept o.1 o.2)
+
+  -- it is closed
+  pub closes_is : (why : Why) → Closes by time k c why 0 new d → IsClosed by (held_with time k cs) why (held_with time new (set cs by d))
+  closes_is why o =
+      let entry : closed_of by time k c why 0 ≡ lost k.basis.site by time k.entries (connection_at cs by) why = ap (λ (x : HeldConnection). lost k.basis.site by time k.entries x why) (sym held) in
+      let grown = o.grown.entries ∙ ap (λ (e : Entry). k.entries ++ e ∷ []) entry in (
+        d,
+        subst (λ (x : HeldConnection). IsRenewed false x d) (sym held) o.renewed,
+        λ i. record { basis = o.grown.basis i; time = time; history = grown i; connections = set cs by d },
+      )
+
+-- packets are posted, or not
+pub posts_is : (time : Time) (k new : Shown) (cs : List HeldConnection) (by : ℕ) (c d : HeldConnection) → connection_at cs by ≡ c → (entries : List Entry) (why : Option Why) (result : Result (Unit {0}) HallFault)
+    → ConnectionPosts by time k c entries (end_of 0 why) result new d → Posts by (held_with time k cs) entries why (told_as result) (held_with time new (set cs by d))
+posts_is time k new cs by c d held entries None (Ok tt) p =
+    let g = p.1.1 in
+    let ends = p.1.2 in
+    (p.0, kept time p.1.0 new cs by c d held ends.0 ends.1 ∙ (λ i. record { basis = g.basis i; time = time; history = g.entries i; connections = cs }))
+posts_is time k new cs by c d held entries (Some why) (Ok tt) p =
+    let g = p.1.1 in
+    let closed = closes_is time p.1.0 new cs by c d held why p.1.2 in
+    (p.0, subst (λ (x : Held). IsClosed by x why (held_with time new (set cs by d))) (λ i. record { basis = g.basis i; time = time; history = g.entries i; connections = cs }) closed)
+posts_is time k new cs by c d held entries why (Err (Crowded counted size)) p = (p.0, p.1, p.2, kept time k new cs by c d held p.3 p.4)
+posts_is time k new cs by c d held entries why (Err Wanting) p = (p.0, kept time k new cs by c d held p.1 p.2)

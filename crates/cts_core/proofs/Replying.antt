@@ -12,7 +12,8 @@ use Rattle.cts_entry.specs.declared.what.What.TheVariants.{Opened, Packet, Close
 use Rattle.cts_entry.specs.Histories.{connects, connects_maker, latest}
 use Rattle.cts_api.specs.Replied.{Appends}
 use Rattle.cts_table.specs.States.{Shown}
-use Rattle.cts_core.specs.Worlds.{Held, HeldConnection, IsSoundHeld, held_with}
+use Rattle.cts_core.specs.Worlds.{Held, IsSoundHeld, held_with}
+use Rattle.cts_connection.specs.Connections.{HeldConnection}
 use Rattle.cts_core.proofs.Holding.{sound_more}
 use Rattle.cts_core.proofs.Postings.{either_way}
 

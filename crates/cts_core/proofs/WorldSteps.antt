@@ -1,12 +1,12 @@
 -- What the world stands for after each event.
 use Rattle.std.proofs.Common.{◌≡◌, ℕ, zero, suc, ◌+◌, ◌≤◌, ◌<◌, Bool, true, false, ◌&&◌, not, List, [], ◌∷◌, ◌++◌, length, map, filter, take, Option, Some, None, Ok, Err, refl, sym, ◌∙◌, ap, subst, arith, unwrap_or, append_assoc, ◌⊎◌, inl, inr}
 use Rattle.std.specs.Prelude.{◌==◌, ◌≢◌, nat_le, nat_lt, set, slice_index_or, if◌then◌else◌}
-use Rattle.std.proofs.lemmas.List.{append-nil, length-set, get_or-set_same, get_or-set_other, set-set, length-map}
+use Rattle.std.proofs.lemmas.List.{append-nil, nil_from_length, length-set, get_or-set_same, get_or-set_other, set-set, length-map}
 use Rattle.std.proofs.lemmas.Bool.{cases_eq, eq-eqb, ne_eqb, ltb-true}
 use Rattle.cts_chain.specs.Builds.{AreFresh, IsFresh, use_specs, writes}
-use Rattle.cts_chain.specs.Chains.{StagesStand, framings_of, loss_in}
+use Rattle.cts_chain.specs.Chains.{AllSettled, StagesStand, framings_of, last_fault, loss_in}
 use Rattle.cts_chain.specs.Laws.{AreOf}
-use Rattle.cts_chain.specs.Shapes.{ChainData, writers}
+use Rattle.cts_chain.specs.Shapes.{ChainData, IsSameChain, writers}
 use Rattle.cts_chain.proofs.Settled.{settled_gives_all, renewed_stands}
 use Rattle.cts_def.specs.Makers.{first_desk, first_slot, server}
 use Rattle.cts_def.specs.Protocols.{SpecData, UseData}
@@ -32,24 +32,28 @@ use Rattle.cts_core.specs.Runs.{Did, Does, silent, Appends, Receives, after, pie
 use Rattle.cts_core.proofs.Chaining.{all_renewed, begins, begins_anew, plain_more, same_framings}
 use Rattle.cts_core.proofs.CursorSteps.{PassesOn, passes, passed_opened, waits, waiting_kept}
 use Rattle.cts_core.proofs.Keeping.{pieces_turned, pieces_grow, pieces_stay, cursor_grows, cursor_turned}
-use Rattle.cts_told.proofs.Walks.{posted_packets}
-use Rattle.cts_core.specs.Environments.{environment_of, site_environment, writers_at}
+use Rattle.cts_told.proofs.Walks.{packets_connect}
+use Rattle.cts_core.specs.Environments.{environment_of, site_environment}
 use Rattle.cts_api.specs.Points.{point_of}
 use Rattle.cts_api.specs.Replies.{IsReply, Reply as Answer, text_of}
 use Rattle.cts_core.proofs.Replying.{reply_quiet}
-use Rattle.cts_core.specs.Kept.{GivesRoom, is_within}
-use Rattle.cts_table.specs.States.{Shown}
+use Rattle.cts_connection.specs.Connections.{HeldConnection, HeldCursor, IsRenewed, connection_at, entries_ahead, no_chain, shut, waiting}
+use Rattle.cts_connection.specs.Routings.{site_routing, writers_at}
+use Rattle.cts_connection.specs.Takings.{TakesPiece, blamed, entries_of}
+use Rattle.cts_connection.specs.Writings.{Wrote, spell_by}
+use Rattle.cts_told.specs.Routing.{queue, walk}
+use Rattle.cts_core.specs.Kept.{is_within}
 use Rattle.cts_table.specs.declared.basis.Basis.{Basis}
-use Rattle.cts_core.specs.Takings.{IsClosed, IsOpened, IsRenewed, Posts, Settles, Takes, TakesPiece, blamed, entries_of, lost}
-use Rattle.cts_core.specs.Worlds.{Held, HeldConnection, HeldCursor, commands_of, waiting, IsSoundHeld, IsUnmoved, HadRoom, RepresentsWithin, Steps, IsConnection, changed, connection_at, first_held, held_with, no_chain, shut}
+use Rattle.cts_core.specs.Takings.{Begins, IsClosed, IsOpened, Posts, Settles, Takes, lost}
+use Rattle.cts_core.specs.Worlds.{Held, IsSoundHeld, IsUnmoved, HadRoom, RepresentsWithin, Steps, IsConnection, changed, first_held}
 use Rattle.cts_core.specs.declared.fault.WorldFault.{WorldFault}
 use Rattle.cts_core.specs.declared.fault.WorldFault.TheVariants.{NotEnabled as RefusedEvent, Full, Memory}
 use Rattle.cts_core.specs.Built.{is_built_site}
 use Rattle.cts_core.specs.Cursors.{IsPassed}
 use Rattle.cts_core.proofs.Building.{and_tells, below, line_is, enabled_line}
-use Rattle.cts_core.specs.Writings.{IsNext, PutsNext, Wrote, entries_ahead, spell_by}
+use Rattle.cts_core.specs.Writings.{IsNext, PutsNext}
 use Rattle.cts_core.proofs.Puttings.{can_write_is, passed_next, put_is}
-use Rattle.cts_core.proofs.Postings.{connected_kept, tells_maker, tells_no_other, entries_grow, bytes_grow, packets_connect_none}
+use Rattle.cts_core.proofs.Postings.{connected_kept, tells_maker, tells_no_other, entries_grow, bytes_grow}
 
 and_same : (a b c : Bool) → (a ≡ true → b ≡ c) → (a && b) ≡ (a && c)
 and_same true b c h = h refl
@@ -273,17 +277,12 @@ opens base w new s by built n t fits h =
     )
 
 -- there is no room for an Opened, or no memory for it
-pub open_refused : (base : Basis) (time : Time) (k new : Shown) (connections : List HeldConnection) (s : State) (by : ℕ) (fault : WorldFault) → is_enabled (environment_of base) s (Opens by) ≡ true → GivesRoom k 1 0 (Err fault) new
-    → RepresentsWithin base (held_with time k connections) s → Steps base s (Opens by) (held_with time k connections) (Err fault) (held_with time new connections)
-open_refused base time k new connections s by RefusedEvent t g h = absurd g
-open_refused base time k new connections s by (Full counted size) t g h =
-    let w = held_with time k connections in
-    finds_full base w (held_with time new connections) s (Opens by) (record { by = by; time = s.time; what = Opened } ∷ []) 1 0 counted size t refl refl refl refl g.0 g.1 g.2 (unmoved w (held_with time new connections) (ap (λ (x : Shown). held_with time x connections) g.3)) h
-open_refused base time k new connections s by Memory t g h =
-    let w = held_with time k connections in
+pub open_refused : (base : Basis) (w new : Held) (s : State) (by : ℕ) (fault : WorldFault) → is_enabled (environment_of base) s (Opens by) ≡ true → Begins by w (Err fault) new → RepresentsWithin base w s → Steps base s (Opens by) w (Err fault) new
+open_refused base w new s by RefusedEvent t g h = absurd g
+open_refused base w new s by (Full counted size) t g h = finds_full base w new s (Opens by) (record { by = by; time = s.time; what = Opened } ∷ []) 1 0 counted size t refl refl refl refl g.0 g.1 g.2 (unmoved w new g.3) h
+open_refused base w new s by Memory t g h =
     let entry : Entry = record { by = by; time = s.time; what = Opened } in
-    wants_memory base w (held_with time new connections) s (Opens by) (unmoved w (held_with time new connections) (ap (λ (x : Shown). held_with time x connections) g.1)) t refl
-    (λ entries is. ap (has_room (environment_of base) s) is ∙ (sym (room_is base w s (entry ∷ []) 1 0 refl refl h) ∙ g.0))
+    wants_memory base w new s (Opens by) (unmoved w new g.1) t refl (λ entries is. ap (has_room (environment_of base) s) is ∙ (sym (room_is base w s (entry ∷ []) 1 0 refl refl h) ∙ g.0))
 
 -- ---- a connection ends
 
@@ -291,8 +290,8 @@ open_refused base time k new connections s by Memory t g h =
 given_by : (site : SiteData) (s : State) (by : ℕ) (c : HeldConnection) → (h : IsConnection site s by c) → AreOf c.chain.stages (s.pieces by) h.packets
 given_by site s by c h = settled_gives_all c.chain.stages (s.pieces by) h.packets h.settled h.stands
 
-closed_entry_is : (by : ℕ) (before now : Time) (history : List Entry) (why : Why) (c : HeldConnection) (n : ℕ) (cuts : List Pieces) → before ≡ now → loss_in c.chain.stages ≡ loss_of cuts → waiting by history c.cursor ≡ n → lost by before history c why ≡ closed_entry now by why n cuts
-closed_entry_is by before now history why c n cuts t l u = λ i. record { by = by; time = t i; what = Closed why (l i) 0 (u i) }
+closed_entry_is : (site : SiteData) (by : ℕ) (before now : Time) (history : List Entry) (why : Why) (c : HeldConnection) (n : ℕ) (cuts : List Pieces) → before ≡ now → loss_in c.chain.stages ≡ loss_of cuts → waiting site by history c.cursor ≡ n → lost site by before history c why ≡ closed_entry now by why n cuts
+closed_entry_is site by before now history why c n cuts t l u = λ i. record { by = by; time = t i; what = Closed why (l i) 0 (u i) }
 
 -- a connection that does not stand needs to have passed nothing
 none_passed : {P : Type 0} (off : Bool) → off ≡ false → off ≡ true → P
@@ -313,9 +312,9 @@ finished base w new s by why built n t h =
     let did : Did = record { entries = entry ∷ []; effect = Posted } in
     let moved : State = after s (Finish by why) did in
     let told : false ≡ is_connected by moved.history = maker_told by s entry false refl refl in
-    let waits_is : waiting by w.history old.cursor ≡ left = ap (λ (l : List Entry). waiting by l old.cursor) h.history ∙ sym (waits base.site s by old.cursor m (mine.passed on)) in
-    let whole : RepresentsWithin base (changed by w (lost by w.time w.history old why ∷ []) n.0) moved = record {
-      history = ap (λ (l : List Entry). l ++ lost by w.time w.history old why ∷ []) h.history ∙ ap (λ (x : Entry). s.history ++ x ∷ []) (closed_entry_is by w.time s.time w.history why old left all.cuts h.time all.loss_is waits_is);
+    let waits_is : waiting w.basis.site by w.history old.cursor ≡ left = ap (λ (b : Basis). waiting b.site by w.history old.cursor) h.basis ∙ (ap (λ (l : List Entry). waiting base.site by l old.cursor) h.history ∙ sym (waits base.site s by old.cursor (mine.passed on))) in
+    let whole : RepresentsWithin base (changed by w (lost w.basis.site by w.time w.history old why ∷ []) n.0) moved = record {
+      history = ap (λ (l : List Entry). l ++ lost w.basis.site by w.time w.history old why ∷ []) h.history ∙ ap (λ (x : Entry). s.history ++ x ∷ []) (closed_entry_is w.basis.site by w.time s.time w.history why old left all.cuts h.time all.loss_is waits_is);
       time = h.time;
       basis = h.basis;
       count = set_count w.connections (length base.site.interfaces) by n.0 h.count;
@@ -343,6 +342,28 @@ finished base w new s by why built n t h =
 
 -- ---- What a piece brings
 
+-- a chain was fed a piece, and each packet that it gave has its entry
+record TakesWhole (site : SiteData) (history : List Entry) (by : ℕ) (now : Time) (old : ChainData) (piece : List ℕ) (entries : List Entry) (why : Option Why) (new : ChainData) : Type 0 where
+  packets : List Output
+  stands : (ins given : List Output) → StagesStand old.stages ins given → StagesStand new.stages (ins ++ plain piece ∷ []) (given ++ packets)
+  settled : AllSettled new.stages
+  same : IsSameChain old new
+  entries_are : entries ≡ entries_of site history by now packets
+  why_is : why ≡ blamed (last_fault 1 new.stages)
+
+whole_of : (site : SiteData) (history : List Entry) (by : ℕ) (now : Time) (old : ChainData) (piece : List ℕ) (entries : List Entry) (unposted : ℕ) (why : Option Why) (new : ChainData) → unposted ≡ 0 → TakesPiece site history by now old piece entries unposted why new → TakesWhole site history by now old piece entries why new
+whole_of site history by now old piece entries unposted why new all t =
+    let none : t.lost ≡ [] = nil_from_length t.lost (omega (arith, t.count, all)) in
+    let given_are : t.packets ++ t.lost ≡ t.packets = ap (λ (l : List Output). t.packets ++ l) none ∙ append-nil t.packets in
+    record {
+      packets = t.packets;
+      stands = λ ins given h. subst (λ (l : List Output). StagesStand new.stages (ins ++ plain piece ∷ []) (given ++ l)) given_are (t.stands ins given h);
+      settled = t.settled;
+      same = t.same;
+      entries_are = t.entries_are;
+      why_is = t.why_is;
+    }
+
 -- what is known where a chain was fed a piece and gave all its packets
 record IsFed (site : SiteData) (w : Held) (s : State) (by : ℕ) (piece : List ℕ) (entries : List Entry) (why : Option Why) (c : HeldConnection) : Type 0 where
   there : by < length site.interfaces
@@ -350,19 +371,21 @@ record IsFed (site : SiteData) (w : Held) (s : State) (by : ℕ) (piece : List �
   on : is_connected by s.history ≡ true
   flag : c.connected ≡ (connection_at w.connections by).connected
   cursor : c.cursor ≡ (connection_at w.connections by).cursor
-  taken : TakesPiece site by w.time (connection_at w.connections by).chain piece entries why c.chain
+  taken : TakesWhole site w.history by w.time (connection_at w.connections by).chain piece entries why c.chain
   framings : framings_of c.chain.stages ≡ framings_at site by
   writing : writers c.chain ≡ writers_at site by
   stands : StagesStand c.chain.stages (map plain (s.pieces by ++ piece ∷ [])) (before.packets ++ taken.packets)
   all : AreOf c.chain.stages (s.pieces by ++ piece ∷ []) (before.packets ++ taken.packets)
 
-is_fed : (base : Basis) (w mid : Held) (s : State) (by : ℕ) (piece : List ℕ) (entries : List Entry) (why : Option Why) → is_built_site base.site ≡ true → is_enabled (environment_of base) s (Piece by piece) ≡ true → RepresentsWithin base w s
-    → (k : Takes by w piece entries why mid) → IsFed base.site w s by piece entries why k.0
-is_fed base w mid s by piece entries why built t h k =
+is_fed : (base : Basis) (w mid : Held) (s : State) (by : ℕ) (piece : List ℕ) (entries : List Entry) (unposted : ℕ) (why : Option Why) → is_built_site base.site ≡ true → is_enabled (environment_of base) s (Piece by piece) ≡ true → RepresentsWithin base w s → unposted ≡ 0
+    → (k : Takes by w piece entries unposted why mid) → IsFed base.site w s by piece entries why k.0
+is_fed base w mid s by piece entries unposted why built t h all k =
     let line = enabled_line base by _ built t in
     let m : by < length base.site.interfaces = line.0 in
     let before = h.connections by m in
-    let taken : TakesPiece base.site by w.time (connection_at w.connections by).chain piece entries why k.0.chain = subst (λ (b : Basis). TakesPiece b.site by w.time (connection_at w.connections by).chain piece entries why k.0.chain) h.basis k.3 in
+    let old = (connection_at w.connections by).chain in
+    let taken : TakesWhole base.site w.history by w.time old piece entries why k.0.chain =
+    whole_of base.site w.history by w.time old piece entries unposted why k.0.chain all (subst (λ (b : Basis). TakesPiece b.site w.history by w.time old piece entries unposted why k.0.chain) h.basis k.3) in
     let stands = subst (λ (ins : List Output). StagesStand k.0.chain.stages ins (before.packets ++ taken.packets)) (plain_more (s.pieces by) piece) (taken.stands (map plain (s.pieces by)) before.packets before.stands) in
     record {
       there = m;
@@ -392,11 +415,11 @@ tail_weighs by now n cuts None = refl
 tail_weighs by now n cuts (Some f) = refl
 
 -- the entries of a piece
-posts : SiteData → ℕ → Time → ℕ → List Output → List Pieces → Option Fault → List Entry
-posts site by now n packets cuts fault = entries_of site by now packets ++ tail_of by now n cuts fault
+posts : SiteData → List Entry → ℕ → Time → ℕ → List Output → List Pieces → Option Fault → List Entry
+posts site history by now n packets cuts fault = entries_of site history by now packets ++ tail_of by now n cuts fault
 
 posts_received : (base : Basis) (w : Held) (s : State) (by : ℕ) (piece : List ℕ) (entries : List Entry) (why : Option Why) (c : HeldConnection) → RepresentsWithin base w s → (k : IsFed base.site w s by piece entries why c)
-    → Receives (environment_of base) s by piece (posts base.site by s.time (unsent (environment_of base) s by) k.taken.packets k.all.cuts (fault_of k.all.cuts))
+    → Receives (environment_of base) s by piece (posts base.site s.history by s.time (unsent (environment_of base) s by) k.taken.packets k.all.cuts (fault_of k.all.cuts))
 unfolding posts tail_of
 posts_received base w s by piece entries why c h k =
     let old = connection_at w.connections by in
@@ -409,20 +432,20 @@ posts_received base w s by piece entries why c h k =
       cuts = k.all.cuts;
       packets = packets;
       after = subst (λ (chain : List Framing). IsPackets chain (s.pieces by ++ piece ∷ []) k.all.cuts (k.before.packets ++ packets)) k.framings k.all.packets_are;
-      entries_are = ap (λ (l : List Entry). l ++ closing s.time by (unsent (environment_of base) s by) k.all.cuts (fault_of k.all.cuts)) (sym (posted_packets (environment_of base).routing s.history s.time by packets (below by (length base.site.interfaces) k.there)));
+      entries_are = refl;
     }
 
 -- they are the entries that were taken, and what stands behind them counts nothing
-entries_at : (base : Basis) (w : Held) (s : State) (by : ℕ) (packets : List Output) (entries : List Entry) → entries ≡ entries_of base.site by w.time packets → RepresentsWithin base w s → entries ≡ entries_of base.site by s.time packets
-entries_at base w s by packets entries e h = e ∙ ap (λ (now : Time). entries_of base.site by now packets) h.time
+entries_at : (base : Basis) (w : Held) (s : State) (by : ℕ) (packets : List Output) (entries : List Entry) → entries ≡ entries_of base.site w.history by w.time packets → RepresentsWithin base w s → entries ≡ entries_of base.site s.history by s.time packets
+entries_at base w s by packets entries e h = e ∙ (ap (λ (now : Time). entries_of base.site w.history by now packets) h.time ∙ ap (λ (l : List Entry). entries_of base.site l by s.time packets) h.history)
 
-posts_count : (site : SiteData) (by : ℕ) (now : Time) (n : ℕ) (packets : List Output) (cuts : List Pieces) (fault : Option Fault) (entries : List Entry) → entries ≡ entries_of site by now packets → entries_in (posts site by now n packets cuts fault) ≡ entries_in entries
+posts_count : (site : SiteData) (history : List Entry) (by : ℕ) (now : Time) (n : ℕ) (packets : List Output) (cuts : List Pieces) (fault : Option Fault) (entries : List Entry) → entries ≡ entries_of site history by now packets → entries_in (posts site history by now n packets cuts fault) ≡ entries_in entries
 unfolding posts
-posts_count site by now n packets cuts fault entries e = omega (arith, entries_grow (entries_of site by now packets) (tail_of by now n cuts fault) 0 (tail_counts by now n cuts fault), ap entries_in e)
+posts_count site history by now n packets cuts fault entries e = omega (arith, entries_grow (entries_of site history by now packets) (tail_of by now n cuts fault) 0 (tail_counts by now n cuts fault), ap entries_in e)
 
-posts_size : (site : SiteData) (by : ℕ) (now : Time) (n : ℕ) (packets : List Output) (cuts : List Pieces) (fault : Option Fault) (entries : List Entry) → entries ≡ entries_of site by now packets → bytes_in (posts site by now n packets cuts fault) ≡ bytes_in entries
+posts_size : (site : SiteData) (history : List Entry) (by : ℕ) (now : Time) (n : ℕ) (packets : List Output) (cuts : List Pieces) (fault : Option Fault) (entries : List Entry) → entries ≡ entries_of site history by now packets → bytes_in (posts site history by now n packets cuts fault) ≡ bytes_in entries
 unfolding posts
-posts_size site by now n packets cuts fault entries e = omega (arith, bytes_grow (entries_of site by now packets) (tail_of by now n cuts fault) 0 (tail_weighs by now n cuts fault), ap bytes_in e)
+posts_size site history by now n packets cuts fault entries e = omega (arith, bytes_grow (entries_of site history by now packets) (tail_of by now n cuts fault) 0 (tail_weighs by now n cuts fault), ap bytes_in e)
 
 -- a piece is its own maker's
 
@@ -437,10 +460,10 @@ or_none (Some b) = refl
 or_none None = refl
 
 -- packets, and an entry behind them
-packets_then : (site : SiteData) (k by : ℕ) (now : Time) (packets : List Output) (e : Entry) → latest (connects_maker k) (entries_of site by now packets ++ e ∷ []) ≡ connects_maker k e
-packets_then site k by now packets e =
-    latest-append (connects_maker k) (entries_of site by now packets) (e ∷ [])
-    ∙ (ap (λ (o : Option Bool). or_earlier (connects_maker k e) o) (packets_connect_none site k by now packets) ∙ or_none (connects_maker k e))
+packets_then : (site : SiteData) (history : List Entry) (k by : ℕ) (now : Time) (packets : List Output) (e : Entry) → latest (connects_maker k) (entries_of site history by now packets ++ e ∷ []) ≡ connects_maker k e
+packets_then site history k by now packets e =
+    latest-append (connects_maker k) (entries_of site history by now packets) (e ∷ [])
+    ∙ (ap (λ (o : Option Bool). or_earlier (connects_maker k e) o) (packets_connect k (site_routing site) history now by packets) ∙ or_none (connects_maker k e))
 
 -- the connection has passed what it had passed before the piece
 passed_same : (site : SiteData) (w : Held) (s : State) (by : ℕ) (piece : List ℕ) (entries : List Entry) (why : Option Why) (c : HeldConnection) → IsFed site w s by piece entries why c → IsPassed (site_environment site) s by c.cursor.place c.cursor.refused
@@ -453,7 +476,7 @@ stands_whole base w s by piece entries why c h k did d e =
     let moved : State = after s (Piece by piece) did in
     let packets = k.taken.packets in
     let mine_are = entries_at base w s by packets entries k.taken.entries_are h in
-    let none : (j : ℕ) → latest (connects_maker j) did.entries ≡ None = λ j. ap (latest (connects_maker j)) (d ∙ mine_are) ∙ packets_connect_none base.site j by s.time packets in
+    let none : (j : ℕ) → latest (connects_maker j) did.entries ≡ None = λ j. ap (latest (connects_maker j)) (d ∙ mine_are) ∙ packets_connect j (site_routing base.site) s.history s.time by packets in
     let kept : (j : ℕ) → is_connected j (s.history ++ did.entries) ≡ is_connected j s.history = λ j. connected_kept j s.history did.entries (none j) in
     let mine : IsConnection base.site moved by c = record {
       connected = k.flag ∙ (k.before.connected ∙ sym (kept by));
@@ -476,20 +499,20 @@ stands_whole base w s by piece entries why c h k did d e =
 -- a stage has failed, and the connection is closed
 stands_bad : (base : Basis) (w : Held) (s : State) (by : ℕ) (piece : List ℕ) (entries : List Entry) (why : Option Why) (c : HeldConnection) → RepresentsWithin base w s → (k : IsFed base.site w s by piece entries why c)
     → (did : Did) (reason : Why) → did.entries ≡ entries ++ closed_entry s.time by reason (unsent (environment_of base) s by) k.all.cuts ∷ [] → (shutting : HeldConnection) → IsRenewed false c shutting
-    → RepresentsWithin base (record w { history = (w.history ++ entries) ++ lost by w.time (w.history ++ entries) c reason ∷ []; connections = set w.connections by shutting }) (after s (Piece by piece) did)
+    → RepresentsWithin base (record w { history = (w.history ++ entries) ++ lost w.basis.site by w.time (w.history ++ entries) c reason ∷ []; connections = set w.connections by shutting }) (after s (Piece by piece) did)
 stands_bad base w s by piece entries why c h k did reason d shutting r =
     let moved : State = after s (Piece by piece) did in
     let packets = k.taken.packets in
     let mine_are = entries_at base w s by packets entries k.taken.entries_are h in
     let left = unsent (environment_of base) s by in
     let tail = closed_entry s.time by reason left k.all.cuts in
-    let bad : did.entries ≡ entries_of base.site by s.time packets ++ tail ∷ [] = d ∙ ap (λ (l : List Entry). l ++ tail ∷ []) mine_are in
-    let behind : w.history ++ entries ≡ s.history ++ entries_of base.site by s.time packets = ap (λ (l : List Entry). l ++ entries) h.history ∙ ap (λ (l : List Entry). s.history ++ l) mine_are in
+    let bad : did.entries ≡ entries_of base.site s.history by s.time packets ++ tail ∷ [] = d ∙ ap (λ (l : List Entry). l ++ tail ∷ []) mine_are in
+    let behind : w.history ++ entries ≡ s.history ++ entries_of base.site s.history by s.time packets = ap (λ (l : List Entry). l ++ entries) h.history ∙ ap (λ (l : List Entry). s.history ++ l) mine_are in
     let passed = passed_same base.site w s by piece entries why c k in
-    let waits_is : waiting by (w.history ++ entries) c.cursor ≡ left =
-    ap (λ (l : List Entry). waiting by l c.cursor) behind ∙ (waiting_kept base.site s by s.time packets c.cursor passed ∙ sym (waits base.site s by c.cursor k.there passed)) in
-    let last : lost by w.time (w.history ++ entries) c reason ≡ tail = closed_entry_is by w.time s.time (w.history ++ entries) reason c left k.all.cuts h.time k.all.loss_is waits_is in
-    let tells : (j : ℕ) → latest (connects_maker j) did.entries ≡ connects_maker j tail = λ j. ap (latest (connects_maker j)) bad ∙ packets_then base.site j by s.time packets tail in
+    let waits_is : waiting w.basis.site by (w.history ++ entries) c.cursor ≡ left =
+    ap (λ (b : Basis). waiting b.site by (w.history ++ entries) c.cursor) h.basis ∙ (ap (λ (l : List Entry). waiting base.site by l c.cursor) behind ∙ (waiting_kept base.site s by s.time packets c.cursor passed ∙ sym (waits base.site s by c.cursor passed))) in
+    let last : lost w.basis.site by w.time (w.history ++ entries) c reason ≡ tail = closed_entry_is w.basis.site by w.time s.time (w.history ++ entries) reason c left k.all.cuts h.time k.all.loss_is waits_is in
+    let tells : (j : ℕ) → latest (connects_maker j) did.entries ≡ connects_maker j tail = λ j. ap (latest (connects_maker j)) bad ∙ packets_then base.site s.history j by s.time packets tail in
     let others : (j : ℕ) → j ≢ by → latest (connects_maker j) did.entries ≡ None = λ j other. tells j ∙ tells_no_other j tail other in
     let off : false ≡ is_connected by (s.history ++ did.entries) =
     sym (connected-append by s.history did.entries ∙ ap (λ (t : Option Bool). unwrap_or (or_earlier t (latest (connects_maker by) s.history)) false) (tells by ∙ tells_maker by tail refl)) in
@@ -497,8 +520,8 @@ stands_bad base w s by piece entries why c h k did reason d shutting r =
     begins base.site moved by shutting (r.connected_is ∙ off) (same_framings c.chain shutting.chain r.same ∙ k.framings) (r.same.writers ∙ k.writing) (pieces_turned by (Piece by piece) did.entries s.pieces false (tells by ∙ tells_maker by tail refl))
     (all_renewed c.chain.stages shutting.chain.stages r.renewed) (renewed_stands c.chain.stages shutting.chain.stages r.renewed) (λ stands. none_passed (is_connected by moved.history) (sym off) stands) in
     record {
-      history = ap (λ (l : List Entry). (l ++ entries) ++ lost by w.time (w.history ++ entries) c reason ∷ []) h.history
-          ∙ (append_assoc s.history entries (lost by w.time (w.history ++ entries) c reason ∷ []) ∙ (ap (λ (x : Entry). s.history ++ (entries ++ x ∷ [])) last ∙ ap (λ (l : List Entry). s.history ++ l) (sym d)));
+      history = ap (λ (l : List Entry). (l ++ entries) ++ lost w.basis.site by w.time (w.history ++ entries) c reason ∷ []) h.history
+          ∙ (append_assoc s.history entries (lost w.basis.site by w.time (w.history ++ entries) c reason ∷ []) ∙ (ap (λ (x : Entry). s.history ++ (entries ++ x ∷ [])) last ∙ ap (λ (l : List Entry). s.history ++ l) (sym d)));
       time = h.time;
       basis = h.basis;
       count = set_count w.connections (length base.site.interfaces) by shutting h.count;
@@ -508,13 +531,13 @@ stands_bad base w s by piece entries why c h k did reason d shutting r =
 
 -- what is held with a connection set twice
 set_twice : (w : Held) (by : ℕ) (entries : List Entry) (c shutting : HeldConnection) (reason : Why) (new : Held) → by < length w.connections
-    → IsRenewed false (connection_at (set w.connections by c) by) shutting → new ≡ changed by (changed by w entries c) (lost by w.time (w.history ++ entries) (connection_at (set w.connections by c) by) reason ∷ []) shutting
-    → IsRenewed false c shutting × (new ≡ record w { history = (w.history ++ entries) ++ lost by w.time (w.history ++ entries) c reason ∷ []; connections = set w.connections by shutting })
+    → IsRenewed false (connection_at (set w.connections by c) by) shutting → new ≡ changed by (changed by w entries c) (lost w.basis.site by w.time (w.history ++ entries) (connection_at (set w.connections by c) by) reason ∷ []) shutting
+    → IsRenewed false c shutting × (new ≡ record w { history = (w.history ++ entries) ++ lost w.basis.site by w.time (w.history ++ entries) c reason ∷ []; connections = set w.connections by shutting })
 set_twice w by entries c shutting reason new m r n =
     let same = get_or-set_same w.connections by c (shut no_chain) m in (
       subst (λ (x : HeldConnection). IsRenewed false x shutting) same r,
-      n ∙ (ap (λ (x : HeldConnection). record w { history = (w.history ++ entries) ++ lost by w.time (w.history ++ entries) x reason ∷ []; connections = set (set w.connections by c) by shutting }) same
-          ∙ ap (λ (cs : List HeldConnection). record w { history = (w.history ++ entries) ++ lost by w.time (w.history ++ entries) c reason ∷ []; connections = cs }) (set-set w.connections by c shutting)),
+      n ∙ (ap (λ (x : HeldConnection). record w { history = (w.history ++ entries) ++ lost w.basis.site by w.time (w.history ++ entries) x reason ∷ []; connections = set (set w.connections by c) by shutting }) same
+          ∙ ap (λ (cs : List HeldConnection). record w { history = (w.history ++ entries) ++ lost w.basis.site by w.time (w.history ++ entries) c reason ∷ []; connections = cs }) (set-set w.connections by c shutting)),
     )
 
 stands_settled : (base : Basis) (w new : Held) (s : State) (by : ℕ) (piece : List ℕ) (entries : List Entry) (why : Option Why) (c : HeldConnection) → RepresentsWithin base w s → (k : IsFed base.site w s by piece entries why c)
@@ -538,7 +561,7 @@ received base w new s by piece entries why c t h k room settles =
     let fault = fault_of cuts in
     let left = unsent (environment_of base) s by in
     let mine_are = entries_at base w s by packets entries k.taken.entries_are h in
-    let did : Did = record { entries = posts base.site by s.time left packets cuts fault; effect = Posted } in
+    let did : Did = record { entries = posts base.site s.history by s.time left packets cuts fault; effect = Posted } in
     let blame : why ≡ blamed fault = k.taken.why_is ∙ ap blamed k.all.fault_is in (
       did,
       record {
@@ -546,7 +569,7 @@ received base w new s by piece entries why c t h k room settles =
         answer = silent;
         answered = refl;
         appends = posts_received base w s by piece entries why c h k;
-        room = λ takes. sym (room_is base w s did.entries (entries_in entries) (bytes_in entries) (posts_count base.site by s.time left packets cuts fault entries mine_are) (posts_size base.site by s.time left packets cuts fault entries mine_are) h) ∙ room;
+        room = λ takes. sym (room_is base w s did.entries (entries_in entries) (bytes_in entries) (posts_count base.site s.history by s.time left packets cuts fault entries mine_are) (posts_size base.site s.history by s.time left packets cuts fault entries mine_are) h) ∙ room;
         effect = refl;
       },
       refl,
@@ -555,11 +578,11 @@ received base w new s by piece entries why c t h k room settles =
 
 -- ---- a piece as the world takes it: it goes through the chain, and its packets are posted
 
-pub piece_done : (base : Basis) (w mid new : Held) (s : State) (by : ℕ) (piece : List ℕ) (entries : List Entry) (why : Option Why) → is_built_site base.site ≡ true → is_enabled (environment_of base) s (Piece by piece) ≡ true
-    → Takes by w piece entries why mid → Posts by mid entries why (Ok tt) new → RepresentsWithin base w s → Steps base s (Piece by piece) w (Ok Posted) new
-piece_done base w mid new s by piece entries why built t k q h =
+pub piece_done : (base : Basis) (w mid new : Held) (s : State) (by : ℕ) (piece : List ℕ) (entries : List Entry) (unposted : ℕ) (why : Option Why) → is_built_site base.site ≡ true → is_enabled (environment_of base) s (Piece by piece) ≡ true
+    → unposted ≡ 0 → Takes by w piece entries unposted why mid → Posts by mid entries why (Ok tt) new → RepresentsWithin base w s → Steps base s (Piece by piece) w (Ok Posted) new
+piece_done base w mid new s by piece entries unposted why built t all k q h =
     let p = subst (λ (x : Held). Posts by x entries why (Ok tt) new) k.4 q in
-    received base w new s by piece entries why k.0 t h (is_fed base w mid s by piece entries why built t h k) p.0 p.1
+    received base w new s by piece entries why k.0 t h (is_fed base w mid s by piece entries unposted why built t h all k) p.0 p.1
 
 refused : (base : Basis) (w new : Held) (s : State) (by : ℕ) (piece : List ℕ) (entries : List Entry) (why : Option Why) (c : HeldConnection) (fault : WorldFault) → is_enabled (environment_of base) s (Piece by piece) ≡ true → RepresentsWithin base w s
     → IsFed base.site w s by piece entries why c → Posts by (record w { connections = set w.connections by c }) entries why (Err fault) new → Steps base s (Piece by piece) w (Err fault) new
@@ -568,16 +591,16 @@ refused base w new s by piece entries why c (Full counted size) t h k p =
     let mine_are = entries_at base w s by k.taken.packets entries k.taken.entries_are h in
     let fault = fault_of k.all.cuts in
     let left = unsent (environment_of base) s by in
-    finds_full base w new s (Piece by piece) (posts base.site by s.time left k.taken.packets k.all.cuts fault) (entries_in entries) (bytes_in entries) counted size t refl (posts_received base w s by piece entries why c h k)
-    (posts_count base.site by s.time left k.taken.packets k.all.cuts fault entries mine_are) (posts_size base.site by s.time left k.taken.packets k.all.cuts fault entries mine_are) p.0 p.1 p.2
+    finds_full base w new s (Piece by piece) (posts base.site s.history by s.time left k.taken.packets k.all.cuts fault) (entries_in entries) (bytes_in entries) counted size t refl (posts_received base w s by piece entries why c h k)
+    (posts_count base.site s.history by s.time left k.taken.packets k.all.cuts fault entries mine_are) (posts_size base.site s.history by s.time left k.taken.packets k.all.cuts fault entries mine_are) p.0 p.1 p.2
     (record { history = ap (λ (x : Held). x.history) p.3; time = ap (λ (x : Held). x.time) p.3; basis = ap (λ (x : Held). x.basis) p.3 }) h
 refused base w new s by piece entries why c Memory t h k p =
     wants_memory base w new s (Piece by piece) (record { history = ap (λ (x : Held). x.history) p.1; time = ap (λ (x : Held). x.time) p.1; basis = ap (λ (x : Held). x.basis) p.1 }) t refl tt
 
-pub piece_refused : (base : Basis) (w mid new : Held) (s : State) (by : ℕ) (piece : List ℕ) (entries : List Entry) (why : Option Why) (fault : WorldFault) → is_built_site base.site ≡ true → is_enabled (environment_of base) s (Piece by piece) ≡ true
-    → Takes by w piece entries why mid → Posts by mid entries why (Err fault) new → RepresentsWithin base w s → Steps base s (Piece by piece) w (Err fault) new
-piece_refused base w mid new s by piece entries why fault built t k p h =
-    refused base w new s by piece entries why k.0 fault t h (is_fed base w mid s by piece entries why built t h k) (subst (λ (x : Held). Posts by x entries why (Err fault) new) k.4 p)
+pub piece_refused : (base : Basis) (w mid new : Held) (s : State) (by : ℕ) (piece : List ℕ) (entries : List Entry) (unposted : ℕ) (why : Option Why) (fault : WorldFault) → is_built_site base.site ≡ true → is_enabled (environment_of base) s (Piece by piece) ≡ true
+    → unposted ≡ 0 → Takes by w piece entries unposted why mid → Posts by mid entries why (Err fault) new → RepresentsWithin base w s → Steps base s (Piece by piece) w (Err fault) new
+piece_refused base w mid new s by piece entries unposted why fault built t all k p h =
+    refused base w new s by piece entries why k.0 fault t h (is_fed base w mid s by piece entries unposted why built t h all k) (subst (λ (x : Held). Posts by x entries why (Err fault) new) k.4 p)
 
 -- ---- what is written to a device
 
@@ -589,7 +612,7 @@ written_of_other k by count other = ap (λ (b : Bool). if b then count else 0) (
 
 -- the connection has put the next commands
 connection_wrote : (site : SiteData) (w : Held) (s : State) (by count next : ℕ) (bytes : List ℕ) (c : HeldConnection) (did : Did) → by < length site.interfaces → is_connected by s.history ≡ true → IsConnection site s by (connection_at w.connections by)
-    → next ≤ length (entries_ahead (connection_at w.connections by) s.history) → length (commands_of by (take next (entries_ahead (connection_at w.connections by) s.history))) ≡ count → Wrote site by (connection_at w.connections by) s.history next bytes c
+    → next ≤ length (entries_ahead (connection_at w.connections by) s.history) → length (walk (site_routing site) by (take next (entries_ahead (connection_at w.connections by) s.history))) ≡ count → Wrote site by (connection_at w.connections by) s.history next bytes c
     → did.entries ≡ [] → IsConnection site (after s (Write by count) did) by c
 connection_wrote site w s by count next bytes c did m on mine within many wrote none =
     let moved : State = after s (Write by count) did in
@@ -598,8 +621,8 @@ connection_wrote site w s by count next bytes c did m on mine within many wrote 
     let quiet : latest (connects_maker by) did.entries ≡ None = ap (latest (connects_maker by)) none in
     let pieces : moved.pieces by ≡ s.pieces by = pieces_stay by (Write by count) did.entries s.pieces quiet refl in
     let cursor : moved.cursor by ≡ s.cursor by + count = cursor_grows by (Write by count) did.entries s.cursor quiet ∙ ap (λ (n : ℕ). s.cursor by + n) (written_of by count) in
-    let some = commands_of by (take next (entries_ahead old s.history)) in
-    let further = passed_next site s moved by count next old.cursor m (mine.passed on) within many same cursor in
+    let some = queue (site_routing site) by (take next (entries_ahead old s.history)) in
+    let further = passed_next site s moved by count next old.cursor (mine.passed on) within many same cursor in
     let now : HeldConnection = record old { cursor = record { place = old.cursor.place + next; refused = old.cursor.refused + refusals (spell_by site (writers old.chain)) some } } in
     subst (λ (x : HeldConnection). IsConnection site moved by x) (sym wrote.new_is) (record {
       connected = mine.connected ∙ ap (is_connected by) (sym same);
@@ -621,13 +644,13 @@ wrote base w new s by count next bytes n k h =
     let old = connection_at w.connections by in
     let mine = h.connections by m in
     let within = subst (λ (l : List Entry). next ≤ length (entries_ahead old l)) h.history n.within in
-    let many = subst (λ (l : List Entry). length (commands_of by (take next (entries_ahead old l))) ≡ count) h.history n.count_is in
+    let many = subst (λ (l : List Entry). length (walk (site_routing base.site) by (take next (entries_ahead old l))) ≡ count) h.history (subst (λ (b : Basis). length (walk (site_routing b.site) by (take next (entries_ahead old w.history))) ≡ count) h.basis n.count_is) in
     let put : Wrote base.site by old s.history next bytes k.0 = subst (λ (l : List Entry). Wrote base.site by old l next bytes k.0) h.history (subst (λ (b : Basis). Wrote b.site by old w.history next bytes k.0) h.basis k.1) in
     let did : Did = record { entries = []; effect = Written by (put_next (environment_of base) s by count) } in
     let moved : State = after s (Write by count) did in
     let all : s.history ≡ s.history ++ [] = sym (append-nil s.history) in
     let gives : bytes ≡ put_next (environment_of base) s by count =
-    put.bytes_are ∙ (ap (λ (specs : List SpecData). spelled (spell_by base.site specs) (commands_of by (take next (entries_ahead old s.history)))) mine.writing ∙ sym (put_is base.site s by count next old.cursor m (mine.passed on) many)) in
+    put.bytes_are ∙ (ap (λ (specs : List SpecData). spelled (spell_by base.site specs) (queue (site_routing base.site) by (take next (entries_ahead old s.history)))) mine.writing ∙ sym (put_is base.site s by count next old.cursor (mine.passed on) many)) in
     let whole : RepresentsWithin base (record w { connections = set w.connections by k.0 }) moved = record {
       history = h.history ∙ all;
       time = h.time;
@@ -647,12 +670,6 @@ wrote base w new s by count next bytes n k h =
 -- it is the one that is stood for
 pub built_of : (base : Basis) (w : Held) (s : State) → IsSoundHeld w → RepresentsWithin base w s → is_built_site base.site ≡ true
 built_of base w s sound h = subst (λ (b : Basis). is_built_site b.site ≡ true) h.basis sound.built
-
--- ---- room in the hall
-
--- room alone changes nothing that is held
-pub room_made : (time : Time) (k new : Shown) (connections : List HeldConnection) (n m : ℕ) → GivesRoom k n m (Ok tt) new → held_with time new connections ≡ held_with time k connections
-room_made time k new connections n m g = ap (λ (x : Shown). held_with time x connections) g.1
 
 -- ---- a desk is asked
 

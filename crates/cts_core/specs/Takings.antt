@@ -1,75 +1,28 @@
--- What a connection's chain makes of a piece, and what it stands for.
-use Rattle.std.specs.Prelude.{◌≡◌, ◌<◌, ℕ, Bool, true, false, List, [], ◌∷◌, ◌++◌, length, slice_set, Option, None, Some, Result, Ok, Err}
-use Rattle.cts_chain.specs.Chains.{StagesStand, AllSettled, Renewed, last_fault, loss_in}
-use Rattle.cts_chain.specs.Shapes.{ChainData, IsIdle, IsSameChain}
+-- What a running core makes of what its connections take and post.
+use Rattle.std.specs.Prelude.{◌≡◌, ◌<◌, ℕ, true, false, List, [], ◌∷◌, ◌++◌, length, slice_set, Option, None, Some, Result, Ok, Err}
+use Rattle.cts_chain.specs.Chains.{loss_in}
+use Rattle.cts_connection.specs.Connections.{HeldConnection, IsRenewed, connection_at, waiting}
+use Rattle.cts_connection.specs.Takings.{TakesPiece, blamed, entries_of}
 use Rattle.cts_def.specs.Makers.{first_slot}
 use Rattle.cts_def.specs.Sites.{SiteData}
 use Rattle.cts_def.specs.declared.time.Time.{Time}
 use Rattle.cts_entry.specs.declared.entry.Entry.{Entry}
 use Rattle.cts_entry.specs.declared.what.What.TheVariants.{Opened, Closed}
-use Rattle.cts_entry.specs.Histories.{entries_in, bytes_in}
 use Rattle.cts_entry.specs.declared.why.Why.{Why}
-use Rattle.cts_entry.specs.declared.why.Why.TheVariants.{BadFrame}
-use Rattle.cts_frame.specs.Framing.{Output, plain}
+use Rattle.cts_entry.specs.Histories.{entries_in, bytes_in, is_connected, is_stopped}
+use Rattle.cts_entry.specs.Workers.{is_interface}
+use Rattle.cts_frame.specs.Framing.{Output}
 use Rattle.cts_frame.specs.Packets.{Fault}
-use Rattle.cts_told.specs.Routing.{packet_entries}
-use Rattle.cts_core.specs.Environments.{site_environment}
+use Rattle.cts_table.specs.declared.fault.HallFault.{HallFault}
+use Rattle.cts_table.specs.declared.fault.HallFault.TheVariants.{Full as Crowded, Memory as Wanting}
 use Rattle.cts_core.specs.Kept.{is_within}
-use Rattle.cts_core.specs.Worlds.{Held, HeldConnection, changed, connection_at, waiting}
+use Rattle.cts_core.specs.Worlds.{Held, changed}
 use Rattle.cts_core.specs.declared.fault.WorldFault.{WorldFault}
 use Rattle.cts_core.specs.declared.fault.WorldFault.TheVariants.{NotEnabled, Full, Memory}
 
-abbrev pub AllIdle : List ChainData → Type 0
-AllIdle [] = Unit {0}
-AllIdle (c ∷ cs) = IsIdle c × AllIdle cs
-
--- why a connection is closed whose chain has failed so
-abbrev pub blamed : Option Fault → Option Why
-blamed None = None
-blamed (Some fault) = Some (BadFrame fault.stage fault.cause)
-
--- the entries of these packets of an interface
-abbrev pub entries_of : SiteData → ℕ → Time → List Output → List Entry
-entries_of site by now packets = packet_entries (site_environment site).routing now by packets
-
--- A chain gave packets, of which these are the entries behind some others, and then no more: so it closes its connection, or not.
-pub record Gathers (site : SiteData) (by : ℕ) (now : Time) (old : ChainData) (before entries : List Entry) (why : Option Why) (new : ChainData) : Type 0 where
-  pub packets : List Output
-  pub stands : (ins given : List Output) → StagesStand old.stages ins given → StagesStand new.stages ins (given ++ packets)
-  pub settled : AllSettled new.stages
-  pub same : IsSameChain old new
-  pub entries_are : entries ≡ before ++ entries_of site by now packets
-  pub why_is : why ≡ blamed (last_fault 1 new.stages)
-
--- A chain gave packets, of which these are the entries.
-pub record TakesAll (site : SiteData) (by : ℕ) (now : Time) (old : ChainData) (entries : List Entry) (why : Option Why) (new : ChainData) : Type 0 where
-  pub packets : List Output
-  pub stands : (ins given : List Output) → StagesStand old.stages ins given → StagesStand new.stages ins (given ++ packets)
-  pub settled : AllSettled new.stages
-  pub same : IsSameChain old new
-  pub entries_are : entries ≡ entries_of site by now packets
-  pub why_is : why ≡ blamed (last_fault 1 new.stages)
-
--- A chain was fed a piece, and gave packets, of which these are the entries.
-pub record TakesPiece (site : SiteData) (by : ℕ) (now : Time) (old : ChainData) (piece : List ℕ) (entries : List Entry) (why : Option Why) (new : ChainData) : Type 0 where
-  pub packets : List Output
-  pub stands : (ins given : List Output) → StagesStand old.stages ins given → StagesStand new.stages (ins ++ plain piece ∷ []) (given ++ packets)
-  pub settled : AllSettled new.stages
-  pub same : IsSameChain old new
-  pub entries_are : entries ≡ entries_of site by now packets
-  pub why_is : why ≡ blamed (last_fault 1 new.stages)
-
--- the chain of a connection begins anew, and the connection stands or not
-pub record IsRenewed (connected : Bool) (old new : HeldConnection) : Type 0 where
-  pub connected_is : new.connected ≡ connected
-  pub renewed : Renewed old.chain.stages new.chain.stages
-  pub same : IsSameChain old.chain new.chain
-
--- ---- what a running core makes of it
-
 -- the Closed of a connection behind a history, with what its stages lose and how many commands it has not put whole
-abbrev pub lost : ℕ → Time → List Entry → HeldConnection → Why → Entry
-lost by now history c why = record { by = by; time = now; what = Closed why (loss_in c.chain.stages) 0 (waiting by history c.cursor) }
+abbrev pub lost : SiteData → ℕ → Time → List Entry → HeldConnection → Why → Entry
+lost site by now history c why = record { by = by; time = now; what = Closed why (loss_in c.chain.stages) 0 (waiting site by history c.cursor) }
 
 -- a connection is opened: its chain begins anew, and it has passed all that stands, of which nothing is for it
 abbrev pub IsOpened : ℕ → Held → Held → Type 0
@@ -78,12 +31,12 @@ IsOpened by w new =
 
 -- a connection is closed, and what its chain holds is lost
 abbrev pub IsClosed : ℕ → Held → Why → Held → Type 0
-IsClosed by w why new = (c : HeldConnection) × IsRenewed false (connection_at w.connections by) c × (new ≡ changed by w (lost by w.time w.history (connection_at w.connections by) why ∷ []) c)
+IsClosed by w why new = (c : HeldConnection) × IsRenewed false (connection_at w.connections by) c × (new ≡ changed by w (lost w.basis.site by w.time w.history (connection_at w.connections by) why ∷ []) c)
 
--- A piece went through the chain of a connection. These are the entries of its packets, which are not posted yet.
-abbrev pub Takes : ℕ → Held → List ℕ → List Entry → Option Why → Held → Type 0
-Takes by w piece entries why new =
-    (c : HeldConnection) × (c.connected ≡ (connection_at w.connections by).connected) × (c.cursor ≡ (connection_at w.connections by).cursor) × TakesPiece w.basis.site by w.time (connection_at w.connections by).chain piece entries why c.chain × (new ≡ record w { connections = slice_set w.connections by c })
+-- A piece went through the chain of a connection. These are the entries of its packets, but for so many; they are not posted yet.
+abbrev pub Takes : ℕ → Held → List ℕ → List Entry → ℕ → Option Why → Held → Type 0
+Takes by w piece entries unposted why new =
+    (c : HeldConnection) × (c.connected ≡ (connection_at w.connections by).connected) × (c.cursor ≡ (connection_at w.connections by).cursor) × TakesPiece w.basis.site w.history by w.time (connection_at w.connections by).chain piece entries unposted why c.chain × (new ≡ record w { connections = slice_set w.connections by c })
 
 -- these are entries of packets of an interface whose connection stands, and why it has to be closed
 pub record CanPost (by : ℕ) (w : Held) (entries : List Entry) (why : Option Why) : Type 0 where
@@ -91,7 +44,7 @@ pub record CanPost (by : ℕ) (w : Held) (entries : List Entry) (why : Option Wh
   pub narrow : by < first_slot
   pub connected : (connection_at w.connections by).connected ≡ true
   pub packets : List Output
-  pub entries_are : entries ≡ entries_of w.basis.site by w.time packets
+  pub entries_are : entries ≡ entries_of w.basis.site w.history by w.time packets
   pub fault : Option Fault
   pub why_is : why ≡ blamed fault
 
@@ -107,3 +60,24 @@ Posts by w entries why (Err (Full counted size)) new =
     (is_within w.basis w.history (entries_in entries) (bytes_in entries) ≡ false) × (counted ≡ entries_in w.history) × (size ≡ bytes_in w.history) × (new ≡ w)
 Posts by w entries why (Err Memory) new = (is_within w.basis w.history (entries_in entries) (bytes_in entries) ≡ true) × (new ≡ w)
 Posts by w entries why (Err NotEnabled) new = ⊥
+
+-- an interface whose connection may be opened
+pub record IsShut (w : Held) (by : ℕ) : Type 0 where
+  pub interface : by < length w.basis.site.interfaces
+  pub line : is_interface w.basis.site by ≡ true
+  pub there : by < length w.connections
+  pub off : is_connected by w.history ≡ false
+  pub going : is_stopped w.history ≡ false
+
+-- what a core answers where a connection was given room in the history, or not
+abbrev pub told_as : Result (Unit {0}) HallFault → Result (Unit {0}) WorldFault
+told_as (Ok done) = Ok done
+told_as (Err (Crowded entries bytes)) = Err (Full entries bytes)
+told_as (Err Wanting) = Err Memory
+
+-- a connection is opened, or there is no room for its Opened and nothing is done
+abbrev pub Begins : ℕ → Held → Result (Unit {0}) WorldFault → Held → Type 0
+Begins by w (Ok done) new = (is_within w.basis w.history 1 0 ≡ true) × IsOpened by w new
+Begins by w (Err (Full counted size)) new = (is_within w.basis w.history 1 0 ≡ false) × (counted ≡ entries_in w.history) × (size ≡ bytes_in w.history) × (new ≡ w)
+Begins by w (Err Memory) new = (is_within w.basis w.history 1 0 ≡ true) × (new ≡ w)
+Begins by w (Err NotEnabled) new = ⊥

@@ -1,5 +1,5 @@
 -- What the running core holds, and the states of the defined core that it represents.
-use Rattle.std.specs.Prelude.{◌≡◌, ℕ, ◌+◌, ◌==◌, ◌<◌, ◌≤◌, Bool, true, false, List, [], ◌++◌, drop, filter, map, length, slice_index_or, slice_set, None, Result, Ok, Err}
+use Rattle.std.specs.Prelude.{◌≡◌, ℕ, ◌<◌, ◌≤◌, true, false, List, [], ◌++◌, map, length, slice_set, None, Result, Ok, Err}
 use Rattle.std.specs.List.{list_any}
 use Rattle.cts_chain.specs.Chains.{StagesStand, AllSettled, framings_of, last_fault}
 use Rattle.cts_chain.specs.Shapes.{ChainData, writers}
@@ -9,11 +9,12 @@ use Rattle.cts_entry.specs.declared.entry.Entry.{Entry}
 use Rattle.cts_entry.specs.declared.event.Event.{Event}
 use Rattle.cts_entry.specs.declared.event.Event.TheVariants.{SetTime, Opens, Piece, Finish, Write, Call, DrainLog, DrainSlot, Stop}
 use Rattle.cts_entry.specs.declared.event.Effect.{Effect}
-use Rattle.cts_entry.specs.Histories.{is_connected, commands_to, entries_in, bytes_in}
+use Rattle.cts_entry.specs.Histories.{is_connected, entries_in, bytes_in}
 use Rattle.cts_frame.specs.Chains.{framings_at}
 use Rattle.cts_frame.specs.Framing.{Output, plain}
-use Rattle.cts_frame.specs.Packets.{capped}
-use Rattle.cts_core.specs.Environments.{basis_of, environment_of, site_environment, writers_at}
+use Rattle.cts_core.specs.Environments.{basis_of, environment_of, site_environment}
+use Rattle.cts_connection.specs.Connections.{HeldConnection, connection_at, shut}
+use Rattle.cts_connection.specs.Routings.{writers_at}
 use Rattle.cts_entry.specs.Legal.{is_ended, most_bytes as bytes_limit}
 use Rattle.cts_core.specs.Built.{is_built_site}
 use Rattle.cts_core.specs.Cursors.{IsPassed}
@@ -23,38 +24,6 @@ use Rattle.cts_core.specs.declared.fault.WorldFault.{WorldFault}
 use Rattle.cts_core.specs.declared.fault.WorldFault.TheVariants.{NotEnabled as RefusedEvent, Full, Memory}
 use Rattle.cts_table.specs.States.{Shown}
 use Rattle.cts_table.specs.declared.basis.Basis.{Basis}
-
--- the place in the history up to which a connection has passed the commands for its interface, and how many of those that it
--- passed were refused
-pub record HeldCursor : Type 0 where
-  pub place : ℕ
-  pub refused : ℕ
-
--- whether the connection of an interface stands, the chain of its protocols, and what it has passed of the history
-pub record HeldConnection : Type 0 where
-  pub connected : Bool
-  pub chain : ChainData
-  pub cursor : HeldCursor
-
--- a connection that does not stand
-abbrev pub shut : ChainData → HeldConnection
-shut chain = record { connected = false; chain = chain; cursor = record { place = 0; refused = 0 } }
-
--- the chain of no interface
-abbrev pub no_chain : ChainData
-no_chain = record { stages = []; beside = []; parts = []; lent = []; place = record { start = 0; end = 0; stamp = None } }
-
--- the connection of the interface of this number, and one that does not stand where there is no such interface
-abbrev pub connection_at : List HeldConnection → ℕ → HeldConnection
-connection_at connections by = slice_index_or connections by (shut no_chain)
-
--- the commands for an interface among some entries
-abbrev pub commands_of : ℕ → List Entry → List Entry
-commands_of by entries = filter (commands_to (λ (interface : ℕ). interface == by)) entries
-
--- how many commands for an interface its connection has not put whole: those that were refused, and those that it has not passed
-abbrev pub waiting : ℕ → List Entry → HeldCursor → ℕ
-waiting by history cursor = capped (cursor.refused + length (commands_of by (drop cursor.place history)))
 
 pub record Held : Type 0 where
   -- the site, and the limits of its history

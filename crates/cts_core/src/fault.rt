@@ -1,8 +1,10 @@
 // Why an event was not done.
 ghost use Rattle.std.specs.Prelude.{◌≡◌};
 ghost use Rattle.cts_core.specs.declared.fault.WorldFault.TheVariants.{Memory as NoMemory};
+ghost use Rattle.cts_core.specs.Takings.{told_as};
 
 use cts_base::Memory;
+use cts_table::HallFault;
 use std::alloc::{AllocError, AllocFailed};
 
 /// Why an event was not done.
@@ -37,5 +39,16 @@ impl<T: Drop> From<AllocFailed<T>> for WorldFault {
 
     fn from(_: AllocFailed<T>) -> WorldFault {
         WorldFault::Memory
+    }
+}
+
+/// What a core answers where a connection was given room in the history, or not.
+pub(crate) fn told_as(given: Result<(), HallFault>) -> Result<(), WorldFault>
+    ensures { result ≡ told_as given }
+{
+    match given {
+        Ok(()) => Ok(()),
+        Err(HallFault::Full { entries, bytes }) => Err(WorldFault::Full { entries, bytes }),
+        Err(HallFault::Memory) => Err(WorldFault::Memory),
     }
 }

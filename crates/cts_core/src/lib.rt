@@ -4,17 +4,15 @@
 
 mod built;
 mod calling;
-mod connection;
 mod enabling;
 mod fault;
-mod framer;
-mod posting;
 mod running;
+mod supplier;
 mod world;
-mod writing;
 
 pub use built::{is_built_event, is_built_site};
+pub use cts_connection::Framer;
 pub use enabling::{is_piece, may_close, takes_room};
 pub use fault::WorldFault;
-pub use framer::{Framer, Supplier};
+pub use supplier::Supplier;
 pub use world::World;

@@ -1,12 +1,10 @@
 // What a running core holds, and what each event makes of it: the interfaces of a site, each with its chain of protocols.
 ghost use Rattle.std.specs.Prelude.{◌≡◌, ◌≤◌, length, nat_lt};
 
-use crate::connection::Connection;
 use crate::enabling::{is_piece, may_close};
-use crate::fault::WorldFault;
-use crate::framer::Framer;
-use crate::posting::{Taken, append_all, make_room, weight};
+use crate::fault::{WorldFault, told_as};
 use cts_base::{Bytes, Memory};
+use cts_connection::{Connection, End, Framer, Taken};
 use cts_def::{SERVER, Site, Time};
 use cts_entry::{Effect, Event, Why};
 use cts_table::Hall;
@@ -39,11 +37,12 @@ impl<C: Framer> Running<C> {
     ghost use Rattle.std.specs.Prelude.{◌≡◌, ◌+◌, ◌&&◌, ◌<◌, ◌≤◌, nat_lt, not, [], length, map, true, false, vec_len, vec_capacity, IfOk, MatchOption, OnErr, Option};
     ghost use Rattle.cts_core.specs.Built.{is_built_event, is_built_site};
     ghost use Rattle.cts_core.specs.States.{State, is_piece, may_close};
-    ghost use Rattle.cts_core.specs.Takings.{CanPost, IsClosed, Posts, Settles, Takes, blamed};
-    ghost use Rattle.cts_core.specs.Worlds.{IsSoundHeld, IsUnmoved, RepresentsWithin, Steps, connection_at, first_held, waiting};
-    ghost use Rattle.cts_core.specs.Writings.{IsNext, PutsNext, can_write, entries_ahead};
+    ghost use Rattle.cts_core.specs.Takings.{Begins, CanPost, IsClosed, IsShut, Posts, Takes};
+    ghost use Rattle.cts_core.specs.Worlds.{IsSoundHeld, IsUnmoved, RepresentsWithin, Steps, first_held};
+    ghost use Rattle.cts_connection.specs.Connections.{connection_at};
+    ghost use Rattle.cts_core.specs.Writings.{IsNext, PutsNext, can_write};
+    ghost use Rattle.cts_connection.specs.Connections.{entries_ahead};
     ghost use Rattle.cts_chain.specs.Builds.{AreFresh, chains_in};
-    ghost use Rattle.cts_frame.specs.Packets.{Fault};
     ghost use Rattle.cts_table.specs.declared.basis.Basis.{Basis};
     ghost use Rattle.cts_entry.specs.declared.event.Event.TheVariants as event;
     ghost use Rattle.cts_entry.specs.Histories.{is_connected, is_stopped};
@@ -119,12 +118,17 @@ impl<C: Framer> Running<C> {
         if !self.may_open(by) {
             return Err(WorldFault::NotEnabled);
         }
-        make_room(&mut self.hall, 1, 0)?;
-        self.hall.opened(by, self.time);
-        let place = self.hall.entries().len();
-        let connection = &mut self.connections[by as usize];
-        connection.open(place);
+        self.begin(by)?;
         Ok(Effect::Posted)
+    }
+
+    // Opens the connection of an interface. Where there is no room or no memory for its Opened, nothing is done.
+    fn begin(&mut self, by: u32) -> Result<(), WorldFault>
+        requires { IsShut self.old by }
+        ensures { Begins by self.old result self.new }
+    {
+        let connection = &mut self.connections[by as usize];
+        told_as(connection.open(&mut self.hall, by, self.time))
     }
 
     fn finish(&mut self, by: u32, why: Why) -> Result<Effect, WorldFault>
@@ -144,6 +148,9 @@ impl<C: Framer> Running<C> {
             return Err(WorldFault::NotEnabled);
         }
         let taken = self.take(by, piece)?;
+        if taken.unposted > 0 {
+            return Err(WorldFault::Memory);
+        }
         self.post(by, taken)?;
         Ok(Effect::Posted)
     }
@@ -151,38 +158,23 @@ impl<C: Framer> Running<C> {
     // Puts a piece through the chain of a connection, and takes its packets. Nothing is posted yet.
     fn take(&mut self, by: u32, piece: &[u8]) -> Result<Taken, Memory>
         requires { by < length self.old.basis.site.interfaces }
-        ensures takes { IfOk result (λ t. Takes by self.old piece.now t.entries.items t.why self.new) }
+        ensures takes { IfOk result (λ t. Takes by self.old piece.now t.entries.items t.unposted t.why self.new) }
         ensures unmoved { IsUnmoved self.old self.new }
     {
-        let site = self.hall.site();
         let connection = &mut self.connections[by as usize];
-        connection.take(self.alloc, site, by, self.time, piece)
+        connection.take(self.alloc, &self.hall, by, self.time, piece)
     }
 
-    // Posts the packets of a connection, and closes it where a stage has failed. Where there is no room or no memory for all
-    // of this, nothing is done.
+    // Posts the packets of a connection, of which each has its entry, and closes it where a stage has failed. Where there is no room or no
+    // memory for all of this, nothing is done.
     fn post(&mut self, by: u32, taken: Taken) -> Result<(), WorldFault>
-        requires { CanPost by self.old taken.entries.items taken.why }
+        requires can { CanPost by self.old taken.entries.items taken.why }
+        requires all { taken.unposted ≡ 0 }
         ensures { Posts by self.old taken.entries.items taken.why result self.new }
     {
-        let count = taken.entries.len();
-        make_room(&mut self.hall, count as u64, weight(&taken.entries))?;
-        append_all(&mut self.hall, taken.entries);
-        self.settle(by, taken.why);
-        Ok(())
-    }
-
-    // Closes a connection whose chain has failed.
-    fn settle(&mut self, by: u32, why: Option<Why>)
-        requires there { by < length self.old.connections }
-        requires connected { (connection_at self.old.connections by).connected ≡ true }
-        requires blamed { (fault : Option Fault) × (why ≡ blamed fault) }
-        ensures { Settles by self.old why self.new }
-    {
-        match why {
-            None => {}
-            Some(why) => self.close(by, why),
-        }
+        let end = taken.end();
+        let connection = &mut self.connections[by as usize];
+        told_as(connection.post(&mut self.hall, by, self.time, taken.entries, end))
     }
 
     // Appends the Closed of a connection, and gives up what its chain holds.
@@ -192,19 +184,9 @@ impl<C: Framer> Running<C> {
         requires stops { StopsAfter self.old.history why }
         ensures { IsClosed by self.old why self.new }
     {
-        let unsent = self.unsent(by);
+        let end = End { why, unposted: 0 };
         let connection = &mut self.connections[by as usize];
-        let loss = connection.close();
-        self.hall.close(by, self.time, why, loss, 0, unsent);
-    }
-
-    // How many commands the connection of an interface has not put whole.
-    fn unsent(&self, by: u32) -> u64
-        requires there { by < length self.now.connections }
-        ensures { result ≡ waiting by self.now.history (connection_at self.now.connections by).cursor }
-    {
-        let connection = &self.connections[by as usize];
-        connection.waiting(by, self.hall.entries())
+        connection.close(&mut self.hall, by, self.time, end);
     }
 
     fn write(&mut self, by: u32, count: u64) -> Result<Effect, WorldFault>
@@ -230,7 +212,7 @@ impl<C: Framer> Running<C> {
             return None;
         }
         let connection = &self.connections[by as usize];
-        connection.next(by, self.hall.entries(), count)
+        connection.next(&self.hall, by, count)
     }
 
     // Puts the commands for an interface among the next so many entries. Where no memory is found for them, nothing is changed.
@@ -240,10 +222,8 @@ impl<C: Framer> Running<C> {
         ensures ok { IfOk result (λ bytes. PutsNext by self.old next bytes.items self.new) }
         ensures err { OnErr result (IsUnmoved self.old self.new) }
     {
-        self.hall.is_kept();
-        let site = self.hall.site();
         let connection = &mut self.connections[by as usize];
-        connection.write(self.alloc, site, by, self.hall.entries(), next)
+        connection.write(self.alloc, &self.hall, by, next)
     }
 
     fn stop(&mut self) -> Result<Effect, WorldFault>

@@ -5,9 +5,10 @@ ghost use Rattle.cts_chain.specs.Builds.{AllCanBeBuilt, chains_in};
 ghost use Rattle.cts_core.specs.Endings.{lasting};
 
 use crate::fault::WorldFault;
-use crate::framer::{Framer, Supplier};
 use crate::running::Running;
+use crate::supplier::Supplier;
 use cts_chain::ChainFault;
+use cts_connection::Framer;
 use cts_def::{Interface, ProtoUse, Site};
 use cts_entry::{Effect, Event, MOST_BYTES, MOST_ENTRIES};
 use cts_table::Hall;

@@ -1,7 +1,8 @@
-use Rattle.std.proofs.Common.{rules, ◌≡◌, ◌&&◌, ◌<◌, length, true, false, sym, ◌∙◌, ap, subst, arith}
+use Rattle.std.proofs.Common.{rules, ◌≡◌, ◌&&◌, ◌<◌, length, true, false, refl, sym, ◌∙◌, ap, subst, arith}
 use Rattle.std.specs.Prelude.{MatchOption, nat_lt}
 use Rattle.std.proofs.lemmas.Bool.{ltb-true}
-use Rattle.cts_core.specs.Worlds.{Held, connection_at, held_with}
+use Rattle.cts_core.specs.Worlds.{Held, held_with}
+use Rattle.cts_connection.specs.Connections.{connection_at}
 use Rattle.cts_core.specs.Writings.{IsNext, can_write}
 use Rattle.cts_core.proofs.Building.{and_tells}
 use Rattle.cts_core.proofs.Holding.{held_at}
@@ -23,4 +24,4 @@ returns-clause-next g c =
     let there : c.args.by < length w.connections = omega (arith, m, c.self.invariant.count) in
     let held = held_at w.connections c.args.by c.index-connection.result.now there c.index-connection.ensures in
     subst (λ (x : Held). MatchOption c.next.result (can_write x c.args.by c.args.count ≡ false) (λ n. IsNext x c.args.by c.args.count n)) c.self.view_is
-    (next_is w c.args.by c.args.count c.next.result c.index-connection.result.now c.entries.result.now c.self.invariant test (sym held) c.entries.ensures c.next.ensures)
+    (next_is w c.args.by c.args.count c.next.result w.basis.site c.index-connection.result.now w.history c.self.invariant test refl (sym held) refl c.next.ensures)

@@ -1,8 +1,9 @@
-use Rattle.std.proofs.Common.{◌<◌, ◌≤◌, List, length, refl, sym, subst, set, Result, Ok, Err, OnErr}
+use Rattle.std.proofs.Common.{◌<◌, ◌≤◌, length, refl, sym, subst, set, Result, Ok, Err, OnErr}
 use Rattle.std.specs.Prelude.{IfOk}
-use Rattle.cts_entry.specs.declared.entry.Entry.{Entry}
-use Rattle.cts_core.specs.Worlds.{Held, HeldConnection, IsUnmoved, connection_at, held_with}
-use Rattle.cts_core.specs.Writings.{PutsNext, entries_ahead}
+use Rattle.cts_core.specs.Worlds.{Held, IsUnmoved, held_with}
+use Rattle.cts_connection.specs.Connections.{HeldConnection, connection_at}
+use Rattle.cts_core.specs.Writings.{PutsNext}
+use Rattle.cts_connection.specs.Connections.{entries_ahead}
 use Rattle.cts_core.proofs.Exchanging.{sound_exchanged, wrote_stands, puts_is}
 use Rattle.cts_core.proofs.Holding.{held_at}
 use Rattle.cts_core.proofs.running.Running.put.Goals as goal
@@ -11,17 +12,13 @@ refused : {T E P : Type 0} (result : Result T E) → P → OnErr result P
 refused (Ok t) p = tt
 refused (Err e) p = p
 
-pub write-requires-clause-within : goal.write-requires-clause-within
-write-requires-clause-within g c =
+pub write-requires : goal.write-requires
+write-requires g c =
     let w = held_with c.self.inside.time c.self.inside.hall c.self.inside.connections.items in
     let there : c.args.by < length w.connections = subst (λ (x : Held). c.args.by < length x.connections) (sym c.self.view_is) c.requires.there in
     let held = held_at w.connections c.args.by c.index_mut-connection.result.now there c.index_mut-connection.ensures.value in
     let within = subst (λ (x : Held). c.args.next ≤ length (entries_ahead (connection_at x.connections c.args.by) x.history)) (sym c.self.view_is) c.requires.within in
-    subst (λ (l : List Entry). c.args.next ≤ length (entries_ahead c.index_mut-connection.result.now l)) (sym c.entries.ensures)
-    (subst (λ (x : HeldConnection). c.args.next ≤ length (entries_ahead x w.history)) held within)
-
-pub write-requires-clause-of_site : goal.write-requires-clause-of_site
-write-requires-clause-of_site g c = rw (c.site-site.ensures, c.entries.ensures) c.is_kept.ensures.kept.of_site
+    record { within = subst (λ (x : HeldConnection). c.args.next ≤ length (entries_ahead x w.history)) held within }
 
 pub invariant_of-self : goal.invariant_of-self
 invariant_of-self g c =
@@ -37,7 +34,7 @@ returns-clause-ok g c =
     let there : c.args.by < length w.connections = subst (λ (x : Held). c.args.by < length x.connections) (sym c.self.view_is) c.requires.there in
     let held = held_at w.connections c.args.by c.index_mut-connection.result.now there c.index_mut-connection.ensures.value in
     subst (λ (x : Held). IfOk c.write.result (λ b. PutsNext c.args.by x c.args.next b.items (record w { connections = set w.connections c.args.by c.write.new.self }))) c.self.view_is
-    (puts_is w c.args.by _ c.write.new.self held (λ v. v.items) c.write.result _ _ c.args.next c.site-site.ensures c.entries.ensures c.write.ensures.ok)
+    (puts_is w c.args.by _ c.write.new.self held (λ v. v.items) c.write.result c.args.next c.write.ensures.ok)
 
 pub returns-clause-err : goal.returns-clause-err
 returns-clause-err g c =

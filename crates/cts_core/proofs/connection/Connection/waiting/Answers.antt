@@ -1,5 +1,0 @@
-use Rattle.std.proofs.Common.{rules}
-use Rattle.cts_core.proofs.connection.Connection.waiting.Goals as goal
-
-pub returns : goal.returns
-returns c = search rules
