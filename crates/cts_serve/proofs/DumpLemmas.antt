@@ -19,8 +19,8 @@ use Rattle.cts_outside.specs.Seen.{SinkSeen}
 use Rattle.cts_outside.proofs.Putting.{appended-nil}
 use Rattle.cts_serve.specs.Dump.{AreLines, IsPrinted, IsDump, PutsLines, PutsLog, dump_answer}
 use Rattle.cts_serve.specs.Putting.{IsPut, FailsWithin}
-use Rattle.cts_serve.specs.declared.dump.halt.DumpHalt.{DumpHalt}
-use Rattle.cts_serve.specs.declared.dump.halt.DumpHalt.TheVariants as halt
+use Rattle.cts_serve.specs.declared.halt.Halt.{Halt}
+use Rattle.cts_serve.specs.declared.halt.Halt.TheVariants as halt
 use Rattle.cts_serve.proofs.MomentLemmas.{lines_of}
 use Rattle.cts_serve.proofs.ReplayLemmas.{put_then, fails_then, fails_first}
 
@@ -193,7 +193,7 @@ shorter r s es fs h k same =
     omega (arith, place, ap length file, k.within, end_long (drop r.place r.file))
 
 -- whatever is left, its lines stand behind those so far
-pub rest_of : (r : ReaderData) (es : List Logged) (text : List ℕ) → HasRead r es → AreLines es text → (more : List ℕ) × (due : Result (Unit {0}) DumpHalt) × IsPrinted r.file (text ++ more) due
+pub rest_of : (r : ReaderData) (es : List Logged) (text : List ℕ) → HasRead r es → AreLines es text → (more : List ℕ) × (due : Result (Unit {0}) Halt) × IsPrinted r.file (text ++ more) due
 rest_of r es text h lines =
     let a = ahead r es h in
     let more = lines_of a.entries a.fit in
@@ -225,7 +225,7 @@ faulted file r s text line e old mid new f same more is fails =
 at_end : (n : ℕ) → dump_answer n n ≡ Ok tt
 at_end n = let e : nat_eq n n ≡ true = grind (arith, nat_tests) in rw e refl
 
-before_end : (place n : ℕ) → place < n → dump_answer place n ≡ Err (halt.Refused place)
+before_end : (place n : ℕ) → place < n → dump_answer place n ≡ Err (halt.LogRefused place)
 before_end place n h = let e : nat_eq place n ≡ false = grind (arith, nat_tests) in rw e refl
 
 pub ends_well : (file : List ℕ) (r : ReaderData) (text : List ℕ) (old new : SinkSeen) (f : IsFar file r text old new) → (kind : LogKind) × IsLogRead r.file kind f.entries (length r.file) → PutsLines file (Ok tt) old new
@@ -237,11 +237,11 @@ ends_well file r text old new f h = record {
 }
 
 pub ends_cut : (file : List ℕ) (r : ReaderData) (text : List ℕ) (place : ℕ) (old new : SinkSeen) (f : IsFar file r text old new) → (kind : LogKind) × IsLogRead r.file kind f.entries place × (place < length r.file)
-    → PutsLines file (Err (halt.Refused place)) old new
+    → PutsLines file (Err (halt.LogRefused place)) old new
 ends_cut file r text place old new f h = record {
   body = text;
-  due = Err (halt.Refused place);
-  printed = subst (λ (t : List ℕ). IsPrinted t text (Err (halt.Refused place))) f.file_is (record { kind = h.0; entries = f.entries; place = place; read = h.1; lines = f.lines; due_is = sym (before_end place (length r.file) h.2) });
+  due = Err (halt.LogRefused place);
+  printed = subst (λ (t : List ℕ). IsPrinted t text (Err (halt.LogRefused place))) f.file_is (record { kind = h.0; entries = f.entries; place = place; read = h.1; lines = f.lines; due_is = sym (before_end place (length r.file) h.2) });
   puts = (refl, f.put);
 }
 
@@ -253,25 +253,25 @@ no_head file e kind head x is same =
     let never : None ≡ Some kind = sym e ∙ known in
     cc never
 
-pub no_log : (file : List ℕ) (out : SinkSeen) → kind_of file ≡ None → PutsLog file (Err (halt.Refused 0)) out out
+pub no_log : (file : List ℕ) (out : SinkSeen) → kind_of file ≡ None → PutsLog file (Err (halt.LogRefused 0)) out out
 no_log file out e = record {
   body = [];
-  due = Err (halt.Refused 0);
+  due = Err (halt.LogRefused 0);
   is = inr (record { none = no_head file e; nothing = refl; refused = refl });
   puts = (refl, (refl, sym (appended-nil out.told)));
 }
 
-pub with_head : (file : List ℕ) (answer : Result (Unit {0}) DumpHalt) (old new : SinkSeen) → PutsLines file answer old new → PutsLog file answer old new
+pub with_head : (file : List ℕ) (answer : Result (Unit {0}) Halt) (old new : SinkSeen) → PutsLines file answer old new → PutsLog file answer old new
 with_head file answer old new h = record { body = h.body; due = h.due; is = inl h.printed; puts = h.puts }
 
 -- ---- each file has a dump
 
-by_kind : (file : List ℕ) (kind : Option LogKind) → kind_of file ≡ kind → (body : List ℕ) × (due : Result (Unit {0}) DumpHalt) × IsDump file body due
-by_kind file None e = ([], Err (halt.Refused 0), inr (record { none = no_head file e; nothing = refl; refused = refl }))
+by_kind : (file : List ℕ) (kind : Option LogKind) → kind_of file ≡ kind → (body : List ℕ) × (due : Result (Unit {0}) Halt) × IsDump file body due
+by_kind file None e = ([], Err (halt.LogRefused 0), inr (record { none = no_head file e; nothing = refl; refused = refl }))
 by_kind file (Some kind) e =
     let start : ReaderData = record { file = file; place = min log_head_len (length file) } in
     let all = rest_of start [] [] (begins_to_read file (ap is_some e)) refl in
     (all.0, all.1, inl all.2)
 
-pub some_dump : (file : List ℕ) → (body : List ℕ) × (due : Result (Unit {0}) DumpHalt) × IsDump file body due
+pub some_dump : (file : List ℕ) → (body : List ℕ) × (due : Result (Unit {0}) Halt) × IsDump file body due
 some_dump file = by_kind file (kind_of file) refl

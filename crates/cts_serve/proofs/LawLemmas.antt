@@ -1,163 +1,470 @@
--- A command has exactly one outcome.
-use Rattle.std.proofs.Common.{◌≡◌, ◌≢◌, ℕ, Bool, true, false, List, length, Option, Some, None, option_and_then, IfSome, MatchOption, Result, Ok, Err, refl, sym, ◌∙◌, ap, subst, ◌⊎◌, inl, inr}
-use Rattle.cts_def.specs.declared.proto_spec.Kind.{Kind}
-use Rattle.cts_outside.specs.Seen.{SinkSeen}
-use Rattle.cts_proto.specs.Meaning.{Meaning}
-use Rattle.cts_entry.specs.declared.event.Event.{Event}
-use Rattle.cts_core.specs.States.{opening}
-use Rattle.cts_core.specs.Runs.{Did, Ending}
+-- A command has exactly one outcome, and which statuses come where.
+use Rattle.std.proofs.Common.{◌≡◌, ◌≢◌, ℕ, ◌<◌, Bool, true, false, nat_eq, List, [], ◌∷◌, ◌++◌, length, Option, Some, None, option_map, IfSome, MatchOption, Result, Ok, Err, refl, sym, ◌∙◌, ap, ap₂, subst, arith, ◌⊎◌, inl, inr}
+use Rattle.std.specs.Prelude.{nat_lt}
+use Rattle.std.specs.Option.{option_or}
+use Rattle.std.proofs.lemmas.Bool.Decides.{nat_tests}
 use Rattle.cts_core_laws.proofs.OneRun.{has_one_run}
 use Rattle.cts_core_laws.proofs.SiteSound.{site_sound}
-use Rattle.cts_def.specs.Sites.{SiteData}
 use Rattle.cts_core.specs.Environments.{basis_of, site_environment}
-use Rattle.std.specs.Prelude.{nat_lt}
-use Rattle.cts_serve.specs.Command.{Outcome, refusal, dumped, IsDumpBy, IsDumped, first_refusal, script_refusal, HasBoxes, replay_outcome, check_outcome, IsReplay, IsDone, IsOutcome, Answers, Completes}
-use Rattle.cts_serve.specs.Ending.{usage_ending, unfetched_ending, unloaded_ending, unmade_ending}
-use Rattle.cts_serve.specs.Load.{IsNext, site_asked, events_asked, unloaded}
-use Rattle.cts_serve.specs.Load.Judging.{log_limit}
-use Rattle.cts_serve.specs.Replay.Transcript.{events_of, replay_body, replay_answer}
-use Rattle.cts_serve.specs.Start.{short_kind, short_fault}
-use Rattle.cts_serve.specs.declared.dump.halt.DumpHalt.{DumpHalt}
-use Rattle.cts_serve.specs.declared.dump.halt.DumpHalt.TheVariants as dump
-use Rattle.cts_serve.specs.declared.ending.status.Status.{Status}
-use Rattle.cts_serve.specs.declared.ending.status.Status.TheVariants as is
-use Rattle.cts_serve.specs.declared.load.fetch.FetchFault.TheVariants as fetch
-use Rattle.cts_serve.specs.declared.load.file_kind.FileKind.{FileKind}
-use Rattle.cts_serve.specs.declared.load.file_kind.FileKind.TheVariants.{Definitions, Site, Script}
-use Rattle.cts_serve.specs.declared.load.unloaded.Unloaded.{Unloaded}
-use Rattle.cts_serve.specs.Request.{RequestData}
-use Rattle.cts_serve.specs.Request.Words.{AskedData, Sited, Dumped}
-use Rattle.cts_serve.proofs.OtherStatuses.{shelf_is_other, unloaded_other, replayed_other, status_in}
-use Rattle.cts_serve.specs.Laws.{HasOutcome, HasOneOutcome, IsShort, ShortExactly}
-use Rattle.cts_serve.proofs.DumpingLemmas.{one_dumped, some_dumped}
-use Rattle.cts_serve.proofs.CommandLemmas.{some_outcome, third_is, refusal_is, next_refuses, has_boxes, shelf_short}
+use Rattle.cts_core.specs.Runs.{Did, Ending, Finished, NotEnabled, HistoryFull}
+use Rattle.cts_core.specs.States.{opening}
+use Rattle.cts_def.specs.Sites.{SiteData}
+use Rattle.cts_def.specs.declared.proto_spec.Kind.{Kind}
+use Rattle.cts_entry.specs.declared.event.Event.{Event}
+use Rattle.cts_log.proofs.OneText.{entries_have_one_line}
+use Rattle.cts_log.proofs.ReadOnce.{logs_are_read_once, no_head_no_read}
+use Rattle.cts_log.specs.Logged.{Logged}
+use Rattle.cts_log.specs.Reading.{IsLogRead}
+use Rattle.cts_outside.specs.Seen.{SinkSeen}
+use Rattle.cts_proto.specs.Meaning.{Meaning}
+use Rattle.cts_words.specs.declared.fault.WordFault.{WordFault}
+use Rattle.cts_words.specs.declared.fault.WordFault.TheVariants as words
+use Rattle.cts_words.specs.declared.statement.Statement.{Statement}
+use Rattle.cts_words.specs.Statements.{said}
+use Rattle.cts_serve.specs.Causes.{words_halt}
+use Rattle.cts_serve.specs.Command.{Answers, Completes, IsDone, IsDueOf, IsOutcome, Outcome, misused, outcome_of, phases}
+use Rattle.cts_serve.specs.Dump.{AreLines, IsDump, dump_answer, log_phase}
+use Rattle.cts_serve.specs.Endings.{halt_status}
+use Rattle.cts_serve.specs.Laws.{HasOneOutcome, HasOutcome, IsBadLog, IsShort, IsWholeLog, RefusedExactly, ShortExactly}
+use Rattle.cts_serve.specs.Load.{bytes_of, definitions_asked, definitions_phase, definitions_read, events_asked, script_phase, script_read, site_asked, site_phase, site_phases, site_read}
+use Rattle.cts_serve.specs.Load.Files.{file_limit, judge, judge_said, log_limit, verdict, within}
+use Rattle.cts_serve.specs.Phases.{Phase, asking, file_halt, first_halt}
+use Rattle.cts_serve.specs.Replay.{IsReplay, are_built_events, replay_answer, replay_body, script_phases}
+use Rattle.cts_serve.specs.Start.{built_phase, shelf_phase, short_halt, short_kind, unless}
+use Rattle.cts_serve.specs.Transcript.{events_of}
+use Rattle.cts_serve.specs.declared.halt.Halt.{Halt}
+use Rattle.cts_serve.specs.declared.halt.Halt.TheVariants as halt
+use Rattle.cts_serve.specs.declared.halt.cause.Cause.{Cause}
+use Rattle.cts_serve.specs.declared.halt.cause.Cause.TheVariants as cause
+use Rattle.cts_serve.specs.declared.halt.file_kind.FileKind.{FileKind}
+use Rattle.cts_serve.specs.declared.halt.file_kind.FileKind.TheVariants.{Configuration, Script}
+use Rattle.cts_serve.specs.declared.halt.status.Status.{Status}
+use Rattle.cts_serve.specs.declared.halt.status.Status.TheVariants as is
+use Rattle.cts_serve.specs.declared.words.Command.{Command}
+use Rattle.cts_serve.specs.declared.words.Command.TheVariants.{Check, Replay, Dump}
+use Rattle.cts_serve.proofs.CommandLemmas.{some_outcome}
+use Rattle.cts_serve.proofs.PhaseLemmas.{first_front, first_past, none_alone}
 
--- a script's events have one run, and so one outcome
-one_replay : (site : SiteData) (script : List ℕ) (events : List (ℕ × Event)) (o p : Outcome) → IsReplay site script events o → IsReplay site script events p → o ≡ p
-one_replay site script events o p h k =
-    let same = has_one_run (site_environment site) (site_sound (basis_of site)) opening (events_of events) h.dids k.dids h.ending k.ending h.runs k.runs in
-    h.outcome ∙ (ap (λ (ds : List Did). replay_outcome site script events ds h.ending) same.0 ∙ (ap (λ (e : Ending). replay_outcome site script events k.dids e) same.1 ∙ sym k.outcome))
+-- ---- one outcome
 
-one_done : (files : List ℕ → Option (List ℕ)) (r : RequestData) (script : Option (List ℕ)) (o p : Outcome) → IsDone files r script o → IsDone files r script p → o ≡ p
-one_done files r None o p h k = h ∙ sym k
-one_done files r (Some script) o p h k = one_replay (site_asked files r) script (events_asked files r script) o p h k
+one_text : (es : List Logged) (text other : List ℕ) → AreLines es text → AreLines es other → text ≡ other
+one_text [] text other a b = a ∙ sym b
+one_text (e ∷ es) text other a b = a.4 ∙ (ap₂ ◌++◌ (entries_have_one_line e a.0 b.0 a.2 b.2) (one_text es a.1 b.1 a.3 b.3) ∙ sym b.4)
 
-one_by : (refused : Option Outcome) (files : List ℕ → Option (List ℕ)) (r : RequestData) (o p : Outcome)
-    → MatchOption refused (IsDone files r r.script o) (λ x. o ≡ x) → MatchOption refused (IsDone files r r.script p) (λ x. p ≡ x) → o ≡ p
-one_by (Some x) files r o p h k = h ∙ sym k
-one_by None files r o p h k = one_done files r r.script o p h k
+abbrev Same : List ℕ → List ℕ → Result (Unit {0}) Halt → Result (Unit {0}) Halt → Type 0
+Same body other due answer = (body ≡ other) × (due ≡ answer)
+
+one_dump : (file body other : List ℕ) (due answer : Result (Unit {0}) Halt) → IsDump file body due → IsDump file other answer → Same body other due answer
+one_dump file body other due answer (inl a) (inl b) =
+    let same = logs_are_read_once file a.kind b.kind a.entries b.entries a.place b.place a.read b.read in (
+      one_text b.entries body other (subst (λ (es : List Logged). AreLines es body) same.1 a.lines) b.lines,
+      a.due_is ∙ (ap (λ (n : ℕ). dump_answer n (length file)) same.2 ∙ sym b.due_is),
+    )
+one_dump file body other due answer (inl a) (inr b) = absurd (no_head_no_read file a.kind a.entries a.place b.none a.read)
+one_dump file body other due answer (inr a) (inl b) = absurd (no_head_no_read file b.kind b.entries b.place a.none b.read)
+one_dump file body other due answer (inr a) (inr b) = (a.nothing ∙ sym b.nothing, a.refused ∙ sym b.refused)
+
+-- a script's events have one run
+one_replay : (site : SiteData) (script : List ℕ) (events : List (ℕ × Event)) (body other : List ℕ) (due answer : Result (Unit {0}) Halt) → IsReplay site script events body due → IsReplay site script events other answer → Same body other due answer
+one_replay site script events body other due answer h k =
+    let same = has_one_run (site_environment site) (site_sound (basis_of site)) opening (events_of events) h.dids k.dids h.ending k.ending h.runs k.runs in (
+      h.body_is ∙ (ap (λ (ds : List Did). replay_body site ds h.ending) same.0 ∙ (ap (λ (e : Ending). replay_body site k.dids e) same.1 ∙ sym k.body_is)),
+      h.due_is ∙ (ap (λ (ds : List Did). replay_answer script events ds h.ending) same.0 ∙ (ap (λ (e : Ending). replay_answer script events k.dids e) same.1 ∙ sym k.due_is)),
+    )
+
+one_done : (files : List ℕ → Option (List ℕ)) (command : Command) (body other : List ℕ) (due answer : Result (Unit {0}) Halt) → IsDone files command body due → IsDone files command other answer → Same body other due answer
+one_done files (Check definitions site) body other due answer h k = (h.0 ∙ sym k.0, h.1 ∙ sym k.1)
+one_done files (Replay definitions site script) body other due answer h k = one_replay (site_asked files definitions site) script (events_asked files (site_asked files definitions site) script) body other due answer h k
+one_done files (Dump log) body other due answer h k = one_dump (bytes_of (files log)) body other due answer h k
+
+one_by : (h : Option Halt) (files : List ℕ → Option (List ℕ)) (command : Command) (body other : List ℕ) (due answer : Result (Unit {0}) Halt)
+    → MatchOption h (IsDone files command body due) (λ x. (body ≡ []) × (due ≡ Err x)) → MatchOption h (IsDone files command other answer) (λ x. (other ≡ []) × (answer ≡ Err x)) → Same body other due answer
+one_by (Some x) files command body other due answer h k = (h.0 ∙ sym k.0, h.1 ∙ sym k.1)
+one_by None files command body other due answer h k = one_done files command body other due answer h k
 
 pub has_one_outcome : HasOneOutcome
 has_one_outcome stock files None o p h k = h ∙ sym k
-has_one_outcome stock files (Some (Sited r)) o p h k = one_by (first_refusal stock files r) files r o p h k
-has_one_outcome stock files (Some (Dumped log)) o p h k = one_dumped log (files log) o p h k
+has_one_outcome stock files (Some command) o p h k =
+    let same = one_by (first_halt (phases stock files command)) files command h.body k.body h.due k.due h.is k.is in
+    h.outcome ∙ (ap₂ outcome_of same.0 same.1 ∙ sym k.outcome)
 
 pub has_outcome : HasOutcome
-has_outcome stock files None = (refusal usage_ending, refl)
-has_outcome stock files (Some (Sited r)) = some_outcome stock files r
-has_outcome stock files (Some (Dumped log)) = some_dumped log (files log)
+has_outcome stock files None = (misused, refl)
+has_outcome stock files (Some command) =
+    let o = some_outcome stock files command in
+    (outcome_of o.0 o.1, record { body = o.0; due = o.1; is = o.2; outcome = refl })
 
--- ---- the status of a shelf that is short
+-- ---- statuses that neither a file of a site or script nor a replay has
 
--- the outcome where something is refused, and where nothing is
-refused_is : (refused : Option Outcome) (files : List ℕ → Option (List ℕ)) (r : RequestData) (o x : Outcome) → refused ≡ Some x → MatchOption refused (IsDone files r r.script o) (λ y. o ≡ y) → o ≡ x
-refused_is refused files r o x e h = subst (λ (t : Option Outcome). MatchOption t (IsDone files r r.script o) (λ y. o ≡ y)) e h
+pub record IsOther (s : Status) : Type 0 where
+  pub ok : is.Ok ≢ s
+  pub memory : is.Memory ≢ s
+  pub absent : is.Absent ≢ s
+  pub usage : is.Usage ≢ s
+  pub config_refused : is.ConfigRefused ≢ s
+  pub script_refused : is.ScriptRefused ≢ s
+  pub history_full : is.HistoryFull ≢ s
+  pub not_built : is.NotBuilt ≢ s
 
-done_is : (refused : Option Outcome) (files : List ℕ → Option (List ℕ)) (r : RequestData) (o : Outcome) → refused ≡ None → MatchOption refused (IsDone files r r.script o) (λ y. o ≡ y) → IsDone files r r.script o
-done_is refused files r o e h = subst (λ (t : Option Outcome). MatchOption t (IsDone files r r.script o) (λ y. o ≡ y)) e h
+shelf_is_other : IsOther is.ShelfEmpty
+shelf_is_other = record {
+  ok = λ e. absurd (cc);
+  memory = λ e. absurd (cc);
+  absent = λ e. absurd (cc);
+  usage = λ e. absurd (cc);
+  config_refused = λ e. absurd (cc);
+  script_refused = λ e. absurd (cc);
+  history_full = λ e. absurd (cc);
+  not_built = λ e. absurd (cc);
+}
 
-module _ (stock : List Meaning) (files : List ℕ → Option (List ℕ)) (r : RequestData) (o : Outcome) (is_so : IsOutcome stock files (Some (Sited r)) o) (told : o.status ≡ is.ShelfEmpty) where
-  -- a file that gives nothing has another status
-  not_refused : (kind : FileKind) (name : List ℕ) (why : Unloaded) → IsNext files r kind name → HasBoxes stock files r kind → unloaded files r kind name ≡ Some why → ⊥
-  not_refused kind name why next boxes e =
-      let so = refused_is (first_refusal stock files r) files r o (refusal (unloaded_ending name kind why)) (next_refuses stock files r kind name why next boxes e) is_so in
-      unloaded_other is.ShelfEmpty shelf_is_other kind why (status_in is.ShelfEmpty o (refusal (unloaded_ending name kind why)) so told)
+log_is_other : IsOther is.LogRefused
+log_is_other = record {
+  ok = λ e. absurd (cc);
+  memory = λ e. absurd (cc);
+  absent = λ e. absurd (cc);
+  usage = λ e. absurd (cc);
+  config_refused = λ e. absurd (cc);
+  script_refused = λ e. absurd (cc);
+  history_full = λ e. absurd (cc);
+  not_built = λ e. absurd (cc);
+}
 
-  not_replayed : (script : List ℕ) → IsReplay (site_asked files r) script (events_asked files r script) o → ⊥
-  not_replayed script h =
-      replayed_other is.ShelfEmpty shelf_is_other script (replay_body (site_asked files r) h.dids h.ending) (replay_answer (events_asked files r script) h.dids h.ending)
-      (status_in is.ShelfEmpty o (replay_outcome (site_asked files r) script (events_asked files r script) h.dids h.ending) h.outcome told)
+module _ (s : Status) (other : IsOther s) where
+  -- a reason to halt that has another status, if there is one
+  abbrev Other : Option Halt → Type 0
+  Other None = Unit {0}
+  Other (Some h) = halt_status h ≢ s
 
-  not_checked : o ≡ check_outcome (site_asked files r) → ⊥
-  not_checked h = absurd (cc (status_in is.ShelfEmpty o (check_outcome (site_asked files r)) h told))
+  other_or : (a b : Option Halt) → Other a → Other b → Other (option_or a b)
+  other_or None b h k = k
+  other_or (Some x) b h k = h
 
-  by_text : (script : List ℕ) (u : Option Unloaded) → unloaded files r Script script ≡ u → unloaded files r Definitions r.definitions ≡ None → unloaded files r Site r.site ≡ None → r.script ≡ Some script → short_kind stock (site_asked files r) ≡ None → ⊥
-  by_text script (Some why) u d s q k = not_refused Script script why (d, s, q) k u
-  by_text script None u d s q k =
-      let none = third_is stock _ _ _ None (refusal_is stock files r Definitions r.definitions None d) (refusal_is stock files r Site r.site None s) (ap (option_and_then (script_refusal stock files r)) q ∙ (has_boxes stock files r script k ∙ refusal_is stock files r Script script None u)) in
-      not_replayed script (subst (λ (t : Option (List ℕ)). IsDone files r t o) q (done_is (first_refusal stock files r) files r o none is_so))
+  refused_other : (name : List ℕ) (kind : FileKind) (line : ℕ) (why : Cause) → Other (Some (halt.Refused name kind line why))
+  refused_other name Configuration line why = other.config_refused
+  refused_other name Script line why = other.script_refused
 
-  by_kind : (script : List ℕ) (k : Option Kind) → short_kind stock (site_asked files r) ≡ k → unloaded files r Definitions r.definitions ≡ None → unloaded files r Site r.site ≡ None → r.script ≡ Some script → IsShort stock files (Some (Sited r))
-  by_kind script (Some kind) k d s q = record { request = r; asked_is = refl; script = script; script_is = q; definitions = d; site = s; kind = kind; short = k }
-  by_kind script None k d s q = absurd (by_text script (unloaded files r Script script) refl d s q k)
+  of_words : (kind : FileKind) (name : List ℕ) (fault : WordFault) → Other (Some (words_halt kind name fault))
+  of_words Configuration name (words.OpenQuote line) = other.config_refused
+  of_words Configuration name (words.DanglingJoin line) = other.config_refused
+  of_words Configuration name (words.NotText place) = other.config_refused
+  of_words Script name (words.OpenQuote line) = other.script_refused
+  of_words Script name (words.DanglingJoin line) = other.script_refused
+  of_words Script name (words.NotText place) = other.script_refused
+  of_words Configuration name words.Memory = other.memory
+  of_words Script name words.Memory = other.memory
 
-  by_script : (script : Option (List ℕ)) → r.script ≡ script → unloaded files r Definitions r.definitions ≡ None → unloaded files r Site r.site ≡ None → IsShort stock files (Some (Sited r))
-  by_script (Some script) q d s = by_kind script (short_kind stock (site_asked files r)) refl d s q
-  by_script None q d s =
-      let none = third_is stock _ _ _ None (refusal_is stock files r Definitions r.definitions None d) (refusal_is stock files r Site r.site None s) (ap (option_and_then (script_refusal stock files r)) q) in
-      absurd (not_checked (subst (λ (t : Option (List ℕ)). IsDone files r t o) q (done_is (first_refusal stock files r) files r o none is_so)))
+  of_verdict : {X : Type 0} (kind : FileKind) (name : List ℕ) (read : Result X (ℕ × Cause)) → Other (verdict kind name read)
+  of_verdict kind name (Ok x) = tt
+  of_verdict kind name (Err r) = refused_other name kind r.0 r.1
 
-  by_site : (u : Option Unloaded) → unloaded files r Site r.site ≡ u → unloaded files r Definitions r.definitions ≡ None → IsShort stock files (Some (Sited r))
-  by_site (Some why) s d = absurd (not_refused Site r.site why (d, refl) tt s)
-  by_site None s d = by_script r.script refl d s
+  of_said : {X : Type 0} (kind : FileKind) (name : List ℕ) (reads : List Statement → Result X (ℕ × Cause)) (found : Result (List Statement) WordFault) → Other (judge_said kind name (λ statements. verdict kind name (reads statements)) found)
+  of_said kind name reads (Ok statements) = of_verdict kind name (reads statements)
+  of_said kind name reads (Err fault) = of_words kind name fault
 
-  by_definitions : (u : Option Unloaded) → unloaded files r Definitions r.definitions ≡ u → IsShort stock files (Some (Sited r))
-  by_definitions (Some why) d = absurd (not_refused Definitions r.definitions why refl tt d)
-  by_definitions None d = by_site (unloaded files r Site r.site) refl d
+  of_bytes : {X : Type 0} (kind : FileKind) (name : List ℕ) (reads : List Statement → Result X (ℕ × Cause)) (bytes : List ℕ) (large : Bool) → nat_lt file_limit (length bytes) ≡ large
+      → Other (judge kind name (λ statements. verdict kind name (reads statements)) bytes)
+  of_bytes kind name reads bytes true e = rw e (refused_other name kind 0 cause.TooLarge)
+  of_bytes kind name reads bytes false e = rw e (of_said kind name reads (said bytes))
 
-is_there : (r q : RequestData) → Some (Sited r) ≡ Some (Sited q) → r ≡ q
-is_there r q e = cc
+  of_file : {X : Type 0} (kind : FileKind) (name : List ℕ) (reads : List Statement → Result X (ℕ × Cause)) (file : Option (List ℕ)) → Other (file_halt name (judge kind name (λ statements. verdict kind name (reads statements))) file)
+  of_file kind name reads None = other.absent
+  of_file kind name reads (Some bytes) = of_bytes kind name reads bytes (nat_lt file_limit (length bytes)) refl
 
--- where the shelf is short that is told
-short_told : (stock : List Meaning) (files : List ℕ → Option (List ℕ)) (r : RequestData) (o : Outcome) → IsOutcome stock files (Some (Sited r)) o → (s : IsShort stock files (Some (Sited r))) → o.status ≡ is.ShelfEmpty
-short_told stock files r o h s =
-    let same = is_there r s.request s.asked_is in
-    let first = shelf_short stock files s.request (site_asked files s.request) s.script s.kind s.script_is (s.definitions, s.site, refl) s.short in
-    let x = refusal (unmade_ending (short_fault stock (site_asked files s.request) s.kind)) in
-    let here = subst (λ (q : RequestData). first_refusal stock files q ≡ Some x) (sym same) first in
-    ap (λ (t : Outcome). t.status) (refused_is (first_refusal stock files r) files r o x here h)
+  of_built : (name : List ℕ) (built : Bool) → Other (unless built (halt.NotBuilt name))
+  of_built name true = tt
+  of_built name false = other.not_built
 
--- a dump has no shelf
-answered_other : (body : List ℕ) (due : Result (Unit {0}) DumpHalt) → (dumped body due).status ≢ is.ShelfEmpty
-answered_other body (Ok done) = λ e. absurd (cc)
-answered_other body (Err (dump.Refused place)) = λ e. absurd (cc)
-answered_other body (Err dump.WriteFault) = λ e. absurd (cc)
-answered_other body (Err dump.Memory) = λ e. absurd (cc)
+  module _ (files : List ℕ → Option (List ℕ)) (definitions site : List ℕ) where
+    of_site : Other (first_halt (site_phases files definitions site))
+    of_site =
+        other_or (definitions_phase files definitions).halts (first_halt (site_phase files (definitions_asked files definitions) site ∷ [])) (of_file Configuration definitions definitions_read (files definitions))
+        (other_or (site_phase files (definitions_asked files definitions) site).halts None (of_file Configuration site (site_read (definitions_asked files definitions)) (files site)) tt)
 
-dumped_by_size : (log file : List ℕ) (large : Bool) (o : Outcome) → IsDumpBy log file large o → o.status ≢ is.ShelfEmpty
-dumped_by_size log file true o h = λ e. absurd (cc (status_in is.ShelfEmpty o (refusal (unfetched_ending log fetch.TooLarge)) h e))
-dumped_by_size log file false o h = λ e. answered_other h.body h.due (status_in is.ShelfEmpty o (dumped h.body h.due) h.outcome e)
+    -- before the shelf
+    of_before : Other (first_halt (site_phases files definitions site ++ built_phase site (site_asked files definitions site) ∷ []))
+    of_before =
+        let built = built_phase site (site_asked files definitions site) in
+        other_or (definitions_phase files definitions).halts (first_halt (site_phase files (definitions_asked files definitions) site ∷ built ∷ [])) (of_file Configuration definitions definitions_read (files definitions))
+        (other_or (site_phase files (definitions_asked files definitions) site).halts (first_halt (built ∷ [])) (of_file Configuration site (site_read (definitions_asked files definitions)) (files site)) (other_or built.halts None (of_built site _) tt))
 
-dumped_other : (log : List ℕ) (file : Option (List ℕ)) (o : Outcome) → IsDumped log file o → o.status ≢ is.ShelfEmpty
-dumped_other log None o h = λ e. absurd (cc (status_in is.ShelfEmpty o (refusal (unfetched_ending log fetch.Absent)) h e))
-dumped_other log (Some file) o h = dumped_by_size log file (nat_lt log_limit (length file)) o h
+    -- after it
+    of_script : (x : SiteData) (script : List ℕ) → Other (first_halt (script_phases files x script))
+    of_script x script =
+        other_or (script_phase files x script).halts (first_halt (asking (unless (are_built_events (events_asked files x script)) (halt.NotBuilt script)) ∷ [])) (of_file Script script (script_read x) (files script))
+        (other_or (unless (are_built_events (events_asked files x script)) (halt.NotBuilt script)) None (of_built script (are_built_events (events_asked files x script))) tt)
 
-no_site_asked : (log : List ℕ) (r : RequestData) → Some (Dumped log) ≡ Some (Sited r) → ⊥
-no_site_asked log r e = absurd (cc e)
+  -- a command that ends so has this status
+  abbrev Has : Result (Unit {0}) Halt → Type 0
+  Has due = (outcome_of [] due).status ≡ s
+
+  status_alone : (body : List ℕ) (due : Result (Unit {0}) Halt) → (outcome_of body due).status ≡ (outcome_of [] due).status
+  status_alone body (Ok done) = refl
+  status_alone body (Err h) = refl
+
+  of_run : (script : List ℕ) (events : List (ℕ × Event)) (dids : List Did) (ending : Ending) → Has (replay_answer script events dids ending) → ⊥
+  of_run script events dids Finished h = other.ok h
+  of_run script events dids NotEnabled h = other.script_refused h
+  of_run script events dids HistoryFull h = other.history_full h
+
+  of_replay : (site : SiteData) (script : List ℕ) (events : List (ℕ × Event)) (body : List ℕ) (due : Result (Unit {0}) Halt) → IsReplay site script events body due → Has due → ⊥
+  of_replay site script events body due r h = of_run script events r.dids r.ending (subst Has r.due_is h)
+
+  -- phases whose reasons all have another status
+  of_phases : (first : Option Halt) (done : Type 0) (body : List ℕ) (due : Result (Unit {0}) Halt) → Other first → (done → Has due → ⊥) → MatchOption first done (λ x. (body ≡ []) × (due ≡ Err x)) → Has due → ⊥
+  of_phases None done body due k d m h = d m h
+  of_phases (Some x) done body due k d m h = k (subst Has m.1 h)
+
+  of_check : (files : List ℕ → Option (List ℕ)) (definitions site body : List ℕ) (due : Result (Unit {0}) Halt) → IsDueOf (site_phases files definitions site) (IsDone files (Check definitions site)) body due → Has due → ⊥
+  of_check files definitions site body due m h =
+      of_phases (first_halt (site_phases files definitions site)) (IsDone files (Check definitions site) body due) body due (of_site files definitions site) (λ d k. other.ok (subst Has d.1 k)) m h
+
+has_status : (s : Status) (other : IsOther s) (body : List ℕ) (due : Result (Unit {0}) Halt) (o : Outcome) → o ≡ outcome_of body due → o.status ≡ s → (outcome_of [] due).status ≡ s
+has_status s other body due o e h = sym (status_alone s other body due) ∙ (sym (ap (λ (t : Outcome). t.status) e) ∙ h)
+
+outcome_status : (body : List ℕ) (due : Result (Unit {0}) Halt) (h : Halt) (o : Outcome) → o ≡ outcome_of body due → due ≡ Err h → o.status ≡ halt_status h
+outcome_status body due h o e f = ap (λ (t : Outcome). t.status) e ∙ ap (λ (d : Result (Unit {0}) Halt). (outcome_of body d).status) f
+
+-- ---- a shelf that is short
+
+module _ (stock : List Meaning) (files : List ℕ → Option (List ℕ)) (definitions site script : List ℕ) where
+  abbrev x : SiteData
+  x = site_asked files definitions site
+
+  abbrev before : List Phase
+  before = site_phases files definitions site ++ built_phase site x ∷ []
+
+  abbrev rest : List Phase
+  rest = shelf_phase stock x ∷ script_phases files x script
+
+  abbrev Done : List ℕ → Result (Unit {0}) Halt → Type 0
+  Done body due = IsDone files (Replay definitions site script) body due
+
+  abbrev Due : List Phase → List ℕ → Result (Unit {0}) Halt → Type 0
+  Due ps body due = IsDueOf ps (IsDone files (Replay definitions site script)) body due
+
+  -- after the phases before the shelf
+  past_before : (body : List ℕ) (due : Result (Unit {0}) Halt) → first_halt before ≡ None → Due (before ++ rest) body due → Due rest body due
+  past_before body due e m = subst (λ (o : Option Halt). MatchOption o (Done body due) (λ h. (body ≡ []) × (due ≡ Err h))) (first_past before rest e) m
+
+  by_kind : (kind : Option Kind) (body : List ℕ) (due : Result (Unit {0}) Halt) → short_kind stock x ≡ kind → first_halt before ≡ None → Due rest body due → (outcome_of [] due).status ≡ is.ShelfEmpty → IsShort stock files (Some (Replay definitions site script))
+  by_kind (Some kind) body due k e m h = record { definitions = definitions; site = site; script = script; asked_is = refl; taken = e; kind = kind; short = k }
+  by_kind None body due k e m h =
+      let none : (shelf_phase stock x).halts ≡ None = ap (option_map (short_halt stock x)) k in
+      let m' = subst (λ (o : Option Halt). MatchOption o (Done body due) (λ h. (body ≡ []) × (due ≡ Err h))) (first_past (shelf_phase stock x ∷ []) (script_phases files x script) (none_alone (shelf_phase stock x) none)) m in
+      absurd (of_phases is.ShelfEmpty shelf_is_other (first_halt (script_phases files x script)) (Done body due) body due (of_script is.ShelfEmpty shelf_is_other files definitions site x script)
+      (λ d s. of_replay is.ShelfEmpty shelf_is_other x script (events_asked files x script) body due d s) m' h)
+
+  by_first : (first : Option Halt) (body : List ℕ) (due : Result (Unit {0}) Halt) → first_halt before ≡ first → Other is.ShelfEmpty shelf_is_other first → Due (before ++ rest) body due → (outcome_of [] due).status ≡ is.ShelfEmpty → IsShort stock files (Some (Replay definitions site script))
+  by_first None body due e o m h = by_kind (short_kind stock x) body due refl e (past_before body due e m) h
+  by_first (Some f) body due e o m h = absurd (o (front_status body due f e m h))
+    where
+      front_status : (body : List ℕ) (due : Result (Unit {0}) Halt) (f : Halt) → first_halt before ≡ Some f → Due (before ++ rest) body due → (outcome_of [] due).status ≡ is.ShelfEmpty → halt_status f ≡ is.ShelfEmpty
+      front_status body due f e m h =
+          let m' = subst (λ (o : Option Halt). MatchOption o (Done body due) (λ y. (body ≡ []) × (due ≡ Err y))) (first_front before rest f e) m in
+          sym (ap (λ (d : Result (Unit {0}) Halt). (outcome_of [] d).status) m'.1) ∙ h
+
+  short_where : (o : Outcome) → IsOutcome stock files (Some (Replay definitions site script)) o → o.status ≡ is.ShelfEmpty → IsShort stock files (Some (Replay definitions site script))
+  short_where o h e = by_first (first_halt before) h.body h.due refl (of_before is.ShelfEmpty shelf_is_other files definitions site) h.is (has_status is.ShelfEmpty shelf_is_other h.body h.due o h.outcome e)
+
+  short_told : (o : Outcome) (kind : Kind) → IsOutcome stock files (Some (Replay definitions site script)) o → first_halt before ≡ None → short_kind stock x ≡ Some kind → o.status ≡ is.ShelfEmpty
+  short_told o kind h e k =
+      let short : first_halt rest ≡ Some (short_halt stock x kind) = ap (λ (t : Option Kind). option_or (option_map (short_halt stock x) t) (first_halt (script_phases files x script))) k in
+      let m = subst (λ (t : Option Halt). MatchOption t (Done h.body h.due) (λ y. (h.body ≡ []) × (h.due ≡ Err y))) (first_past before rest e ∙ short) h.is in
+      outcome_status h.body h.due (short_halt stock x kind) o h.outcome m.1
+
+same_replay : (a b c d e f : List ℕ) → Some (Replay a b c) ≡ Some (Replay d e f) → (a ≡ d) × (b ≡ e) × (c ≡ f)
+same_replay a b c d e f same = (cc same, cc same, cc same)
+
+no_replay_checked : (a b c d e : List ℕ) → Some (Check a b) ≡ Some (Replay c d e) → ⊥
+no_replay_checked a b c d e same = absurd (cc same)
+
+no_replay_dumped : (a c d e : List ℕ) → Some (Dump a) ≡ Some (Replay c d e) → ⊥
+no_replay_dumped a c d e same = absurd (cc same)
+
+-- a dump asks no shelf
+dumped_status : (file body : List ℕ) (due : Result (Unit {0}) Halt) → IsDump file body due → (outcome_of [] due).status ≢ is.ShelfEmpty
+dumped_status file body due (inl a) = λ e. by_place a.place (nat_eq a.place (length file)) refl (subst (λ (d : Result (Unit {0}) Halt). (outcome_of [] d).status ≡ is.ShelfEmpty) a.due_is e)
+  where
+    by_place : (place : ℕ) (whole : Bool) → nat_eq place (length file) ≡ whole → (outcome_of [] (dump_answer place (length file))).status ≡ is.ShelfEmpty → ⊥
+    by_place place true e = rw e (λ k. absurd (cc k))
+    by_place place false e = rw e (λ k. absurd (cc k))
+dumped_status file body due (inr a) = λ e. absurd (cc (sym (ap (λ (d : Result (Unit {0}) Halt). (outcome_of [] d).status) a.refused) ∙ e))
+
+pub no_shelf_dumped : (files : List ℕ → Option (List ℕ)) (log body : List ℕ) (due : Result (Unit {0}) Halt) → IsDueOf (log_phase files log ∷ []) (IsDone files (Dump log)) body due → (outcome_of [] due).status ≢ is.ShelfEmpty
+no_shelf_dumped files log body due m =
+    of_phases is.ShelfEmpty shelf_is_other (first_halt (log_phase files log ∷ [])) (IsDone files (Dump log) body due) body due
+    (other_or is.ShelfEmpty shelf_is_other (log_phase files log).halts None (of_log (files log)) tt) (λ d e. dumped_status (bytes_of (files log)) body due d e) m
+  where
+    by_size : (bytes : List ℕ) (large : Bool) → nat_lt log_limit (length bytes) ≡ large → Other is.ShelfEmpty shelf_is_other (within log_limit (halt.LogRefused log_limit) (λ b. None) bytes)
+    by_size bytes true e = rw e (λ k. absurd (cc k))
+    by_size bytes false e = rw e tt
+
+    of_log : (file : Option (List ℕ)) → Other is.ShelfEmpty shelf_is_other (file_halt log (within log_limit (halt.LogRefused log_limit) (λ b. None)) file)
+    of_log None = λ k. absurd (cc k)
+    of_log (Some bytes) = by_size bytes (nat_lt log_limit (length bytes)) refl
 
 pub short_exactly : ShortExactly
-short_exactly stock files None o h = (λ e. absurd (cc), λ s. absurd (cc (s.asked_is)))
-short_exactly stock files (Some (Dumped log)) o h = (λ told. absurd (dumped_other log (files log) o h told), λ s. absurd (no_site_asked log s.request s.asked_is))
-short_exactly stock files (Some (Sited r)) o h =
-    (λ told. by_definitions stock files r o h told (unloaded files r Definitions r.definitions) refl, λ s. short_told stock files r o h s)
+short_exactly stock files None o h = (λ e. absurd (cc (sym (ap (λ (t : Outcome). t.status) h) ∙ e)), λ s. absurd (cc (s.asked_is)))
+short_exactly stock files (Some (Check definitions site)) o h = (
+  λ e. absurd (of_check is.ShelfEmpty shelf_is_other files definitions site h.body h.due h.is (has_status is.ShelfEmpty shelf_is_other h.body h.due o h.outcome e)),
+  λ s. absurd (no_replay_checked definitions site s.definitions s.site s.script s.asked_is),
+)
+short_exactly stock files (Some (Dump log)) o h = (
+  λ e. absurd (no_shelf_dumped files log h.body h.due h.is (has_status is.ShelfEmpty shelf_is_other h.body h.due o h.outcome e)),
+  λ s. absurd (no_replay_dumped log s.definitions s.site s.script s.asked_is),
+)
+short_exactly stock files (Some (Replay definitions site script)) o h = (
+  λ e. short_where stock files definitions site script o h e,
+  λ s.
+      let same = same_replay definitions site script s.definitions s.site s.script s.asked_is in
+      let taken : first_halt (before stock files definitions site script) ≡ None = rw (same.0, same.1) s.taken in
+      let short : short_kind stock (site_asked files definitions site) ≡ Some s.kind = rw (same.0, same.1) s.short in
+      short_told stock files definitions site script o s.kind h taken short,
+)
+
+-- ---- a log that is refused
+
+at_end : (place n : ℕ) → place ≡ n → (outcome_of [] (dump_answer place n)).status ≢ is.LogRefused
+at_end place n e = let same : nat_eq place n ≡ true = grind (arith, nat_tests) in rw same (λ k. absurd (cc k))
+
+before_end : (place n : ℕ) → nat_eq place n ≡ false → (outcome_of [] (dump_answer place n)).status ≡ is.LogRefused
+before_end place n e = rw e refl
+
+-- where it is refused it is no whole log
+never_whole : (file body : List ℕ) (due : Result (Unit {0}) Halt) → IsDump file body due → (outcome_of [] due).status ≡ is.LogRefused → IsWholeLog file → ⊥
+never_whole file body due (inl a) e w =
+    let same = logs_are_read_once file a.kind w.0 a.entries w.1 a.place (length file) a.read w.2 in
+    at_end a.place (length file) same.2 (subst (λ (d : Result (Unit {0}) Halt). (outcome_of [] d).status ≡ is.LogRefused) a.due_is e)
+never_whole file body due (inr a) e w = no_head_no_read file w.0 w.1 (length file) a.none w.2
+
+-- and where it is none it is refused
+by_place : (file : List ℕ) (place : ℕ) (whole : Bool) → nat_eq place (length file) ≡ whole → (place ≡ length file → ⊥) → (outcome_of [] (dump_answer place (length file))).status ≡ is.LogRefused
+by_place file place false e n = before_end place (length file) e
+by_place file place true e n = absurd (n (grind (arith, nat_tests)))
+
+is_refused : (file body : List ℕ) (due : Result (Unit {0}) Halt) → IsDump file body due → (IsWholeLog file → ⊥) → (outcome_of [] due).status ≡ is.LogRefused
+is_refused file body due (inl a) n =
+    subst (λ (d : Result (Unit {0}) Halt). (outcome_of [] d).status ≡ is.LogRefused) (sym a.due_is)
+    (by_place file a.place (nat_eq a.place (length file)) refl (λ e. n (a.kind, a.entries, subst (λ (p : ℕ). IsLogRead file a.kind a.entries p) e a.read)))
+is_refused file body due (inr a) n = ap (λ (d : Result (Unit {0}) Halt). (outcome_of [] d).status) a.refused
+
+module _ (files : List ℕ → Option (List ℕ)) (log : List ℕ) (body : List ℕ) (due : Result (Unit {0}) Halt) where
+  abbrev Log_due : Option (List ℕ) → Type 0
+  Log_due file = MatchOption (option_or (file_halt log (within log_limit (halt.LogRefused log_limit) (λ b. None)) file) None) (IsDump (bytes_of file) body due) (λ x. (body ≡ []) × (due ≡ Err x))
+
+  bad_by_size : (file : List ℕ) (large : Bool) → nat_lt log_limit (length file) ≡ large → Log_due (Some file) → (outcome_of [] due).status ≡ is.LogRefused → (log_limit < length file) ⊎ (IsWholeLog file → ⊥)
+  bad_by_size file true e m told = inl (grind (arith, nat_tests))
+  bad_by_size file false e m told =
+      let m' : IsDump file body due = subst (λ (b : Option Halt). MatchOption (option_or b None) (IsDump file body due) (λ x. (body ≡ []) × (due ≡ Err x))) (within_small file e) m in
+      inr (never_whole file body due m' told)
+    where
+      within_small : (file : List ℕ) → nat_lt log_limit (length file) ≡ false → within log_limit (halt.LogRefused log_limit) (λ b. None) file ≡ None
+      within_small file e = rw e refl
+
+  bad_log : (file : Option (List ℕ)) → files log ≡ file → Log_due file → (outcome_of [] due).status ≡ is.LogRefused → IsBadLog files (Some (Dump log))
+  bad_log None e m told = absurd (cc (sym (ap (λ (d : Result (Unit {0}) Halt). (outcome_of [] d).status) m.1) ∙ told))
+  bad_log (Some file) e m told = record { log = log; asked_is = refl; file = file; file_is = e; bad = bad_by_size file (nat_lt log_limit (length file)) refl m told }
+
+  told_by_size : (file : List ℕ) (large : Bool) → nat_lt log_limit (length file) ≡ large → Log_due (Some file) → (log_limit < length file) ⊎ (IsWholeLog file → ⊥) → (outcome_of [] due).status ≡ is.LogRefused
+  told_by_size file true e m bad =
+      let m' = subst (λ (b : Option Halt). MatchOption (option_or b None) (IsDump file body due) (λ x. (body ≡ []) × (due ≡ Err x))) (within_large file e) m in
+      ap (λ (d : Result (Unit {0}) Halt). (outcome_of [] d).status) m'.1
+    where
+      within_large : (file : List ℕ) → nat_lt log_limit (length file) ≡ true → within log_limit (halt.LogRefused log_limit) (λ b. None) file ≡ Some (halt.LogRefused log_limit)
+      within_large file e = rw e refl
+  told_by_size file false e m (inl large) = absurd (not_large (length file) large e)
+    where
+      not_large : (n : ℕ) → log_limit < n → nat_lt log_limit n ≡ false → ⊥
+      not_large n l f = grind (arith, nat_tests)
+  told_by_size file false e m (inr none) =
+      let m' : IsDump file body due = subst (λ (b : Option Halt). MatchOption (option_or b None) (IsDump file body due) (λ x. (body ≡ []) × (due ≡ Err x))) (within_small' file e) m in
+      is_refused file body due m' none
+    where
+      within_small' : (file : List ℕ) → nat_lt log_limit (length file) ≡ false → within log_limit (halt.LogRefused log_limit) (λ b. None) file ≡ None
+      within_small' file e = rw e refl
+
+same_log : (a b : List ℕ) → Some (Dump a) ≡ Some (Dump b) → a ≡ b
+same_log a b e = cc e
+
+log_told : (stock : List Meaning) (files : List ℕ → Option (List ℕ)) (log : List ℕ) (o : Outcome) → IsOutcome stock files (Some (Dump log)) o → IsBadLog files (Some (Dump log)) → o.status ≡ is.LogRefused
+log_told stock files log o h b =
+    let there : files log ≡ Some b.file = ap files (same_log log b.log b.asked_is) ∙ b.file_is in
+    let m : Log_due files log h.body h.due (Some b.file) = subst (Log_due files log h.body h.due) there h.is in
+    ap (λ (t : Outcome). t.status) h.outcome ∙ (status_alone is.LogRefused log_is_other h.body h.due ∙ told_by_size files log h.body h.due b.file (nat_lt log_limit (length b.file)) refl m b.bad)
+
+no_log_checked : (a b c : List ℕ) → Some (Check a b) ≡ Some (Dump c) → ⊥
+no_log_checked a b c same = absurd (cc same)
+
+no_log_replayed : (a b c d : List ℕ) → Some (Replay a b c) ≡ Some (Dump d) → ⊥
+no_log_replayed a b c d same = absurd (cc same)
+
+no_log_short : (stock : List Meaning) (site : SiteData) (kind : Option Kind) → Other is.LogRefused log_is_other (option_map (short_halt stock site) kind)
+no_log_short stock site None = tt
+no_log_short stock site (Some kind) = λ e. absurd (cc e)
+
+replay_not_log : (stock : List Meaning) (files : List ℕ → Option (List ℕ)) (definitions site script body : List ℕ) (due : Result (Unit {0}) Halt)
+    → IsDueOf (phases stock files (Replay definitions site script)) (IsDone files (Replay definitions site script)) body due → (outcome_of [] due).status ≢ is.LogRefused
+replay_not_log stock files definitions site script body due m =
+    let s = is.LogRefused in
+    let other = log_is_other in
+    let y = site_asked files definitions site in
+    of_phases s other (first_halt (phases stock files (Replay definitions site script))) (IsDone files (Replay definitions site script) body due) body due
+    (other_or s other (definitions_phase files definitions).halts _ (of_file s other Configuration definitions definitions_read (files definitions))
+    (other_or s other (site_phase files (definitions_asked files definitions) site).halts _ (of_file s other Configuration site (site_read (definitions_asked files definitions)) (files site))
+    (other_or s other (built_phase site y).halts _ (of_built s other site _)
+    (other_or s other (shelf_phase stock y).halts _ (no_log_short stock y (short_kind stock y)) (of_script s other files definitions site y script)))))
+    (λ d e. of_replay s other y script (events_asked files y script) body due d e) m
+
+pub refused_exactly : RefusedExactly
+refused_exactly stock files None o h = (λ e. absurd (cc (sym (ap (λ (t : Outcome). t.status) h) ∙ e)), λ b. absurd (cc (b.asked_is)))
+refused_exactly stock files (Some (Check definitions site)) o h = (
+  λ e. absurd (of_check is.LogRefused log_is_other files definitions site h.body h.due h.is (has_status is.LogRefused log_is_other h.body h.due o h.outcome e)),
+  λ b. absurd (no_log_checked definitions site b.log b.asked_is),
+)
+refused_exactly stock files (Some (Replay definitions site script)) o h = (
+  λ e. absurd (replay_not_log stock files definitions site script h.body h.due h.is (has_status is.LogRefused log_is_other h.body h.due o h.outcome e)),
+  λ b. absurd (no_log_replayed definitions site script b.log b.asked_is),
+)
+refused_exactly stock files (Some (Dump log)) o h = (
+  λ e. bad_log files log h.body h.due (files log) refl h.is (has_status is.LogRefused log_is_other h.body h.due o h.outcome e),
+  λ b. log_told stock files log o h b,
+)
 
 -- ---- the same of an answer
 
-short_in : (stock : List Meaning) (all : List ℕ → Option (List ℕ)) (asked : Option AskedData) (old new : SinkSeen) → Answers stock all asked is.ShelfEmpty old new → IsShort stock all asked
+short_in : (stock : List Meaning) (all : List ℕ → Option (List ℕ)) (asked : Option Command) (old new : SinkSeen) → Answers stock all asked is.ShelfEmpty old new → IsShort stock all asked
 short_in stock all asked old new a = (short_exactly stock all asked a.outcome a.is).0 a.puts.0
 
-pub short_where : (stock : List Meaning) (told : Option (List ℕ → Option (List ℕ))) (r asked : Option AskedData) (status : Status) (old new : SinkSeen) → r ≡ asked → IfSome told (λ all. Answers stock all r status old new)
+pub short_answer : (stock : List Meaning) (told : Option (List ℕ → Option (List ℕ))) (asked : Option Command) (status : Status) (old new : SinkSeen) → IfSome told (λ all. Answers stock all asked status old new)
     → status ≡ is.ShelfEmpty → IfSome told (λ all. IsShort stock all asked)
-short_where stock None r asked status old new same a e = tt
-short_where stock (Some all) r asked status old new same a e =
-    short_in stock all asked old new (subst (λ (q : Option AskedData). Answers stock all q is.ShelfEmpty old new) same (subst (λ (st : Status). Answers stock all r st old new) e a))
+short_answer stock None asked status old new a e = tt
+short_answer stock (Some all) asked status old new a e = short_in stock all asked old new (subst (λ (st : Status). Answers stock all asked st old new) e a)
 
-short_then : (stock : List Meaning) (all : List ℕ → Option (List ℕ)) (asked : Option AskedData) (status : Status) (o : Outcome) → IsOutcome stock all asked o → IsShort stock all asked → (status ≡ o.status) ⊎ (status ≡ is.Memory)
+short_then : (stock : List Meaning) (all : List ℕ → Option (List ℕ)) (asked : Option Command) (status : Status) (o : Outcome) → IsOutcome stock all asked o → IsShort stock all asked → (status ≡ o.status) ⊎ (status ≡ is.Memory)
     → (status ≡ is.ShelfEmpty) ⊎ (status ≡ is.Memory)
 short_then stock all asked status o h s (inl e) = inl (e ∙ (short_exactly stock all asked o h).1 s)
 short_then stock all asked status o h s (inr e) = inr e
 
-pub short_answered : (stock : List Meaning) (told : Option (List ℕ → Option (List ℕ))) (asked : Option AskedData) (status : Status) → IfSome told (λ all. Completes stock all asked status)
+pub short_answered : (stock : List Meaning) (told : Option (List ℕ → Option (List ℕ))) (asked : Option Command) (status : Status) → IfSome told (λ all. Completes stock all asked status)
     → IfSome told (λ all. IsShort stock all asked → (status ≡ is.ShelfEmpty) ⊎ (status ≡ is.Memory))
 short_answered stock None asked status c = tt
 short_answered stock (Some all) asked status c = λ s. short_then stock all asked status c.outcome c.is s c.status_is
+
+refused_in : (stock : List Meaning) (all : List ℕ → Option (List ℕ)) (asked : Option Command) (old new : SinkSeen) → Answers stock all asked is.LogRefused old new → IsBadLog all asked
+refused_in stock all asked old new a = (refused_exactly stock all asked a.outcome a.is).0 a.puts.0
+
+pub refused_answer : (stock : List Meaning) (told : Option (List ℕ → Option (List ℕ))) (asked : Option Command) (status : Status) (old new : SinkSeen) → IfSome told (λ all. Answers stock all asked status old new)
+    → status ≡ is.LogRefused → IfSome told (λ all. IsBadLog all asked)
+refused_answer stock None asked status old new a e = tt
+refused_answer stock (Some all) asked status old new a e = refused_in stock all asked old new (subst (λ (st : Status). Answers stock all asked st old new) e a)
+
+refused_then : (stock : List Meaning) (all : List ℕ → Option (List ℕ)) (asked : Option Command) (status : Status) (o : Outcome) → IsOutcome stock all asked o → IsBadLog all asked → (status ≡ o.status) ⊎ (status ≡ is.Memory)
+    → (status ≡ is.LogRefused) ⊎ (status ≡ is.Memory)
+refused_then stock all asked status o h b (inl e) = inl (e ∙ (refused_exactly stock all asked o h).1 b)
+refused_then stock all asked status o h b (inr e) = inr e
+
+pub refused_answered : (stock : List Meaning) (told : Option (List ℕ → Option (List ℕ))) (asked : Option Command) (status : Status) → IfSome told (λ all. Completes stock all asked status)
+    → IfSome told (λ all. IsBadLog all asked → (status ≡ is.LogRefused) ⊎ (status ≡ is.Memory))
+refused_answered stock None asked status c = tt
+refused_answered stock (Some all) asked status c = λ b. refused_then stock all asked status c.outcome c.is b c.status_is

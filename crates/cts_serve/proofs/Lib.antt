@@ -1,13 +1,9 @@
-pub mod ScriptLemmas
+pub mod PhaseLemmas
 pub mod LoadLemmas
 pub mod EndingLemmas
-pub mod CauseLemmas
+pub mod StoryLemmas
 pub mod ReplayLemmas
 pub mod MomentLemmas
 pub mod DumpLemmas
 pub mod CommandLemmas
-pub mod DumpingLemmas
-pub mod OtherStatuses
 pub mod LawLemmas
-pub mod FollowingLemmas
-pub mod RefusedLogLemmas

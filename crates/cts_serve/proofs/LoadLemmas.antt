@@ -1,138 +1,145 @@
 -- What is read of the files, and what it means for the command.
-use Rattle.std.proofs.Common.{◌≡◌, ℕ, ◌≤◌, ◌<◌, Bool, true, false, List, [], length, take, Option, Some, None, Result, Ok, Err, IfSome, refl, ◌∙◌, ap, subst, arith}
+use Rattle.std.proofs.Common.{◌≡◌, ℕ, ◌≤◌, false, List, [], ◌∷◌, length, take, Option, Some, None, Result, Ok, Err, IfSome, refl, ◌∙◌, ap, subst, arith}
 use Rattle.std.specs.Prelude.{nat_lt}
-use Rattle.std.specs.Result.{result_unwrap_or}
 use Rattle.std.proofs.lemmas.Bool.Decides.{nat_tests}
 use Rattle.cts_def.specs.Packets.{DefinitionsData}
 use Rattle.cts_def.specs.Sites.{SiteData}
 use Rattle.cts_defline.specs.declared.cause.DefCause.{DefCause}
 use Rattle.cts_defread.specs.Definitions.{definitions_of}
+use Rattle.cts_entry.specs.declared.event.Event.{Event}
 use Rattle.cts_plan.specs.declared.fault.SiteCause.{SiteCause}
 use Rattle.cts_plan.specs.SiteFiles.{site_of}
+use Rattle.cts_scriptread.specs.Scripts.{events_of}
+use Rattle.cts_scriptread.specs.declared.cause.ScriptCause.{ScriptCause}
 use Rattle.cts_words.specs.declared.statement.Statement.{Statement}
-use Rattle.cts_core.specs.Built.{is_built_site}
-use Rattle.cts_serve.specs.Load.{is_taken, LoadsSite}
-use Rattle.cts_serve.specs.Load.Causes.{fetch_unloaded, or_unloaded}
-use Rattle.cts_serve.specs.Load.Fetching.{FetchGives, IsWhy, GivesStatements, Takes}
-use Rattle.cts_serve.specs.Load.Judging.{file_limit, judge, verdict, unless_built, statements_in, bytes_of, judge_definitions, judge_site, file_unloaded, definitions_read, definitions_in, site_read, site_in}
-use Rattle.cts_serve.specs.Request.{RequestData}
-use Rattle.cts_serve.specs.declared.load.fetch.FetchFault.{FetchFault}
-use Rattle.cts_serve.specs.declared.load.fetch.FetchFault.TheVariants as fetch
-use Rattle.cts_serve.specs.declared.load.file_kind.FileKind.{FileKind}
-use Rattle.cts_serve.specs.declared.load.file_kind.FileKind.TheVariants.{Definitions, Site}
-use Rattle.cts_serve.specs.declared.load.unloaded.Cause.TheVariants as cause
-use Rattle.cts_serve.specs.declared.load.unloaded.Unloaded.{Unloaded}
-use Rattle.cts_serve.specs.declared.load.unloaded.Unloaded.TheVariants.{TooLarge, Refused, NotBuilt}
+use Rattle.cts_words.specs.Statements.{said}
+use Rattle.cts_serve.specs.Load.{definitions_asked, definitions_phase, definitions_read, or_cause, read_in, script_read, site_asked, site_asked_over, site_phase, site_phases, site_read}
+use Rattle.cts_serve.specs.Load.Files.{GivesBytes, GivesStatements, file_limit, judge, judge_said, verdict, within}
+use Rattle.cts_serve.specs.Phases.{HaltsAt, Phase, Takes, TakesAt, file_halt, reading}
+use Rattle.cts_serve.specs.declared.halt.Halt.{Halt}
+use Rattle.cts_serve.specs.declared.halt.Halt.TheVariants as halt
+use Rattle.cts_serve.specs.declared.halt.cause.Cause.{Cause}
+use Rattle.cts_serve.specs.declared.halt.cause.Cause.TheVariants as cause
+use Rattle.cts_serve.specs.declared.halt.file_kind.FileKind.{FileKind}
+use Rattle.cts_serve.proofs.PhaseLemmas.{here, none_both, past, none_alone}
 
 -- what was read so far is how the file begins
 abbrev pub Begins : Option (List ℕ) → List ℕ → Type 0
 Begins None held = held ≡ []
 Begins (Some bytes) held = (length held ≤ length bytes) × (take (length held) bytes ≡ held)
 
--- ---- one file
+-- ---- the statements of a file
 
-too_large : (kind : FileKind) (verdict : List Statement → Option Unloaded) (bytes : List ℕ) → file_limit < length bytes → judge kind verdict bytes ≡ Some TooLarge
-too_large kind verdict bytes h = let e : nat_lt file_limit (length bytes) ≡ true = grind (arith, nat_tests) in rw e refl
+abbrev pub too_large_at : List ℕ → FileKind → Halt
+too_large_at name kind = halt.Refused name kind 0 cause.TooLarge
 
--- why a file that is not read whole gives nothing
-not_fetched : (kind : FileKind) (verdict : List Statement → Option Unloaded) (file : Option (List ℕ)) (fault : FetchFault) → FetchGives file_limit file (Err fault) → IsWhy (file_unloaded (judge kind verdict) file) (fetch_unloaded fault)
-not_fetched kind verdict None fetch.TooLarge h = absurd h
-not_fetched kind verdict (Some bytes) fetch.TooLarge h = too_large kind verdict bytes h
-not_fetched kind verdict file fetch.Absent h = ap (file_unloaded (judge kind verdict)) h
-not_fetched kind verdict file fetch.Failed h = tt
-not_fetched kind verdict file fetch.Memory h = tt
+-- why a command halts at the bytes it halts at the statements
+pub bytes_fail : (told : Option (List ℕ → Option (List ℕ))) (kind : FileKind) (name : List ℕ) (large h : Halt) → large ≡ too_large_at name kind
+    → IfSome told (λ all. GivesBytes file_limit large name (all name) (Err h)) → IfSome told (λ all. GivesStatements kind name (all name) (Err h))
+bytes_fail None kind name large h e k = tt
+bytes_fail (Some all) kind name large h e k =
+    λ verdicts. subst (λ (l : Halt). HaltsAt (reading name (within file_limit l (λ b. judge_said kind name verdicts (said b))) (all name)) h) e (k (λ b. judge_said kind name verdicts (said b)))
 
-pub fetch_fails : (told : Option (List ℕ → Option (List ℕ))) (kind : FileKind) (name : List ℕ) (fault : FetchFault)
-    → IfSome told (λ all. FetchGives file_limit (all name) (Err fault)) → IfSome told (λ all. GivesStatements kind (all name) (Err (fetch_unloaded fault)))
-fetch_fails None kind name fault h = tt
-fetch_fails (Some all) kind name fault h = λ verdict. not_fetched kind verdict (all name) fault h
+-- a file that is not too large is judged by its statements
+small_judged : (kind : FileKind) (name : List ℕ) (verdicts : List Statement → Option Halt) (bytes : List ℕ) → length bytes ≤ file_limit → judge kind name verdicts bytes ≡ judge_said kind name verdicts (said bytes)
+small_judged kind name verdicts bytes h = let e : nat_lt file_limit (length bytes) ≡ false = grind (arith, nat_tests) in rw e refl
 
--- what is said of the words of a file of this kind is said whatever is asked of it
-pub gives_none : {T : Type 0} (kind : FileKind) (v : List Statement → Option Unloaded) (reads : List ℕ → T) (told : Option (List ℕ → Option (List ℕ))) (name name' : List ℕ) (why : Unloaded) → name ≡ name'
-    → IfSome told (λ all. GivesStatements kind (all name) (Err why)) → IfSome told (λ all. Takes (judge kind v) reads (all name') (Err why))
-gives_none kind v reads None name name' why same h = tt
-gives_none kind v reads (Some all) name name' why same h = subst (λ (n : List ℕ). IsWhy (file_unloaded (judge kind v) (all n)) why) same (h v)
+-- ---- what is read of the statements
 
--- what is said of a file's statements is said of the file
-judged_so : (kind : FileKind) (v : List Statement → Option Unloaded) (file : Option (List ℕ)) (statements : List Statement)
-    → GivesStatements kind file (Ok statements) → file_unloaded (judge kind v) file ≡ v statements
-judged_so kind v None statements h = absurd h
-judged_so kind v (Some bytes) statements h = let small : nat_lt file_limit (length bytes) ≡ false = grind (arith, nat_tests, h.0) in rw (small, h.1) refl
+-- a file whose statements are found is judged by them
+judged_so : (kind : FileKind) (name : List ℕ) (verdicts : List Statement → Option Halt) (file : Option (List ℕ)) (statements : List Statement)
+    → GivesStatements kind name file (Ok statements) → file_halt name (judge kind name verdicts) file ≡ verdicts statements
+judged_so kind name verdicts None statements h = absurd h
+judged_so kind name verdicts (Some bytes) statements h = small_judged kind name verdicts bytes h.0 ∙ ap (judge_said kind name verdicts) h.1
 
 -- what is read of them is read of the file
-value_so : {X : Type 0} (kind : FileKind) (reads : List Statement → Result X Unloaded) (none x : X) (file : Option (List ℕ)) (statements : List Statement)
-    → GivesStatements kind file (Ok statements) → reads statements ≡ Ok x → x ≡ result_unwrap_or (reads (statements_in (bytes_of file))) none
-value_so kind reads none x None statements h e = absurd h
-value_so kind reads none x (Some bytes) statements h e = rw (h.1, e) refl
+value_so : {X : Type 0} (kind : FileKind) (name : List ℕ) (reads : List Statement → Result X (ℕ × Cause)) (none x : X) (file : Option (List ℕ)) (statements : List Statement)
+    → GivesStatements kind name file (Ok statements) → reads statements ≡ Ok x → x ≡ read_in reads none file
+value_so kind name reads none x None statements h e = absurd h
+value_so kind name reads none x (Some bytes) statements h e = rw (h.1, e) refl
 
-module _ {X : Type 0} (kind : FileKind) (is_built : X → Bool) (reads : List Statement → Result X Unloaded) (none : X) (told : Option (List ℕ → Option (List ℕ))) (name name' : List ℕ) (same : name ≡ name') where
-  abbrev judges : List ℕ → Option Unloaded
-  judges bytes = judge kind (λ statements. verdict is_built (reads statements)) bytes
+module _ {X : Type 0} (kind : FileKind) (name : List ℕ) (reads : List Statement → Result X (ℕ × Cause)) (none : X) (told : Option (List ℕ → Option (List ℕ))) where
+  abbrev pub phase_of : (List ℕ → Option (List ℕ)) → Phase
+  phase_of all = reading name (judge kind name (λ statements. verdict kind name (reads statements))) (all name)
 
-  pub refuses : (statements : List Statement) (why : Unloaded) → IfSome told (λ all. GivesStatements kind (all name) (Ok statements)) → reads statements ≡ Err why → IfSome told (λ all. file_unloaded judges (all name') ≡ Some why)
-  refuses statements why h e = on told h
+  -- the statements were not found
+  pub not_stated : (h : Halt) → IfSome told (λ all. GivesStatements kind name (all name) (Err h)) → IfSome told (λ all. HaltsAt (phase_of all) h)
+  not_stated h k = on told k
     where
-      on : (t : Option (List ℕ → Option (List ℕ))) → IfSome t (λ all. GivesStatements kind (all name) (Ok statements)) → IfSome t (λ all. file_unloaded judges (all name') ≡ Some why)
-      on None h = tt
-      on (Some all) h = subst (λ (n : List ℕ). file_unloaded judges (all n) ≡ Some why) same (judged_so kind (λ s. verdict is_built (reads s)) (all name) statements h ∙ ap (verdict is_built) e)
+      on : (t : Option (List ℕ → Option (List ℕ))) → IfSome t (λ all. GivesStatements kind name (all name) (Err h)) → IfSome t (λ all. HaltsAt (phase_of all) h)
+      on None k = tt
+      on (Some all) k = k (λ statements. verdict kind name (reads statements))
 
-  pub lacks : (statements : List Statement) (x : X) → IfSome told (λ all. GivesStatements kind (all name) (Ok statements)) → reads statements ≡ Ok x → is_built x ≡ false → IfSome told (λ all. file_unloaded judges (all name') ≡ Some NotBuilt)
-  lacks statements x h e b = on told h
+  -- one of them is refused
+  pub refuses : (statements : List Statement) (line : ℕ) (why : Cause) → IfSome told (λ all. GivesStatements kind name (all name) (Ok statements)) → reads statements ≡ Err (line, why)
+      → IfSome told (λ all. HaltsAt (phase_of all) (halt.Refused name kind line why))
+  refuses statements line why k e = on told k
     where
-      on : (t : Option (List ℕ → Option (List ℕ))) → IfSome t (λ all. GivesStatements kind (all name) (Ok statements)) → IfSome t (λ all. file_unloaded judges (all name') ≡ Some NotBuilt)
-      on None h = tt
-      on (Some all) h = subst (λ (n : List ℕ). file_unloaded judges (all n) ≡ Some NotBuilt) same (judged_so kind (λ s. verdict is_built (reads s)) (all name) statements h ∙ (ap (verdict is_built) e ∙ ap unless_built b))
+      on : (t : Option (List ℕ → Option (List ℕ))) → IfSome t (λ all. GivesStatements kind name (all name) (Ok statements)) → IfSome t (λ all. HaltsAt (phase_of all) (halt.Refused name kind line why))
+      on None k = tt
+      on (Some all) k = judged_so kind name (λ s. verdict kind name (reads s)) (all name) statements k ∙ ap (verdict kind name) e
 
-  pub takes : (statements : List Statement) (x : X) → IfSome told (λ all. GivesStatements kind (all name) (Ok statements)) → reads statements ≡ Ok x → is_built x ≡ true → IfSome told (λ all. Takes judges (λ bytes. result_unwrap_or (reads (statements_in bytes)) none) (all name') (Ok x))
-  takes statements x h e b = on told h
+  -- all are taken
+  pub takes : (statements : List Statement) (x : X) → IfSome told (λ all. GivesStatements kind name (all name) (Ok statements)) → reads statements ≡ Ok x
+      → IfSome told (λ all. TakesAt (phase_of all) (read_in reads none (all name)) (Ok x))
+  takes statements x k e = on told k
     where
-      on : (t : Option (List ℕ → Option (List ℕ))) → IfSome t (λ all. GivesStatements kind (all name) (Ok statements)) → IfSome t (λ all. Takes judges (λ bytes. result_unwrap_or (reads (statements_in bytes)) none) (all name') (Ok x))
-      on None h = tt
-      on (Some all) h = subst (λ (n : List ℕ). Takes judges (λ bytes. result_unwrap_or (reads (statements_in bytes)) none) (all n) (Ok x)) same
-          (judged_so kind (λ s. verdict is_built (reads s)) (all name) statements h ∙ (ap (verdict is_built) e ∙ ap unless_built b), value_so kind reads none x (all name) statements h e)
+      on : (t : Option (List ℕ → Option (List ℕ))) → IfSome t (λ all. GivesStatements kind name (all name) (Ok statements)) → IfSome t (λ all. TakesAt (phase_of all) (read_in reads none (all name)) (Ok x))
+      on None k = tt
+      on (Some all) k = (judged_so kind name (λ s. verdict kind name (reads s)) (all name) statements k ∙ ap (verdict kind name) e, value_so kind name reads none x (all name) statements k e)
 
--- ---- the files in their order
+-- ---- the files of a site in their order
 
-abbrev TakesDefinitions : (List ℕ → Option (List ℕ)) → RequestData → Result DefinitionsData Unloaded → Type 0
-TakesDefinitions all r answer = Takes judge_definitions definitions_in (all r.definitions) answer
+abbrev TakesDefinitions : (List ℕ → Option (List ℕ)) → List ℕ → Result DefinitionsData Halt → Type 0
+TakesDefinitions all name answer = TakesAt (definitions_phase all name) (definitions_asked all name) answer
 
-abbrev TakesSite : (List ℕ → Option (List ℕ)) → RequestData → DefinitionsData → Result SiteData Unloaded → Type 0
-TakesSite all r d answer = Takes (judge_site (is_taken r is_built_site) d) (site_in d) (all r.site) answer
+abbrev TakesPlan : (List ℕ → Option (List ℕ)) → DefinitionsData → List ℕ → Result SiteData Halt → Type 0
+TakesPlan all d name answer = TakesAt (site_phase all d name) (site_asked_over all d name) answer
 
-pub definitions_fail : (told : Option (List ℕ → Option (List ℕ))) (r : RequestData) (why : Unloaded)
-    → IfSome told (λ all. TakesDefinitions all r (Err why)) → IfSome told (λ all. LoadsSite all r (Err (Definitions, why)))
-definitions_fail None r why h = tt
-definitions_fail (Some all) r why h = (λ e. absurd (cc), (refl, h))
+abbrev TakesSite : (List ℕ → Option (List ℕ)) → List ℕ → List ℕ → Result SiteData Halt → Type 0
+TakesSite all definitions site answer = Takes (site_phases all definitions site) (site_asked all definitions site) answer
 
-pub site_fails : (told second : Option (List ℕ → Option (List ℕ))) (r : RequestData) (d : DefinitionsData) (why : Unloaded) → second ≡ told
-    → IfSome told (λ all. TakesDefinitions all r (Ok d)) → IfSome second (λ all. TakesSite all r d (Err why)) → IfSome told (λ all. LoadsSite all r (Err (Site, why)))
-site_fails None second r d why same ds h = tt
-site_fails (Some all) second r d why same ds h =
-    let h' = subst (λ (t : Option (List ℕ → Option (List ℕ))). IfSome t (λ all. TakesSite all r d (Err why))) same h in
-    (λ e. absurd (cc), ((ds.0, refl), subst (λ (x : DefinitionsData). TakesSite all r x (Err why)) ds.1 h'))
+pub definitions_fail : (told : Option (List ℕ → Option (List ℕ))) (definitions site : List ℕ) (h : Halt)
+    → IfSome told (λ all. TakesDefinitions all definitions (Err h)) → IfSome told (λ all. TakesSite all definitions site (Err h))
+definitions_fail None definitions site h k = tt
+definitions_fail (Some all) definitions site h k = here (definitions_phase all definitions) (site_phase all (definitions_asked all definitions) site ∷ []) h k
 
-pub site_loads : (told second : Option (List ℕ → Option (List ℕ))) (r : RequestData) (d : DefinitionsData) (site : SiteData) → second ≡ told
-    → IfSome told (λ all. TakesDefinitions all r (Ok d)) → IfSome second (λ all. TakesSite all r d (Ok site)) → IfSome told (λ all. LoadsSite all r (Ok site))
-site_loads None second r d site same ds h = tt
-site_loads (Some all) second r d site same ds h =
-    let h' = subst (λ (t : Option (List ℕ → Option (List ℕ))). IfSome t (λ all. TakesSite all r d (Ok site))) same h in
-    let over = subst (λ (x : DefinitionsData). TakesSite all r x (Ok site)) ds.1 h' in
-    (ds.0, over.0, over.1)
+both_taken : (all : List ℕ → Option (List ℕ)) (definitions site : List ℕ) (answer : Result SiteData Halt)
+    → (definitions_phase all definitions).halts ≡ None → TakesPlan all (definitions_asked all definitions) site answer → TakesSite all definitions site answer
+both_taken all definitions site (Ok x) e k = (none_both (definitions_phase all definitions) (site_phase all (definitions_asked all definitions) site) e k.0, k.1)
+both_taken all definitions site (Err h) e k =
+    past (definitions_phase all definitions ∷ []) (site_phase all (definitions_asked all definitions) site ∷ []) h (none_alone (definitions_phase all definitions) e)
+    (here (site_phase all (definitions_asked all definitions) site) [] h k)
+
+pub site_taken : (told second : Option (List ℕ → Option (List ℕ))) (definitions site : List ℕ) (d : DefinitionsData) (answer : Result SiteData Halt) → second ≡ told
+    → IfSome told (λ all. TakesDefinitions all definitions (Ok d)) → IfSome second (λ all. TakesPlan all d site answer) → IfSome told (λ all. TakesSite all definitions site answer)
+site_taken None second definitions site d answer same ds k = tt
+site_taken (Some all) second definitions site d answer same ds k =
+    let k' = subst (λ (t : Option (List ℕ → Option (List ℕ))). IfSome t (λ all. TakesPlan all d site answer)) same k in
+    both_taken all definitions site answer ds.0 (subst (λ (x : DefinitionsData). TakesPlan all x site answer) ds.1 k')
 
 -- ---- what the readers give
 
 pub definitions_ok : (statements : List Statement) (d : DefinitionsData) → definitions_of statements ≡ Ok d → definitions_read statements ≡ Ok d
 unfolding definitions_read
-definitions_ok statements d e = ap (or_unloaded cause.Definition) e
+definitions_ok statements d e = ap (or_cause cause.Definition) e
 
-pub definitions_err : (statements : List Statement) (line : ℕ) (c : DefCause) → definitions_of statements ≡ Err (line, c) → definitions_read statements ≡ Err (Refused line (cause.Definition c))
+pub definitions_err : (statements : List Statement) (line : ℕ) (c : DefCause) → definitions_of statements ≡ Err (line, c) → definitions_read statements ≡ Err (line, cause.Definition c)
 unfolding definitions_read
-definitions_err statements line c e = ap (or_unloaded cause.Definition) e
+definitions_err statements line c e = ap (or_cause cause.Definition) e
 
 pub site_ok : (d : DefinitionsData) (statements : List Statement) (site : SiteData) → site_of d statements ≡ Ok site → site_read d statements ≡ Ok site
 unfolding site_read
-site_ok d statements site e = ap (or_unloaded cause.Site) e
+site_ok d statements site e = ap (or_cause cause.Site) e
 
-pub site_err : (d : DefinitionsData) (statements : List Statement) (line : ℕ) (c : SiteCause) → site_of d statements ≡ Err (line, c) → site_read d statements ≡ Err (Refused line (cause.Site c))
+pub site_err : (d : DefinitionsData) (statements : List Statement) (line : ℕ) (c : SiteCause) → site_of d statements ≡ Err (line, c) → site_read d statements ≡ Err (line, cause.Site c)
 unfolding site_read
-site_err d statements line c e = ap (or_unloaded cause.Site) e
+site_err d statements line c e = ap (or_cause cause.Site) e
+
+pub script_ok : (site : SiteData) (statements : List Statement) (events : List (ℕ × Event)) → events_of site statements ≡ Ok events → script_read site statements ≡ Ok events
+unfolding script_read
+script_ok site statements events h = ap (or_cause cause.Script) h
+
+pub script_err : (site : SiteData) (statements : List Statement) (line : ℕ) (c : ScriptCause) → events_of site statements ≡ Err (line, c) → script_read site statements ≡ Err (line, cause.Script c)
+unfolding script_read
+script_err site statements line c h = ap (or_cause cause.Script) h

@@ -9,28 +9,34 @@ use Rattle.cts_core.specs.Runs.{Did, Does, after, Ending, Finished, NotEnabled, 
 use Rattle.cts_core_laws.proofs.OneRun.{has_run}
 use Rattle.cts_core_laws.proofs.SiteSound.{site_sound}
 use Rattle.cts_outside.specs.Seen.{SinkSeen}
-use Rattle.cts_outside.proofs.Putting.{appended-nil, whole_then, part_first, part_then}
+use Rattle.cts_outside.proofs.Putting.{whole_then, part_first, part_then}
 use Rattle.cts_def.specs.Sites.{SiteData}
 use Rattle.cts_core.specs.Environments.{basis_of, site_environment}
-use Rattle.cts_core.specs.Worlds.{Held, Represents}
-use Rattle.cts_serve.specs.Ending.Lines.{end_line}
-use Rattle.cts_serve.specs.Putting.{IsPut, FailsWithin}
-use Rattle.cts_serve.specs.Replay.Transcript.{events_of, all_entries, event_text, transcript, next_line, replay_body}
-use Rattle.cts_serve.specs.Replay.Steps.{DoesEvent, ReplayPuts, Replays}
-use Rattle.cts_serve.specs.declared.replay.halt.Halt.{Halt}
-use Rattle.cts_serve.specs.declared.replay.halt.Halt.TheVariants as halt
+use Rattle.cts_core.specs.declared.fault.WorldFault.{WorldFault}
+use Rattle.cts_core.specs.declared.fault.WorldFault.TheVariants as fault
+use Rattle.cts_core.specs.Endings.{held_in}
+use Rattle.cts_serve.specs.Lines.{end_line}
+use Rattle.cts_serve.specs.Putting.{FailsWithin, IsPut, PutsBody, PutsText}
+use Rattle.cts_serve.specs.Causes.{put_answer}
+use Rattle.cts_serve.specs.Replay.{DoesEvent, Replays, event_halt, next_line, not_enabled, replay_body}
+use Rattle.cts_serve.specs.Story.{Stands, StoryData, Tells}
+use Rattle.cts_serve.specs.Transcript.{events_of, all_entries, event_text, transcript}
+use Rattle.cts_serve.specs.declared.halt.Halt.{Halt}
+use Rattle.cts_serve.specs.declared.halt.Halt.TheVariants as halt
+use Rattle.cts_serve.specs.declared.putting.Unput.{Unput}
+use Rattle.cts_serve.specs.declared.putting.Unput.TheVariants as unput
 
 -- Some events were done and their lines put, and these are left.
-pub record IsProgress (site : SiteData) (events left : List (ℕ × Event)) (w : Held) (text : List ℕ) : Type 0 where
+pub record IsProgress (site : SiteData) (events left : List (ℕ × Event)) (w : StoryData) (text : List ℕ) : Type 0 where
   pub state : State
   pub prior : List Did
-  pub stands : Represents site w state
+  pub stands : Stands site state w
   pub history : state.history ≡ all_entries prior
   pub text_is : text ≡ transcript site [] prior
   pub runs : (dids : List Did) (ending : Ending) → Runs (site_environment site) state (events_of left) dids ending → Runs (site_environment site) opening (events_of events) (prior ++ dids) ending
   pub lines : (dids : List Did) → next_line (prior ++ dids) events ≡ next_line dids left
 
-pub begun : (site : SiteData) (events : List (ℕ × Event)) (w : Held) → Represents site w opening → IsProgress site events events w []
+pub begun : (site : SiteData) (events : List (ℕ × Event)) (w : StoryData) → Stands site opening w → IsProgress site events events w []
 begun site events w h = record { state = opening; prior = []; stands = h; history = refl; text_is = refl; runs = λ dids ending r. r; lines = λ dids. refl }
 
 all_entries_append : (ds es : List Did) → all_entries (ds ++ es) ≡ all_entries ds ++ all_entries es
@@ -51,7 +57,7 @@ transcript_more site ds es s d h =
     transcript_append site [] ds (d ∷ es)
     ∙ ap (λ (t : List Entry). transcript site [] ds ++ (event_text site t d ++ transcript site (t ++ d.entries) es)) (sym h)
 
-pub goes_on : (site : SiteData) (events rest : List (ℕ × Event)) (x : ℕ × Event) (w new : Held) (text : List ℕ) (p : IsProgress site events (x ∷ rest) w text) (did : Did) → Does (site_environment site) p.state x.1 did → Represents site new (after p.state x.1 did)
+pub goes_on : (site : SiteData) (events rest : List (ℕ × Event)) (x : ℕ × Event) (w new : StoryData) (text : List ℕ) (p : IsProgress site events (x ∷ rest) w text) (did : Did) → Does (site_environment site) p.state x.1 did → Stands site (after p.state x.1 did) new
     → IsProgress site events rest new (text ++ event_text site p.state.history did)
 goes_on site events rest x w new text p did d h = record {
   state = after p.state x.1 did;
@@ -105,7 +111,7 @@ regroup : (a b c d : List ℕ) → (a ++ (b ++ c)) ++ d ≡ (a ++ b) ++ (c ++ d)
 regroup a b c d = simp append_assoc
 
 -- the body of a run that goes on with this event begins with the text so far and the event's lines
-more_body : (site : SiteData) (events left : List (ℕ × Event)) (w : Held) (text : List ℕ) (p : IsProgress site events left w text) (did : Did) (dids : List Did) (ending : Ending)
+more_body : (site : SiteData) (events left : List (ℕ × Event)) (w : StoryData) (text : List ℕ) (p : IsProgress site events left w text) (did : Did) (dids : List Did) (ending : Ending)
     → replay_body site (p.prior ++ did ∷ dids) ending ≡ (text ++ event_text site p.state.history did) ++ (transcript site (p.state.history ++ did.entries) dids ++ body_tail (p.prior ++ did ∷ dids) ending)
 more_body site events left w text p did dids ending =
     let lines = event_text site p.state.history did in
@@ -115,7 +121,7 @@ more_body site events left w text p did dids ending =
     ∙ regroup text lines (transcript site (p.state.history ++ did.entries) dids) tail)
 
 -- the body of any run that goes on from here begins with the text so far
-body_front : (site : SiteData) (events left : List (ℕ × Event)) (w : Held) (text : List ℕ) (p : IsProgress site events left w text) (dids : List Did) (ending : Ending)
+body_front : (site : SiteData) (events left : List (ℕ × Event)) (w : StoryData) (text : List ℕ) (p : IsProgress site events left w text) (dids : List Did) (ending : Ending)
     → take (length text) (replay_body site (p.prior ++ dids) ending) ≡ text
 body_front site events left w text p dids ending =
     let more = transcript site ([] ++ all_entries p.prior) dids ++ body_tail (p.prior ++ dids) ending in
@@ -127,9 +133,9 @@ body_front site events left w text p dids ending =
     ap (take (length text)) front ∙ take_at text more (length text) refl
 
 -- memory was wanted after this text
-pub wants : (site : SiteData) (events left : List (ℕ × Event)) (w : Held) (text : List ℕ) (p : IsProgress site events left w text) (old new : SinkSeen)
-    → IsPut text old new → Replays site events (Err halt.Memory) old new
-wants site events left w text p old new h =
+pub wants : (site : SiteData) (script : List ℕ) (events left : List (ℕ × Event)) (w : StoryData) (text : List ℕ) (p : IsProgress site events left w text) (old new : SinkSeen)
+    → IsPut text old new → Replays site script events (Err halt.Memory) old new
+wants site script events left w text p old new h =
     let r = has_run (site_environment site) (site_sound (basis_of site)) p.state (events_of left) in
     record {
       dids = p.prior ++ r.0;
@@ -138,16 +144,10 @@ wants site events left w text p old new h =
       puts = (length text, subst (λ (t : List ℕ). IsPut t old new) (sym (body_front site events left w text p r.0 r.1)) h);
     }
 
--- memory was wanted before anything was done
-pub wants_first : (site : SiteData) (events : List (ℕ × Event)) (out : SinkSeen) → Replays site events (Err halt.Memory) out out
-wants_first site events out =
-    let r = has_run (site_environment site) (site_sound (basis_of site)) opening (events_of events) in
-    record { dids = r.0; ending = r.1; runs = r.2; puts = (0, (refl, sym (appended-nil out.told))) }
-
 -- a put failed within the lines of an event that was done
-faulted : (site : SiteData) (events rest : List (ℕ × Event)) (x : ℕ × Event) (w : Held) (text : List ℕ) (p : IsProgress site events (x ∷ rest) w text) (did : Did) (old mid new : SinkSeen)
-    → Does (site_environment site) p.state x.1 did → IsPut text old mid → FailsWithin (event_text site p.state.history did) mid new → Replays site events (Err halt.WriteFault) old new
-faulted site events rest x w text p did old mid new d m fails =
+faulted : (site : SiteData) (script : List ℕ) (events rest : List (ℕ × Event)) (x : ℕ × Event) (w : StoryData) (text : List ℕ) (p : IsProgress site events (x ∷ rest) w text) (did : Did) (old mid new : SinkSeen)
+    → Does (site_environment site) p.state x.1 did → IsPut text old mid → FailsWithin (event_text site p.state.history did) mid new → Replays site script events (Err halt.WriteFault) old new
+faulted site script events rest x w text p did old mid new d m fails =
     let r = has_run (site_environment site) (site_sound (basis_of site)) (after p.state x.1 did) (events_of rest) in
     let lines = event_text site p.state.history did in
     let more = transcript site (p.state.history ++ did.entries) r.0 ++ body_tail (p.prior ++ did ∷ r.0) r.1 in
@@ -158,27 +158,27 @@ faulted site events rest x w text p did old mid new d m fails =
       puts = subst (λ (t : List ℕ). FailsWithin t old new) (sym (more_body site events (x ∷ rest) w text p did r.0 r.1)) (fails_first old new (text ++ lines) more (fails_then old mid new text lines m fails));
     }
 
-nothing_more : (site : SiteData) (events left : List (ℕ × Event)) (w : Held) (text : List ℕ) (p : IsProgress site events left w text) → transcript site [] (p.prior ++ []) ≡ text
+nothing_more : (site : SiteData) (events left : List (ℕ × Event)) (w : StoryData) (text : List ℕ) (p : IsProgress site events left w text) → transcript site [] (p.prior ++ []) ≡ text
 nothing_more site events left w text p = ap (transcript site []) (append-nil p.prior) ∙ sym p.text_is
 
-all_done : (site : SiteData) (events left : List (ℕ × Event)) (w : Held) (text : List ℕ) (p : IsProgress site events left w text) → p.state.history ≡ all_entries (p.prior ++ [])
+all_done : (site : SiteData) (events left : List (ℕ × Event)) (w : StoryData) (text : List ℕ) (p : IsProgress site events left w text) → p.state.history ≡ all_entries (p.prior ++ [])
 all_done site events left w text p = p.history ∙ ap all_entries (sym (append-nil p.prior))
 
 -- a replay halts at an event: what was put so far is its body, or memory or the sink failed
-pub halts : (site : SiteData) (events rest : List (ℕ × Event)) (x : ℕ × Event) (w stopped : Held) (text : List ℕ) (p : IsProgress site events (x ∷ rest) w text) (old mid new : SinkSeen) (why : Halt)
-    → IsPut text old mid → DoesEvent site p.state x.0 x.1 (Err why) stopped mid new → Replays site events (Err why) old new
-halts site events rest x w stopped text p old mid new halt.WriteFault m d = faulted site events rest x w text p d.0 old mid new d.1 m d.2
-halts site events rest x w stopped text p old mid new halt.Memory m d = wants site events (x ∷ rest) w text p old new (subst (IsPut text old) (sym d) m)
-halts site events rest x w stopped text p old mid new (halt.NotEnabled line) m d = record {
+pub halts : (site : SiteData) (script : List ℕ) (events rest : List (ℕ × Event)) (x : ℕ × Event) (w stopped : StoryData) (text : List ℕ) (p : IsProgress site events (x ∷ rest) w text) (old mid new : SinkSeen) (why : Halt)
+    → IsPut text old mid → DoesEvent site p.state script x.0 x.1 (Err why) stopped mid new → Replays site script events (Err why) old new
+halts site script events rest x w stopped text p old mid new halt.WriteFault m d = faulted site script events rest x w text p d.0 old mid new d.1 m d.2
+halts site script events rest x w stopped text p old mid new halt.Memory m d = wants site script events (x ∷ rest) w text p old new (subst (IsPut text old) (sym d) m)
+halts site script events rest x w stopped text p old mid new (halt.Refused name kind line why) m d = record {
   dids = p.prior ++ [];
   ending = NotEnabled;
   runs = p.runs [] NotEnabled (inl (refl, d.0));
   puts = (
-    ap (λ (n : ℕ). Err (halt.NotEnabled n)) (d.1 ∙ sym (p.lines [])),
+    ap (λ (h : Halt). Err h) (d.1 ∙ ap (not_enabled script) (sym (p.lines []))),
     subst (λ (t : List ℕ). IsPut t old new) (sym (nothing_more site events (x ∷ rest) w text p)) (subst (IsPut text old) (sym d.2) m),
   );
 }
-halts site events rest x w stopped text p old mid new (halt.HistoryFull entries bytes) m d =
+halts site script events rest x w stopped text p old mid new (halt.HistoryFull entries bytes) m d =
     let all = all_done site events (x ∷ rest) w text p in
     record {
       dids = p.prior ++ [];
@@ -189,28 +189,48 @@ halts site events rest x w stopped text p old mid new (halt.HistoryFull entries 
         subst (λ (t : List ℕ). IsPut t old new) (sym (nothing_more site events (x ∷ rest) w text p)) (subst (IsPut text old) (sym d.3) m),
       );
     }
+halts site script events rest x w stopped text p old mid new (halt.ReadFault name) m d = absurd d
+halts site script events rest x w stopped text p old mid new (halt.Absent name) m d = absurd d
+halts site script events rest x w stopped text p old mid new (halt.ShelfEmpty kind needed stocked) m d = absurd d
+halts site script events rest x w stopped text p old mid new (halt.LogRefused place) m d = absurd d
+halts site script events rest x w stopped text p old mid new (halt.NotBuilt name) m d = absurd d
 
 -- ---- all events were done
 
 -- the body of a replay that is done
-whole_body : (site : SiteData) (events : List (ℕ × Event)) (w : Held) (text : List ℕ) (p : IsProgress site events [] w text) → text ++ end_line (length w.history) ≡ replay_body site (p.prior ++ []) Finished
+whole_body : (site : SiteData) (events : List (ℕ × Event)) (w : StoryData) (text : List ℕ) (p : IsProgress site events [] w text) → text ++ end_line (length (held_in w.world).history) ≡ replay_body site (p.prior ++ []) Finished
 whole_body site events w text p =
-    ap (λ (t : List ℕ). t ++ end_line (length w.history)) (sym (nothing_more site events [] w text p))
-    ∙ ap (λ (n : ℕ). transcript site [] (p.prior ++ []) ++ end_line n) (ap length (p.stands.history ∙ all_done site events [] w text p))
+    ap (λ (t : List ℕ). t ++ end_line (length (held_in w.world).history)) (sym (nothing_more site events [] w text p))
+    ∙ ap (λ (n : ℕ). transcript site [] (p.prior ++ []) ++ end_line n) (ap length (p.stands.represents.history ∙ all_done site events [] w text p))
 
-ends : (site : SiteData) (events : List (ℕ × Event)) (w : Held) (text : List ℕ) (p : IsProgress site events [] w text) (answer : Result (Unit {0}) Halt) (old new : SinkSeen)
-    → ReplayPuts (text ++ end_line (length w.history)) (Ok tt) answer old new → Replays site events answer old new
-ends site events w text p answer old new h = record {
+ends : (site : SiteData) (script : List ℕ) (events : List (ℕ × Event)) (w : StoryData) (text : List ℕ) (p : IsProgress site events [] w text) (answer : Result (Unit {0}) Halt) (old new : SinkSeen)
+    → PutsBody (text ++ end_line (length (held_in w.world).history)) (Ok tt) answer old new → Replays site script events answer old new
+ends site script events w text p answer old new h = record {
   dids = p.prior ++ [];
   ending = Finished;
   runs = p.runs [] Finished (refl, refl);
-  puts = subst (λ (t : List ℕ). ReplayPuts t (Ok tt) answer old new) (whole_body site events w text p) h;
+  puts = subst (λ (t : List ℕ). PutsBody t (Ok tt) answer old new) (whole_body site events w text p) h;
 }
 
-pub ends_well : (site : SiteData) (events : List (ℕ × Event)) (w : Held) (text : List ℕ) (p : IsProgress site events [] w text) (old mid new : SinkSeen)
-    → IsPut text old mid → IsPut (end_line (length w.history)) mid new → Replays site events (Ok tt) old new
-ends_well site events w text p old mid new m e = ends site events w text p (Ok tt) old new (refl, put_then old mid new text (end_line (length w.history)) m e)
+-- and the number of entries is put
+pub ends_with : (site : SiteData) (script : List ℕ) (events : List (ℕ × Event)) (w : StoryData) (text : List ℕ) (p : IsProgress site events [] w text) (put : Result (Unit {0}) Unput) (old mid new : SinkSeen)
+    → IsPut text old mid → PutsText (end_line (length (held_in w.world).history)) put mid new → Replays site script events (put_answer put) old new
+ends_with site script events w text p (Ok done) old mid new m e = ends site script events w text p (Ok done) old new (refl, put_then old mid new text (end_line (length (held_in w.world).history)) m e)
+ends_with site script events w text p (Err unput.WriteFault) old mid new m e = ends site script events w text p (Err halt.WriteFault) old new (fails_then old mid new text (end_line (length (held_in w.world).history)) m e)
+ends_with site script events w text p (Err unput.Memory) old mid new m e = wants site script events [] w text p old new (subst (IsPut text old) (sym e) m)
 
-pub ends_within : (site : SiteData) (events : List (ℕ × Event)) (w : Held) (text : List ℕ) (p : IsProgress site events [] w text) (old mid new : SinkSeen)
-    → IsPut text old mid → FailsWithin (end_line (length w.history)) mid new → Replays site events (Err halt.WriteFault) old new
-ends_within site events w text p old mid new m e = ends site events w text p (Err halt.WriteFault) old new (fails_then old mid new text (end_line (length w.history)) m e)
+-- ---- one event
+
+-- its text was put, or not
+pub told_does : (site : SiteData) (s : State) (script : List ℕ) (line : ℕ) (event : Event) (text : List ℕ) (put : Result (Unit {0}) Unput) (story : StoryData) (old new : SinkSeen)
+    → Tells site s event (Ok text) story → PutsText text put old new → DoesEvent site s script line event (put_answer put) story old new
+told_does site s script line event text (Ok done) story old new h p = (h.0, h.1, h.3, subst (λ (t : List ℕ). IsPut t old new) h.2 p)
+told_does site s script line event text (Err unput.WriteFault) story old new h p = (h.0, h.1, subst (λ (t : List ℕ). FailsWithin t old new) h.2 p)
+told_does site s script line event text (Err unput.Memory) story old new h p = p
+
+-- it was not done
+pub untold_does : (site : SiteData) (s : State) (script : List ℕ) (line : ℕ) (event : Event) (why : WorldFault) (story : StoryData) (out : SinkSeen)
+    → Tells site s event (Err why) story → DoesEvent site s script line event (Err (event_halt script line why)) story out out
+untold_does site s script line event fault.NotEnabled story out h = (h.0, refl, refl)
+untold_does site s script line event (fault.Full entries bytes) story out h = (h.0, h.1, h.2, refl)
+untold_does site s script line event fault.Memory story out h = refl

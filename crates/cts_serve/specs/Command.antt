@@ -1,33 +1,67 @@
 -- What a command answers and prints, from the boxes on the shelf and the content of the files alone.
-use Rattle.std.specs.Prelude.{◌≡◌, ℕ, ◌≤◌, nat_lt, Bool, true, false, List, length, [], take, Option, Some, None, option_map, option_and_then, MatchOption, Result, Ok, Err, ◌⊎◌}
-use Rattle.std.specs.Option.{option_or}
-use Rattle.cts_core.specs.Runs.{Did, Ending, Runs}
-use Rattle.cts_core.specs.Sendings.{AreJudged}
-use Rattle.cts_core.specs.States.{opening}
-use Rattle.cts_def.specs.Sites.{SiteData}
-use Rattle.cts_entry.specs.declared.event.Event.{Event}
+use Rattle.std.specs.Prelude.{◌≡◌, ℕ, ◌≤◌, Bool, true, false, List, [], ◌∷◌, ◌++◌, take, Option, Some, None, MatchOption, Result, Ok, Err, ◌⊎◌}
+use Rattle.cts_chain.specs.Builds.{Taken, uses_in}
 use Rattle.cts_outside.specs.Causes.{Rose}
 use Rattle.cts_outside.specs.Contents.{appended}
 use Rattle.cts_outside.specs.Seen.{FilesSeen, SinkSeen}
+use Rattle.cts_def.specs.Sites.{SiteData}
 use Rattle.cts_proto.specs.Meaning.{Meaning}
-use Rattle.cts_serve.specs.Dump.{IsDump}
-use Rattle.cts_serve.specs.Ending.{EndingData, usage_ending, unloaded_ending, unfetched_ending, unmade_ending, dump_ending, halt_ending}
-use Rattle.cts_serve.specs.Ending.Lines.{memory_line, read_fault_line, counts_line}
-use Rattle.cts_core.specs.Environments.{site_environment}
-use Rattle.cts_serve.specs.Load.{IsNext, unloaded, site_asked, events_asked}
-use Rattle.cts_serve.specs.Load.Judging.{log_limit}
-use Rattle.cts_serve.specs.Putting.{Printed, FailsWithin}
-use Rattle.cts_serve.specs.Replay.Transcript.{events_of, replay_body, replay_answer}
-use Rattle.cts_serve.specs.Request.{RequestData}
-use Rattle.cts_serve.specs.Request.Words.{AskedData, Sited, Dumped}
-use Rattle.cts_serve.specs.Start.{short_kind, short_fault}
-use Rattle.cts_serve.specs.declared.dump.halt.DumpHalt.{DumpHalt}
-use Rattle.cts_serve.specs.declared.ending.status.Status.{Status}
-use Rattle.cts_serve.specs.declared.ending.status.Status.TheVariants.{Ok as Fine, Memory, ReadFault, Absent, WriteFault}
-use Rattle.cts_serve.specs.declared.load.fetch.FetchFault.TheVariants as fetch
-use Rattle.cts_serve.specs.declared.load.file_kind.FileKind.{FileKind}
-use Rattle.cts_serve.specs.declared.load.file_kind.FileKind.TheVariants.{Definitions, Site, Script}
-use Rattle.cts_serve.specs.declared.replay.halt.Halt.{Halt}
+use Rattle.cts_serve.specs.Dump.{IsDump, log_phase}
+use Rattle.cts_serve.specs.Endings.{halt_line, halt_status}
+use Rattle.cts_serve.specs.Lines.{memory_line, read_fault_line, counts_line, usage_line}
+use Rattle.cts_serve.specs.Load.{bytes_of, events_asked, site_asked, site_phases}
+use Rattle.cts_serve.specs.Phases.{IsRead, Phase, first_halt}
+use Rattle.cts_serve.specs.Putting.{FailsWithin, Printed, PutsBody}
+use Rattle.cts_serve.specs.Replay.{IsReplay, script_phases}
+use Rattle.cts_serve.specs.Start.{world_phases}
+use Rattle.cts_serve.specs.declared.halt.Halt.{Halt}
+use Rattle.cts_serve.specs.declared.halt.Halt.TheVariants as halt
+use Rattle.cts_serve.specs.declared.halt.status.Status.{Status}
+use Rattle.cts_serve.specs.declared.halt.status.Status.TheVariants.{Ok as Fine, Memory, Usage, ReadFault, Absent, WriteFault}
+use Rattle.cts_serve.specs.declared.words.Command.{Command}
+use Rattle.cts_serve.specs.declared.words.Command.TheVariants.{Check, Replay, Dump}
+
+-- ---- the phases of each command, in order, and what is done where it halts at none of them
+
+abbrev pub phases : List Meaning → (List ℕ → Option (List ℕ)) → Command → List Phase
+phases stock files (Check definitions site) = site_phases files definitions site
+phases stock files (Replay definitions site script) =
+    site_phases files definitions site ++ world_phases stock site (site_asked files definitions site) ++ script_phases files (site_asked files definitions site) script
+phases stock files (Dump log) = log_phase files log ∷ []
+
+-- what is printed before the last line, and how the command ends
+abbrev pub IsDone : (List ℕ → Option (List ℕ)) → Command → List ℕ → Result (Unit {0}) Halt → Type 0
+IsDone files (Check definitions site) body due = (body ≡ counts_line (site_asked files definitions site)) × (due ≡ Ok tt)
+IsDone files (Replay definitions site script) body due =
+    IsReplay (site_asked files definitions site) script (events_asked files (site_asked files definitions site) script) body due
+IsDone files (Dump log) body due = IsDump (bytes_of (files log)) body due
+
+-- ---- what a command puts
+
+-- A command halts at the first phase that has a reason, before anything is printed; else this is done.
+abbrev pub IsDueOf : List Phase → (List ℕ → Result (Unit {0}) Halt → Type 0) → List ℕ → Result (Unit {0}) Halt → Type 0
+IsDueOf phases done body due = MatchOption (first_halt phases) (done body due) (λ halt. (body ≡ []) × (due ≡ Err halt))
+
+-- What is put where that is the body and the end. A read may have failed in a phase.
+abbrev pub PutsOf : List Phase → List ℕ → Result (Unit {0}) Halt → Result (Unit {0}) Halt → SinkSeen → SinkSeen → Type 0
+PutsOf phases body due (Err (halt.ReadFault name)) old new = IsRead name phases × (new ≡ old)
+PutsOf phases body due answer old new = PutsBody body due answer old new
+
+-- What was done after these phases, or that the command halted at one of them.
+pub record PerformsOf (phases : List Phase) (done : List ℕ → Result (Unit {0}) Halt → Type 0) (answer : Result (Unit {0}) Halt) (old new : SinkSeen) : Type 0 where
+  pub body : List ℕ
+  pub due : Result (Unit {0}) Halt
+  pub is : IsDueOf phases done body due
+  pub puts : PutsOf phases body due answer old new
+
+-- A script was read and replayed in the world of a site.
+abbrev pub PerformsScript : (List ℕ → Option (List ℕ)) → SiteData → List ℕ → Result (Unit {0}) Halt → SinkSeen → SinkSeen → Type 0
+PerformsScript files site script answer old new = PerformsOf (script_phases files site script) (IsReplay site script (events_asked files site script)) answer old new
+
+abbrev pub Performs : List Meaning → (List ℕ → Option (List ℕ)) → Command → Result (Unit {0}) Halt → SinkSeen → SinkSeen → Type 0
+Performs stock files command answer old new = PerformsOf (phases stock files command) (IsDone files command) answer old new
+
+-- ---- its outcome
 
 -- a status, what is printed before its last line, and that line
 pub record Outcome : Type 0 where
@@ -35,121 +69,54 @@ pub record Outcome : Type 0 where
   pub body : List ℕ
   pub last : List ℕ
 
--- an ending behind a body, and an ending alone
-abbrev pub behind : List ℕ → EndingData → Outcome
-behind body ending = record { status = ending.status; body = body; last = ending.line }
+-- where the words fit no command
+abbrev pub misused : Outcome
+misused = record { status = Usage; body = []; last = usage_line }
 
-abbrev pub refusal : EndingData → Outcome
-refusal ending = behind [] ending
-
--- the outcome where the file of this kind and name gives nothing
-abbrev pub refusal_of : (List ℕ → Option (List ℕ)) → RequestData → FileKind → List ℕ → Option Outcome
-refusal_of files r kind name = option_map (λ why. refusal (unloaded_ending name kind why)) (unloaded files r kind name)
-
--- the outcome where the chains of a site need more boxes of a kind than there are
-abbrev pub shelf_refusal : List Meaning → SiteData → Option Outcome
-shelf_refusal stock site = option_map (λ kind. refusal (unmade_ending (short_fault stock site kind))) (short_kind stock site)
-
--- a replay's outcome behind its site: where the shelf is short, and then where the script gives nothing
-abbrev pub script_refusal : List Meaning → (List ℕ → Option (List ℕ)) → RequestData → List ℕ → Option Outcome
-script_refusal stock files r script = option_or (shelf_refusal stock (site_asked files r)) (refusal_of files r Script script)
-
--- the outcome of what is first refused: definitions, site, and for a replay the shelf and then the script
-abbrev pub first_refusal : List Meaning → (List ℕ → Option (List ℕ)) → RequestData → Option Outcome
-first_refusal stock files r =
-    option_or (refusal_of files r Definitions r.definitions)
-    (option_or (refusal_of files r Site r.site) (option_and_then (script_refusal stock files r) r.script))
-
--- all was done
-abbrev pub fine : List ℕ → Outcome
-fine body = record { status = Fine; body = body; last = [] }
-
-abbrev pub replayed : List ℕ → List ℕ → Result (Unit {0}) Halt → Outcome
-replayed script body (Ok done) = fine body
-replayed script body (Err halt) = behind body (halt_ending script halt)
-
--- what is answered and printed where the events did this and ended so
-abbrev pub replay_outcome : SiteData → List ℕ → List (ℕ × Event) → List Did → Ending → Outcome
-replay_outcome site script events dids ending = replayed script (replay_body site dids ending) (replay_answer events dids ending)
-
--- The outcome of a run of the script's events, of whose commands each is refused exactly where something stands against it.
-pub record IsReplay (site : SiteData) (script : List ℕ) (events : List (ℕ × Event)) (o : Outcome) : Type 0 where
-  pub dids : List Did
-  pub ending : Ending
-  pub runs : Runs (site_environment site) opening (events_of events) dids ending
-  pub commands : AreJudged site opening (events_of events) dids
-  pub outcome : o ≡ replay_outcome site script events dids ending
-
--- how many packets, commands, items of both, interfaces and routers there are
-abbrev pub check_outcome : SiteData → Outcome
-check_outcome site = fine (counts_line site)
-
--- what is asked of files that are taken
-abbrev pub IsDone : (List ℕ → Option (List ℕ)) → RequestData → Option (List ℕ) → Outcome → Type 0
-IsDone files r None o = o ≡ check_outcome (site_asked files r)
-IsDone files r (Some script) o = IsReplay (site_asked files r) script (events_asked files r script) o
-
--- what is answered and printed where the lines of a log are these and its dump ends so
-abbrev pub dumped : List ℕ → Result (Unit {0}) DumpHalt → Outcome
-dumped body (Ok done) = fine body
-dumped body (Err halt) = behind body (dump_ending halt)
-
--- The outcome of a dump of this file.
-pub record IsDumpOf (file : List ℕ) (o : Outcome) : Type 0 where
-  pub body : List ℕ
-  pub due : Result (Unit {0}) DumpHalt
-  pub is : IsDump file body due
-  pub outcome : o ≡ dumped body due
-
--- of a file that is too large no line is printed
-abbrev pub IsDumpBy : List ℕ → List ℕ → Bool → Outcome → Type 0
-IsDumpBy log file true o = o ≡ refusal (unfetched_ending log fetch.TooLarge)
-IsDumpBy log file false o = IsDumpOf file o
-
--- the outcome of a dump of the log of this name, for a file with this content, or none
-abbrev pub IsDumped : List ℕ → Option (List ℕ) → Outcome → Type 0
-IsDumped log None o = o ≡ refusal (unfetched_ending log fetch.Absent)
-IsDumped log (Some file) o = IsDumpBy log file (nat_lt log_limit (length file)) o
+-- where a command has this body and ends so
+abbrev pub outcome_of : List ℕ → Result (Unit {0}) Halt → Outcome
+outcome_of body (Ok done) = record { status = Fine; body = body; last = [] }
+outcome_of body (Err halt) = record { status = halt_status halt; body = body; last = halt_line halt }
 
 -- The outcome of a command, for a shelf with these boxes and files with this content.
-abbrev pub IsOutcome : List Meaning → (List ℕ → Option (List ℕ)) → Option AskedData → Outcome → Type 0
-IsOutcome stock files None o = o ≡ refusal usage_ending
-IsOutcome stock files (Some (Sited r)) o = MatchOption (first_refusal stock files r) (IsDone files r r.script o) (λ refused. o ≡ refused)
-IsOutcome stock files (Some (Dumped log)) o = IsDumped log (files log) o
+pub record IsOutcomeOf (stock : List Meaning) (files : List ℕ → Option (List ℕ)) (command : Command) (o : Outcome) : Type 0 where
+  pub body : List ℕ
+  pub due : Result (Unit {0}) Halt
+  pub is : IsDueOf (phases stock files command) (IsDone files command) body due
+  pub outcome : o ≡ outcome_of body due
 
--- before a script is read the shelf is looked at, which has to have all boxes
-abbrev pub HasBoxes : List Meaning → (List ℕ → Option (List ℕ)) → RequestData → FileKind → Type 0
-HasBoxes stock files r Definitions = Unit {0}
-HasBoxes stock files r Site = Unit {0}
-HasBoxes stock files r Script = short_kind stock (site_asked files r) ≡ None
+abbrev pub IsOutcome : List Meaning → (List ℕ → Option (List ℕ)) → Option Command → Outcome → Type 0
+IsOutcome stock files None o = o ≡ misused
+IsOutcome stock files (Some command) o = IsOutcomeOf stock files command o
 
--- the file of this name is the next one to be read
-abbrev pub IsRead : List Meaning → (List ℕ → Option (List ℕ)) → Option AskedData → List ℕ → Type 0
-IsRead stock files None name = ⊥
-IsRead stock files (Some (Sited r)) name = (kind : FileKind) × IsNext files r kind name × HasBoxes stock files r kind
-IsRead stock files (Some (Dumped log)) name = name ≡ log
+-- the file of this name is read, and the phases before have no reason to halt
+abbrev pub IsAskedFor : List Meaning → (List ℕ → Option (List ℕ)) → Option Command → List ℕ → Type 0
+IsAskedFor stock files None name = ⊥
+IsAskedFor stock files (Some command) name = IsRead name (phases stock files command)
 
 -- What was put where the outcome is this and the status that. Want of memory and faults may come in place of the
 -- outcome's own status: then what was put is a prefix of its body. A fault of the sink comes only where there is a body to
 -- be put: where a last line can't be put, the outcome's status stays.
-abbrev pub PutsFor : List Meaning → (List ℕ → Option (List ℕ)) → Option AskedData → Outcome → Status → SinkSeen → SinkSeen → Type 0
-PutsFor stock files r o Fine old new = (o.status ≡ Fine) × (new.told ≡ appended old.told o.body)
-PutsFor stock files r o Memory old new = (n : ℕ) × Printed old new (take n o.body) memory_line
-PutsFor stock files r o ReadFault old new = (name : List ℕ) × IsRead stock files r name × Printed old new [] (read_fault_line name)
-PutsFor stock files r o WriteFault old new = FailsWithin o.body old new
-PutsFor stock files r o status old new = (o.status ≡ status) × Printed old new o.body o.last
+abbrev pub PutsFor : List Meaning → (List ℕ → Option (List ℕ)) → Option Command → Outcome → Status → SinkSeen → SinkSeen → Type 0
+PutsFor stock files asked o Fine old new = (o.status ≡ Fine) × (new.told ≡ appended old.told o.body)
+PutsFor stock files asked o Memory old new = (n : ℕ) × Printed old new (take n o.body) memory_line
+PutsFor stock files asked o ReadFault old new = (name : List ℕ) × IsAskedFor stock files asked name × Printed old new [] (read_fault_line name)
+PutsFor stock files asked o WriteFault old new = FailsWithin o.body old new
+PutsFor stock files asked o status old new = (o.status ≡ status) × Printed old new o.body o.last
 
 -- The command's outcome, and what was put for it.
-pub record Answers (stock : List Meaning) (files : List ℕ → Option (List ℕ)) (r : Option AskedData) (status : Status) (old new : SinkSeen) : Type 0 where
+pub record Answers (stock : List Meaning) (files : List ℕ → Option (List ℕ)) (asked : Option Command) (status : Status) (old new : SinkSeen) : Type 0 where
   pub outcome : Outcome
-  pub is : IsOutcome stock files r outcome
-  pub puts : PutsFor stock files r outcome status old new
+  pub is : IsOutcome stock files asked outcome
+  pub puts : PutsFor stock files asked outcome status old new
 
 -- The outcome's status was answered, or want of memory.
-pub record Completes (stock : List Meaning) (files : List ℕ → Option (List ℕ)) (r : Option AskedData) (status : Status) : Type 0 where
+pub record Completes (stock : List Meaning) (files : List ℕ → Option (List ℕ)) (asked : Option Command) (status : Status) : Type 0 where
   pub outcome : Outcome
-  pub is : IsOutcome stock files r outcome
+  pub is : IsOutcome stock files asked outcome
   pub status_is : (status ≡ outcome.status) ⊎ (status ≡ Memory)
+
+-- ---- its causes
 
 -- No count falls.
 pub record IsLater (files files' : FilesSeen) (out out' : SinkSeen) : Type 0 where
@@ -164,3 +131,42 @@ pub record IsCaused (status : Status) (files files' : FilesSeen) (out out' : Sin
   pub write : status ≡ WriteFault → Rose out.faults out'.faults
   pub fine : status ≡ Fine → (files'.faults ≡ files.faults) × (files'.absences ≡ files.absences) × (out'.faults ≡ out.faults)
   pub later : IsLater files files' out out'
+
+-- ---- the shelf
+
+-- the phases of a replay up to the making of its world
+abbrev pub first_phases : List Meaning → (List ℕ → Option (List ℕ)) → List ℕ → List ℕ → List Phase
+first_phases stock files definitions site = site_phases files definitions site ++ world_phases stock site (site_asked files definitions site)
+
+-- What is left of a shelf where these phases have that reason to halt, or none. With a reason it is as it was. Without one the boxes of all
+-- chains of the site are gone, and no others; where memory ran out or a read failed that may have come before.
+abbrev pub ShelfBy : SiteData → Option Halt → Result (Unit {0}) Halt → List Meaning → List Meaning → Type 0
+ShelfBy site (Some halt) answer old new = new ≡ old
+ShelfBy site None (Err halt.Memory) old new = (new ≡ old) ⊎ Taken old (uses_in site.interfaces) new
+ShelfBy site None (Err (halt.ReadFault name)) old new = (new ≡ old) ⊎ Taken old (uses_in site.interfaces) new
+ShelfBy site None answer old new = Taken old (uses_in site.interfaces) new
+
+-- the same by the status
+abbrev pub ShelfAt : SiteData → Option Halt → Status → List Meaning → List Meaning → Type 0
+ShelfAt site (Some halt) status old new = new ≡ old
+ShelfAt site None Memory old new = (new ≡ old) ⊎ Taken old (uses_in site.interfaces) new
+ShelfAt site None ReadFault old new = (new ≡ old) ⊎ Taken old (uses_in site.interfaces) new
+ShelfAt site None status old new = Taken old (uses_in site.interfaces) new
+
+abbrev pub LeavesShelf : (List ℕ → Option (List ℕ)) → List ℕ → List ℕ → Result (Unit {0}) Halt → List Meaning → List Meaning → Type 0
+LeavesShelf files definitions site answer old new = ShelfBy (site_asked files definitions site) (first_halt (first_phases old files definitions site)) answer old new
+
+-- only a replay takes boxes
+abbrev pub CommandLeaves : (List ℕ → Option (List ℕ)) → Command → Result (Unit {0}) Halt → List Meaning → List Meaning → Type 0
+CommandLeaves files (Check definitions site) answer old new = new ≡ old
+CommandLeaves files (Replay definitions site script) answer old new = LeavesShelf files definitions site answer old new
+CommandLeaves files (Dump log) answer old new = new ≡ old
+
+abbrev pub ShelfAfter : (List ℕ → Option (List ℕ)) → Option Command → Status → List Meaning → List Meaning → Type 0
+ShelfAfter files (Some (Replay definitions site script)) status old new = ShelfAt (site_asked files definitions site) (first_halt (first_phases old files definitions site)) status old new
+ShelfAfter files asked status old new = new ≡ old
+
+-- a command makes a world
+abbrev pub makes_world : Option Command → Bool
+makes_world (Some (Replay definitions site script)) = true
+makes_world asked = false

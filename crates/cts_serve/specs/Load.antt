@@ -1,68 +1,87 @@
--- The files of a command: which of them gives nothing, if one does, and what is loaded from them.
-use Rattle.std.specs.Prelude.{◌≡◌, ◌≢◌, ℕ, List, [], Bool, ◌||◌, Option, Some, None, is_none, unwrap_or, Result, Ok, Err}
+-- The files of a site and its script: the phases in which they are read, and what they say.
+use Rattle.std.specs.Prelude.{ℕ, List, [], ◌∷◌, Option, Result, Ok, Err, unwrap_or}
+use Rattle.std.specs.Result.{result_unwrap_or}
+use Rattle.cts_words.specs.declared.statement.Statement.{Statement}
+use Rattle.cts_words.specs.Statements.{said}
 use Rattle.cts_def.specs.Packets.{DefinitionsData}
 use Rattle.cts_def.specs.Sites.{SiteData}
+use Rattle.cts_defread.specs.Definitions.{definitions_of}
 use Rattle.cts_entry.specs.declared.event.Event.{Event}
-use Rattle.cts_outside.specs.Seen.{FilesSeen}
-use Rattle.cts_core.specs.Built.{is_built_site}
-use Rattle.cts_serve.specs.Load.Fetching.{IsFound, IsWhy, LoadCounts}
-use Rattle.cts_serve.specs.Load.Judging.{judge_definitions, judge_site, judge_script, definitions_in, site_in, events_in, file_unloaded, bytes_of}
-use Rattle.cts_serve.specs.Request.{RequestData}
-use Rattle.cts_serve.specs.declared.load.file_kind.FileKind.{FileKind}
-use Rattle.cts_serve.specs.declared.load.file_kind.FileKind.TheVariants.{Definitions, Site, Script}
-use Rattle.cts_serve.specs.declared.load.unloaded.Unloaded.{Unloaded}
-pub mod Scripts
-pub mod Causes
-pub mod Judging
-pub mod Fetching
+use Rattle.cts_plan.specs.SiteFiles.{site_of}
+use Rattle.cts_scriptread.specs.Scripts.{events_of}
+use Rattle.cts_serve.specs.Load.Files.{judge, verdict}
+use Rattle.cts_serve.specs.Phases.{Phase, reading}
+use Rattle.cts_serve.specs.declared.halt.cause.Cause.{Cause}
+use Rattle.cts_serve.specs.declared.halt.cause.Cause.TheVariants as cause
+use Rattle.cts_serve.specs.declared.halt.file_kind.FileKind.TheVariants.{Configuration, Script}
+pub mod Files
 
--- what a command may ask for: a check takes all that is read, and a replay what is built
-abbrev pub is_taken : {X : Type 0} → RequestData → (X → Bool) → X → Bool
-is_taken r is_built x = is_none r.script || is_built x
+-- ---- what is read of statements
 
--- the definitions and the site that are asked for, and the events of a script
-abbrev pub definitions_asked : (List ℕ → Option (List ℕ)) → RequestData → DefinitionsData
-definitions_asked files r = definitions_in (bytes_of (files r.definitions))
+-- a refused line and its cause, of a kind of causes
+abbrev pub or_cause : {X C : Type 0} → (C → Cause) → Result X (ℕ × C) → Result X (ℕ × Cause)
+or_cause as_cause (Ok x) = Ok x
+or_cause as_cause (Err r) = Err (r.0, as_cause r.1)
 
-abbrev pub site_asked : (List ℕ → Option (List ℕ)) → RequestData → SiteData
-site_asked files r = site_in (definitions_asked files r) (bytes_of (files r.site))
+unfoldable pub definitions_read : List Statement → Result DefinitionsData (ℕ × Cause)
+definitions_read statements = or_cause cause.Definition (definitions_of statements)
 
-abbrev pub events_asked : (List ℕ → Option (List ℕ)) → RequestData → List ℕ → List (ℕ × Event)
-events_asked files r script = events_in (site_asked files r) (bytes_of (files script))
+unfoldable pub site_read : DefinitionsData → List Statement → Result SiteData (ℕ × Cause)
+site_read definitions statements = or_cause cause.Site (site_of definitions statements)
 
--- how the file of each kind is judged
-abbrev pub judged : (List ℕ → Option (List ℕ)) → RequestData → FileKind → List ℕ → Option Unloaded
-judged files r Definitions = judge_definitions
-judged files r Site = judge_site (is_taken r is_built_site) (definitions_asked files r)
-judged files r Script = judge_script (site_asked files r)
+unfoldable pub script_read : SiteData → List Statement → Result (List (ℕ × Event)) (ℕ × Cause)
+script_read site statements = or_cause cause.Script (events_of site statements)
 
--- why the file of this kind and name gives nothing, if it does not
-abbrev pub unloaded : (List ℕ → Option (List ℕ)) → RequestData → FileKind → List ℕ → Option Unloaded
-unloaded files r kind name = file_unloaded (judged files r kind) (files name)
+-- ---- what a file says that is taken
 
--- the file of this kind and name is the next one to be read: those before it are taken
-abbrev pub IsNext : (List ℕ → Option (List ℕ)) → RequestData → FileKind → List ℕ → Type 0
-IsNext files r Definitions name = name ≡ r.definitions
-IsNext files r Site name = (unloaded files r Definitions r.definitions ≡ None) × (name ≡ r.site)
-IsNext files r Script name = (unloaded files r Definitions r.definitions ≡ None) × (unloaded files r Site r.site ≡ None) × (r.script ≡ Some name)
+-- the bytes of a file, none where it is not there
+abbrev pub bytes_of : Option (List ℕ) → List ℕ
+bytes_of file = unwrap_or file []
 
--- the first file that is not taken is of this kind and name, and gives nothing for this reason
-abbrev pub FailsToLoad : (List ℕ → Option (List ℕ)) → RequestData → FileKind → List ℕ → Unloaded → Type 0
-FailsToLoad files r kind name why = IsNext files r kind name × IsWhy (unloaded files r kind name) why
+-- the statements of a text, none where it is refused
+abbrev pub statements_in : List ℕ → List Statement
+statements_in text = result_unwrap_or (said text) []
 
--- the name of the file of a kind, which is empty where none is asked for
-abbrev pub name_of : RequestData → FileKind → List ℕ
-name_of r Definitions = r.definitions
-name_of r Site = r.site
-name_of r Script = unwrap_or r.script []
+-- what is read of the statements of a file
+abbrev pub read_in : {X : Type 0} → (List Statement → Result X (ℕ × Cause)) → X → Option (List ℕ) → X
+read_in read none file = result_unwrap_or (read (statements_in (bytes_of file))) none
 
--- the site that is loaded from files with this content, or which of the two gives nothing and why
-abbrev pub LoadsSite : (List ℕ → Option (List ℕ)) → RequestData → Result SiteData (FileKind × Unloaded) → Type 0
-LoadsSite files r (Ok site) =
-    (unloaded files r Definitions r.definitions ≡ None) × (unloaded files r Site r.site ≡ None) × (site ≡ site_asked files r)
-LoadsSite files r (Err e) = (e.0 ≢ Script) × FailsToLoad files r e.0 (name_of r e.0) e.1
+abbrev pub no_definitions : DefinitionsData
+no_definitions = record { telemetry = []; commands = []; set_names = [] }
 
--- the counts of files after a site was loaded
-abbrev pub SiteCounts : {T : Type 0} → Result T (FileKind × Unloaded) → FilesSeen → FilesSeen → Type 0
-SiteCounts (Ok site) old new = IsFound old new
-SiteCounts {T} (Err e) old new = LoadCounts {T = T} (Err e.1) old new
+abbrev pub no_site : SiteData
+no_site = record { definitions = no_definitions; interfaces = []; routers = []; api_port = 7777; desks = 4 }
+
+abbrev pub no_events : List (ℕ × Event)
+no_events = []
+
+-- the definitions in the file of this name
+abbrev pub definitions_asked : (List ℕ → Option (List ℕ)) → List ℕ → DefinitionsData
+definitions_asked files name = read_in definitions_read no_definitions (files name)
+
+-- the site in the file of this name, over these definitions
+abbrev pub site_asked_over : (List ℕ → Option (List ℕ)) → DefinitionsData → List ℕ → SiteData
+site_asked_over files definitions name = read_in (site_read definitions) no_site (files name)
+
+-- the site in the files of these names
+abbrev pub site_asked : (List ℕ → Option (List ℕ)) → List ℕ → List ℕ → SiteData
+site_asked files definitions site = site_asked_over files (definitions_asked files definitions) site
+
+-- the events in the file of this name, for a site
+abbrev pub events_asked : (List ℕ → Option (List ℕ)) → SiteData → List ℕ → List (ℕ × Event)
+events_asked files site name = read_in (script_read site) no_events (files name)
+
+-- ---- the phases
+
+abbrev pub definitions_phase : (List ℕ → Option (List ℕ)) → List ℕ → Phase
+definitions_phase files name = reading name (judge Configuration name (λ statements. verdict Configuration name (definitions_read statements))) (files name)
+
+abbrev pub site_phase : (List ℕ → Option (List ℕ)) → DefinitionsData → List ℕ → Phase
+site_phase files definitions name = reading name (judge Configuration name (λ statements. verdict Configuration name (site_read definitions statements))) (files name)
+
+abbrev pub script_phase : (List ℕ → Option (List ℕ)) → SiteData → List ℕ → Phase
+script_phase files site name = reading name (judge Script name (λ statements. verdict Script name (script_read site statements))) (files name)
+
+-- definitions, and then the site over them
+abbrev pub site_phases : (List ℕ → Option (List ℕ)) → List ℕ → List ℕ → List Phase
+site_phases files definitions site = definitions_phase files definitions ∷ site_phase files (definitions_asked files definitions) site ∷ []

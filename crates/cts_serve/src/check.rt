@@ -1,15 +1,46 @@
-// What a check prints.
-ghost use Rattle.cts_serve.specs.Ending.Lines.{counts_line};
-ghost use Rattle.cts_serve.specs.Putting.{PutsText};
+// The room of `check`: how much a site has.
+ghost use Rattle.std.specs.Prelude.{◌≡◌, IfSome, List};
+ghost use Rattle.cts_proto.specs.Meaning.{Meaning};
+ghost use Rattle.cts_serve.specs.Command.{Performs};
+ghost use Rattle.cts_serve.specs.Lines.{counts_line};
+ghost use Rattle.cts_serve.specs.Phases.{FileCounts};
+ghost use Rattle.cts_serve.specs.Putting.{PutsText, SinkCounts};
+ghost use Rattle.cts_serve.specs.declared.words.Command.TheVariants.{Check};
 
-use crate::ending::lines;
-use crate::putting::{Unput, put_text};
+use crate::file_name::FileName;
+use crate::halt::{Halt, lines};
+use crate::load::load_site;
+use crate::putting::{Unput, put_answer, put_text};
 use cts_def::Site;
-use cts_outside::Sink;
+use cts_outside::{Files, Sink};
 use std::alloc::Global;
 
-/// Puts how much a site has. A check is done only where this is put.
-pub fn put_counts<O: Sink>(alloc: Global, site: &Site, out: &mut O) -> Result<(), Unput>
+/// Reads definitions and a site, and puts how much they have. It is done only where this is put. It takes all that can be read,
+/// also what a replay cannot do so far.
+pub fn check<'a, F: Files, O: Sink>(
+    alloc: Global,
+    definitions: &FileName<'a>,
+    site: &FileName<'a>,
+    files: &mut F,
+    out: &mut O,
+) -> Result<(), Halt<'a>>
+    ensures stays { (F.seen files.new).told ≡ (F.seen files.old).told }
+    ensures files { FileCounts result (F.seen files.old) (F.seen files.new) }
+    ensures sink { SinkCounts result (O.seen out.old) (O.seen out.new) }
+    ensures performs { (stock : List Meaning) → IfSome (F.seen files.old).told (λ all. Performs stock all (Check definitions.now site.now) result (O.seen out.old) (O.seen out.new)) }
+{
+    match load_site(alloc, files, definitions, site) {
+        Ok(site) => {
+            let put = put_counts(alloc, &site, out);
+            drop(site);
+            put_answer(put)
+        }
+        Err(halt) => Err(halt),
+    }
+}
+
+// Puts how much a site has.
+fn put_counts<O: Sink>(alloc: Global, site: &Site, out: &mut O) -> Result<(), Unput>
     ensures { PutsText (counts_line site.now) result (O.seen out.old) (O.seen out.new) }
 {
     let line = lines::counts(alloc, site)?;

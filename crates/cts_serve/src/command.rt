@@ -1,35 +1,21 @@
 // The top call.
-ghost use Rattle.std.specs.Prelude.{◌≡◌, ◌≢◌, ◌≤◌, ◌↔◌, ◌⊎◌, List, [], true, map, IfSome, None, Some, Ok};
-ghost use Rattle.cts_core.specs.Built.{is_built_site};
-ghost use Rattle.cts_core.specs.Endings.{GoesOn, held_in};
-ghost use Rattle.cts_core.specs.States.{opening};
-ghost use Rattle.cts_core.specs.Worlds.{Represents};
+ghost use Rattle.std.specs.Prelude.{◌≡◌, ◌≤◌, ◌↔◌, ◌⊎◌, [], false, map, IfSome, None, Some};
 ghost use Rattle.cts_outside.specs.Causes.{Rose, Steady};
-ghost use Rattle.cts_proto.specs.Meaning.{Meaning};
-ghost use Rattle.cts_serve.specs.Command.{Answers, Completes, IsCaused};
-ghost use Rattle.cts_serve.specs.Ending.Lines.{usage_line};
+ghost use Rattle.cts_serve.specs.Command.{Answers, CommandLeaves, Completes, Performs, ShelfAfter, makes_world};
 ghost use Rattle.cts_serve.specs.Laws.{IsBadLog, IsShort};
-ghost use Rattle.cts_serve.specs.Load.{LoadsSite};
-ghost use Rattle.cts_serve.specs.Putting.{Printed};
-ghost use Rattle.cts_serve.specs.Request.Words.{Dumped, Sited, asked};
-ghost use Rattle.cts_serve.specs.Start.{short_kind};
+ghost use Rattle.cts_serve.specs.Lines.{usage_line};
+ghost use Rattle.cts_serve.specs.Phases.{FileCounts};
+ghost use Rattle.cts_serve.specs.Putting.{Printed, SinkCounts};
+ghost use Rattle.cts_serve.specs.Words.{asked};
 
-use crate::check::put_counts;
-use crate::dump::{LOG_LIMIT, dump};
-use crate::ending::status::Status;
-use crate::ending::{
-    end_check, end_dump, end_replay, end_unfetched, end_unloaded, end_unmade, end_usage,
-};
-use crate::load::fetch::fetch;
-use crate::load::file_kind::FileKind;
-use crate::load::load_site;
-use crate::load::script::load_script;
+use crate::check::check;
+use crate::dump::dump;
+use crate::halt::Halt;
+use crate::halt::ending::{end, end_misused};
+use crate::halt::status::Status;
 use crate::replay::replay;
-use crate::request::Request;
-use crate::request::words::{Asked, read_words};
-use crate::start::start;
-use cts_core::{Framer, Supplier, World};
-use cts_def::Site;
+use crate::words::{Command, read_words};
+use cts_core::{Framer, Supplier};
 use cts_outside::{Files, Sink};
 use std::alloc::Global;
 
@@ -69,6 +55,10 @@ pub fn run<C: Framer, B: Supplier<C>, F: Files, O: Sink>(
     // And there no other status comes, where no count rose, but want of memory.
     ensures shelf { Steady (F.seen files.old).faults (F.seen files.new).faults → Steady (O.seen out.old).faults (O.seen out.new).faults
         → IfSome (F.seen files.old).told (λ all. IsShort (B.stock shelf.old) all (asked (map (λ w. w.now) words.now)) → (result ≡ Status.ShelfEmpty) ⊎ (result ≡ Status.Memory)) }
+    // A command that makes no world leaves the shelf.
+    ensures untouched { makes_world (asked (map (λ w. w.now) words.now)) ≡ false → B.stock shelf.new ≡ B.stock shelf.old }
+    // A replay that halts before its world is made leaves it too; and else exactly the boxes of all chains of its site are gone.
+    ensures boxes { IfSome (F.seen files.old).told (λ all. ShelfAfter all (asked (map (λ w. w.now) words.now)) result (B.stock shelf.old) (B.stock shelf.new)) }
     // Only where a dump is asked for of a file that is too large, or is no head with whole entries alone behind it.
     ensures refused { result ≡ Status.LogRefused → IfSome (F.seen files.old).told (λ all. IsBadLog all (asked (map (λ w. w.now) words.now))) }
     // And there no other status comes, where no count rose, but want of memory.
@@ -81,111 +71,36 @@ pub fn run<C: Framer, B: Supplier<C>, F: Files, O: Sink>(
         → IfSome (F.seen files.old).told (λ all. Completes (B.stock shelf.old) all (asked (map (λ w. w.now) words.now)) result) }
 {
     match read_words(words) {
-        None => end_usage(out),
-        Some(Asked::Sited(request)) => {
-            do_request::<C, B, F, O>(alloc, &request, shelf, files, out)
+        Some(command) => {
+            let done = perform::<C, B, F, O>(alloc, &command, shelf, files, out);
+            end(alloc, done, out)
         }
-        Some(Asked::Dumped(log)) => dump_log(alloc, log, files, out),
+        None => end_misused(out),
     }
 }
 
-// Reads the files and does what is asked of them.
-fn do_request<C: Framer, B: Supplier<C>, F: Files, O: Sink>(
+// Does a command in its room, until all is done or it halts.
+fn perform<'a, C: Framer, B: Supplier<C>, F: Files, O: Sink>(
     alloc: Global,
-    request: &Request<'_>,
+    command: &Command<'a>,
     shelf: &mut B,
     files: &mut F,
     out: &mut O,
-) -> Status
-    ensures usage { result ≢ Status.Usage }
+) -> Result<(), Halt<'a>>
     ensures stays { (F.seen files.new).told ≡ (F.seen files.old).told }
-    ensures caused { IsCaused result (F.seen files.old) (F.seen files.new) (O.seen out.old) (O.seen out.new) }
-    ensures transcript { IfSome (F.seen files.old).told (λ all. Answers (B.stock shelf.old) all (Some (Sited request.now)) result (O.seen out.old) (O.seen out.new)) }
+    ensures files { FileCounts result (F.seen files.old) (F.seen files.new) }
+    ensures sink { SinkCounts result (O.seen out.old) (O.seen out.new) }
+    ensures performs { IfSome (F.seen files.old).told (λ all. Performs (B.stock shelf.old) all command.now result (O.seen out.old) (O.seen out.new)) }
+    ensures untouched { makes_world (Some command.now) ≡ false → B.stock shelf.new ≡ B.stock shelf.old }
+    ensures boxes { IfSome (F.seen files.old).told (λ all. CommandLeaves all command.now result (B.stock shelf.old) (B.stock shelf.new)) }
 {
-    match load_site(alloc, files, request) {
-        Ok(site) => match request.script {
-            None => {
-                let checked = put_counts(alloc, &site, out);
-                drop(site);
-                end_check(checked, out)
-            }
-            Some(script) => replay_site::<C, B, F, O>(
-                alloc, request, script, site, shelf, files, out,
-            ),
-        },
-        Err((kind, why)) => end_unloaded(alloc, request.name_of(kind), kind, why, out),
-    }
-}
-
-// Makes the world of the site, and replays the script in it.
-fn replay_site<C: Framer, B: Supplier<C>, F: Files, O: Sink>(
-    alloc: Global,
-    request: &Request<'_>,
-    script: &str,
-    site: Site,
-    shelf: &mut B,
-    files: &mut F,
-    out: &mut O,
-) -> Status
-    requires asked { request.now.script ≡ Some script.now }
-    requires taken { IfSome (F.seen files.old).told (λ all. LoadsSite all request.now (Ok site)) }
-    requires built { is_built_site site ≡ true }
-    ensures usage { result ≢ Status.Usage }
-    ensures stays { (F.seen files.new).told ≡ (F.seen files.old).told }
-    ensures caused { IsCaused result (F.seen files.old) (F.seen files.new) (O.seen out.old) (O.seen out.new) }
-    ensures transcript { IfSome (F.seen files.old).told (λ all. Answers (B.stock shelf.old) all (Some (Sited request.now)) result (O.seen out.old) (O.seen out.new)) }
-{
-    match start::<C, B>(alloc, site, shelf) {
-        Ok(world) => replay_script(alloc, request, script, world, files, out),
-        Err(why) => end_unmade(alloc, why, out),
-    }
-}
-
-// Reads the script and replays it in a world in which nothing has happened, for which the shelf had all boxes.
-fn replay_script<C: Framer, F: Files, O: Sink>(
-    alloc: Global,
-    request: &Request<'_>,
-    script: &str,
-    world: World<C>,
-    files: &mut F,
-    out: &mut O,
-) -> Status
-    requires asked { request.now.script ≡ Some script.now }
-    requires taken { IfSome (F.seen files.old).told (λ all. LoadsSite all request.now (Ok (held_in world).basis.site)) }
-    requires world { Represents (held_in world).basis.site (held_in world) opening }
-    requires going { GoesOn world }
-    ensures usage { result ≢ Status.Usage }
-    ensures stays { (F.seen files.new).told ≡ (F.seen files.old).told }
-    ensures caused { IsCaused result (F.seen files.old) (F.seen files.new) (O.seen out.old) (O.seen out.new) }
-    ensures transcript { (stock : List Meaning) → short_kind stock (held_in world).basis.site ≡ None
-        → IfSome (F.seen files.old).told (λ all. Answers stock all (Some (Sited request.now)) result (O.seen out.old) (O.seen out.new)) }
-{
-    match load_script(alloc, files, script, world.hall().site()) {
-        Ok(events) => {
-            let replayed = replay(alloc, events.as_slice(), world, out);
-            drop(events);
-            end_replay(alloc, script, replayed, out)
-        }
-        Err(why) => {
-            drop(world);
-            end_unloaded(alloc, script, FileKind::Script, why, out)
-        }
-    }
-}
-
-// Reads a log, and puts the lines of its entries.
-fn dump_log<F: Files, O: Sink>(alloc: Global, log: &str, files: &mut F, out: &mut O) -> Status
-    ensures usage { result ≢ Status.Usage }
-    ensures stays { (F.seen files.new).told ≡ (F.seen files.old).told }
-    ensures caused { IsCaused result (F.seen files.old) (F.seen files.new) (O.seen out.old) (O.seen out.new) }
-    ensures transcript { (stock : List Meaning) → IfSome (F.seen files.old).told (λ all. Answers stock all (Some (Dumped log.now)) result (O.seen out.old) (O.seen out.new)) }
-{
-    match fetch(alloc, files, log, LOG_LIMIT as usize) {
-        Ok(bytes) => {
-            let dumped = dump(alloc, bytes.as_slice(), out);
-            drop(bytes);
-            end_dump(alloc, dumped, out)
-        }
-        Err(why) => end_unfetched(alloc, log, why, out),
+    match command {
+        Command::Check { definitions, site } => check(alloc, definitions, site, files, out),
+        Command::Replay {
+            definitions,
+            site,
+            script,
+        } => replay::<C, B, F, O>(alloc, definitions, site, script, shelf, files, out),
+        Command::Dump { log } => dump(alloc, log, files, out),
     }
 }

@@ -1,36 +1,65 @@
-// The lines of a log file.
-ghost use Rattle.std.specs.Prelude.{[]};
+// The room of `dump`: the lines of a log file.
+ghost use Rattle.std.specs.Prelude.{◌≡◌, [], IfSome, List};
 ghost use Rattle.cts_log.specs.Reading.{HasRead, logged};
+ghost use Rattle.cts_proto.specs.Meaning.{Meaning};
+ghost use Rattle.cts_serve.specs.Command.{Performs};
 ghost use Rattle.cts_serve.specs.Dump.{PutsEntry, PutsLines, PutsLog};
+ghost use Rattle.cts_serve.specs.Phases.{FileCounts};
+ghost use Rattle.cts_serve.specs.Putting.{SinkCounts};
+ghost use Rattle.cts_serve.specs.declared.words.Command.TheVariants.{Dump};
 
-pub mod halt;
-
+use crate::file_name::FileName;
+use crate::halt::Halt;
+use crate::load::file::read_file;
 use crate::putting::{Unput, put_text};
 use cts_log::{LogEntry, LogFault, LogReader, dump_line};
-use cts_outside::Sink;
-use halt::DumpHalt;
+use cts_outside::{Files, Sink};
 use std::alloc::Global;
 
-/// The greatest log that is taken.
-pub const LOG_LIMIT: u64 = 1_073_741_824;
+// The greatest log that is taken.
+const LOG_LIMIT: u64 = 1_073_741_824;
 
-/// Puts the line of each whole entry of a log, in order, and says where the log ends otherwise than with one.
-pub fn dump<O: Sink>(alloc: Global, file: &[u8], out: &mut O) -> Result<(), DumpHalt>
+/// Puts the line of each whole entry of a log. It halts where the log is not a head with whole entries alone after it, and before
+/// any line where the file is too large.
+pub fn dump<'a, F: Files, O: Sink>(
+    alloc: Global,
+    log: &FileName<'a>,
+    files: &mut F,
+    out: &mut O,
+) -> Result<(), Halt<'a>>
+    ensures stays { (F.seen files.new).told ≡ (F.seen files.old).told }
+    ensures files { FileCounts result (F.seen files.old) (F.seen files.new) }
+    ensures sink { SinkCounts result (O.seen out.old) (O.seen out.new) }
+    ensures performs { (stock : List Meaning) → IfSome (F.seen files.old).told (λ all. Performs stock all (Dump log.now) result (O.seen out.old) (O.seen out.new)) }
+{
+    let large = Halt::LogRefused { place: LOG_LIMIT };
+    match read_file(alloc, files, log, LOG_LIMIT as usize, large) {
+        Ok(bytes) => {
+            let dumped = put_log(alloc, bytes.as_slice(), out);
+            drop(bytes);
+            dumped
+        }
+        Err(halt) => Err(halt),
+    }
+}
+
+// Puts the line of each whole entry of a log, in order, and says where the log ends otherwise than with one.
+fn put_log<'a, O: Sink>(alloc: Global, file: &[u8], out: &mut O) -> Result<(), Halt<'a>>
     ensures { PutsLog file.now result (O.seen out.old) (O.seen out.new) }
 {
     let mut reader = LogReader::new(file);
     if reader.kind().is_none() {
-        return Err(DumpHalt::Refused { place: 0 });
+        return Err(Halt::LogRefused { place: 0 });
     }
     put_entries(alloc, &mut reader, out)
 }
 
 // Puts the lines of the entries of a log whose head was read.
-fn put_entries<O: Sink>(
+fn put_entries<'a, O: Sink>(
     alloc: Global,
     reader: &mut LogReader<'_>,
     out: &mut O,
-) -> Result<(), DumpHalt>
+) -> Result<(), Halt<'a>>
     requires { HasRead reader.old [] }
     ensures { PutsLines reader.old.file result (O.seen out.old) (O.seen out.new) }
 {
@@ -38,12 +67,12 @@ fn put_entries<O: Sink>(
         match reader.next() {
             Ok(Some(entry)) => match put_entry(alloc, &entry, out) {
                 Ok(()) => {}
-                Err(Unput::WriteFault) => return Err(DumpHalt::WriteFault),
-                Err(Unput::Memory) => return Err(DumpHalt::Memory),
+                Err(Unput::WriteFault) => return Err(Halt::WriteFault),
+                Err(Unput::Memory) => return Err(Halt::Memory),
             },
             Ok(None) => return Ok(()),
-            Err(LogFault::BadHead) => return Err(DumpHalt::Refused { place: 0 }),
-            Err(LogFault::Cut { place }) => return Err(DumpHalt::Refused { place }),
+            Err(LogFault::BadHead) => return Err(Halt::LogRefused { place: 0 }),
+            Err(LogFault::Cut { place }) => return Err(Halt::LogRefused { place }),
         }
     }
 }

@@ -4,14 +4,15 @@
 mod check;
 mod command;
 mod dump;
-mod ending;
+mod file_name;
+mod halt;
 mod laws;
 mod load;
 mod putting;
 mod replay;
-mod request;
-mod start;
+mod story;
+mod words;
 
 pub use command::run;
-pub use ending::status::Status;
+pub use halt::status::Status;
 pub use laws::outcomes;

@@ -1,40 +1,35 @@
-// The files of a command, read and taken.
-ghost use Rattle.std.specs.Prelude.{◌≡◌, true, IfOk, IfSome};
-ghost use Rattle.cts_core.specs.Built.{is_built_site};
-ghost use Rattle.cts_serve.specs.Load.{LoadsSite, SiteCounts, is_taken};
+// Files, read and taken. Which command needs them is not known here.
+ghost use Rattle.std.specs.Prelude.{◌≡◌, IfSome};
+ghost use Rattle.cts_serve.specs.Load.{site_asked, site_phases};
+ghost use Rattle.cts_serve.specs.Phases.{LoadCounts, Takes};
 
 pub mod configuration;
 pub mod fetch;
-pub mod file_kind;
+pub mod file;
 pub mod script;
 pub mod statements;
-pub mod unloaded;
 
-use crate::request::Request;
+use crate::file_name::FileName;
+use crate::halt::Halt;
 use configuration::{load_definitions, load_plan};
 use cts_def::Site;
 use cts_outside::Files;
-use file_kind::FileKind;
 use std::alloc::Global;
-use unloaded::Unloaded;
 
-/// Reads the definitions and then the site, each with its refusals before the next file is read. A
-/// check takes all that can be read, and a replay what is built.
-pub fn load_site<F: Files>(
+/// Reads the definitions of this name and then the site of this name over them, each with its refusals before the next file is
+/// read.
+pub fn load_site<'a, F: Files>(
     alloc: Global,
     files: &mut F,
-    request: &Request<'_>,
-) -> Result<Site, (FileKind, Unloaded)>
+    definitions: &FileName<'a>,
+    site: &FileName<'a>,
+) -> Result<Site, Halt<'a>>
     ensures stays { (F.seen files.new).told ≡ (F.seen files.old).told }
-    ensures content { IfSome (F.seen files.old).told (λ all. LoadsSite all request.now result) }
-    ensures built { IfOk result (λ site. is_taken request.now is_built_site site ≡ true) }
-    ensures counts { SiteCounts result (F.seen files.old) (F.seen files.new) }
+    ensures content { IfSome (F.seen files.old).told (λ all. Takes (site_phases all definitions.now site.now) (site_asked all definitions.now site.now) result) }
+    ensures counts { LoadCounts result (F.seen files.old) (F.seen files.new) }
 {
-    match load_definitions(alloc, files, request) {
-        Ok(definitions) => match load_plan(alloc, files, request, definitions) {
-            Ok(site) => Ok(site),
-            Err(why) => Err((FileKind::Site, why)),
-        },
-        Err(why) => Err((FileKind::Definitions, why)),
+    match load_definitions(alloc, files, definitions) {
+        Ok(found) => load_plan(alloc, files, site, found),
+        Err(halt) => Err(halt),
     }
 }

@@ -1,15 +1,13 @@
 // Configuration files: definitions, and the site over them.
-ghost use Rattle.std.specs.Prelude.{◌≡◌, true, IfOk, IfSome};
-ghost use Rattle.cts_core.specs.Built.{is_built_site};
-ghost use Rattle.cts_serve.specs.Load.{is_taken};
-ghost use Rattle.cts_serve.specs.Load.Fetching.{Takes, LoadCounts};
-ghost use Rattle.cts_serve.specs.Load.Judging.{judge_definitions, judge_site, definitions_in, site_in};
+ghost use Rattle.std.specs.Prelude.{◌≡◌, IfSome};
+ghost use Rattle.cts_serve.specs.Load.{definitions_asked, definitions_phase, site_asked_over, site_phase};
+ghost use Rattle.cts_serve.specs.Phases.{LoadCounts, TakesAt};
 
-use crate::load::file_kind::FileKind;
+use crate::file_name::FileName;
+use crate::halt::Halt;
+use crate::halt::cause::Cause;
+use crate::halt::file_kind::FileKind;
 use crate::load::statements::read_statements;
-use crate::load::unloaded::{Cause, Unloaded};
-use crate::request::Request;
-use cts_core::is_built_site;
 use cts_def::{Definitions, Site};
 use cts_defread::{DefFault, read_definitions};
 use cts_outside::Files;
@@ -17,58 +15,48 @@ use cts_plan::{SiteFault, read_site};
 use std::alloc::Global;
 
 /// Reads the definitions.
-pub fn load_definitions<F: Files>(
+pub fn load_definitions<'a, F: Files>(
     alloc: Global,
     files: &mut F,
-    request: &Request<'_>,
-) -> Result<Definitions, Unloaded>
+    name: &FileName<'a>,
+) -> Result<Definitions, Halt<'a>>
     ensures stays { (F.seen files.new).told ≡ (F.seen files.old).told }
-    ensures content { IfSome (F.seen files.old).told (λ all. Takes judge_definitions definitions_in (all request.now.definitions) result) }
+    ensures content { IfSome (F.seen files.old).told (λ all. TakesAt (definitions_phase all name.now) (definitions_asked all name.now) result) }
     ensures counts { LoadCounts result (F.seen files.old) (F.seen files.new) }
 {
-    let found = read_statements(alloc, files, request.definitions, FileKind::Definitions)?;
+    let found = read_statements(alloc, files, name, FileKind::Configuration)?;
     match read_definitions(alloc, &found) {
         Ok(definitions) => Ok(definitions),
-        Err(DefFault::Refused { line, cause }) => Err(Unloaded::Refused {
+        Err(DefFault::Refused { line, cause }) => Err(Halt::Refused {
+            name: name.again(),
+            kind: FileKind::Configuration,
             line,
             cause: Cause::Definition(cause),
         }),
-        Err(DefFault::Memory) => Err(Unloaded::Memory),
+        Err(DefFault::Memory) => Err(Halt::Memory),
     }
 }
 
 /// Reads the site over its definitions.
-pub fn load_plan<F: Files>(
+pub fn load_plan<'a, F: Files>(
     alloc: Global,
     files: &mut F,
-    request: &Request<'_>,
+    name: &FileName<'a>,
     definitions: Definitions,
-) -> Result<Site, Unloaded>
+) -> Result<Site, Halt<'a>>
     ensures stays { (F.seen files.new).told ≡ (F.seen files.old).told }
-    ensures content { IfSome (F.seen files.old).told (λ all. Takes (judge_site (is_taken request.now is_built_site) definitions) (site_in definitions) (all request.now.site) result) }
-    ensures built { IfOk result (λ site. is_taken request.now is_built_site site ≡ true) }
+    ensures content { IfSome (F.seen files.old).told (λ all. TakesAt (site_phase all definitions name.now) (site_asked_over all definitions name.now) result) }
     ensures counts { LoadCounts result (F.seen files.old) (F.seen files.new) }
 {
-    let found = read_statements(alloc, files, request.site, FileKind::Site)?;
+    let found = read_statements(alloc, files, name, FileKind::Configuration)?;
     match read_site(alloc, &found, definitions) {
-        Ok(site) => {
-            if takes_site(request, &site) {
-                return Ok(site);
-            }
-            drop(site);
-            Err(Unloaded::NotBuilt)
-        }
-        Err(SiteFault::Refused { line, cause }) => Err(Unloaded::Refused {
+        Ok(site) => Ok(site),
+        Err(SiteFault::Refused { line, cause }) => Err(Halt::Refused {
+            name: name.again(),
+            kind: FileKind::Configuration,
             line,
             cause: Cause::Site(cause),
         }),
-        Err(SiteFault::Memory) => Err(Unloaded::Memory),
+        Err(SiteFault::Memory) => Err(Halt::Memory),
     }
-}
-
-// A check takes each site, and a replay one that is built.
-fn takes_site(request: &Request<'_>, site: &Site) -> bool
-    ensures { result ≡ is_taken request.now is_built_site site.now }
-{
-    request.script.is_none() || is_built_site(site)
 }

@@ -1,6 +1,6 @@
 // Reads a whole file, up to a limit.
 ghost use Rattle.std.specs.Prelude.{◌≡◌, ◌<◌, ◌≤◌, ◌^◌, length, vec_len, IfOk, IfSome};
-ghost use Rattle.cts_serve.specs.Load.Fetching.{FetchGives, FetchCounts};
+ghost use Rattle.cts_serve.specs.Load.Files.{FetchCounts, FetchGives};
 ghost use Rattle.cts_serve.specs.declared.load.fetch.FetchFault.TheVariants.{Memory as NoMemory};
 
 use cts_base::{Bytes, Memory};

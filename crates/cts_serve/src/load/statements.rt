@@ -1,31 +1,69 @@
 // The statements of a file.
 ghost use Rattle.std.specs.Prelude.{◌≡◌, IfSome};
-ghost use Rattle.cts_serve.specs.Load.Fetching.{GivesStatements, LoadCounts, answer_seen};
+ghost use Rattle.cts_serve.specs.Causes.{words_cause, words_halt};
+ghost use Rattle.cts_serve.specs.Load.Files.{GivesStatements};
+ghost use Rattle.cts_serve.specs.Phases.{LoadCounts, answer_seen};
 
-use crate::load::fetch::fetch;
-use crate::load::file_kind::FileKind;
-use crate::load::unloaded::Unloaded;
+use crate::file_name::FileName;
+use crate::halt::Halt;
+use crate::halt::cause::Cause;
+use crate::halt::file_kind::FileKind;
+use crate::load::file::read_file;
 use cts_outside::Files;
-use cts_words::{Statement, statements};
+use cts_words::{Statement, WordFault, statements};
 use std::alloc::Global;
 
 // The greatest file that is taken.
 const FILE_LIMIT: usize = 67_108_864;
 
 /// The statements of a file. Its bytes are let go before anything is made of them.
-pub fn read_statements<F: Files>(
+pub fn read_statements<'a, F: Files>(
     alloc: Global,
     files: &mut F,
-    name: &str,
+    name: &FileName<'a>,
     kind: FileKind,
-) -> Result<Vec<Statement>, Unloaded>
+) -> Result<Vec<Statement>, Halt<'a>>
     ensures stays { (F.seen files.new).told ≡ (F.seen files.old).told }
-    ensures content { IfSome (F.seen files.old).told (λ all. GivesStatements kind (all name.now) (answer_seen (λ v. v.items) result)) }
+    ensures content { IfSome (F.seen files.old).told (λ all. GivesStatements kind name.now (all name.now) (answer_seen (λ v. v.items) result)) }
     ensures counts { LoadCounts result (F.seen files.old) (F.seen files.new) }
 {
-    let bytes = fetch(alloc, files, name, FILE_LIMIT)?;
+    let large = Halt::Refused {
+        name: name.again(),
+        kind,
+        line: 0,
+        cause: Cause::TooLarge,
+    };
+    let bytes = read_file(alloc, files, name, FILE_LIMIT, large)?;
     match statements(alloc, bytes.as_slice()) {
         Ok(found) => Ok(found),
-        Err(fault) => Err(Unloaded::of_words(kind, fault)),
+        Err(fault) => Err(words_halt(name, kind, fault)),
+    }
+}
+
+// Why a command halts at a file of this kind whose words have this fault. A text that is none has no lines.
+fn words_halt<'a>(name: &FileName<'a>, kind: FileKind, fault: WordFault) -> Halt<'a>
+    ensures { result ≡ words_halt kind name.now fault }
+{
+    let (line, cause) = match fault {
+        WordFault::OpenQuote(line) => (line, Cause::OpenQuote),
+        WordFault::DanglingJoin(line) => (line, Cause::DanglingJoin),
+        WordFault::NotText(_) => (0, Cause::NotText),
+        WordFault::Memory => return Halt::Memory,
+    };
+    Halt::Refused {
+        name: name.again(),
+        kind,
+        line,
+        cause: words_cause(kind, cause),
+    }
+}
+
+// The cause that is told of the words of a file of this kind.
+fn words_cause(kind: FileKind, cause: Cause) -> Cause
+    ensures { result ≡ words_cause kind cause }
+{
+    match kind {
+        FileKind::Script => Cause::WrongCount,
+        FileKind::Configuration => cause,
     }
 }

@@ -1,5 +1,4 @@
-use Rattle.cts_serve.proofs.LawLemmas.{has_outcome, has_one_outcome, short_exactly}
-use Rattle.cts_serve.proofs.RefusedLogLemmas.{refused_exactly}
+use Rattle.cts_serve.proofs.LawLemmas.{has_outcome, has_one_outcome, refused_exactly, short_exactly}
 use Rattle.cts_serve.proofs.laws.outcomes.Goals as goal
 
 pub returns : goal.returns

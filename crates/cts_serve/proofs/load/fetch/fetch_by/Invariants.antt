@@ -1,5 +1,5 @@
 use Rattle.std.proofs.Common.{◌≡◌, ◌+◌, ◌-◌, ◌<◌, length, IfSome, vec_len}
-use Rattle.cts_serve.specs.Load.Fetching.{IsFound}
+use Rattle.cts_serve.specs.Phases.{IsFound}
 use Rattle.cts_serve.proofs.LoadLemmas.{Begins}
 use Rattle.cts_serve.proofs.load.fetch.fetch_by.Given as goal
 

@@ -1,0 +1,78 @@
+-- What a story tells of an event, from what the world and the follower say.
+use Rattle.std.proofs.Common.{◌≡◌, ℕ, ◌≤◌, ◌++◌, List, length, take, drop, None, Ok, Err, sym, ◌∙◌, ap, subst, arith, length-append}
+use Rattle.std.proofs.Math.Seq.{drop-append_seam, take-append_seam}
+use Rattle.cts_core.specs.Endings.{WorldData, held_in, lasting}
+use Rattle.cts_core.specs.Environments.{basis_of}
+use Rattle.cts_core.specs.Runs.{Did, after}
+use Rattle.cts_core.specs.States.{State}
+use Rattle.cts_core.specs.Worlds.{Represents, Steps}
+use Rattle.cts_core.specs.declared.fault.WorldFault.{WorldFault}
+use Rattle.cts_core.specs.declared.fault.WorldFault.TheVariants as fault
+use Rattle.cts_def.specs.Sites.{SiteData}
+use Rattle.cts_entry.specs.declared.entry.Entry.{Entry}
+use Rattle.cts_entry.specs.declared.event.Effect.{Effect}
+use Rattle.cts_entry.specs.declared.event.Event.{Event}
+use Rattle.cts_script.specs.Effects.{effect_line}
+use Rattle.cts_serve.specs.Story.{Stands, StoryData, Tells}
+use Rattle.cts_serve.specs.Transcript.{event_text, lines_of}
+use Rattle.cts_table.specs.declared.basis.Basis.{Basis}
+use Rattle.cts_watch.specs.Following.{FollowerData, Follows}
+
+-- the site of the basis that a story stands on is its site
+pub site_is : (site : SiteData) (s : State) (story : StoryData) → Stands site s story → (held_in story.world).basis.site ≡ site
+site_is site s story h = ap (λ (b : Basis). b.site) h.represents.basis
+
+-- nothing was done
+pub refused_tells : (site : SiteData) (s : State) (event : Event) (old : StoryData) (world : WorldData) (why : WorldFault)
+    → Stands site s old → Steps (basis_of site) s event (held_in old.world) (Err why) (held_in world) → world.ended ≡ lasting (Err why) → Tells site s event (Err why) (record { world = world; follower = old.follower })
+refused_tells site s event old world fault.NotEnabled h k e = (k.0, record { represents = k.2; going = e; follows = h.follows })
+refused_tells site s event old world (fault.Full entries bytes) h k e = (k.0, k.1, k.2)
+refused_tells site s event old world fault.Memory h k e = tt
+
+-- an event was done, and n entries stood before it; the hall shows these entries on this basis
+module _ (site : SiteData) (s : State) (event : Event) (did : Did) (old : StoryData) (world : WorldData) (h : Stands site s old) (k : Represents site (held_in world) (after s event did))
+    (n : ℕ) (entries : List Entry) (basis : Basis) (number : n ≡ length (held_in old.world).history) (there : entries ≡ (held_in world).history) (on : basis ≡ (held_in world).basis) where
+  all_is : entries ≡ s.history ++ did.entries
+  all_is = there ∙ k.history
+
+  count_is : n ≡ length s.history
+  count_is = number ∙ ap (λ (t : List Entry). length t) h.represents.history
+
+  front_is : take n entries ≡ s.history
+  front_is = ap (λ (m : ℕ). take m entries) count_is ∙ ap (λ (t : List Entry). take (length s.history) t) all_is ∙ take-append_seam s.history did.entries
+
+  back_is : drop n entries ≡ did.entries
+  back_is = ap (λ (m : ℕ). drop m entries) count_is ∙ ap (λ (t : List Entry). drop (length s.history) t) all_is ∙ drop-append_seam s.history did.entries
+
+  on_site : basis.site ≡ site
+  on_site = ap (λ (b : Basis). b.site) (on ∙ k.basis)
+
+  pub within_new : n ≤ length entries
+  within_new = omega (arith, count_is, ap length all_is, length-append s.history did.entries)
+
+  -- what followed the history before follows the front
+  pub follows_front : Follows basis.site (take n entries) old.follower
+  follows_front = subst (λ (l : List Entry). Follows basis.site l old.follower) (sym front_is) (subst (λ (t : SiteData). Follows t s.history old.follower) (sym on_site) h.follows)
+
+  text_is : (effect : Effect) → effect ≡ did.effect → lines_of basis.site (take n entries) (drop n entries) ++ effect_line basis.site effect ≡ event_text site s.history did
+  text_is effect gives =
+      ap (λ (t : List Entry). lines_of basis.site t (drop n entries) ++ effect_line basis.site effect) front_is
+      ∙ ap (λ (t : List Entry). lines_of basis.site s.history t ++ effect_line basis.site effect) back_is
+      ∙ ap (λ (t : SiteData). lines_of t s.history did.entries ++ effect_line t effect) on_site
+      ∙ ap (λ (f : Effect). lines_of site s.history did.entries ++ effect_line site f) gives
+
+  stands_on : (follower : FollowerData) → world.ended ≡ None → Follows basis.site entries follower → Stands site (after s event did) (record { world = world; follower = follower })
+  stands_on follower e f = record {
+    represents = k;
+    going = e;
+    follows = subst (λ (l : List Entry). Follows site l follower) all_is (subst (λ (t : SiteData). Follows t entries follower) on_site f);
+  }
+
+-- its text is told
+pub done_tells : (site : SiteData) (s : State) (event : Event) (old : StoryData) (world : WorldData) (follower : FollowerData) (effect : Effect)
+    → Stands site s old → Steps (basis_of site) s event (held_in old.world) (Ok effect) (held_in world) → world.ended ≡ lasting (Ok effect)
+    → (n : ℕ) (entries : List Entry) (basis : Basis) (text : List ℕ) → n ≡ length (held_in old.world).history → entries ≡ (held_in world).history → basis ≡ (held_in world).basis
+    → text ≡ lines_of basis.site (take n entries) (drop n entries) ++ effect_line basis.site effect → Follows basis.site entries follower
+    → Tells site s event (Ok text) (record { world = world; follower = follower })
+done_tells site s event old world follower effect h k e n entries basis text number there on t f =
+    (k.0, k.1, t ∙ text_is site s event k.0 old world h k.3 n entries basis number there on effect k.2, stands_on site s event k.0 old world h k.3 n entries basis number there on follower e f)

@@ -1,0 +1,131 @@
+// A story: a world, and what follows its limits states. Events go in, and the text of what each did comes out.
+pub mod text;
+
+use cts_base::{Bytes, Memory};
+use cts_chain::ChainFault;
+use cts_core::{Framer, Supplier, World, WorldFault};
+use cts_def::Site;
+use cts_entry::Event;
+use cts_watch::Follower;
+use std::alloc::Global;
+use std::marker::Model;
+use std::sync::Arc;
+use text::event_text;
+
+/// The world of a site, and what follows its history.
+#[derive(Drop)]
+pub struct Story<C: Framer> {
+    world: World<C>,
+    follower: Follower,
+}
+
+impl<C: Framer> Model for Story<C> {
+    ghost use Rattle.cts_serve.specs.Story.{StoryData};
+
+    ghost Value = { StoryData };
+
+    ghost view = { λ s. record { world = s.world; follower = s.follower } };
+}
+
+impl<C: Framer> Story<C> {
+    ghost use Rattle.std.specs.Prelude.{◌≡◌, [], length, true, IfErr, IfOk, None, OnErr, OnOk};
+    ghost use Rattle.cts_chain.specs.Builds.{FaultIs, Taken, uses_in};
+    ghost use Rattle.cts_core.specs.Built.{is_built_event, is_built_site};
+    ghost use Rattle.cts_core.specs.Endings.{held_in};
+    ghost use Rattle.cts_core.specs.States.{State, opening};
+    ghost use Rattle.cts_def.specs.Sites.{SiteData};
+    ghost use Rattle.cts_serve.specs.Start.{short_kind};
+    ghost use Rattle.cts_serve.specs.Story.{Stands, Tells, site_told};
+    ghost use Rattle.cts_watch.specs.Following.{Follows};
+
+    /// A story of a site, which has to be built, before anything has happened. The boxes of its chains are taken from the shelf.
+    ///
+    /// # Errors
+    ///
+    /// `ShelfEmpty` with the first kind, in their order, of which all chains of the site together need more boxes than the shelf
+    /// holds, and `Memory`. After either the shelf is as it was.
+    pub fn begin<B: Supplier<C>>(
+        alloc: Global,
+        site: Site,
+        shelf: &mut B,
+    ) -> Result<Story<C>, ChainFault>
+        requires { is_built_site site ≡ true }
+        ensures stands { IfOk result (λ story. Stands site opening story) }
+        ensures enough { OnOk result (short_kind (B.stock shelf.old) site ≡ None) }
+        ensures taken { OnOk result (Taken (B.stock shelf.old) (uses_in site.interfaces) (B.stock shelf.new)) }
+        ensures fault { IfErr result (λ e. FaultIs (B.stock shelf.old) (uses_in site.interfaces) e) }
+        ensures kept { OnErr result (B.stock shelf.new ≡ B.stock shelf.old) }
+    {
+        if let Some(fault) = World::<C>::shortage(&site, shelf) {
+            return Err(fault);
+        }
+        match Follower::begin(alloc, &site) {
+            Ok(follower) => Story::over(alloc, site, follower, shelf),
+            Err(Memory) => Err(ChainFault::Memory),
+        }
+    }
+
+    // The same with what follows a history in which nothing has happened. No kind is short.
+    fn over<B: Supplier<C>>(
+        alloc: Global,
+        site: Site,
+        follower: Follower,
+        shelf: &mut B,
+    ) -> Result<Story<C>, ChainFault>
+        requires built { is_built_site site ≡ true }
+        requires follows { Follows site [] follower }
+        requires stocked { short_kind (B.stock shelf.old) site ≡ None }
+        ensures stands { IfOk result (λ story. Stands site opening story) }
+        ensures taken { OnOk result (Taken (B.stock shelf.old) (uses_in site.interfaces) (B.stock shelf.new)) }
+        ensures fault { IfErr result (λ e. FaultIs (B.stock shelf.old) (uses_in site.interfaces) e) }
+        ensures kept { OnErr result (B.stock shelf.new ≡ B.stock shelf.old) }
+    {
+        match Arc::new(alloc, site) {
+            Ok(site) => match World::new(alloc, site, shelf) {
+                Ok(world) => Ok(Story { world, follower }),
+                Err(why) => Err(why),
+            },
+            Err(_) => Err(ChainFault::Memory),
+        }
+    }
+
+    /// Its site.
+    pub fn site(&self) -> &Site
+        ensures { result.now ≡ site_told self.now }
+    {
+        self.world.hall().site()
+    }
+
+    /// How many entries stand in its history.
+    pub fn count(&self) -> usize
+        ensures { result ≡ length (held_in self.now.world).history }
+    {
+        self.world.hall().entries().len()
+    }
+
+    /// Does an event, which has to be built, and tells its text: the lines of its entries, each with its limits events after it,
+    /// and then that of what the event gives besides.
+    ///
+    /// # Errors
+    ///
+    /// As `step` of `cts_core`; `Memory` also where the text finds none.
+    pub fn tell(&mut self, alloc: Global, event: &Event) -> Result<Bytes, WorldFault>
+        requires event { is_built_event event.now ≡ true }
+        requires stands { (site : SiteData) × (s : State) × Stands site s self.old }
+        ensures { (site : SiteData) (s : State) → Stands site s self.old → Tells site s event.now result self.new }
+    {
+        let before = self.world.hall().entries().len();
+        match self.world.step(event) {
+            Ok(effect) => {
+                let hall = self.world.hall();
+                let told = event_text(alloc, hall, &mut self.follower, before, &effect);
+                drop(effect);
+                match told {
+                    Ok(text) => Ok(Bytes::of(text)),
+                    Err(Memory) => Err(WorldFault::Memory),
+                }
+            }
+            Err(fault) => Err(fault),
+        }
+    }
+}
