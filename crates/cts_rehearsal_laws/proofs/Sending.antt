@@ -1,9 +1,10 @@
 -- The commands of a rehearsal are sent.
-use Rattle.std.proofs.Common.{◌≡◌, ◌∙◌, ℕ, ◌≤◌, true, List, [], ◌∷◌, Some, None, Ok, codes, refl, ap, inl, inr, arith}
+use Rattle.std.proofs.Common.{pos, ◌≡◌, ◌∙◌, ℕ, ◌≤◌, true, List, [], ◌∷◌, Some, None, Ok, codes, refl, ap, inl, inr, arith}
 use Rattle.std.specs.Prelude.{slice_get, option_and_then}
 use Rattle.cts_api.specs.Asking.{in_text}
 use Rattle.cts_api.specs.Made.{built}
 use Rattle.cts_cmd.specs.Checks.{refusal, refusal_among}
+use Rattle.cts_cmd.specs.declared.refused.Refused.TheVariants.{OutOfRange}
 use Rattle.cts_cmd.specs.declared.request.Request.{Request}
 use Rattle.cts_def.specs.Packets.{PacketData}
 use Rattle.cts_def.specs.Sites.{InterfaceData, SiteData}
@@ -20,7 +21,7 @@ use Rattle.cts_core.proofs.Judging.{run_judged}
 use Rattle.cts_rehearsal.specs.Generated.{order}
 use Rattle.cts_rehearsal_laws.specs.Demo.{HasDemoCommand, collect}
 use Rattle.cts_rehearsal_laws.specs.Orders.{all_checks, order_request, order_text}
-use Rattle.cts_rehearsal_laws.specs.Sent.{MaySend, OrdersAreChecked, OrdersAreSent}
+use Rattle.cts_rehearsal_laws.specs.Sent.{MaySend, OrdersAreChecked, OrdersAreSent, RefusedOrdersLeaveNothing}
 use Rattle.cts_rehearsal_laws.proofs.Asked.{orders_ask_for}
 use Rattle.cts_rehearsal_laws.proofs.Cases.{at_most_11}
 use Rattle.cts_rehearsal_laws.proofs.Requested.{orders_request}
@@ -88,3 +89,13 @@ module _ (site : SiteData) (demo : HasDemoCommand site) (s : State) (v : ℕ) (l
 
 pub orders_are_sent : OrdersAreSent
 orders_are_sent site demo s v did low may does = sent site demo s v low may did does
+
+-- ---- a command that is out of range
+
+pub refused_order_leaves_nothing : RefusedOrdersLeaveNothing
+refused_order_leaves_nothing site demo s did does =
+    let judged = run_judged site s (Call 0 (order 11) ∷ []) (did ∷ []) Finished (inr (did, [], refl, does, (refl, refl))) in
+    let order_judged : IsJudgedOrder site s 0 all_checks (in_text (order_text 11)) did = judged.0 all_checks (in_text (order_text 11)) (orders_ask_for 11 (omega arith)) in
+    let request_judged : IsJudged site s 0 all_checks (order_request 11) did = order_judged.request (order_request 11) (orders_request 11 (omega arith)) in
+    let fails : FailsACheck site all_checks (order_request 11) = (OutOfRange (codes "DURATION") (pos 11) (pos 0) (pos 10), (orders_are_checked site demo).1) in
+    request_judged.refused.1 (inl fails)

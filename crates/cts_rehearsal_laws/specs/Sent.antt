@@ -37,3 +37,7 @@ abbrev pub WritesAreEnabled : Type 0
 WritesAreEnabled = (site : SiteData) → HasDemoCommand site → (s : State) (v : ℕ) (did : Did) → v ≤ 10 → MaySend site s v
     → s.cursor 0 ≤ length (walk (site_environment site).routing 0 (since 0 s.history))
     → Does (site_environment site) s (Call 0 (order v)) did → is_enabled (site_environment site) (after s (Call 0 (order v)) did) (Write 0 1) ≡ true
+
+-- A command that is out of range leaves the history as it was.
+abbrev pub RefusedOrdersLeaveNothing : Type 0
+RefusedOrdersLeaveNothing = (site : SiteData) → HasDemoCommand site → (s : State) (did : Did) → Does (site_environment site) s (Call 0 (order 11)) did → did.entries ≡ []
