@@ -17,7 +17,7 @@ use Rattle.cts_core.specs.Environments.{basis_of, site_environment}
 use Rattle.cts_core.specs.Runs.{Did, Does, Finished}
 use Rattle.cts_core.specs.Sendings.{FailsACheck, HasNoRoom, HasNoRoute, IsJudged, IsJudgedOrder, IsRefused, command_entry}
 use Rattle.cts_core.specs.States.{State}
-use Rattle.cts_core.proofs.Judging.{run_judged}
+use Rattle.cts_core_laws.proofs.Judging.{run_judged}
 use Rattle.cts_rehearsal.specs.Generated.{order}
 use Rattle.cts_rehearsal_laws.specs.Demo.{HasDemoCommand, collect}
 use Rattle.cts_rehearsal_laws.specs.Orders.{all_checks, order_request, order_text}
@@ -80,7 +80,7 @@ module _ (site : SiteData) (demo : HasDemoCommand site) (s : State) (v : ℕ) (l
   sent did does =
       let below : v ≤ 11 = omega (arith, low) in
       let judged = run_judged site s (Call 0 (order v) ∷ []) (did ∷ []) Finished (inr (did, [], refl, does, (refl, refl))) in
-      let order_judged : IsJudgedOrder site s 0 all_checks (in_text (order_text v)) did = judged.0 all_checks (in_text (order_text v)) (orders_ask_for v below) in
+      let order_judged : IsJudgedOrder site s 0 all_checks (in_text (order_text v)) did = judged.0.0 all_checks (in_text (order_text v)) (orders_ask_for v below) in
       let request_judged : IsJudged site s 0 all_checks r did = order_judged.request r (orders_request v below) in
       let is_sent = request_judged.sent not_refused in
       let there = routed site demo s.history v may.connected in
@@ -95,7 +95,7 @@ orders_are_sent site demo s v did low may does = sent site demo s v low may did 
 pub refused_order_leaves_nothing : RefusedOrdersLeaveNothing
 refused_order_leaves_nothing site demo s did does =
     let judged = run_judged site s (Call 0 (order 11) ∷ []) (did ∷ []) Finished (inr (did, [], refl, does, (refl, refl))) in
-    let order_judged : IsJudgedOrder site s 0 all_checks (in_text (order_text 11)) did = judged.0 all_checks (in_text (order_text 11)) (orders_ask_for 11 (omega arith)) in
+    let order_judged : IsJudgedOrder site s 0 all_checks (in_text (order_text 11)) did = judged.0.0 all_checks (in_text (order_text 11)) (orders_ask_for 11 (omega arith)) in
     let request_judged : IsJudged site s 0 all_checks (order_request 11) did = order_judged.request (order_request 11) (orders_request 11 (omega arith)) in
     let fails : FailsACheck site all_checks (order_request 11) = (OutOfRange (codes "DURATION") (pos 11) (pos 0) (pos 10), (orders_are_checked site demo).1) in
     request_judged.refused.1 (inl fails)
