@@ -14,15 +14,15 @@ use crate::commands::members_given;
 use crate::naming::packet_at;
 use crate::params::PacketWords;
 use crate::refusal::Refusal;
-use crate::sending::{Done, before_drop, nothing};
-use cts_cmd::{Refused, inject, refusal_text};
+use crate::sending::{Done, nothing};
+use cts_cmd::{Refused, inject as injected, refusal_text};
 use cts_entry::What;
 use cts_table::Hall;
 use serde_json::{Map, Value};
 use std::alloc::Global;
 
 // How the refusal of an injection is told: an unknown item is named as such.
-fn refusal_of(alloc: Global, refused: &Refused) -> Refusal
+fn refused(alloc: Global, refused: &Refused) -> Refusal
     ensures { IsInjectionRefused refused.now result }
 {
     if let Refused::UnknownParameter(_) = refused {
@@ -35,18 +35,18 @@ fn refusal_of(alloc: Global, refused: &Refused) -> Refusal
 }
 
 // Each number of a slice of bytes is a byte.
-fn recall_bytes(bytes: &[u8])
+fn are_bytes(bytes: &[u8])
     ensures { AreBytes bytes.now }
 {
     let _len = bytes.len();
 }
 
 // The bytes that stand, if any, are bytes.
-fn recall_current_bytes(current: Option<&[u8]>)
+fn is_of_bytes(current: Option<&[u8]>)
     ensures { (bytes : List ℕ) → option_map (λ t. t.now) current.entry ≡ Some bytes → AreBytes bytes }
 {
     if let Some(bytes) = current {
-        recall_bytes(bytes);
+        are_bytes(bytes);
     }
 }
 
@@ -57,7 +57,7 @@ fn recall_current_bytes(current: Option<&[u8]>)
 ///
 /// The first that holds: `NoSuch` with `Unknown target`, `Unknown packet`, `Unknown item`; `NotDone` with `Wrong type: N` or
 /// `Overflow: N`, of each the first member in the order of the names. `Memory` where none was found.
-pub(crate) fn injection(
+pub(crate) fn inject(
     alloc: Global,
     hall: &Hall,
     names: PacketWords<'_>,
@@ -68,8 +68,8 @@ pub(crate) fn injection(
     let (number, packet) = packet_at(hall.site().definitions.telemetry.as_slice(), names)?;
     let given = members_given(alloc, members)?;
     let current = hall.current(number as u32);
-    recall_current_bytes(current);
-    match inject(alloc, packet, current, given.as_slice()) {
+    is_of_bytes(current);
+    match injected(alloc, packet, current, given.as_slice()) {
         Ok(bytes) => Ok(Done {
             result: nothing(),
             what: Some(What::Injected {
@@ -77,6 +77,10 @@ pub(crate) fn injection(
                 bytes,
             }),
         }),
-        Err(why) => Err(before_drop(refusal_of(alloc, &why), why)),
+        Err(why) => {
+            let refusal = refused(alloc, &why);
+            drop(why);
+            Err(refusal)
+        }
     }
 }

@@ -4,8 +4,7 @@ ghost use Rattle.std.specs.Prelude.{◌≡◌, if◌then◌else◌, IfOk, OnErr,
 ghost use Rattle.cts_entry.specs.Histories.{bytes_for, entries_for};
 ghost use Rattle.cts_table.specs.States.{fits, with_room};
 ghost use Rattle.serde_json.specs.View.{view};
-ghost use Rattle.cts_api.specs.Replies.{IsTextFor};
-ghost use Rattle.cts_api.specs.Settling.{CanSayIt, Settled, text_by};
+ghost use Rattle.cts_api.specs.Settling.{CanSayIt, Settled};
 
 use crate::response::{Code, error_to, result_to};
 use crate::sending::Done;
@@ -38,22 +37,6 @@ fn has_room(hall: &mut Hall, what: &What) -> Result<bool, Memory>
     }
 }
 
-// The text of a call that is done: its result, or that the history is full.
-fn text_for(
-    alloc: Global,
-    id: Option<&Value>,
-    room: bool,
-    value: Value,
-) -> Result<Option<Bytes>, Memory>
-    ensures { IfOk result (λ t. IsTextFor (text_by (option_map (λ i. view i.now) id.entry) (view value) room) t) }
-{
-    if room {
-        result_to(alloc, id, value)
-    } else {
-        error_to(alloc, id, Code::HistoryFull, b"History full")
-    }
-}
-
 /// Appends what a call that is done says, and tells its result, or that the history is full. The text is made before the entry
 /// is appended, so that nothing stands where no memory was found for it.
 pub(crate) fn settle(
@@ -76,13 +59,25 @@ pub(crate) fn settle(
         let text = result_to(alloc, id, value)?;
         return Ok(Answer { text, appended: 0 });
     };
-    let room = has_room(hall, &what)?;
-    let text = text_for(alloc, id, room, value)?;
-    if room {
-        hall.append(Entry { by, time, what });
+    match has_room(hall, &what) {
+        Ok(true) => match result_to(alloc, id, value) {
+            Ok(text) => {
+                hall.append(Entry { by, time, what });
+                Ok(Answer { text, appended: 1 })
+            }
+            Err(Memory) => {
+                drop(what);
+                Err(Memory)
+            }
+        },
+        Ok(false) => {
+            drop((value, what));
+            let text = error_to(alloc, id, Code::HistoryFull, b"History full")?;
+            Ok(Answer { text, appended: 0 })
+        }
+        Err(Memory) => {
+            drop((value, what));
+            Err(Memory)
+        }
     }
-    Ok(Answer {
-        text,
-        appended: u64::from(room),
-    })
 }
