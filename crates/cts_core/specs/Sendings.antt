@@ -38,6 +38,14 @@ pub record AsksFor (body : List ℕ) (checks : Checks) (order : Order) : Type 0 
   pub calls_it : IsOutcome body (calls method params id)
   pub sends_it : asked_by method params ≡ Some (sends checks order)
 
+-- The body calls a method that there is not, or its params are not those of its method: it asks for nothing.
+pub record AsksForNone (body : List ℕ) : Type 0 where
+  pub method : List ℕ
+  pub params : Items
+  pub id : Option Data
+  pub calls_it : IsOutcome body (calls method params id)
+  pub none : asked_by method params ≡ None
+
 -- ---- when a command is not sent
 
 -- a check fails
@@ -83,7 +91,8 @@ IsJudgedEvent site s (Opens by) did = Unit {0}
 IsJudgedEvent site s (Piece by piece) did = Unit {0}
 IsJudgedEvent site s (Finish by why) did = Unit {0}
 IsJudgedEvent site s (Write by count) did = Unit {0}
-IsJudgedEvent site s (Call desk body) did = (checks : Checks) (order : Order) → AsksFor body checks order → IsJudgedOrder site s desk checks order did
+IsJudgedEvent site s (Call desk body) did =
+    ((checks : Checks) (order : Order) → AsksFor body checks order → IsJudgedOrder site s desk checks order did) × (AsksForNone body → did.entries ≡ [])
 IsJudgedEvent site s (DrainLog count) did = Unit {0}
 IsJudgedEvent site s (DrainSlot by count) did = Unit {0}
 IsJudgedEvent site s Stop did = Unit {0}

@@ -39,7 +39,7 @@ use Rattle.serde_json.specs.Data.{Data}
 use Rattle.cts_core.specs.Environments.{basis_of, site_environment}
 use Rattle.cts_core.specs.Kept.{is_within}
 use Rattle.cts_core.specs.Runs.{Did, Does, Runs, after}
-use Rattle.cts_core.specs.Sendings.{AsksFor, IsJudged, IsJudgedEvent, IsJudgedOrder, IsRefused, command_entry}
+use Rattle.cts_core.specs.Sendings.{AsksFor, AsksForNone, IsJudged, IsJudgedEvent, IsJudgedOrder, IsRefused, command_entry}
 use Rattle.cts_core.specs.States.{State}
 use Rattle.cts_core_laws.specs.Laws.{CommandsAreJudged}
 use Rattle.cts_core.proofs.Building.{below}
@@ -182,13 +182,23 @@ module _ (site : SiteData) (s : State) (desk : ℕ) (body : List ℕ) (did : Did
             entries ∙ ap (λ (z : Answer). z.entries) told;
       }
 
+  none_judged : AsksForNone body → did.entries ≡ []
+  none_judged x =
+      let same : is.0 ≡ calls x.method x.params x.id = outcome_is_one body is.0 (calls x.method x.params x.id) is.1 x.calls_it in
+      let one = subst (λ (q : Outcome). IsReplyFor here (first_desk + desk) s.time q a) same is.2 in
+      entries ∙ nothing_asked (listed x.params) x.id (method_named x.method) x.none one
+    where
+      nothing_asked : (params : List Data) (id : Option Data) (m : Option _) → option_and_then (λ k. params_of k params) m ≡ None → IsReplyOf here (first_desk + desk) s.time id params m a → a.entries ≡ []
+      nothing_asked params id None e r = ap (λ (z : Answer). z.entries) r
+      nothing_asked params id (Some k) e r = ap (λ (z : Answer). z.entries) (subst (λ (q : Option Asking). IsReplyTo here (first_desk + desk) s.time id q a) e r)
+
 pub event_judged : (site : SiteData) (s : State) (event : Event) (did : Did) → Does (site_environment site) s event did → IsJudgedEvent site s event did
 event_judged site s (SetTime time) did d = tt
 event_judged site s (Opens by) did d = tt
 event_judged site s (Piece by piece) did d = tt
 event_judged site s (Finish by why) did d = tt
 event_judged site s (Write by count) did d = tt
-event_judged site s (Call desk body) did d = order_judged site s desk body did d.answer d.appends d.answered
+event_judged site s (Call desk body) did d = (order_judged site s desk body did d.answer d.appends d.answered, none_judged site s desk body did d.answer d.appends d.answered)
 event_judged site s (DrainLog count) did d = tt
 event_judged site s (DrainSlot by count) did d = tt
 event_judged site s Stop did d = tt

@@ -37,7 +37,7 @@ pub fn core_is_legal()
 
 /// In every run a call of a method of commands appends nothing exactly where a check of its request fails, the target has no interface,
 /// that interface is not connected, or the history is full; and else exactly the command that is built of the request. Nor does it append
-/// anything where its text asks for no command.
+/// anything where its text asks for no command, or its params are not those of the method.
 pub fn commands()
     ensures { CommandsAreJudged }
 {}
