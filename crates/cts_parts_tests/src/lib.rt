@@ -5,7 +5,6 @@
 #[cfg(test)]
 mod colors;
 #[cfg(test)]
-mod connections;
 #[cfg(test)]
 mod effects;
 #[cfg(test)]
