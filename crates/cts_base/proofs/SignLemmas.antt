@@ -25,7 +25,7 @@ sign_split (c ∷ cs) =
     (cases_eq c 43))
     (cases_eq c 45)
 
--- a body with no sign of its own, behind a sign
+-- a body with no sign of its own, after a sign
 pub record NoSign (body : List ℕ) : Type 0 where
   pub not_plus : get_or body 0 0 ≢ 43
   pub not_minus : get_or body 0 0 ≢ 45

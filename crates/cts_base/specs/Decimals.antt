@@ -9,7 +9,7 @@ use Rattle.cts_base.specs.declared.decimal.Decimal.{Decimal}
 use Rattle.cts_base.specs.declared.decimal.NotDecimal.{NotDecimal}
 use Rattle.cts_base.specs.declared.decimal.NotDecimal.TheVariants.{Form, TooManyDigits}
 
--- what stands behind the digits of the whole part: a point and the digits of the fraction, or nothing where there are none
+-- what stands after the digits of the whole part: a point and the digits of the fraction, or nothing where there are none
 abbrev pub point_text : List ℕ → List ℕ
 point_text [] = []
 point_text (c ∷ cs) = 46 ∷ c ∷ cs

@@ -36,7 +36,7 @@ is_zero_digit c = c == 48
 abbrev pub without_trailing_zeros : List ℕ → List ℕ
 without_trailing_zeros ds = take (length ds - suffix_len is_zero_digit ds) ds
 
--- the digits behind the point: the first of twelve, and the others up to the last that is not zero
+-- the digits after the point: the first of twelve, and the others up to the last that is not zero
 unfoldable pub fraction_text : ℕ → List ℕ
 fraction_text n = take 1 (last_digits 12 n) ++ without_trailing_zeros (drop 1 (last_digits 12 n))
 

@@ -31,7 +31,7 @@ fn is_cloned<K: Key>(key: &K) -> Result<bool, Fail> {
 }
 
 /// What a set answers to these words one after the other, and how many keys it then has: a word is put into it, and it says
-/// whether it is new; a word behind a `?` is looked for, and it says whether it is there.
+/// whether it is new; a word after a `?` is looked for, and it says whether it is there.
 pub fn set_answers<K: Key>(alloc: Global, words: &str, wanted: &str) -> Result<(), Fail> {
     let mut set = BTreeSet::new(alloc);
     let found = answers_of::<K>(alloc, &mut set, words)?;

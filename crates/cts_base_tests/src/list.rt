@@ -8,7 +8,7 @@ fn shows(alloc: Global, items: &[u32], wanted: &str) -> Result<(), Fail> {
     same(found.as_str(), wanted, "a list")
 }
 
-/// These are the items of a list, before and behind its end as a list.
+/// These are the items of a list, before and after its end as a list.
 fn gives(alloc: Global, list: List<u32>, wanted: &str) -> Result<(), Fail> {
     shows(alloc, list.as_slice(), wanted)?;
     shows(alloc, &list.into_vec(), wanted)
@@ -24,7 +24,7 @@ fn push(list: &mut List<u32>, item: u32) -> Result<(), Fail> {
     Ok(list.push(item)?)
 }
 
-/// A new list is empty, and has two items behind two that are pushed.
+/// A new list is empty, and has two items after two that are pushed.
 fn counts_pushes(alloc: Global, list: &mut List<u32>) -> Result<(), Fail> {
     let before = list.is_empty();
     push(list, 3)?;

@@ -10,7 +10,7 @@ use Rattle.cts_spell.specs.declared.encode_fault.EncodeFault.TheVariants.{HoldsT
 use Rattle.cts_spell.proofs.Told.{spelled_bytes, told}
 use Rattle.cts_chain.specs.Writing.{AreWriters, ChainSpellings, IsChainTold, chain_spelling, spelled_over}
 
--- ---- one protocol over those behind it
+-- ---- one protocol over those after it
 
 module _ (s : SpecData) (h : Heading) (sound : IsTrue (is_sound_spec s)) (of : IsOfBytes s) where
   over_some : (o : Option (List ℕ)) (frame : List ℕ) → spelled_over s h o ≡ Some frame → (inner : List ℕ) × (o ≡ Some inner) × (spelling_of s h inner ≡ Some frame)
@@ -78,7 +78,7 @@ chained (s ∷ specs) h bytes all names hb =
 pub chains_spell : ChainSpellings
 chains_spell specs h bytes all names hb = (chained specs h bytes all names hb).told
 
--- ---- what one protocol puts of what those behind it put
+-- ---- what one protocol puts of what those after it put
 
 module _ (s : SpecData) (specs : List SpecData) (h : Heading) (bytes : List ℕ) where
   pub spells_refused : (inner old : List ℕ) (e : EncodeFault) → Spells (chain_spelling specs h bytes) [] inner (Err e) → Spells (chain_spelling (s ∷ specs) h bytes) old old (Err e)

@@ -1,4 +1,4 @@
--- How one protocol writes what those behind it wrote.
+-- How one protocol writes what those after it wrote.
 use Rattle.std.proofs.Common.{ℕ, List, [], ◌∷◌, refl, sym, subst, inl, inr, Result, Ok, Err}
 use Rattle.cts_def.specs.Protocols.{SpecData}
 use Rattle.cts_frame.specs.Framing.{Heading}

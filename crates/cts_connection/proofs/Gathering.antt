@@ -102,7 +102,7 @@ gathered site history by now old c d before entries why h r same settled w = rec
   why_is = w;
 }
 
--- for one packet no memory was found, and it and those behind it are given up
+-- for one packet no memory was found, and it and those after it are given up
 pub given_up : (site : SiteData) (history : List Entry) (by : ℕ) (now : Time) (old c d e : ChainData) (before entries entries' : List Entry) (o : Output) (gone n : ℕ) (why : Option Why) → Sofar site history by now old before entries c → Rises c.stages (o ∷ []) d.stages → IsSameChain c d
     → GivesUp d gone why e → n ≡ capped (gone + 1) → entries' ≡ entries → Gathers site history by now old before entries' n why e
 given_up site history by now old c d e before entries entries' o gone n why h r same up is kept = record {

@@ -24,7 +24,7 @@ added_more s front e =
     let bytes : (s.spare_bytes - bytes_in front) - bytes_for e.what ≡ s.spare_bytes - bytes_in (front ++ e ∷ []) = omega (arith, bytes-append front (e ∷ []), weight) in
     λ i. record { basis = s.basis; entries = entries i; spare_entries = spare i; spare_bytes = bytes i }
 
--- the first of several may be appended, and the others behind it
+-- the first of several may be appended, and the others after it
 pub can_first : (s : Shown) (e : Entry) (es : List Entry) → CanAddAll s (e ∷ es) → CanAdd s e
 can_first s e es can =
     let many : entries_in (e ∷ es) ≡ entries_for e.what + entries_in es = sum_by-cons (λ (x : Entry). entries_for x.what) e es in

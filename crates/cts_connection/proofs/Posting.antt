@@ -73,7 +73,7 @@ module _ (g : Routing) (slot desk : ℕ → Bool) (entries bytes : ℕ) where
   still_active : (by : ℕ) (history : List Entry) (e : Entry) → has_ended by history ≡ false → is_ended e.what ≡ false → has_ended by (history ++ e ∷ []) ≡ false
   still_active by history e h k = (let a = list_any-append (λ (x : Entry). x.by == by && is_ended x.what) history (e ∷ []) in grind arith)
 
-  -- the entries of packets are allowed one behind the other
+  -- the entries of packets are allowed one after the other
   pub packets_allowed : (history : List Entry) (now : Time) (m : ℕ) (outs : List Output) (sofar : List Entry) → ((k : ℕ) → latest (connects_maker k) sofar ≡ None) → (slot m || g.is_interface m) ≡ true → is_connected m history ≡ true
       → has_ended m (history ++ sofar) ≡ false → AllAllowed (ruled g slot desk entries bytes) (history ++ sofar) (posted_entries g history now m outs)
   packets_allowed history now m [] sofar none line on last = tt
@@ -150,7 +150,7 @@ can_post s by now es n m outs sound kept line on is e b small t =
     (subst (λ (l : List Entry). entries_in l ≤ max s.spare_entries n) is few) (subst (λ (l : List Entry). bytes_in l ≤ max s.spare_bytes m) is light) in
     subst (λ (l : List Entry). CanAddAll (with_room s n m) l) (sym is) can
 
--- the connection still stands behind its packets, and may be closed for the same reason
+-- the connection still stands after its packets, and may be closed for the same reason
 stops_more : (history more : List Entry) (why : Why) → StopsAfter history why → StopsAfter (history ++ more) why
 stops_more history more PeerEnded h = tt
 stops_more history more ReadFault h = tt
@@ -160,7 +160,7 @@ stops_more history more Stopped h = (let a = stopped-append history more in grin
 stops_more history more NoMemory h = tt
 stops_more history more Full h = tt
 
--- what a piece ends a connection for may stand behind any history
+-- what a piece ends a connection for may stand after any history
 pub end_stops : (history : List Entry) (unposted : ℕ) (fault : Option Fault) → IfSome (end_of unposted (blamed fault)) (λ e. StopsAfter history e.why)
 end_stops history unposted fault = either (unposted == 0) fault
   where
@@ -169,7 +169,7 @@ end_stops history unposted fault = either (unposted == 0) fault
     either true (Some f) = tt
     either false f = tt
 
--- entries stand behind the others, where room was made for them
+-- entries stand after the others, where room was made for them
 pub grown : (s mid t : Shown) (es : List Entry) (n m : ℕ) → mid ≡ with_room s n m → t ≡ added_all mid es → Grown s es t
 grown s mid t es n m room added = record {
   basis = ap (λ (x : Shown). x.basis) added ∙ ap (λ (x : Shown). x.basis) room;

@@ -27,7 +27,7 @@ of_site_take site zero before es h = tt
 of_site_take site (suc n) before [] h = tt
 of_site_take site (suc n) before (e ∷ es) h = (h.0, of_site_take site n (before ++ e ∷ []) es h.1)
 
--- ---- entries one behind another
+-- ---- entries one after another
 
 module _ (site : SiteData) (specs : List SpecData) (by : ℕ) where
   -- the next entry is put, and the others follow

@@ -20,7 +20,7 @@ use Rattle.cts_connection.specs.Takings.{entries_of}
 
 -- ---- several entries
 
--- these entries may be appended in order: each is allowed behind those before it and is one of the site, and there is room
+-- these entries may be appended in order: each is allowed after those before it and is one of the site, and there is room
 pub record CanAddAll (s : Shown) (es : List Entry) : Type 0 where
   pub allowed : AllAllowed (rules_of s.basis) s.entries es
   pub of_site : AllOfSite s.basis.site s.entries es
@@ -31,7 +31,7 @@ pub record CanAddAll (s : Shown) (es : List Entry) : Type 0 where
 abbrev pub added_all : Shown → List Entry → Shown
 added_all s es = record s { entries = s.entries ++ es; spare_entries = s.spare_entries - entries_in es; spare_bytes = s.spare_bytes - bytes_in es }
 
--- these entries stand behind the others, of the same site and with the same limits
+-- these entries stand after the others, of the same site and with the same limits
 pub record Grown (old : Shown) (es : List Entry) (new : Shown) : Type 0 where
   pub basis : new.basis ≡ old.basis
   pub entries : new.entries ≡ old.entries ++ es
@@ -73,7 +73,7 @@ pub record CanClose (s : Shown) (by : ℕ) (why : Why) : Type 0 where
 abbrev pub closed_of : ℕ → Time → Shown → HeldConnection → Why → ℕ → Entry
 closed_of by now s c why unposted = record { by = by; time = now; what = Closed why (loss_in c.chain.stages) unposted (waiting s.basis.site by s.entries c.cursor) }
 
--- its Closed stands behind the others, and its chain begins anew
+-- its Closed stands after the others, and its chain begins anew
 pub record Closes (by : ℕ) (now : Time) (s : Shown) (c : HeldConnection) (why : Why) (unposted : ℕ) (new : Shown) (d : HeldConnection) : Type 0 where
   pub grown : Grown s (closed_of by now s c why unposted ∷ []) new
   pub renewed : IsRenewed false c d
@@ -98,7 +98,7 @@ abbrev pub Ends : ℕ → Time → Shown → HeldConnection → Option End → S
 Ends by now s c None new d = (new ≡ s) × (d ≡ c)
 Ends by now s c (Some end) new d = Closes by now s c end.why end.unposted new d
 
--- All of these entries stand behind the others, and the connection is closed then, if it is to be; or there is no room for them.
+-- All of these entries stand after the others, and the connection is closed then, if it is to be; or there is no room for them.
 abbrev pub Posts : ℕ → Time → Shown → HeldConnection → List Entry → Option End → Result (Unit {0}) HallFault → Shown → HeldConnection → Type 0
 Posts by now s c entries end (Ok done) new d =
     (fits s (entries_in entries) (bytes_in entries) ≡ true) × ((mid : Shown) × Grown s entries mid × Ends by now mid c end new d)

@@ -36,7 +36,7 @@ pub record GivesUp (old : ChainData) (unposted : ℕ) (why : Option Why) (new : 
   pub count : unposted ≡ capped (length lost)
   pub why_is : why ≡ blamed (last_fault 1 new.stages)
 
--- A chain gave packets, of which these are the entries behind some others, and then so many for which no memory was found, and then no
+-- A chain gave packets, of which these are the entries after some others, and then so many for which no memory was found, and then no
 -- more: so it closes its connection, or not.
 pub record Gathers (site : SiteData) (history : List Entry) (by : ℕ) (now : Time) (old : ChainData) (before entries : List Entry) (unposted : ℕ) (why : Option Why) (new : ChainData) : Type 0 where
   pub packets : List Output

@@ -1,4 +1,4 @@
--- What a line puts of the history: the spellings of the next entries for its peer, one behind the other.
+-- What a line puts of the history: the spellings of the next entries for its peer, one after the other.
 use Rattle.std.specs.Prelude.{◌≡◌, ℕ, ◌+◌, cond, List, ◌++◌, take, Option}
 use Rattle.cts_chain.specs.Shapes.{writers}
 use Rattle.cts_chain.specs.Writing.{chain_spelling}
@@ -15,12 +15,12 @@ use Rattle.cts_connection.specs.Routings.{site_routing}
 abbrev pub spell_by : SiteData → List SpecData → Entry → Option (List ℕ)
 spell_by site specs e = chain_spelling specs (heading_of (names_in (site_routing site) e.what) e.time) (bytes_of e.what)
 
--- a spelling was put behind old bytes, or it was refused and counts one
+-- a spelling was put after old bytes, or it was refused and counts one
 pub record PutsOne (spelling : Option (List ℕ)) (old new : List ℕ) (count : ℕ) : Type 0 where
   pub bytes : new ≡ old ++ bytes_or_none spelling
   pub count_is : count ≡ cond (is_refused spelling) 1 0
 
--- what of these entries is for a line's peer was put behind old bytes, and so many of it were refused
+-- what of these entries is for a line's peer was put after old bytes, and so many of it were refused
 pub record Puts (site : SiteData) (specs : List SpecData) (by : ℕ) (entries : List Entry) (old new : List ℕ) (count : ℕ) : Type 0 where
   pub bytes : new ≡ old ++ spelled (spell_by site specs) (queue (site_routing site) by entries)
   pub count_is : count ≡ refused (spell_by site specs) (queue (site_routing site) by entries)

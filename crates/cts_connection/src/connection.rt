@@ -28,7 +28,7 @@ use std::marker::Model;
 pub struct Connection<C: Framer> {
     connected: bool,
     chain: C,
-    /// The place in the history behind the last entry that it passed.
+    /// The place in the history after the last entry that it passed.
     place: usize,
     /// How many of the entries for its peer that it passed were refused.
     refused: usize,
@@ -250,7 +250,7 @@ impl<C: Framer> Connection<C> {
         self.refused += unsent;
     }
 
-    /// Puts what is for the line's peer among the next so many entries into the frames of its chain, one behind the other, and passes these
+    /// Puts what is for the line's peer among the next so many entries into the frames of its chain, one after the other, and passes these
     /// entries. What its chain refuses is passed over and counted.
     ///
     /// # Errors

@@ -10,7 +10,7 @@ use cts_def::{FIRST_SLOT, Ident};
 use cts_entry::{NotSent, What};
 use cts_table::Hall;
 
-/// What an output of a line's chain says behind the entries of a hall. By an interface it is a packet. By a slot it is a command where the
+/// What an output of a line's chain says after the entries of a hall. By an interface it is a packet. By a slot it is a command where the
 /// interface of its target is connected, and else it is not sent on.
 pub fn said(hall: &Hall, by: u32, ident: Ident, bytes: Bytes) -> What
     requires { is_line hall.now.basis.site by ≡ true }

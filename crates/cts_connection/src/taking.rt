@@ -56,8 +56,8 @@ pub(crate) struct Given {
     pub why: Option<Why>,
 }
 
-/// Takes all packets that a line's chain gives, each with its own time and its own names where it brings them, and puts an entry for each
-/// behind these, as long as memory is found. What a slot's packet becomes is said of the hall's history.
+/// Takes all packets that a line's chain gives, each with its own time and its own names where it brings them, and appends an
+/// entry for each to `entries`, as long as memory is found. What a slot's packet becomes is said of the hall's history.
 pub(crate) fn gather<C: Framer>(
     alloc: Global,
     hall: &Hall,
@@ -127,7 +127,7 @@ fn give_up<C: Framer>(chain: &mut C) -> Given
     }
 }
 
-/// Puts the entry of the packet that a chain lends behind these.
+/// Appends the entry of the packet that a chain lends to `entries`.
 fn push_entry<C: Framer>(
     alloc: Global,
     hall: &Hall,

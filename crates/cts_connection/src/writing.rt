@@ -1,4 +1,4 @@
-// What the history has for the peer of a line, and its spellings, one behind the other.
+// What the history has for the peer of a line, and its spellings, one after the other.
 ghost use Rattle.std.specs.Prelude.{◌≡◌, ◌≤◌, ◌<◌, ◌==◌, ◌∷◌, [], List, cond, length, map, true, IfOk, MatchOption};
 ghost use Rattle.std.specs.List.{list_any};
 ghost use Rattle.cts_chain.specs.Shapes.{IsChain, writers};

@@ -55,7 +55,7 @@ quiet_opens by (e ∷ es) n =
 abbrev pub PassesOn : SiteData → State → State → ℕ → Type 0
 PassesOn site s t by = (place count : ℕ) → IsPassed (site_environment site) s by place count → IsPassed (site_environment site) t by place count
 
--- entries stand behind the others, and nothing more is passed
+-- entries stand after the others, and nothing more is passed
 pub passes : (site : SiteData) (s : State) (event : Event) (did : Did) (by : ℕ) → latest (connects_maker by) did.entries ≡ None → passed_for by event ≡ 0 → PassesOn site s (after s event did) by
 passes site s event did by none p place count h = passed_more (site_environment site) s by place count h (after s event did) did.entries refl (quiet_opens by did.entries none) (cursor_stays by event did.entries s.cursor none p)
 

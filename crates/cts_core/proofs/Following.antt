@@ -1,4 +1,4 @@
--- Entries that an event appends are allowed behind a history, and nobody ends by them.
+-- Entries that an event appends are allowed after a history, and nobody ends by them.
 use Rattle.std.proofs.Common.{◌≡◌, ℕ, ◌==◌, ◌-◌, Bool, true, false, ◌&&◌, ◌||◌, List, [], ◌∷◌, ◌++◌, Option, Some, None, refl, sym, ◌∙◌, ap, subst, arith, append_assoc, inr}
 use Rattle.std.specs.Prelude.{if◌then◌else◌, nat_le}
 use Rattle.std.specs.List.{list_any}
@@ -73,7 +73,7 @@ sayable_either false env before by ident bytes kind line on = sayable_routed env
 sayable : (env : Environment) (before : List Entry) (by : ℕ) (o : Output) → is_line env by ≡ true → is_connected by before ≡ true → Sayable env before by (said_of env.routing before by o)
 sayable env before by o line on = sayable_either (env.routing.is_interface by) env before by (env.routing.ident by o) o.bytes refl line on
 
--- entries that an event appends behind a history: each is allowed, and nobody ends
+-- entries that an event appends after a history: each is allowed, and nobody ends
 abbrev pub Follows : Environment → List Entry → List Entry → Type 0
 Follows env history entries = AllAllowed (rules_by env) history entries × Lasting entries
 

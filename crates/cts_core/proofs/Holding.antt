@@ -51,7 +51,7 @@ flag_set w by c entries k h m mine others n (inl same) =
     subst (λ (j : ℕ). (connection_at (set w.connections by c) j).connected ≡ is_connected j (w.history ++ entries)) (sym same) (ap (λ (x : HeldConnection). x.connected) (get_or-set_same w.connections by c (shut no_chain) m) ∙ mine)
 flag_set w by c entries k h m mine others n (inr other) = ap (λ (x : HeldConnection). x.connected) (get_or-set_other w.connections by k c (shut no_chain) other) ∙ (h.connected k n ∙ sym (others other))
 
--- one connection is changed, and entries stand behind the others
+-- one connection is changed, and entries stand after the others
 pub sound_changed : (w : Held) (by : ℕ) (c : HeldConnection) (entries : List Entry) → IsSoundHeld w → by < length w.connections → c.connected ≡ is_connected by (w.history ++ entries)
     → ((k : ℕ) → k ≢ by → is_connected k (w.history ++ entries) ≡ is_connected k w.history) → Lasting entries → IsSoundHeld (changed by w entries c)
 sound_changed w by c entries h m mine others last = record {
@@ -68,7 +68,7 @@ sound_taken w by c h m same =
     subst (λ (l : List Entry). IsSoundHeld (record w { history = l; connections = set w.connections by c })) (append-nil w.history)
     (sound_changed w by c [] h m (same ∙ (h.connected by m ∙ ap (is_connected by) (sym (append-nil w.history)))) (λ k other. ap (is_connected k) (append-nil w.history)) refl)
 
--- entries that open and close nothing stand behind the others
+-- entries that open and close nothing stand after the others
 pub sound_more : (w : Held) (entries : List Entry) → IsSoundHeld w → ((k : ℕ) → latest (connects_maker k) entries ≡ None) → Lasting entries → IsSoundHeld (record w { history = w.history ++ entries })
 sound_more w entries h none last = record {
   built = h.built;

@@ -13,7 +13,7 @@ use Rattle.cts_core.specs.Cursors.{IsPassed}
 use Rattle.cts_told.specs.Routing.{spell, queue, walk}
 use Rattle.cts_told.proofs.Walks.{walk-append, queue-append, queue_walk, walk_none}
 
--- what stands behind the last Opened is the end of the history
+-- what stands after the last Opened is the end of the history
 
 suffix_if : {X : Type 0} (later first : Bool) (x : X) (xs rest : List X) → (front : List X) × (xs ≡ front ++ rest) → (front : List X) × (x ∷ xs ≡ front ++ (if later then rest else (if first then xs else x ∷ xs)))
 suffix_if true first x xs rest more = (x ∷ more.0, ap (λ (l : List _). x ∷ l) more.1)

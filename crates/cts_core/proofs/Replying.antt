@@ -43,6 +43,6 @@ module _ (h : Point) (by : ℕ) (time : Time) where
 pub sound_called : (w : Held) (h : Point) (by : ℕ) (time : Time) (body : List ℕ) (a : Answer) → IsReply h by time body a → IsSoundHeld w → IsSoundHeld (record w { history = w.history ++ a.entries })
 sound_called w h by time body a is sound = sound_more w a.entries sound (reply_quiet h by time body a is) (of_their_desk h by time body a is).1
 
--- The hall stands behind a reply, in which it is all that was moved.
+-- The hall stands after a reply, in which it is all that was moved.
 pub held_called : (time : Time) (old new : Shown) (connections : List HeldConnection) (a : Answer) (n : ℕ) → Appends old a n new → held_with time new connections ≡ record (held_with time old connections) { history = old.entries ++ a.entries }
 held_called time old new connections a n k = λ i. record { basis = k.basis i; time = time; history = k.entries i; connections = connections }

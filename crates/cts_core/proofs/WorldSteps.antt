@@ -400,7 +400,7 @@ is_fed base w mid s by piece entries unposted why built t h all k =
       all = settled_gives_all k.0.chain.stages (s.pieces by ++ piece ∷ []) (before.packets ++ taken.packets) taken.settled stands;
     }
 
--- what stands behind the packets of a piece
+-- what stands after the packets of a piece
 tail_of : ℕ → Time → ℕ → List Pieces → Option Fault → List Entry
 tail_of by now n cuts fault = closing now by n cuts fault
 
@@ -435,7 +435,7 @@ posts_received base w s by piece entries why c h k =
       entries_are = refl;
     }
 
--- they are the entries that were taken, and what stands behind them counts nothing
+-- they are the entries that were taken, and what stands after them counts nothing
 entries_at : (base : Basis) (w : Held) (s : State) (by : ℕ) (packets : List Output) (entries : List Entry) → entries ≡ entries_of base.site w.history by w.time packets → RepresentsWithin base w s → entries ≡ entries_of base.site s.history by s.time packets
 entries_at base w s by packets entries e h = e ∙ (ap (λ (now : Time). entries_of base.site w.history by now packets) h.time ∙ ap (λ (l : List Entry). entries_of base.site l by s.time packets) h.history)
 
@@ -459,7 +459,7 @@ or_none : (o : Option Bool) → or_earlier o None ≡ o
 or_none (Some b) = refl
 or_none None = refl
 
--- packets, and an entry behind them
+-- packets, and an entry after them
 packets_then : (site : SiteData) (history : List Entry) (k by : ℕ) (now : Time) (packets : List Output) (e : Entry) → latest (connects_maker k) (entries_of site history by now packets ++ e ∷ []) ≡ connects_maker k e
 packets_then site history k by now packets e =
     latest-append (connects_maker k) (entries_of site history by now packets) (e ∷ [])
@@ -676,7 +676,7 @@ built_of base w s sound h = subst (λ (b : Basis). is_built_site b.site ≡ true
 pub has_desk_is : (base : Basis) (w : Held) (s : State) (desk : ℕ) (body : List ℕ) → RepresentsWithin base w s → nat_lt desk w.basis.site.desks ≡ is_enabled (environment_of base) s (Call desk body)
 has_desk_is base w s desk body h = ap (λ (b : Basis). nat_lt desk b.site.desks) h.basis
 
--- what a desk replies behind what is held it replies behind the state
+-- what a desk replies after what is held it replies after the state
 reply_here : (base : Basis) (w : Held) (s : State) (by : ℕ) (body : List ℕ) (a : Answer) → RepresentsWithin base w s → IsReply (point_of w.basis w.history) by w.time body a → IsReply (point_of base s.history) by s.time body a
 reply_here base w s by body a h r = subst (λ (b : Basis). IsReply (point_of b s.history) by s.time body a) h.basis (subst (λ (l : List Entry). IsReply (point_of w.basis l) by s.time body a) h.history (subst (λ (now : Time). IsReply (point_of w.basis w.history) by now body a) h.time r))
 

@@ -60,7 +60,7 @@ HasNoRoute site history c = (why : NoRoute) × (route_of site history c.command 
 abbrev pub HasNoRoom : Basis → List Entry → Built → Type 0
 HasNoRoom b history c = is_within b history 1 (length c.bytes) ≡ false
 
--- a request is refused behind a history
+-- a request is refused after a history
 abbrev pub IsRefused : Basis → List Entry → Checks → Request → Type 0
 IsRefused b history checks r = FailsACheck b.site checks r ⊎ (HasNoRoute b.site history (built b.site.definitions r) ⊎ HasNoRoom b history (built b.site.definitions r))
 

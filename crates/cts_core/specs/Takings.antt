@@ -20,7 +20,7 @@ use Rattle.cts_core.specs.Worlds.{Held, changed}
 use Rattle.cts_core.specs.declared.fault.WorldFault.{WorldFault}
 use Rattle.cts_core.specs.declared.fault.WorldFault.TheVariants.{NotEnabled, Full, Memory}
 
--- the Closed of a connection behind a history, with what its stages lose and how many commands it has not put whole
+-- the Closed of a connection after a history, with what its stages lose and how many commands it has not put whole
 abbrev pub lost : SiteData → ℕ → Time → List Entry → HeldConnection → Why → Entry
 lost site by now history c why = record { by = by; time = now; what = Closed why (loss_in c.chain.stages) 0 (waiting site by history c.cursor) }
 

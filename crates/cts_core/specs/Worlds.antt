@@ -78,7 +78,7 @@ Represents site = RepresentsWithin (basis_of site)
 
 -- ---- what an event makes of it
 
--- entries stand behind the others, and a connection has become this one
+-- entries stand after the others, and a connection has become this one
 abbrev pub changed : ℕ → Held → List Entry → HeldConnection → Held
 changed by w entries c = record w { history = w.history ++ entries; connections = slice_set w.connections by c }
 

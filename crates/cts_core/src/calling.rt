@@ -15,7 +15,7 @@ impl<C: Framer> Running<C> {
     ghost use Rattle.cts_table.specs.declared.basis.Basis.{Basis};
     ghost use Rattle.cts_entry.specs.declared.event.Event.TheVariants as event;
 
-    /// Asks a desk. Its response comes with the number of entries that stood before, and what it appends stands behind them.
+    /// Asks a desk. Its response comes with the number of entries that stood before, and what it appends stands after them.
     pub fn call(&mut self, desk: u32, body: &[u8]) -> Result<Effect, WorldFault>
         ensures { (base : Basis) (s : State) → RepresentsWithin base self.old s → Steps base s (event.Call desk body.now) self.old result self.new }
     {

@@ -113,7 +113,7 @@ later_alone : unsent site (at opened_again 0) 0 ≡ 1
 unfolding site at opened_again made noon ten nine written_by
 later_alone = refl
 
--- the demo: eight entries, of which five are behind the slot's Opened
+-- the demo: eight entries, of which five are after the slot's Opened
 
 demo : List Entry
 demo = made 0 Opened ∷ made 1 Opened ∷ made 16 Opened ∷ made 1 (Packet (Known 1) (72 ∷ 73 ∷ [])) ∷ made 0 (Packet (Known 0) (1 ∷ 128 ∷ 0 ∷ 1 ∷ [])) ∷ made 24 StopEntry
@@ -154,7 +154,7 @@ sent : said_of site.routing demo 16 (plain ten) ≡ Command 0 0 ten
 unfolding site demo made noon ten
 sent = refl
 
--- behind the interface's Closed
+-- after the interface's Closed
 not_connected : said_of site.routing (demo ++ made 0 (Closed PeerEnded (record { held = 0 ∷ 0 ∷ 0 ∷ 0 ∷ []; skipped = 0; empty = 0 }) 0 0) ∷ []) 16 (plain ten) ≡ Unrouted NoConnection ten
 unfolding site demo made noon ten
 not_connected = refl

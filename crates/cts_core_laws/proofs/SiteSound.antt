@@ -49,7 +49,7 @@ neither : (a b : Bool) → a ≡ false → b ≡ false → (a || b) ≡ false
 neither true b x y = x
 neither false b x y = y
 
--- a number behind those of slots is that of no line
+-- a number after those of slots is that of no line
 no_line : (base : Basis) (by : ℕ) → IsSoundSite base.site → first_desk ≤ by → is_line (environment_of base) by ≡ false
 no_line base by sound high =
     neither (nat_le first_slot by && nat_lt (router_of by) (length base.site.routers)) (nat_lt by (length base.site.interfaces))

@@ -56,7 +56,7 @@ CoreIsLogged env = (events : List Event) (dids : List Did) (ending : Ending) →
     → (packets_logged dids ≡ packets_log env (take (drained_by events dids) (history_of dids)))
     × (commands_logged dids ≡ commands_log env (take (drained_by events dids) (history_of dids)))
 
--- What a desk replies behind a legal history in which nobody has ended leaves it legal, its limits too, and nobody ends by it.
+-- What a desk replies after a legal history in which nobody has ended leaves it legal, its limits too, and nobody ends by it.
 pub record IsAnsweredLegally (base : Basis) : Type 0 where
   pub legal : (history : List Entry) (desk : ℕ) (time : Time) (body : List ℕ) (a : Answer) → (environment_of base).is_desk desk ≡ true → list_any (λ (e : Entry). is_ended e.what) history ≡ false
       → (environment_of base).answers history desk time body a → IsLegal (rules_of base) history → IsLegal (rules_of base) (history ++ a.entries)

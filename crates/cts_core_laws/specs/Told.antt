@@ -43,7 +43,7 @@ turned (Some false) line = record { past = line.past ++ one_or_none line.now; no
 abbrev pub told_after : ℕ → Event → Did → Line → Line
 told_after m event did line = turned (latest (connects_maker m) did.entries) (record { past = line.past; now = option_map (heard m event did) line.now })
 
--- what events that did this, one after another, tell of a maker behind what was told of it before
+-- what events that did this, one after another, tell of a maker after what was told of it before
 abbrev pub told_from : ℕ → Line → List Event → List Did → Line
 told_from m line [] dids = line
 told_from m line (event ∷ events) [] = line

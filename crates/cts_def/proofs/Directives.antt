@@ -103,7 +103,7 @@ no_new_digit false seen w e d h =
     let n : is_flag w ≡ false = grind (arith, nat_tests) in
     rw n refl
 
--- behind the flags no further flag stands first
+-- after the flags no further flag stands first
 no_flags : (flags width : List ℕ) (t : ℕ) (ts : List ℕ) → list_all is_ascii_digit width ≡ true → (not (begins_with_zero width) || list_any (nat_eq 48) flags) ≡ true
     → is_flag t ≡ false → flags_len flags (width ++ t ∷ ts) ≡ 0
 no_flags flags [] t ts h k f = rw f refl
@@ -166,7 +166,7 @@ tail_read (Some digits) flags width c after f w h =
 no_percent : (f : ℕ) → is_flag f ≡ true → (f == 37) ≡ false
 no_percent f h = grind (arith, nat_tests)
 
--- the first behind the percent sign is no percent sign
+-- the first after the percent sign is no percent sign
 pub behind_first : (flags width : List ℕ) (precision : Option (List ℕ)) (c : ℕ) (after : List ℕ) → are_flags flags ≡ true → is_width flags width ≡ true
     → fits_letter precision c ≡ true
     → behind_percent (37 ∷ (flags ++ (width ++ written_tail precision (c ∷ after)))) ≡ Some (flags ++ (width ++ written_tail precision (c ∷ after)))

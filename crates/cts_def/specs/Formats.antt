@@ -12,7 +12,7 @@ is_plain [] = true
 is_plain (c ∷ []) = not (c == 37)
 is_plain (c ∷ d ∷ rest) = if c == 37 then d == 37 && is_plain rest else is_plain (d ∷ rest)
 
--- what stands behind the first `%` that is not doubled, if there is one
+-- what stands after the first `%` that is not doubled, if there is one
 abbrev pub behind_percent : List ℕ → Option (List ℕ)
 behind_percent [] = None
 behind_percent (c ∷ []) = if c == 37 then Some [] else None
@@ -38,7 +38,7 @@ is_letter c = list_any (nat_eq c) (codes "diuxXobsf")
 abbrev pub is_above_twelve : List ℕ → Bool
 is_above_twelve digits = nat_lt 12 (digits_value 10 digits)
 
--- behind a precision stands `f`
+-- after a precision stands `f`
 abbrev pub behind_f : List ℕ → Option (List ℕ)
 behind_f [] = None
 behind_f (c ∷ rest) = if c == 102 then Some rest else None
@@ -48,7 +48,7 @@ behind_point text =
     let digits = prefix_len is_ascii_digit text in
     if digits == 0 || is_above_twelve (take digits text) then None else behind_f (drop digits text)
 
--- what stands behind a directive whose flags and width were read
+-- what stands after a directive whose flags and width were read
 abbrev pub behind_width : List ℕ → Option (List ℕ)
 behind_width [] = None
 behind_width (c ∷ rest) = if c == 46 then behind_point rest else if is_letter c then Some rest else None
@@ -58,7 +58,7 @@ behind_flags text =
     let digits = prefix_len is_ascii_digit text in
     if nat_le digits 3 then behind_width (drop digits text) else None
 
--- what stands behind a directive whose `%` was read
+-- what stands after a directive whose `%` was read
 abbrev pub behind_directive : List ℕ → Option (List ℕ)
 behind_directive text = behind_flags (drop (flags_len [] text) text)
 

@@ -123,7 +123,7 @@ reads u = u.reads
 abbrev pub reads_packets : UseData → Bool
 reads_packets u = u.reads && is_packet_kind u.spec
 
--- no protocol reads behind one that reads packets
+-- no protocol reads after one that reads packets
 abbrev pub are_packets_last : List UseData → Bool
 are_packets_last [] = true
 are_packets_last (u ∷ us) = not (reads_packets u && list_any reads us) && are_packets_last us

@@ -60,7 +60,7 @@ fn is_plain(text: &[u8]) -> bool
     true
 }
 
-// What stands behind the first `%` that is not doubled, if there is one.
+// What stands after the first `%` that is not doubled, if there is one.
 pub(crate) fn behind_percent(text: &[u8]) -> Option<&[u8]>
     ensures { option_map (λ r. r.now) result ≡ behind_percent text.now }
 {
@@ -78,7 +78,7 @@ pub(crate) fn behind_percent(text: &[u8]) -> Option<&[u8]>
     None
 }
 
-// What stands behind a directive whose `%` was read.
+// What stands after a directive whose `%` was read.
 fn behind_directive(text: &[u8]) -> Option<&[u8]>
     ensures { option_map (λ r. r.now) result ≡ behind_directive text.now }
 {
@@ -138,7 +138,7 @@ pub(crate) fn digits_len(text: &[u8]) -> usize
     text.len()
 }
 
-// What stands behind a directive whose flags and width were read.
+// What stands after a directive whose flags and width were read.
 fn behind_width(text: &[u8]) -> Option<&[u8]>
     ensures { option_map (λ r. r.now) result ≡ behind_width text.now }
 {

@@ -56,7 +56,7 @@ pub enum ProtoSpec {
         max: Option<u64>,
         fill: bool,
     },
-    /// Bytes up to a termination: `write` is put behind what is written, `read` ends a frame, and `strip` says whether
+    /// Bytes up to a termination: `write` is put after what is written, `read` ends a frame, and `strip` says whether
     /// it is taken off.
     Terminated {
         write: Bytes,

@@ -35,7 +35,7 @@ fn judge(
 }
 
 /// What stands at the beginning of these bytes, at which a frame of FIXED may begin: the frame is as
-/// long as the discarded bytes and the first packet of which all ids hold behind them.
+/// long as the discarded bytes and the first packet of which all ids hold after them.
 pub(crate) fn found_fixed(
     min_id: u32,
     discard: u32,

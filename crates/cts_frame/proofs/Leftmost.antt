@@ -1,4 +1,4 @@
--- The leftmost place of a pattern is behind its leftmost occurrence.
+-- The leftmost place of a pattern is after its leftmost occurrence.
 use Rattle.std.proofs.Common.{option_map, ◌≡◌, ◌≤◌, ℕ, suc, ◌+◌, Bool, true, false, cond, List, [], ◌∷◌, ◌++◌, length, take, drop, refl, sym, ◌∙◌, ap, append_assoc, arith, Some, None, Option, inl, inr}
 use Rattle.std.proofs.lemmas.List.{append-nil, take-append-drop, take_at}
 use Rattle.std.proofs.Math.Seq.{take-append-add}
@@ -10,7 +10,7 @@ use Rattle.cts_frame.proofs.Fronts.{begins_tells, begins_front, fits_nil, first_
 pub begins_test : (s u : List ℕ) → BeginsWith s u → begins s u ≡ true
 begins_test s u h = ap (begins s) h.1 ∙ begins_front s h.0
 
--- an occurrence behind a first byte is one in what follows it
+-- an occurrence after a first byte is one in what follows it
 occurs_behind : (t u other : List ℕ) (x y : ℕ) → OccursBehind t (x ∷ u) (y ∷ other) → OccursBehind t u other
 occurs_behind t u other x y o =
     let tail : u ≡ other ++ (t ++ o.0) = let e = o.1 in cc in

@@ -95,7 +95,7 @@ module _ (s b gap u : List ℕ) (e : b ≡ gap ++ u) (r : FirstPlace s b) where
       let same = same_place r.gap gap r.rest u (sym r.all ∙ e) l in
       subst (λ g. NoneBegins s g u) same.0 (subst (NoneBegins s r.gap) same.1 r.clear)
 
-  -- an occurrence is no nearer than the first place, and has room behind it
+  -- an occurrence is no nearer than the first place, and has room after it
   far : (before : List ℕ) → OccursBehind s b before → (length r.gap ≤ length before) × (length s ≤ length r.rest)
   far before o =
       let away = behind_gap s b r.gap r.rest r.all r.clear before o in

@@ -37,7 +37,7 @@ pub record IsLengthError (l : LengthData) (u : List ℕ) (c : BadCause) : Type 0
   pub reaches : reach l.place ≤ length u
   pub cause : FieldCause l (field l.place u) c
 
--- TERMINATED: as many bytes as a frame may have, and no termination behind the sync pattern ends within them
+-- TERMINATED: as many bytes as a frame may have, and no termination after the sync pattern ends within them
 pub record IsTerminatedError (t : TerminatedData) (u : List ℕ) (c : BadCause) : Type 0 where
   pub begin : BeginsWith t.sync u
   pub full : frame_limit ≤ length u

@@ -28,7 +28,7 @@ pub record IsLengthFrame (l : LengthData) (w : List ℕ) : Type 0 where
   pub room : length l.sync ≤ length w
   pub within : length w ≤ frame_limit
 
--- TERMINATED: the sync pattern, and bytes up to and with the leftmost termination behind it
+-- TERMINATED: the sync pattern, and bytes up to and with the leftmost termination after it
 pub record IsTerminatedFrame (t : TerminatedData) (w : List ℕ) : Type 0 where
   pub body : List ℕ
   pub frame_is : w ≡ t.sync ++ (body ++ t.read)
@@ -65,7 +65,7 @@ IsFrame (Terminated t) w x = IsTerminatedFrame t w
 IsFrame (Preidentified p) w x = IsPreidentifiedFrame p w
 
 -- What a whole frame gives: its bytes without the termination, where that is stripped, and then without the discarded ones;
--- of PREIDENTIFIED the bytes behind the head, with the head's time and names.
+-- of PREIDENTIFIED the bytes after the head, with the head's time and names.
 abbrev pub output_of : (s : SpecData) (w x : List ℕ) → IsFrame s w x → Output
 output_of (Burst b) w x h = plain (drop b.discard w)
 output_of (Fixed f) w x h = plain (drop f.discard w)

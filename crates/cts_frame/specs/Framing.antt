@@ -27,7 +27,7 @@ pub record Framing : Type 0 where
   pub error : List ℕ → Option BadCause
   -- what a whole frame gives
   pub output : List ℕ → Output
-  -- whether each piece is cut for itself, behind the rest of the pieces before it
+  -- whether each piece is cut for itself, after the rest of the pieces before it
   pub by_piece : Bool
 
 -- the pattern s and the bytes u agree as far as both go: a frame that begins with s may begin at u

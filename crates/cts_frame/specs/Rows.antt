@@ -56,7 +56,7 @@ length_states l u = if nat_lt (length u) (reach l.place) then Open else field_st
 
 -- ---- TERMINATED: frames that end with a termination
 
--- where the leftmost termination ends that begins behind the sync pattern or later
+-- where the leftmost termination ends that begins after the sync pattern or later
 abbrev pub end_behind : ℕ → List ℕ → List ℕ → Option ℕ
 end_behind sync read u = option_map (λ k. sync + k + length read) (first_place read (drop sync u))
 
@@ -82,7 +82,7 @@ stripped t w = if t.strip then take (length w - length t.read) w else w
 abbrev pub decided_at : FixedData → ℕ
 decided_at f = f.discard + f.min_id
 
--- the first start all of whose ids hold behind the discarded bytes
+-- the first start all of whose ids hold after the discarded bytes
 abbrev pub first_start : FixedData → List ℕ → Option StartData
 first_start f u = find (λ s. begins_with s (drop f.discard u)) f.starts
 
@@ -100,14 +100,14 @@ fixed_states f u = if nat_lt (length u) (decided_at f) then Open else start_stat
 abbrev pub count_states : PreidentifiedData → ℕ → ℕ → Stated
 count_states p end count = if is_over p.max count then Wrong (OverMax count) else long_within (length p.sync + end + count)
 
--- v are the bytes behind the sync pattern
+-- v are the bytes after the sync pattern
 abbrev pub head_states : PreidentifiedData → List ℕ → Stated
 head_states p v = if has_head v then count_states p (head_end v) (head_of v).count else Open
 
 abbrev pub preidentified_states : PreidentifiedData → List ℕ → Stated
 preidentified_states p u = head_states p (drop (length p.sync) u)
 
--- the bytes behind the head, with its time and names
+-- the bytes after the head, with its time and names
 abbrev pub behind_head : List ℕ → Output
 behind_head v = record {
   bytes = drop (head_end v) v;

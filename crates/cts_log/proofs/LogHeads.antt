@@ -18,7 +18,7 @@ pub marker_len : (kind : LogKind) → length (marker kind) ≡ 12
 marker_len Tlm = refl
 marker_len Cmd = refl
 
--- the parts of a head, and what comes behind it
+-- the parts of a head, and what comes after it
 abbrev laid : LogKind → List ℕ → List ℕ → List ℕ → List ℕ
 laid kind digits host_field x = marker kind ++ (digits ++ 95 ∷ (host_field ++ x))
 

@@ -54,7 +54,7 @@ fn perform<R: Env + Print + AllocGlobal + Files<File = File>>(rt: &R) -> Result<
     Ok(run::<Chain, Shelf, _, _>(alloc, words, &mut shelf, &mut files, &mut out))
 }
 
-// The words behind the program's name. Where one of them is not UTF-8 there are none, which no command takes.
+// The words after the program's name. Where one of them is not UTF-8 there are none, which no command takes.
 fn words_of<R: Env + AllocGlobal>(rt: &R) -> Result<Vec<String>, Memory> {
     match env::args(rt) {
         Ok(all) => Ok(all.skip(1).collect(rt.alloc())?),

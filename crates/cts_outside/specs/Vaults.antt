@@ -30,7 +30,7 @@ abbrev pub at_kind : LogKind → (Log → Log) → Logs → Logs
 at_kind Tlm f logs = record { tlm = f logs.tlm; cmd = logs.cmd }
 at_kind Cmd f logs = record { tlm = logs.tlm; cmd = f logs.cmd }
 
--- the log with these bytes behind its own
+-- the log with these bytes after its own
 abbrev pub with_bytes : List ℕ → Log → Log
 with_bytes bytes log = record { bytes = log.bytes ++ bytes; synced = log.synced }
 

@@ -62,7 +62,7 @@ pub trait Link: Drop {
         ensures cause { TakeCause result (seen self.old).faults (seen self.new).faults }
         ensures dials { (seen self.new).failed_dials ≡ (seen self.old).failed_dials };
 
-    /// Puts these bytes behind the earlier ones. Where it fails, a prefix of them was put.
+    /// Puts these bytes after the earlier ones. Where it fails, a prefix of them was put.
     fn put(&mut self, bytes: &[u8]) -> Result<(), PutFailed>
         requires { (seen self.old).linked ≡ true }
         ensures content { LinkPuts (seen self.old).told (seen self.new).told bytes.now result }

@@ -33,7 +33,7 @@ impl MemPiece {
     }
 }
 
-/// A connection in memory. It ends behind its last piece.
+/// A connection in memory. It ends after its last piece.
 #[derive(Debug, Drop)]
 pub struct MemConnection {
     /// How many dials answer Later before it stands.

@@ -12,7 +12,7 @@ pub fn numbers(alloc: Global, text: &str) -> Result<Vec<u64>, Fail> {
     Ok(numbers)
 }
 
-/// Appends what is told, with `;` behind it.
+/// Appends what is told, with `;` after it.
 pub fn tell(out: &mut String, told: &str) -> Result<(), Fail> {
     out.push_str(told)?;
     Ok(out.push(';')?)

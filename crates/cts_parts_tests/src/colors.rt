@@ -74,7 +74,7 @@ fn color_for(letter: u8) -> Color {
     }
 }
 
-/// The state behind these steps, how many of them changed it, and the change of the last one.
+/// The state after these steps, how many of them changed it, and the change of the last one.
 fn behind(letters: &str) -> (RunState, u32, Option<Change>) {
     let mut state = fresh();
     let mut changes: u32 = 0;

@@ -63,7 +63,7 @@ fn commands_of_an_interface_are_known(rt: HostRuntime) -> Result<(), Fail> {
     rows_end_so::<Each>(rt.alloc(), EACH)
 }
 
-/// A number of commands for interface 0, the place behind them, and how many there are.
+/// A number of commands for interface 0, the place after them, and how many there are.
 const PLACES: &str = "\
 0|(2, Some(0))
 1|(2, Some(2))

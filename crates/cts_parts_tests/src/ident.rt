@@ -108,7 +108,7 @@ fn named_of(site: &Site, by: u32, target: &str, packet: &str) -> Option<Ident> {
     }
 }
 
-/// The number and the text behind it of a row.
+/// The number and the text after it of a row.
 fn parts(row: &str) -> Result<(u32, &str), Fail> {
     let (front, rest) = cut(row, ' ')?;
     Ok((number(front, 0)?, rest))

@@ -253,7 +253,7 @@ fn sampled(alloc: Global) -> Result<Entry, Fail> {
     })
 }
 
-/// The line of that packet, and those of the events behind it.
+/// The line of that packet, and those of the events after it.
 const SAMPLED: &str =
     r#""4 1.250000 I PACKET INST HS 010203\nEVENT INST HS TEMP1 STALE YELLOW_HIGH\nEVENT INST HS PKTID GREEN RED\n""#;
 

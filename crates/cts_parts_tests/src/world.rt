@@ -73,7 +73,7 @@ fn answer<C: Framer>(alloc: Global, world: &mut World<C>, event: &Event) -> Resu
     readable_of(alloc, &world.step(event))
 }
 
-/// Appends the answer to an event, with `;` behind it.
+/// Appends the answer to an event, with `;` after it.
 fn tell<C: Framer>(
     alloc: Global,
     world: &mut World<C>,
@@ -86,7 +86,7 @@ fn tell<C: Framer>(
     Ok(out.push(';')?)
 }
 
-/// The answers to these events, and the lines of the history behind them.
+/// The answers to these events, and the lines of the history after them.
 fn told<C: Framer>(alloc: Global, mut world: World<C>, events: &str) -> Result<String, Fail> {
     let mut out = String::new(alloc);
     for text in events.split(';') {
@@ -119,7 +119,7 @@ fn tell_line(
 }
 
 /// The events of a world of the one interface, the answers to them, and the lines of its history: the clock is set, and nothing
-/// opens after a stop; a connection ends by a stop only behind one.
+/// opens after a stop; a connection ends by a stop only after one.
 const EVENTS: &str = "\
 time;no time;stop;stop;opens|Ok(Posted);Err(NotEnabled);Ok(Posted);Err(NotEnabled);Err(NotEnabled); 0 5.000007 SERVER STOP;
 opens;ends;stop;ends;ends|Ok(Posted);Err(NotEnabled);Ok(Posted);Ok(Posted);Err(NotEnabled); 0 0.000000 I OPENED;1 0.000000 SERVER STOP;2 0.000000 I CLOSED STOP held 0 0 0 0 skipped 0 empty 0 unposted 0 unsent 0;";
@@ -161,7 +161,7 @@ fn events_are_answered_where_they_may_come(rt: HostRuntime) -> Result<(), Fail> 
 }
 
 /// The same of a world whose history takes one entry and ten bytes: where it was full it says so for good, but a reply of a full
-/// history only says so, behind all checks, and the server may be stopped.
+/// history only says so, after all checks, and the server may be stopped.
 const FULL: &str =
     r#"opens;piece 00;piece 0307;stop;other ends|Ok(Posted);Ok(Posted);Err(Full { entries: 1, bytes: 0 });Err(Full { entries: 1, bytes: 0 });Err(Full { entries: 1, bytes: 0 }); 0 0.000000 I OPENED;
 opens;ask set_limits_set ["DEFAULT"];ask set_limits_set ["NIGHT"];ask tlm_raw ["T A V"];stop|Ok(Posted);Ok(Reply { desk: 0, front: 1, text: Some('{"error":{"code":-32003,"message":"History full"},"id":1,"jsonrpc":"2.0"}') });Ok(Reply { desk: 0, front: 1, text: Some('{"error":{"code":-32001,"message":"Unknown limits set"},"id":1,"jsonrpc":"2.0"}') });Ok(Reply { desk: 0, front: 1, text: Some('{"error":{"code":-32001,"message":"Unknown target"},"id":1,"jsonrpc":"2.0"}') });Ok(Posted); 0 0.000000 I OPENED;1 0.000000 SERVER STOP;
@@ -231,7 +231,7 @@ fn commands_are_sent_up_to_the_last_place_of_the_history(rt: HostRuntime) -> Res
     rows_end_so::<Sent>(rt.alloc(), SENT)
 }
 
-/// The same of a world whose interface has a target, behind protocols: packets bring their own time and names, and chains end with
+/// The same of a world whose interface has a target, after protocols: packets bring their own time and names, and chains end with
 /// all losses.
 const CHAINS: &str = "\
 BURST|opens;piece 0105060708|Ok(Posted);Ok(Posted); 0 0.000000 I OPENED;1 0.000000 I PACKET T A 0105060708;

@@ -44,7 +44,7 @@ head_behind u n h is = subst (λ (v : List ℕ). IsHead v h) (take_all (length u
 abbrev given : PreidentifiedData → List ℕ → Output
 given p w = behind_head (drop (length p.sync) w)
 
--- the time of a head, and where its names stand behind so many bytes
+-- the time of a head, and where its names stand after so many bytes
 abbrev pub stamp_behind : ℕ → Head → Stamp
 stamp_behind by h = record { time = h.time; target = (by + h.target.0, by + h.target.1); packet = (by + h.packet.0, by + h.packet.1) }
 

@@ -29,7 +29,7 @@ fn moved(span: (usize, usize), by: usize) -> (usize, usize)
 }
 
 /// What stands at the beginning of these bytes, at which a frame of PREIDENTIFIED may begin: the
-/// frame ends as many bytes behind its head as the head counts.
+/// frame ends as many bytes after its head as the head counts.
 pub(crate) fn found_preidentified(sync: &[u8], max: Option<u64>, bytes: &[u8]) -> Found
     requires { Agree sync.now bytes.now }
     ensures { Finds (framing_of (Preidentified (record { sync = sync.now; max = max }))) bytes.now result }

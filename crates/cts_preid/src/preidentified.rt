@@ -6,7 +6,7 @@ use cts_def::{Kind, ProtoSpec};
 use cts_proto::{Cutter, Found, Search};
 use std::alloc::Global;
 
-/// The search by PREIDENTIFIED: a frame has a head that counts the bytes behind it.
+/// The search by PREIDENTIFIED: a frame has a head that counts the bytes after it.
 #[derive(Drop)]
 pub struct PreidentifiedSearch;
 

@@ -11,7 +11,7 @@ use Rattle.cts_proto.specs.Founds.{IsFirstPlace, FindsFrame, StampFits, output_a
 use Rattle.cts_proto.specs.Meaning.{Meaning, framing, Advances}
 use Rattle.cts_proto.specs.Stores.{moved_stamp}
 
--- a gap, and what is left behind it
+-- a gap, and what is left after it
 taken_gap : (f : Framing) (u : List ℕ) (gap : ℕ) → IsFirstPlace f.sync u gap → gap ≡ length (take gap u) → Taken f u [] gap 0 (drop gap u)
 taken_gap f u gap h n = record {
   parts = [];

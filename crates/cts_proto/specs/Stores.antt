@@ -11,7 +11,7 @@ use Rattle.cts_proto.specs.Meaning.{Meaning}
 abbrev pub left : Store → List ℕ
 left s = drop s.begin s.bytes.items
 
--- Nothing stands in as many of the bytes that are left as were looked at, so a search may go on behind them.
+-- Nothing stands in as many of the bytes that are left as were looked at, so a search may go on after them.
 abbrev pub Looked : Framing → Store → Type 0
 Looked f s = NothingStands f (take s.seen (left s))
 

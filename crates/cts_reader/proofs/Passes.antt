@@ -12,7 +12,7 @@ use Rattle.cts_reader.specs.declared.fault.Fault.TheVariants as fault
 use Rattle.cts_reader.specs.Reading.{Takes, Reads}
 
 module _ {C : Type 0} (at : List Statement → Statement → Option (Refusal C)) where
-  -- nothing is judged behind the last one
+  -- nothing is judged after the last one
   abbrev no_end : List Statement → Option (Refusal C)
   no_end all = None
 
@@ -49,7 +49,7 @@ module _ {C : Type 0} (at : List Statement → Statement → Option (Refusal C))
       never_at_end at no_end all (line, cause) refl ((first_one_is_refused at no_end all (Some (line, cause))).0
       (refused.stops at no_end (take i all) (drop (i + 1) all) all s (line, cause) (taken (take i all) so_far.here) (next stood all i s lt item so_far).decides))
 
-  -- behind the last statement
+  -- after the last statement
   pub ends : (stands : List Statement → Type 0) (all : List Statement) (i : ℕ) → length all ≤ i → IsPassing stands (take i all) (drop i all) all → Reads at stands all (Ok tt)
   ends stands all i le h =
       let stood : stands all = subst stands (take_all i all le) h.here in

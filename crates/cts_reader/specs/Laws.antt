@@ -19,7 +19,7 @@ TheFirstCauseIsTold C = (holds : C → Bool) (order : List C) (c : C) → (find 
 abbrev pub NoneIsToldWhereNoneHolds : Type 0 → Type 0
 NoneIsToldWhereNoneHolds C = (holds : C → Bool) (order : List C) → (find holds order ≡ None) ↔ AllByRecursion (λ b. holds b ≡ false) order
 
--- Statements are refused exactly where one of them is refused behind those before it, and by the first such one, or where
+-- Statements are refused exactly where one of them is refused after those before it, and by the first such one, or where
 -- none of them is and their end is.
 abbrev pub RefusesTheFirst : Type 0 → Type 0 → Type 0
 RefusesTheFirst C X = (at : List Statement → Statement → Option (Refusal C)) (end : List Statement → Option (Refusal C)) (says : List Statement → X) (all : List Statement) (r : Refusal C)

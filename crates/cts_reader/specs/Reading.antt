@@ -39,7 +39,7 @@ Gives (Err e) said = Fails e said
 
 -- ---- one pass
 
--- A statement that is not refused behind some others is added to what stands for these, and one that is refused is so.
+-- A statement that is not refused after some others is added to what stands for these, and one that is refused is so.
 abbrev pub TakesBehind : {C : Type 0} → (List Statement → Statement → Option (Refusal C)) → (List Statement → Type 0) → List Statement → Statement → Result Unit (Fault C) → Type 0
 TakesBehind at stands before s (Ok u) = (at before s ≡ None) × stands (before ++ s ∷ [])
 TakesBehind at stands before s (Err e) = IsRefused e (at before s)
@@ -60,6 +60,6 @@ abbrev pub unless_refused : {C X : Type 0} → X → Option (Refusal C) → Resu
 unless_refused said None = Ok said
 unless_refused said (Some r) = Err r
 
--- What the statements say, or the first refusal: of a statement behind those before it, or at the end of all.
+-- What the statements say, or the first refusal: of a statement after those before it, or at the end of all.
 abbrev pub said_of : {C X : Type 0} → (List Statement → Statement → Option (Refusal C)) → (List Statement → Option (Refusal C)) → (List Statement → X) → List Statement → Result X (Refusal C)
 said_of at end says all = unless_refused (says all) (first_refusal at end [] all)

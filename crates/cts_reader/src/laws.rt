@@ -7,7 +7,7 @@ pub fn first_cause_is_told<C>()
     ensures none { NoneIsToldWhereNoneHolds C }
 {}
 
-/// Statements are refused at the first one that is refused behind those before it, and at their end where none is and the
+/// Statements are refused at the first one that is refused after those before it, and at their end where none is and the
 /// end is. Where nothing is refused, they say what all of them say.
 pub fn first_statement_is_refused<C, X>()
     ensures refused { RefusesTheFirst C X }

@@ -19,7 +19,7 @@ pub trait Reader {
     /// What the statements are read by.
     type Given;
 
-    /// Why a statement behind these is refused, if it is.
+    /// Why a statement after these is refused, if it is.
     ghost refusal: { Self.Given → List Said → Said → Option (Refusal Self.Cause) };
 
     /// It stands for these statements, none of which is refused.

@@ -2,12 +2,12 @@
 use std::str::FromStr;
 use std::test::Fail;
 
-/// The part of a row at this place, counted from 0, between blanks; nothing behind the last.
+/// The part of a row at this place, counted from 0, between blanks; nothing after the last.
 pub fn part(row: &str, n: usize) -> &str {
     row.split(' ').nth(n).unwrap_or("")
 }
 
-/// The part of a row at this place between bars; nothing behind the last.
+/// The part of a row at this place between bars; nothing after the last.
 pub fn field(row: &str, n: usize) -> &str {
     row.split('|').nth(n).unwrap_or("")
 }

@@ -23,7 +23,7 @@ fn row_holds<A: Answers>(alloc: Global, row: &str) -> Result<(), Fail> {
     is_answered::<A>(alloc, asked, wanted)
 }
 
-/// Each row is answered by what stands behind its last bar.
+/// Each row is answered by what stands after its last bar.
 pub fn rows_end_so<A: Answers>(alloc: Global, rows: &str) -> Result<(), Fail> {
     for row in rows.split('\n') {
         row_ends_so::<A>(alloc, row)?;

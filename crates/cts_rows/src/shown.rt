@@ -45,7 +45,7 @@ fn readable(alloc: Global, front: &str, rest: &str) -> Result<String, Fail> {
     Ok(out)
 }
 
-/// Appends the bytes in front of `] }`, and what stands behind.
+/// Appends the bytes in front of `] }`, and what stands after.
 fn push_piece(out: &mut String, piece: &str) -> Result<(), Fail> {
     let (numbers, rest) = cut(piece, ']')?;
     out.push('\'')?;

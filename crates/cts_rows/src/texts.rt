@@ -2,7 +2,7 @@
 use std::alloc::Global;
 use std::test::Fail;
 
-/// The part of a text in front of the first of these marks, and the part behind it.
+/// The part of a text in front of the first of these marks, and the part after it.
 pub fn cut(text: &str, mark: char) -> Result<(&str, &str), Fail> {
     match text.split_once(mark) {
         Some(parts) => Ok(parts),
@@ -69,7 +69,7 @@ pub fn digits_of(alloc: Global, bytes: &[u8]) -> Result<String, Fail> {
     Ok(hex::encode(alloc, bytes)?)
 }
 
-/// The pairs of digits, with a blank behind pair `k` where bit `k` of `cuts` is set.
+/// The pairs of digits, with a blank after pair `k` where bit `k` of `cuts` is set.
 pub fn pieces_of(alloc: Global, digits: &str, cuts: u32) -> Result<String, Fail> {
     let mut out = String::new(alloc);
     let mut left = cuts;
@@ -84,7 +84,7 @@ pub fn pieces_of(alloc: Global, digits: &str, cuts: u32) -> Result<String, Fail>
     Ok(out)
 }
 
-/// Appends a digit, and a blank where the text is cut behind it.
+/// Appends a digit, and a blank where the text is cut after it.
 fn push_digit(out: &mut String, digit: char, is_cut: bool) -> Result<(), Fail> {
     out.push(digit)?;
     if is_cut {

@@ -153,7 +153,7 @@ ahead r es h =
       };
     }
 
--- ---- lines one behind the other
+-- ---- lines one after the other
 
 lines_then : (es fs : List Logged) (text more : List ℕ) → AreLines es text → AreLines fs more → AreLines (es ++ fs) (text ++ more)
 lines_then [] fs text more a b = subst (AreLines fs) (sym (ap (λ t. t ++ more) a)) b
@@ -185,14 +185,14 @@ goes_on file r s text line e old mid new f same more is put = record {
   put = put_then old mid new text line f.put put;
 }
 
--- less of the file is left behind an entry
+-- less of the file is left after an entry
 pub shorter : (r s : ReaderData) (es fs : List Logged) → HasRead r es → HasRead s fs → s ≡ record r { place = r.place + entry_end (drop r.place r.file) } → length s.file - s.place < length r.file - r.place
 shorter r s es fs h k same =
     let place : s.place ≡ r.place + entry_end (drop r.place r.file) = ap (λ (t : ReaderData). t.place) same in
     let file : s.file ≡ r.file = ap (λ (t : ReaderData). t.file) same in
     omega (arith, place, ap length file, k.within, end_long (drop r.place r.file))
 
--- whatever is left, its lines stand behind those so far
+-- whatever is left, its lines stand after those so far
 pub rest_of : (r : ReaderData) (es : List Logged) (text : List ℕ) → HasRead r es → AreLines es text → (more : List ℕ) × (due : Result (Unit {0}) Halt) × IsPrinted r.file (text ++ more) due
 rest_of r es text h lines =
     let a = ahead r es h in

@@ -72,7 +72,7 @@ goes_on site events rest x w new text p did d h = record {
 
 -- ---- what is put
 
--- two texts, one behind the other
+-- two texts, one after the other
 pub put_then : (old mid new : SinkSeen) (xs ys : List ℕ) → IsPut xs old mid → IsPut ys mid new → IsPut (xs ++ ys) old new
 put_then old mid new xs ys p q = (q.0 ∙ p.0, whole_then old.told mid.told new.told xs ys p.1 q.1)
 
@@ -85,7 +85,7 @@ begins_so : (a b : List ℕ) → a ≢ [] → a ++ b ≢ []
 begins_so [] b h = λ e. h refl
 begins_so (x ∷ a) b h = λ e. absurd (cc)
 
--- a put failed behind a text, and within a longer one
+-- a put failed after a text, and within a longer one
 pub fails_then : (old mid new : SinkSeen) (xs ys : List ℕ) → IsPut xs old mid → FailsWithin ys mid new → FailsWithin (xs ++ ys) old new
 fails_then old mid new xs ys p f =
     (rw (← p.0) f.0, ends_so xs ys f.1, part_then old.told mid.told new.told xs ys p.1 f.2)
@@ -95,7 +95,7 @@ fails_first old new xs ys f = (f.0, begins_so xs ys f.1, part_first old.told new
 
 -- ---- what a replay answers
 
--- what the body has behind the transcript
+-- what the body has after the transcript
 body_tail : List Did → Ending → List ℕ
 body_tail dids Finished = end_line (length (all_entries dids))
 body_tail dids NotEnabled = []

@@ -22,19 +22,19 @@ all_entries (did ∷ dids) = did.entries ++ all_entries dids
 abbrev pub line_event : Change → LimitsEvent
 line_event c = record { at = c.at; packet = c.packet; item = c.item; before = c.before; after = c.after }
 
--- the limits events that an entry has behind a history: the changes of limits states at it
+-- the limits events that an entry has after a history: the changes of limits states at it
 abbrev pub limits_events : SiteData → List Entry → Entry → List LimitsEvent
 limits_events site history e = map line_event (events_at site history e)
 
--- the lines of entries that stand behind a history
+-- the lines of entries that stand after a history
 abbrev pub lines_of : SiteData → List Entry → List Entry → List ℕ
 lines_of site history entries = lines_behind site (limits_events site) history entries
 
--- the lines of what an event did behind a history: those of its entries, and then that of what it gave besides
+-- the lines of what an event did after a history: those of its entries, and then that of what it gave besides
 abbrev pub event_text : SiteData → List Entry → Did → List ℕ
 event_text site history did = lines_of site history did.entries ++ effect_line site did.effect
 
--- The transcript: the lines of each event, behind the history before it.
+-- The transcript: the lines of each event, after the history before it.
 abbrev pub transcript : SiteData → List Entry → List Did → List ℕ
 transcript site history [] = []
 transcript site history (did ∷ dids) = event_text site history did ++ transcript site (history ++ did.entries) dids

@@ -59,7 +59,7 @@ pub fn run<C: Framer, B: Supplier<C>, F: Files, O: Sink>(
     ensures untouched { makes_world (asked (map (λ w. w.now) words.now)) ≡ false → B.stock shelf.new ≡ B.stock shelf.old }
     // A replay that halts before its world is made leaves it too; and else exactly the boxes of all chains of its site are gone.
     ensures boxes { IfSome (F.seen files.old).told (λ all. ShelfAfter all (asked (map (λ w. w.now) words.now)) result (B.stock shelf.old) (B.stock shelf.new)) }
-    // Only where a dump is asked for of a file that is too large, or is no head with whole entries alone behind it.
+    // Only where a dump is asked for of a file that is too large, or is no head with whole entries alone after it.
     ensures refused { result ≡ Status.LogRefused → IfSome (F.seen files.old).told (λ all. IsBadLog all (asked (map (λ w. w.now) words.now))) }
     // And there no other status comes, where no count rose, but want of memory.
     ensures log { Steady (F.seen files.old).faults (F.seen files.new).faults → Steady (O.seen out.old).faults (O.seen out.new).faults

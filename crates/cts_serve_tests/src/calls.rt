@@ -46,7 +46,7 @@ const SITE: &str =
 const RESULT: &str =
     r#"OPEN I;BYTES I 000affff01414243beef;CALL 0 '{"jsonrpc":"2.0","method":"$","params":$,"id":1}'|Ok 0 0.000000 I OPENED;1 0.000000 I PACKET INST HS 000affff01414243beef;REPLY DESK/0 2 {"id":1,"jsonrpc":"2.0","result":$};END 2;"#;
 
-// Each row has a method and its params behind a packet with 65535, 1, `ABC` and the bytes beef in its items, and the result:
+// Each row has a method and its params after a packet with 65535, 1, `ABC` and the bytes beef in its items, and the result:
 // 65535 times 0.00305 is 199.88175.
 const RESULTS: &str = r#"tlm_raw|["INST HS TEMP"]|65535
 tlm|["INST HS TEMP"]|"99.88175"
@@ -106,7 +106,7 @@ fn each_refusal_has_its_code_and_message(rt: HostRuntime) -> Result<(), Fail> {
 }
 
 // Calls before anything happened; the count and the value of a second packet; a set is chosen at its time, again and
-// in any case, by any desk; a line behind a call that is not enabled; a desk that the site does not have.
+// in any case, by any desk; a line after a call that is not enabled; a desk that the site does not have.
 const ORDERS: &str =
     r#"CALL 0 '{"jsonrpc":"2.0","method":"tlm_raw","params":["INST HS MODE"],"id":1}'|Ok REPLY DESK/0 0 {"error":{"code":-32001,"message":"Never received"},"id":1,"jsonrpc":"2.0"};END 0;
 call 1 '{"jsonrpc":"2.0","method":"tlm_raw","params":["INST HS RECEIVED_COUNT"],"id":1}';CALL 0 '{"jsonrpc":"2.0","method":"tlm_raw","params":["A B C"],"id":1}'|Ok REPLY DESK/1 0 {"id":1,"jsonrpc":"2.0","result":0};REPLY DESK/0 0 {"error":{"code":-32001,"message":"Unknown target"},"id":1,"jsonrpc":"2.0"};END 0;

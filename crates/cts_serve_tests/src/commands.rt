@@ -11,7 +11,7 @@ INTERFACE INST_INT tcpip_client_interface.rb localhost 8080 8080 10.0 nil LENGTH
 INTERFACE AUX_INT tcpip_client_interface.rb localhost 8081 8081 10.0 nil TERMINATED 0x0A 0x0A;\
   TARGET AUX";
 
-// A command is written, and one behind it is left at the end; a second WRITE of the one command is not enabled; a command
+// A command is written, and one after it is left at the end; a second WRITE of the one command is not enabled; a command
 // before a connection is not sent, and one of an earlier connection is not written by a later one.
 const WRITES: &str =
     r#"OPEN INST_INT;CALL 0 '{"jsonrpc":"2.0","method":"cmd","params":["INST COLLECT with DURATION 10"],"id":1}';WRITE INST_INT 1;CALL 2 '{"jsonrpc":"2.0","method":"cmd","params":["INST COLLECT with DURATION 9"],"id":2}';CLOSE INST_INT PEER|Ok 0 0.000000 INST_INT OPENED;1 0.000000 DESK/0 COMMAND INST COLLECT 07000a;REPLY DESK/0 1 {"id":1,"jsonrpc":"2.0","result":["INST","COLLECT",{"DURATION":10}]};WRITTEN INST_INT 000507000a;2 0.000000 DESK/2 COMMAND INST COLLECT 070009;REPLY DESK/2 2 {"id":2,"jsonrpc":"2.0","result":["INST","COLLECT",{"DURATION":9}]};3 0.000000 INST_INT CLOSED PEER held 0 0 0 0 skipped 0 empty 0 unposted 0 unsent 1;END 4;

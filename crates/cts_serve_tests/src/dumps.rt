@@ -7,7 +7,7 @@ use cts_rows::{Answers, bytes_of, number, part, rows_hold};
 use std::alloc::Global;
 use std::test::Fail;
 
-// What stands in a head behind the digits.
+// What stands in a head after the digits.
 const HOST: &[u8] =
     b"_cts                                                                                ";
 

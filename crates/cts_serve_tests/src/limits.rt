@@ -70,7 +70,7 @@ fn push_numbered(
     Ok(out.push_str(text.as_str())?)
 }
 
-// Appends an item, each 4,096 of them behind a packet.
+// Appends an item, each 4,096 of them after a packet.
 fn push_item(alloc: Global, out: &mut String, number: u32) -> Result<(), Fail> {
     if number % 4096 == 0 {
         push_numbered(alloc, out, "TELEMETRY T P", number, " BIG_ENDIAN;")?;

@@ -116,7 +116,7 @@ fn the_server_is_stopped_once(rt: HostRuntime) -> Result<(), Fail> {
     replays_end_so(rt.alloc(), "", TWO, WHOLE, STOPS)
 }
 
-// Why a connection ends. It ends by a Stop only behind one.
+// Why a connection ends. It ends by a Stop only after one.
 const ENDS: &str = "\
 OPEN I;CLOSE I READ|Ok 0 0.000000 I OPENED;1 0.000000 I CLOSED READ held 0 0 0 0 skipped 0 empty 0 unposted 0 unsent 0;END 2;
 OPEN J;BYTES J 0003;close j WRITE|Ok 0 0.000000 J OPENED;1 0.000000 J CLOSED WRITE held 2 0 0 0 skipped 0 empty 0 unposted 0 unsent 0;END 2;

@@ -136,7 +136,7 @@ pub fn hold_bytes(
     Ok(held.push((name, Bytes::of(content)))?)
 }
 
-/// How a command ends: its status, and behind a blank all that it prints, with `;` for each line feed.
+/// How a command ends: its status, and after a blank all that it prints, with `;` for each line feed.
 pub fn ended(
     alloc: Global,
     words: &str,

@@ -51,7 +51,7 @@ later t (x ∷ w) (suc d) none = behind (begins t (x ∷ w)) none (later t w d)
     behind true h more = absurd (h 0 (omega arith) refl)
     behind false h more = ap (option_map suc) (more (λ k lt e. h (suc k) (omega (arith, lt)) (ap (option_map suc) e))) ∙ moved (first_place t (drop d w))
 
--- what stands leftmost behind a place, found from a later place on
+-- what stands leftmost after a place, found from a later place on
 pub found_later : (t u v : List ℕ) (start from : ℕ) (o : Option ℕ) → start ≤ from → ((k : ℕ) → k < from - start → first_place t (drop start u) ≡ Some k → ⊥) → v ≡ drop from u → o ≡ first_place t v
     → option_map (λ k. from - start + k) o ≡ first_place t (drop start u)
 found_later t u v start from o h none is found =

@@ -15,7 +15,7 @@ use cts_proto::{Found, Search};
 use memchr::memmem;
 use std::alloc::Global;
 
-/// The search by TERMINATED: a frame goes up to and with the leftmost termination behind its sync pattern.
+/// The search by TERMINATED: a frame goes up to and with the leftmost termination after its sync pattern.
 #[derive(Drop)]
 pub struct TerminatedSearch;
 
@@ -108,14 +108,14 @@ fn find_terminated(
     }
 }
 
-/// The bytes behind the first `count`, none where there are fewer.
+/// The bytes after the first `count`, none where there are fewer.
 fn behind(bytes: &[u8], count: usize) -> &[u8]
     ensures { result.now ≡ drop count bytes.now }
 {
     &bytes[count.min(bytes.len())..]
 }
 
-/// The first place, from that behind the sync pattern on, at which a termination may begin that ends behind the bytes seen.
+/// The first place, from the one after the sync pattern on, at which a termination may begin that ends after the bytes seen.
 fn first_unseen(seen: usize, sync: usize, read: usize) -> usize
     ensures { result ≡ first_unseen seen sync read }
 {
@@ -126,7 +126,7 @@ fn first_unseen(seen: usize, sync: usize, read: usize) -> usize
     }
 }
 
-/// The leftmost place, counted from `start`, at which the pattern stands in the bytes behind `start`. It stands nowhere
+/// The leftmost place, counted from `start`, at which the pattern stands in the bytes after `start`. It stands nowhere
 /// before the place `from`.
 fn leftmost_behind(bytes: &[u8], start: usize, from: usize, pattern: &[u8]) -> Option<usize>
     requires order { start ≤ from }

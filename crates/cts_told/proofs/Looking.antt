@@ -113,7 +113,7 @@ look_or_none : (found : List ℕ) (n look end : ℕ) (looked : List Entry) → (
 look_or_none found n look end looked (inl none) = inl none
 look_or_none found n look end looked (inr l) = inr (look_more found n look end l)
 
--- one more hold, which began behind the connection
+-- one more hold, which began after the connection
 pub looked_found : (g : Routing) (room : Capacity) (m : ℕ) (found : List ℕ) (n : ℕ) (before : List Entry) (c : Connection) (entries : List Entry) → length (before ++ entries) ≤ n
     → Looked g room m found before c entries → Looked g room m (found ++ n ∷ []) before c entries
 looked_found g room m found n before c entries le saw =

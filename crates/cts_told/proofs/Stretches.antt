@@ -87,7 +87,7 @@ posts_quiet g m test none before (e ∷ es) packets posts =
     let s = shown_connect g m before e es packets (is_own m e) refl posts in
     ap (λ (b : Bool). b || list_any test es) (none e s.0) ∙ posts_quiet g m test none (before ++ e ∷ []) es s.1.0 s.1.1
 
--- the Opened of a connection is the maker's, the Closed is the first one behind it, and no Opened stands between them
+-- the Opened of a connection is the maker's, the Closed is the first one after it, and no Opened stands between them
 record Stretch (m : ℕ) (entries : List Entry) : Type 0 where
   opened : Entry
   between : List Entry
@@ -186,7 +186,7 @@ some_own m entries gap mine later none are s =
     let some : has_own m entries ≡ true = ap (has_own m) are ∙ (list_any-append (is_own m) gap (mine ++ later) ∙ any_or (has_own m gap) (has_own m (mine ++ later)) own) in
     let f : true ≡ false = sym some ∙ none in cc
 
--- two stretches behind entries of no connection are one
+-- two stretches after entries of no connection are one
 one_stretch : (m : ℕ) (gap gap' mine mine' later later' : List Entry) → has_own m gap ≡ false → has_own m gap' ≡ false → Stretch m mine → Stretch m mine' → gap ++ (mine ++ later) ≡ gap' ++ (mine' ++ later') → (mine ≡ mine') × (later ≡ later')
 one_stretch m gap gap' mine mine' later later' quiet quiet' s t e =
     let a : gap ++ (mine ++ later) ≡ gap ++ s.opened ∷ (s.between ++ s.closed ∷ later) =

@@ -62,7 +62,7 @@ abbrev pub FaultsAreTold : Type 0
 FaultsAreTold = (g : Routing) (room : Capacity) (m : ℕ) (found : List ℕ) (past : List Connection) (history : List Entry) → Said g room m found past history
     → faults_of m history ≤ length (filter (λ c. c.take_failed || c.put_failed) past)
 
--- What is told stays told when a further hold begins behind what was seen, ..
+-- What is told stays told when a further hold begins after what was seen, ..
 abbrev pub HoldsMayFollow : Type 0
 HoldsMayFollow = (g : Routing) (room : Capacity) (m : ℕ) (found : List ℕ) (n : ℕ) (seen : List Entry) (told : Option Line) → length seen ≤ n → ToldBy g room m found seen told → ToldBy g room m (found ++ n ∷ []) seen told
 

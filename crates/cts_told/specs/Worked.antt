@@ -68,7 +68,7 @@ pub record WorkedTold : Type 0 where
   pub unsent : Stay example 0 [] [] (0 ∷ 7 ∷ []) (opened 0 ∷ command (7 ∷ []) ∷ command (8 ∷ []) ∷ closed 0 PeerEnded 0 0 1 ∷ [])
   -- a command whose spelling is refused is passed over, and counts as unsent
   pub refused : Stay example 0 [] [] (0 ∷ 8 ∷ []) (opened 0 ∷ command [] ∷ command (8 ∷ []) ∷ closed 0 PeerEnded 0 0 1 ∷ [])
-  -- a packet in two pieces, and a byte behind it that is in none
+  -- a packet in two pieces, and a byte after it that is in none
   pub held : Stay example 0 [] ((3 ∷ 17 ∷ []) ∷ (34 ∷ 5 ∷ []) ∷ []) [] (opened 0 ∷ packet (3 ∷ 17 ∷ 34 ∷ []) ∷ closed 0 PeerEnded 1 0 0 ∷ [])
   -- the same while it stands
   pub stands : Talks example 0 [] ((3 ∷ 17 ∷ []) ∷ (34 ∷ 5 ∷ []) ∷ []) [] (opened 0 ∷ packet (3 ∷ 17 ∷ 34 ∷ []) ∷ [])
@@ -77,13 +77,13 @@ pub record WorkedTold : Type 0 where
   pub unrouted : Stay example 8 [] ((2 ∷ 1 ∷ []) ∷ []) [] (opened 8 ∷ entry 8 (Unrouted NotConnected (2 ∷ 1 ∷ [])) ∷ closed 8 PeerEnded 0 0 0 ∷ [])
   -- a line looks before each take, and puts what it saw: its holds began at the places 0, 2 and 2
   pub looked : Looked example (most 9) 0 (0 ∷ 2 ∷ 2 ∷ []) [] (ended_after [] (0 ∷ 7 ∷ [])) (opened 0 ∷ command (7 ∷ []) ∷ closed 0 PeerEnded 0 0 0 ∷ [])
-  -- a put that failed behind one byte of a spelling: the command counts as unsent
+  -- a put that failed after one byte of a spelling: the command counts as unsent
   pub write_fault : Looked example (most 9) 0 (0 ∷ 2 ∷ 2 ∷ []) [] (record { pieces = []; put = 0 ∷ []; takes = 0; ended = false; take_failed = false; put_failed = true })
       (opened 0 ∷ command (7 ∷ []) ∷ closed 0 WriteFault 0 0 1 ∷ [])
-  -- it looked before the Stop, and once more; the command behind the Stop is unsent
+  -- it looked before the Stop, and once more; the command after the Stop is unsent
   pub stopped : Looked example (most 9) 0 (0 ∷ 1 ∷ 2 ∷ 3 ∷ []) [] (record { pieces = []; put = []; takes = 1; ended = false; take_failed = false; put_failed = false })
       (opened 0 ∷ stop ∷ command (7 ∷ []) ∷ closed 0 Stopped 0 0 1 ∷ [])
-  -- the packet finds no room behind the one entry that the history may hold
+  -- the packet finds no room after the one entry that the history may hold
   pub full : Looked example (most 1) 0 (0 ∷ 1 ∷ 1 ∷ 1 ∷ []) [] (record { pieces = (2 ∷ 1 ∷ []) ∷ []; put = []; takes = 1; ended = false; take_failed = false; put_failed = false })
       (opened 0 ∷ closed 0 Full 0 1 0 ∷ [])
   -- a connection that was made when a Stop stood has no entry

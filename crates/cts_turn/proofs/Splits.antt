@@ -31,7 +31,7 @@ module _ {S E G : Type 0} (maker : E → ℕ) (list : S → List E) (basis : S �
   abbrev Rule : G → State (Option S) Vw → Type 0
   Rule g s = Whole maker list basis g s
 
-  -- a view that has not the turn, and no maker of another, comes behind the others
+  -- a view that has not the turn, and no maker of another, comes after the others
   abbrev appended : (g : G) (s : State (Option S) Vw) (r : Good g s) (w : Vw) → Fine g r.whole r.busy w → w.holds ≡ false
       → ((j : ℕ) (u : Vw) (m : ℕ) → get_elem? s.views j ≡ some u → has m w.makers ≡ true → ¬ (has m u.makers ≡ true))
       → Good g record { words = s.words; homes = s.homes; views = s.views ++ w ∷ [] }

@@ -1,4 +1,4 @@
-//! Any number of passes: handed out, taken back, and the turn closed behind them.
+//! Any number of passes: handed out, taken back, and the turn closed after them.
 ghost use Rattle.std.specs.Prelude.{◌≡◌, ℕ, ◌<◌, true, ◌∷◌, [], All, IfOk, length, slice_index_or};
 ghost use Rattle.cts_turn.specs.Lists.{has, makers_from, of, StartsWith};
 ghost use Rattle.cts_turn.specs.Passes.{IsPassOf, basis_of, view};

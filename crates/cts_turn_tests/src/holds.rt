@@ -103,7 +103,7 @@ pub fn add_many<R: Wait>(
     (pass, n)
 }
 
-/// Two threads append n packets each, behind what stands; how many each appended.
+/// Two threads append n packets each, after what stands; how many each appended.
 pub fn add_both<R: Threads + Wait + Sync>(
     rt: &R,
     alloc: Global,

@@ -1,4 +1,4 @@
-//! The passes of the makers 0 and 1, and the turn closed behind them.
+//! The passes of the makers 0 and 1, and the turn closed after them.
 ghost use Rattle.std.specs.Prelude.{◌≡◌, ◌∷◌, []};
 ghost use Rattle.cts_turn.specs.Lists.{makers_from, of, StartsWith};
 ghost use Rattle.cts_turn.specs.Passes.{IsPassOf, basis_of, view};

@@ -29,7 +29,7 @@ no_split [] s rest e = cc
 no_split (f ∷ front) s rest e = cc
 
 module _ {C : Type 0} (at : List Statement → Statement → Option (Refusal C)) (end : List Statement → Option (Refusal C)) where
-  -- what is refused behind some statements
+  -- what is refused after some statements
   abbrev behind : List Statement → List Statement → Statement → Option (Refusal C)
   behind before front s = at (before ++ front) s
 

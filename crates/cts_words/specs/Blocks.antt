@@ -41,7 +41,7 @@ HasNoHead head_in ls = AllByRecursion (λ l. head_in l ≡ None) ls
 abbrev pub BlocksAreOfTheHeads : Type 0 → Type 0 → Type 0
 BlocksAreOfTheHeads L H = (head_in : L → Option H) (ls : List L) → map (λ block. block.0) (blocks head_in ls) ≡ filter_map head_in ls
 
--- A block has the lines behind its head.
+-- A block has the lines after its head.
 abbrev pub BlocksHaveTheirLines : Type 0 → Type 0 → Type 0
 BlocksHaveTheirLines L H = (head_in : L → Option H) (before : List L) (l : L) (head : H) (body : List L)
     → head_in l ≡ Some head → HasNoHead head_in body → blocks head_in (before ++ l ∷ body) ≡ blocks head_in before ++ (head, body) ∷ []

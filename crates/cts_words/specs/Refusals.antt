@@ -10,14 +10,14 @@ abbrev pub or_else : {R : Type 0} → Option R → Option R → Option R
 or_else (Some r) rest = Some r
 or_else None rest = rest
 
--- The first refusal: of a statement behind those before it, or at the end of all.
+-- The first refusal: of a statement after those before it, or at the end of all.
 abbrev pub first_refusal : {C : Type 0} → (List Statement → Statement → Option (Refusal C)) → (List Statement → Option (Refusal C)) → List Statement → List Statement → Option (Refusal C)
 first_refusal at end before [] = end before
 first_refusal at end before (s ∷ rest) = or_else (at before s) (first_refusal at end (before ++ s ∷ []) rest)
 
 -- ---- the first refusal, said of all statements at once
 
--- no statement is refused behind those before it
+-- no statement is refused after those before it
 abbrev pub NoneRefused : {C : Type 0} → (List Statement → Statement → Option (Refusal C)) → List Statement → Type 0
 NoneRefused at all = (front : List Statement) (s : Statement) (rest : List Statement) → all ≡ front ++ s ∷ rest → at front s ≡ None
 

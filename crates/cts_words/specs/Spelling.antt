@@ -79,7 +79,7 @@ Spells line ws = SpellsThen IsBlank ws line
 abbrev pub LeavesOpen : List ℕ → Type 0
 LeavesOpen line = (ws : List Word) × SpellsThen IsOpenWord ws line
 
--- A text is cut behind each line feed, and its last line may end with the text.
+-- A text is cut after each line feed, and its last line may end with the text.
 abbrev pub LinesEndAtFeeds : Type 0
 LinesEndAtFeeds = (line rest : List ℕ) → IsTrue (is_without 10 line) → lines (line ++ 10 ∷ rest) ≡ line ∷ lines rest
 

@@ -60,7 +60,7 @@ fn split_join<'a, 'b>(row: &'a [Piece<'b>]) -> (bool, &'a [Piece<'b>])
     }
 }
 
-/// Copies words behind others.
+/// Copies words after others.
 fn push_texts(alloc: Global, words: &mut Vec<Bytes>, pieces: &[Piece]) -> Result<(), Memory>
     ensures { OnOk result (words.new.items ≡ words.old.items ++ map text (map word_of pieces.now)) }
 {

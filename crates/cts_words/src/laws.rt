@@ -33,7 +33,7 @@ pub fn faults_are_of_their_lines()
     ensures dangling { JoinToNothingIsTold }
 {}
 
-/// Statements are refused at the first one that is refused behind those before it, and at their end where none is.
+/// Statements are refused at the first one that is refused after those before it, and at their end where none is.
 pub fn first_one_is_refused<C>()
     ensures { FirstOneIsRefused C }
 {}

@@ -24,7 +24,7 @@ pub enum Status {
     ScriptRefused,
     /// An event's entries would pass a limit of the history.
     HistoryFull,
-    /// A log is not a head with whole entries alone behind it, or is too large.
+    /// A log is not a head with whole entries alone after it, or is too large.
     LogRefused,
     /// A file asks for what is not built yet.
     NotBuilt,

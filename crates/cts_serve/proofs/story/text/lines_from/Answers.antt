@@ -24,7 +24,7 @@ slice_from n m es e =
 count_to : (n m : ℕ) (es : List Entry) → m ≡ min n (length es) → length (take n es) ≡ m
 count_to n m es e = grind (arith, length-take {A = Entry})
 
--- what stands before an entry and behind it
+-- what stands before an entry and after it
 split_at : (es : List Entry) (from i : ℕ) (e : Entry) → i < length (drop from es) → e ≡ get_or (drop from es) i e → es ≡ (take from es ++ take i (drop from es)) ++ e ∷ drop (i + 1) (drop from es)
 split_at es from i e below is =
     sym (take-append-drop from es)
