@@ -370,7 +370,7 @@ const COPY: &str =
     "Fixed { min_id: 3, discard: 0, sync: Bytes { held: [26, 207] }, telemetry: true, fill: false, raise: true, starts: List { items: [Start { ids: List { items: [(Place { offset: 8, bits: 16, order: Little }, 7, true)] }, length: 3 }] } }";
 
 fn copy_text(alloc: Global, protocol: &ProtoSpec) -> Result<String, Fail> {
-    debug_of(alloc, &protocol.copied(alloc)?)
+    debug_of(alloc, &protocol.copied()?)
 }
 
 #[test]

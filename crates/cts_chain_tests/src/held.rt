@@ -59,7 +59,7 @@ fn configured(alloc: Global, used: &ProtoUse) -> Result<Length, Fail>
         return Err(Fail::new("no LENGTH"));
     };
     let mut protocol = Length::blank(alloc);
-    protocol.configure(used.spec.copied(alloc)?);
+    protocol.configure(used.spec.copied()?);
     Ok(protocol)
 }
 

@@ -5,7 +5,6 @@ ghost use Rattle.cts_def.specs.Protocols.{spec_data};
 use crate::Start;
 use cts_base::{Bytes, List, Memory};
 use cts_bits::Place;
-use std::alloc::Global;
 
 /// The protocols that there are. Each cuts the bytes that come into frames, and puts bytes into frames.
 #[derive(Clone, Copy, Debug, PartialEq, Eq)]
@@ -27,7 +26,7 @@ pub enum Kind {
 /// `discard` is how many leading bytes are taken off a frame that is read, and put before one that is written. `sync` is
 /// the pattern with which a frame begins, without bytes for none. `fill` says whether discarded bytes, the sync pattern
 /// and the length are written.
-#[derive(Debug, Drop)]
+#[derive(Clone, Debug, Drop)]
 pub enum ProtoSpec {
     /// All bytes of a piece.
     Burst {
@@ -73,85 +72,11 @@ pub enum ProtoSpec {
     },
 }
 
-// Copies of these starts, in their order.
-fn starts_copied(alloc: Global, starts: &[Start]) -> Result<List<Start>, Memory>
-    ensures { IfOk result (λ s. s ≡ starts.now) }
-{
-    let mut copies = List::new(alloc);
-    for start in starts {
-        copies.push(start.copied(alloc)?)?;
-    }
-    Ok(copies)
-}
-
 impl ProtoSpec {
     /// A copy with the same parameters, in memory of its own. `Memory` where none was found for it.
-    pub fn copied(&self, alloc: Global) -> Result<ProtoSpec, Memory>
+    pub fn copied(&self) -> Result<ProtoSpec, Memory>
         ensures { IfOk result (λ s. spec_data s ≡ spec_data self.now) }
     {
-        Ok(match self {
-            ProtoSpec::Burst {
-                discard,
-                sync,
-                fill,
-            } => ProtoSpec::Burst {
-                discard: *discard,
-                sync: sync.clone()?,
-                fill: *fill,
-            },
-            ProtoSpec::Fixed {
-                min_id,
-                discard,
-                sync,
-                telemetry,
-                fill,
-                raise,
-                starts,
-            } => ProtoSpec::Fixed {
-                min_id: *min_id,
-                discard: *discard,
-                sync: sync.clone()?,
-                telemetry: *telemetry,
-                fill: *fill,
-                raise: *raise,
-                starts: starts_copied(alloc, starts.as_slice())?,
-            },
-            ProtoSpec::Length {
-                place,
-                value_offset,
-                per_count,
-                discard,
-                sync,
-                max,
-                fill,
-            } => ProtoSpec::Length {
-                place: *place,
-                value_offset: *value_offset,
-                per_count: *per_count,
-                discard: *discard,
-                sync: sync.clone()?,
-                max: *max,
-                fill: *fill,
-            },
-            ProtoSpec::Terminated {
-                write,
-                read,
-                strip,
-                discard,
-                sync,
-                fill,
-            } => ProtoSpec::Terminated {
-                write: write.clone()?,
-                read: read.clone()?,
-                strip: *strip,
-                discard: *discard,
-                sync: sync.clone()?,
-                fill: *fill,
-            },
-            ProtoSpec::Preidentified { sync, max } => ProtoSpec::Preidentified {
-                sync: sync.clone()?,
-                max: *max,
-            },
-        })
+        Ok(self.clone()?)
     }
 }

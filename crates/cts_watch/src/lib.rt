@@ -23,7 +23,7 @@ pub use choices::limits_set;
 pub use finding::limits_of;
 pub use following::Follower;
 pub use known::{set_known, sets_known};
-pub use laws::known_sets_are_apart;
+pub use laws::known_sets_stand_once;
 pub use running::state_of;
 pub use types::{LimitsEvent, LimitsUsed};
 pub use watching::{is_watched, watches};
