@@ -106,7 +106,7 @@ module _ (b : Basis) (history : List Entry) (by : ℕ) (few : length (known_sets
       let f = check_gives _ _ _ (gives (made a.0 n.0 s.0)) w o.1 in
       let is : made a.0 n.0 s.0 ≡ w = given (made a.0 n.0 s.0) w f.1 in
       let used : limits_of b.site a.0.packet a.0.item h.set history ≡ Some n.0 = or_gives _ _ (limits_of b.site a.0.packet a.0.item h.set history) n.0 n.1 in
-      subst Says is (limits_there b.site a.0.packet a.0.item h.set history n.0 used, subst IsPersistent (sym is) lasts, sets_fit (known_sets b.site history) s.0 (is_set_known b.site history s.0) few (set_known_is b.site history s.0) f.0)
+      subst Says is (limits_there b.site a.0.packet a.0.item h.set history n.0 used, subst IsPersistent (sym is) lasts, sets_fit (known_sets b.site history) s.0 (is_among (known_sets b.site history) s.0) few refl (ap (λ (known : Bool). known || nat_lt h.sets most_sets) (set_known_is b.site history s.0) ∙ f.0))
     where
       made : ItemAt → LimitsUsed → List ℕ → What
       made at now set = SetLimits new.enabled at.packet at.item (or_else now.persistence new.persistence) set new.limits
