@@ -98,8 +98,8 @@ abbrev pub is_black : ℕ → Bool
 is_black c = not (is_white c)
 
 -- what stands after white space
-abbrev pub behind_white : List ℕ → List ℕ
-behind_white text = drop (position_or_len is_black text) text
+abbrev pub after_white : List ℕ → List ℕ
+after_white text = drop (position_or_len is_black text) text
 
 abbrev pub word_from : List ℕ → Option (List ℕ × List ℕ)
 word_from here =
@@ -107,7 +107,7 @@ word_from here =
 
 -- the word that stands first, after white space, and what stands after it
 abbrev pub word_first : List ℕ → Option (List ℕ × List ℕ)
-word_first text = word_from (behind_white text)
+word_first text = word_from (after_white text)
 
 abbrev pub named_by : List ℕ → List ℕ → List ℕ → List ℕ → Option ItemName
 named_by target packet last rest = if length rest == 0 then Some (record { target = target; packet = packet; item = last }) else None
@@ -117,7 +117,7 @@ abbrev pub three_words : List ℕ → Option ItemName
 three_words text =
     option_and_then (λ (t : List ℕ × List ℕ).
     option_and_then (λ (p : List ℕ × List ℕ).
-    option_and_then (λ (i : List ℕ × List ℕ). named_by t.0 p.0 i.0 (behind_white i.1)) (word_first p.1)) (word_first t.1)) (word_first text)
+    option_and_then (λ (i : List ℕ × List ℕ). named_by t.0 p.0 i.0 (after_white i.1)) (word_first p.1)) (word_first t.1)) (word_first text)
 
 -- ---- params from the front: what they are, and those that follow
 

@@ -69,8 +69,8 @@ basis = record { site = site; entries = 8; bytes = 100 }
 abbrev pub point : Point
 point = point_of basis []
 
-abbrev pub behind_stop : Point
-behind_stop = point_of basis (made 24 at_rest Stop ∷ [])
+abbrev pub after_stop : Point
+after_stop = point_of basis (made 24 at_rest Stop ∷ [])
 
 -- what the params of a method ask, and its answer
 abbrev pub asked : List ℕ → List Data → Option Asking
@@ -122,7 +122,7 @@ pub record RowsHold : Type 0 where
   pub not_connected : answer point (Some (record { target = codes "inst"; command = codes "collect"; params = [] })) (sends (record { range = true; hazardous = true }) (in_text [])) ≡ not_done (codes "Not connected: INST_INT")
   pub injected_object : asked (codes "inject_tlm") (string (codes "INST") ∷ string (codes "HS") ∷ []) ≡ None
   pub stop : ask (codes "stop_server") [] ≡ Some (appended (gives Stop))
-  pub stopped : answer behind_stop None stops ≡ told (gives null)
+  pub stopped : answer after_stop None stops ≡ told (gives null)
   pub method_without_id : IsReplyFor point 24 at_rest (calls (codes "no such") no_items None) (record { response = None; entries = [] })
   pub stop_without_id : IsReplyFor point 24 at_rest (calls (codes "stop_server") no_items None) (record { response = None; entries = record { by = 24; time = at_rest; what = Stop } ∷ [] })
   pub set_text : IsReplyFor point 24 at_rest (calls (codes "get_limits_set") no_items (Some (string (codes "a")))) the_set

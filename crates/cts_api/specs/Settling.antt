@@ -5,9 +5,11 @@ use Rattle.cts_cmd.specs.declared.request.Request.{Request}
 use Rattle.cts_def.specs.declared.time.Time.{Time}
 use Rattle.cts_entry.specs.declared.what.What.{What}
 use Rattle.cts_entry.specs.declared.what.What.TheVariants.{SetLimits}
+use Rattle.cts_entry.specs.Histories.{bytes_for, entries_for}
 use Rattle.cts_entry.specs.Legal.{IsAllowed}
+use Rattle.cts_rpc.specs.Replies.{result_reply}
 use Rattle.cts_table.specs.Keeping.{rules_of, IsOfSite}
-use Rattle.cts_table.specs.States.{Shown}
+use Rattle.cts_table.specs.States.{Shown, fits}
 use Rattle.serde_json.specs.Data.{Data}
 use Rattle.serde_json.specs.View.{view}
 use Rattle.cts_api.specs.declared.settling.Answer as code
@@ -18,7 +20,7 @@ use Rattle.cts_api.specs.Answers.{answer}
 use Rattle.cts_api.specs.Asking.{Asking, asks_received, asks_sent, enables, sets_limits, stops}
 use Rattle.cts_api.specs.Points.{Point}
 use Rattle.cts_api.specs.Replied.{Appends, IsUnchanged}
-use Rattle.cts_api.specs.Replies.{HasRequest, IsTextFor, made, reply_with}
+use Rattle.cts_api.specs.Replies.{HasRequest, IsTextFor, history_full, made, reply_with, respond}
 use Rattle.cts_api.specs.Responding.{IsTold, RefusesWith}
 use Rattle.cts_api.specs.Telling.{IsDoneBy, listed, point}
 
@@ -66,6 +68,16 @@ pub record CanSay (s : Shown) (by : ℕ) (time : Time) (what : What) : Type 0 wh
 abbrev pub CanSayIt : Shown → ℕ → Time → Option What → Type 0
 CanSayIt s by time None = Unit {0}
 CanSayIt s by time (Some what) = CanSay s by time what
+
+-- the response to what is done: its result, or that the history has no room
+abbrev pub text_by : Option Data → Data → Bool → Option Data
+text_by id value true = respond id (λ i. result_reply i value)
+text_by id value false = (history_full id).response
+
+-- something is said, and the history has room for it
+abbrev pub HasRoom : Shown → Option What → Type 0
+HasRoom s None = ⊥
+HasRoom s (Some what) = fits s (entries_for what) (bytes_for what) ≡ true
 
 -- A result is told and what is said appended, or the history has no room for it.
 abbrev pub Settled : Shown → ℕ → Time → Option Data → Data → Option What → Result code.Answer Memory → Shown → Type 0

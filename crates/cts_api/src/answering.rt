@@ -12,7 +12,7 @@ ghost use Rattle.serde_json.specs.View.{view};
 
 use crate::changing::{choose_set, enable_limits, set_limits};
 use crate::commands::request;
-use crate::injecting::inject;
+use crate::injecting::injection;
 use crate::interfaces::{interface_names, interface_state};
 use crate::limits::{item_limits, limits_events, limits_set, out_of_limits};
 use crate::params::{ItemWords, LimitsWords};
@@ -117,7 +117,7 @@ pub(crate) fn asked(alloc: Global, hall: &Hall, asking: Asking<'_>) -> Result<Do
         Asking::Events(from) => told(limits_events(alloc, hall, from)),
         Asking::Interfaces => told(interface_names(alloc, hall)),
         Asking::Interface(name) => told(interface_state(alloc, hall, name)),
-        Asking::Inject(names, members) => inject(alloc, hall, names, members),
+        Asking::Inject(names, members) => injection(alloc, hall, names, members),
         Asking::Stop => Ok(stop(hall)),
     }
 }

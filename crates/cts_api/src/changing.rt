@@ -33,7 +33,7 @@ fn new_set(alloc: Global, name: Option<&[u8]>) -> Result<Name, Refusal>
 }
 
 // An item's limits are sound: their persistence is at least 1.
-fn has_sound_limits(item: &Item)
+fn recall_sound_limits(item: &Item)
     ensures { HasSoundLimits item.now item.now.limits }
 {
     let _kind = item.kind;
@@ -86,7 +86,7 @@ pub(crate) fn set_limits(
     let place = item_at(hall.site().definitions.telemetry.as_slice(), names)?;
     let (packet, item) = (place.packet as u32, place.item);
     hall.is_kept();
-    has_sound_limits(place.it);
+    recall_sound_limits(place.it);
     let Some(now) = hall.limits_of(packet, item, hall.limits_set().as_slice()) else {
         return Err(Refusal::NoSuch(b"No limits"));
     };

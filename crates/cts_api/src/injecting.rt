@@ -14,15 +14,15 @@ use crate::commands::members_given;
 use crate::naming::packet_at;
 use crate::params::PacketWords;
 use crate::refusal::Refusal;
-use crate::sending::{Done, nothing};
-use cts_cmd::{Refused, inject as injected, refusal_text};
+use crate::sending::{Done, before_drop, nothing};
+use cts_cmd::{Refused, inject, refusal_text};
 use cts_entry::What;
 use cts_table::Hall;
 use serde_json::{Map, Value};
 use std::alloc::Global;
 
 // How the refusal of an injection is told: an unknown item is named as such.
-fn refused(alloc: Global, refused: &Refused) -> Refusal
+fn refusal_of(alloc: Global, refused: &Refused) -> Refusal
     ensures { IsInjectionRefused refused.now result }
 {
     if let Refused::UnknownParameter(_) = refused {
@@ -35,18 +35,18 @@ fn refused(alloc: Global, refused: &Refused) -> Refusal
 }
 
 // Each number of a slice of bytes is a byte.
-fn are_bytes(bytes: &[u8])
+fn recall_bytes(bytes: &[u8])
     ensures { AreBytes bytes.now }
 {
     let _len = bytes.len();
 }
 
 // The bytes that stand, if any, are bytes.
-fn is_of_bytes(current: Option<&[u8]>)
+fn recall_current_bytes(current: Option<&[u8]>)
     ensures { (bytes : List ℕ) → option_map (λ t. t.now) current.entry ≡ Some bytes → AreBytes bytes }
 {
     if let Some(bytes) = current {
-        are_bytes(bytes);
+        recall_bytes(bytes);
     }
 }
 
@@ -57,7 +57,7 @@ fn is_of_bytes(current: Option<&[u8]>)
 ///
 /// The first that holds: `NoSuch` with `Unknown target`, `Unknown packet`, `Unknown item`; `NotDone` with `Wrong type: N` or
 /// `Overflow: N`, of each the first member in the order of the names. `Memory` where none was found.
-pub(crate) fn inject(
+pub(crate) fn injection(
     alloc: Global,
     hall: &Hall,
     names: PacketWords<'_>,
@@ -68,8 +68,8 @@ pub(crate) fn inject(
     let (number, packet) = packet_at(hall.site().definitions.telemetry.as_slice(), names)?;
     let given = members_given(alloc, members)?;
     let current = hall.current(number as u32);
-    is_of_bytes(current);
-    match injected(alloc, packet, current, given.as_slice()) {
+    recall_current_bytes(current);
+    match inject(alloc, packet, current, given.as_slice()) {
         Ok(bytes) => Ok(Done {
             result: nothing(),
             what: Some(What::Injected {
@@ -77,10 +77,6 @@ pub(crate) fn inject(
                 bytes,
             }),
         }),
-        Err(why) => {
-            let refusal = refused(alloc, &why);
-            drop(why);
-            Err(refusal)
-        }
+        Err(why) => Err(before_drop(refusal_of(alloc, &why), why)),
     }
 }

@@ -16,7 +16,7 @@ use crate::method::method_named;
 use crate::reading::read_asking;
 use crate::refusal::Refusal;
 use crate::response::{Code, error_to, refusal_to};
-use crate::sending::{Done, nothing};
+use crate::sending::{Done, before_drop, nothing};
 use crate::settling::{Answer, settle};
 use cts_base::Memory;
 use cts_def::{Site, Time};
@@ -26,7 +26,12 @@ use serde_json::Value;
 use std::alloc::Global;
 
 // A response with an error, which appends nothing.
-fn refused(alloc: Global, id: Option<&Value>, code: Code, message: &[u8]) -> Result<Answer, Memory>
+fn error_answer(
+    alloc: Global,
+    id: Option<&Value>,
+    code: Code,
+    message: &[u8],
+) -> Result<Answer, Memory>
     ensures none { IfOk result (λ a. a.appended ≡ 0) }
     ensures text { IfOk result (λ a. IsTextFor (respond (option_map (λ i. view i.now) id.entry) (error (code_number code) message.now)) a.text) }
 {
@@ -37,11 +42,11 @@ fn refused(alloc: Global, id: Option<&Value>, code: Code, message: &[u8]) -> Res
 }
 
 // A response to a body whose id is not known: null stands for it.
-fn refused_body(alloc: Global, code: Code, message: &[u8]) -> Result<Answer, Memory>
+fn error_without_id(alloc: Global, code: Code, message: &[u8]) -> Result<Answer, Memory>
     ensures none { IfOk result (λ a. a.appended ≡ 0) }
     ensures text { IfOk result (λ a. IsTextFor (respond (Some null) (error (code_number code) message.now)) a.text) }
 {
-    refused(alloc, Some(&nothing()), code, message)
+    error_answer(alloc, Some(&nothing()), code, message)
 }
 
 // The response to a body that is no call, which appends nothing.
@@ -50,10 +55,14 @@ fn no_call(alloc: Global, fault: &RpcFault) -> Result<Answer, Memory>
     ensures text { IfOk result (λ a. TellsFault fault.now a.text) }
 {
     match fault {
-        RpcFault::ParseError => refused_body(alloc, Code::ParseError, b"Parse error"),
-        RpcFault::InvalidRequest => refused_body(alloc, Code::InvalidRequest, b"Invalid Request"),
+        RpcFault::ParseError => error_without_id(alloc, Code::ParseError, b"Parse error"),
+        RpcFault::InvalidRequest => error_without_id(
+            alloc,
+            Code::InvalidRequest,
+            b"Invalid Request",
+        ),
         RpcFault::InvalidParams { id } => {
-            refused(alloc, id.as_ref(), Code::InvalidParams, b"Invalid params")
+            error_answer(alloc, id.as_ref(), Code::InvalidParams, b"Invalid params")
         }
         RpcFault::Memory => Err(Memory),
     }
@@ -90,7 +99,7 @@ fn ended(
 }
 
 // A site's definitions name no more limits sets than a server holds.
-fn has_few_sets(site: &Site)
+fn recall_few_sets(site: &Site)
     ensures { length site.now.definitions.set_names ≤ most_sets }
 {
     let _packets = site.definitions.telemetry.as_slice();
@@ -116,13 +125,13 @@ pub fn answer(
 {
     let id = call.id.as_ref();
     let Some(method) = method_named(call.method.as_slice()) else {
-        return refused(alloc, id, Code::MethodNotFound, b"Method not found");
+        return error_answer(alloc, id, Code::MethodNotFound, b"Method not found");
     };
     let Some(asking) = read_asking(method, call.params.as_slice()) else {
-        return refused(alloc, id, Code::InvalidParams, b"Invalid params");
+        return error_answer(alloc, id, Code::InvalidParams, b"Invalid params");
     };
     hall.is_kept();
-    has_few_sets(hall.site());
+    recall_few_sets(hall.site());
     let said = asked(alloc, hall, asking);
     ended(alloc, hall, by, time, id, said)
 }
@@ -147,15 +156,7 @@ pub fn reply(
 {
     calls_are_whole();
     match read(alloc, body) {
-        Ok(call) => {
-            let answered = answer(alloc, hall, by, time, &call);
-            drop(call);
-            answered
-        }
-        Err(fault) => {
-            let told = no_call(alloc, &fault);
-            drop(fault);
-            told
-        }
+        Ok(call) => before_drop(answer(alloc, hall, by, time, &call), call),
+        Err(fault) => before_drop(no_call(alloc, &fault), fault),
     }
 }

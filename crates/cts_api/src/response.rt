@@ -1,6 +1,6 @@
 //! The texts of responses.
 
-ghost use Rattle.std.specs.Prelude.{◌≡◌, IfOk, option_map};
+ghost use Rattle.std.specs.Prelude.{◌≡◌, ◌≢◌, IfOk, None, OnErr, option_map};
 ghost use Rattle.cts_rpc.specs.Replies.{result_reply};
 ghost use Rattle.serde_json.specs.View.{view};
 ghost use Rattle.cts_api.specs.Replies.{error, IsTextFor, respond};
@@ -53,7 +53,8 @@ pub(crate) fn result_to(
     id: Option<&Value>,
     value: Value,
 ) -> Result<Option<Bytes>, Memory>
-    ensures { IfOk result (λ t. IsTextFor (respond (option_map (λ i. view i.now) id.entry) (λ i. result_reply i (view value))) t) }
+    ensures text { IfOk result (λ t. IsTextFor (respond (option_map (λ i. view i.now) id.entry) (λ i. result_reply i (view value))) t) }
+    ensures memory { OnErr result (option_map (λ i. view i.now) id.entry ≢ None) }
 {
     match id {
         Some(id) => Ok(Some(result_text(alloc, id, value)?)),
@@ -68,7 +69,8 @@ pub(crate) fn error_to(
     code: Code,
     message: &[u8],
 ) -> Result<Option<Bytes>, Memory>
-    ensures { IfOk result (λ t. IsTextFor (respond (option_map (λ i. view i.now) id.entry) (error (code_number code) message.now)) t) }
+    ensures text { IfOk result (λ t. IsTextFor (respond (option_map (λ i. view i.now) id.entry) (error (code_number code) message.now)) t) }
+    ensures memory { OnErr result (option_map (λ i. view i.now) id.entry ≢ None) }
 {
     match id {
         Some(id) => Ok(Some(error_text(alloc, id, code.number(), message)?)),

@@ -25,20 +25,25 @@ pub(crate) struct Done {
     pub what: Option<What>,
 }
 
+/// What was made of a value that is needed no more. The value is let go here, in one place, since each place where a value of many
+/// parts may be let go is proved field by field.
+pub(crate) fn before_drop<R: Drop, T: Drop>(made: R, used: T) -> R
+    ensures { result ≡ made }
+{
+    drop(used);
+    made
+}
+
 // The command of a request, where no check fails.
 fn checked(alloc: Global, hall: &Hall, checks: Checks, request: &Request) -> Result<Built, Refusal>
     ensures { IsChecked hall.now.basis.site.definitions checks request.now result }
 {
     match build(alloc, &hall.site().definitions, request, checks) {
         Ok(built) => Ok(built),
-        Err(refused) => {
-            let text = refusal_text(alloc, &refused);
-            drop(refused);
-            match text {
-                Ok(message) => Err(Refusal::NotDone(message)),
-                Err(_) => Err(Refusal::Memory),
-            }
-        }
+        Err(refused) => match before_drop(refusal_text(alloc, &refused), refused) {
+            Ok(message) => Err(Refusal::NotDone(message)),
+            Err(_) => Err(Refusal::Memory),
+        },
     }
 }
 
@@ -85,7 +90,7 @@ pub(crate) fn send(
     let built = checked(alloc, hall, checks, request)?;
     let commands = hall.site().definitions.commands.as_slice();
     let Some(packet) = commands.get(built.command as usize) else {
-        return Err(Refusal::NotDone(Bytes::copy(alloc, b"Unknown command")?));
+        unreachable!();
     };
     let interface = routed(alloc, hall, built.command)?;
     let result = command_row(alloc, packet, request)?;

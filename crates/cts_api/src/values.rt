@@ -12,6 +12,7 @@ ghost use Rattle.cts_api.specs.Telling.{Finds, Tells, point};
 use crate::naming::packet_at;
 use crate::params::{ItemWords, PacketWords};
 use crate::refusal::{Missing, Refusal};
+use crate::sending::before_drop;
 use crate::shown::{color, push_text, shown};
 use cts_base::{Memory, spells};
 use cts_conv::{Value as Held, ValueKind, value_of};
@@ -25,9 +26,7 @@ use std::alloc::Global;
 fn shown_once(alloc: Global, value: Held) -> Result<Value, Memory>
     ensures { IfOk result (λ v. view v ≡ shown value) }
 {
-    let shown = shown(alloc, &value);
-    drop(value);
-    shown
+    before_drop(shown(alloc, &value), value)
 }
 
 fn lookup_text(refusal: Lookup) -> &'static [u8]

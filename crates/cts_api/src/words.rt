@@ -3,7 +3,7 @@
 ghost use Rattle.std.specs.Prelude.{◌≡◌, ◌≤◌, length, option_map};
 ghost use Rattle.std.specs.List.{position, position_or_len};
 ghost use Rattle.cts_cmd.specs.Words.{is_white};
-ghost use Rattle.cts_api.specs.Kinds.{behind_white, is_black, three_words, word_first};
+ghost use Rattle.cts_api.specs.Kinds.{after_white, is_black, three_words, word_first};
 ghost use Rattle.cts_api.specs.Seen.{item_name};
 
 use crate::params::ItemWords;
@@ -43,8 +43,8 @@ fn white_place(text: &[u8]) -> usize
 }
 
 // What stands after white space.
-fn behind_white(text: &[u8]) -> &[u8]
-    ensures { result.now ≡ behind_white text.now }
+fn after_white(text: &[u8]) -> &[u8]
+    ensures { result.now ≡ after_white text.now }
 {
     &text[black_place(text)..]
 }
@@ -53,7 +53,7 @@ fn behind_white(text: &[u8]) -> &[u8]
 fn word_first(text: &[u8]) -> Option<(&[u8], &[u8])>
     ensures { option_map (λ f. (f.0.now, f.1.now)) result ≡ word_first text.now }
 {
-    let here = behind_white(text);
+    let here = after_white(text);
     if here.is_empty() {
         return None;
     }
@@ -68,7 +68,7 @@ pub(crate) fn three_words(text: &[u8]) -> Option<ItemWords<'_>>
     let (target, rest) = word_first(text)?;
     let (packet, rest) = word_first(rest)?;
     let (item, rest) = word_first(rest)?;
-    if !behind_white(rest).is_empty() {
+    if !after_white(rest).is_empty() {
         return None;
     }
     Some(ItemWords {

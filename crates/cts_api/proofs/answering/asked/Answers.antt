@@ -84,5 +84,5 @@ returns-in-Interface-clause-answered c =
 pub returns-in-Inject-clause-answered : goal.returns-in-Inject-clause-answered
 returns-in-Inject-clause-answered c =
     let h = point c.args.hall.now in
-    let is = answered h (injects (packet_name c.in-Inject.names) (members_view c.in-Inject.members.now.entries)) c.inject.result refl refl c.inject.ensures in
-    subst (λ x. HasAnswered h (asking_data x) c.inject.result) (sym c.in-Inject.is) is
+    let is = answered h (injects (packet_name c.in-Inject.names) (members_view c.in-Inject.members.now.entries)) c.injection.result refl refl c.injection.ensures in
+    subst (λ x. HasAnswered h (asking_data x) c.injection.result) (sym c.in-Inject.is) is

@@ -10,7 +10,7 @@ returns-clause-persistent c asked =
     let history = c.args.hall.now.entries in
     let p : ℕ = c.in_ok-place.place.packet in
     let there : slice_get site.definitions.telemetry p ≡ Some c.in_ok-place.place.of.now = search rules in
-    let some = limits_persist site history c.is_kept.ensures.kept.of_site p c.in_ok-place.place.item c.in_ok-place.place.of.now c.in_ok-place.place.it.now c.has_sound_limits.ensures _ c.in-Some.now there c.in_ok-place.ensures.item (sym c.in-Some.ensures.used) in
+    let some = limits_persist site history c.is_kept.ensures.kept.of_site p c.in_ok-place.place.item c.in_ok-place.place.of.now c.in_ok-place.place.it.now c.recall_sound_limits.ensures _ c.in-Some.now there c.in_ok-place.ensures.item (sym c.in-Some.ensures.used) in
     c.limits_given.ensures.persistent asked some
 
 pub returns-clause-told : goal.returns-clause-told

@@ -19,8 +19,8 @@ returns-in_default c =
     let call = c.args.call.now in
     let id : option_map (λ i. view i.now) c.as_ref-id.result ≡ option_map view call.id = search rules in
     let none : method_named call.method ≡ None = search rules in
-    let told = subst (λ (i : Option Data). IfOk c.refused.result (λ a. IsTextFor (respond i (error (code_number MethodNotFound) (codes "Method not found"))) a.text)) id c.refused.ensures.text in
-    record { answered = refused_so c.args.hall.now c.args.by c.args.time call (neg_ℤ (pos 32601)) (codes "Method not found") c.refused.result (not_found_of (point c.args.hall.now) c.args.by c.args.time (option_map view call.id) _ (method_named call.method) none) c.refused.ensures.none told }
+    let told = subst (λ (i : Option Data). IfOk c.error_answer.result (λ a. IsTextFor (respond i (error (code_number MethodNotFound) (codes "Method not found"))) a.text)) id c.error_answer.ensures.text in
+    record { answered = refused_so c.args.hall.now c.args.by c.args.time call (neg_ℤ (pos 32601)) (codes "Method not found") c.error_answer.result (not_found_of (point c.args.hall.now) c.args.by c.args.time (option_map view call.id) _ (method_named call.method) none) c.error_answer.ensures.none told }
 
 pub returns-in_default-read_asking : goal.returns-in_default-read_asking
 returns-in_default-read_asking c =
@@ -28,11 +28,11 @@ returns-in_default-read_asking c =
     let id : option_map (λ i. view i.now) c.as_ref-id.result ≡ option_map view call.id = search rules in
     let named : method_named call.method ≡ Some c.in-Some.method = search rules in
     let asks : params_of c.in-Some.method (map view call.params) ≡ None = search rules in
-    let told = subst (λ (i : Option Data). IfOk c.refused-in_default-read_asking.result (λ a. IsTextFor (respond i (error (code_number InvalidParams) (codes "Invalid params"))) a.text)) id c.refused-in_default-read_asking.ensures.text in
+    let told = subst (λ (i : Option Data). IfOk c.error_answer-in_default-read_asking.result (λ a. IsTextFor (respond i (error (code_number InvalidParams) (codes "Invalid params"))) a.text)) id c.error_answer-in_default-read_asking.ensures.text in
     record {
-      answered = refused_so c.args.hall.now c.args.by c.args.time call (neg_ℤ (pos 32602)) (codes "Invalid params") c.refused-in_default-read_asking.result
+      answered = refused_so c.args.hall.now c.args.by c.args.time call (neg_ℤ (pos 32602)) (codes "Invalid params") c.error_answer-in_default-read_asking.result
           (bad_params_of (point c.args.hall.now) c.args.by c.args.time (option_map view call.id) _ (method_named call.method) c.in-Some.method named (ap (params_of c.in-Some.method) (all_listed (map view call.params)) ∙ asks))
-          c.refused-in_default-read_asking.ensures.none told;
+          c.error_answer-in_default-read_asking.ensures.none told;
     }
 
 pub ended-requires : goal.ended-requires

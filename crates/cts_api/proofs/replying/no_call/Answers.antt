@@ -10,16 +10,16 @@ use Rattle.cts_api.proofs.replying.no_call.Goals as goal
 
 pub returns-in-ParseError-clause-text : goal.returns-in-ParseError-clause-text
 returns-in-ParseError-clause-text c =
-    let r = c.refused_body.result in
-    subst (λ (f : RpcFault). IfOk r (λ a. TellsFault f a.text)) (sym c.in-ParseError.is) c.refused_body.ensures.text
+    let r = c.error_without_id.result in
+    subst (λ (f : RpcFault). IfOk r (λ a. TellsFault f a.text)) (sym c.in-ParseError.is) c.error_without_id.ensures.text
 
 pub returns-in-InvalidRequest-clause-text : goal.returns-in-InvalidRequest-clause-text
 returns-in-InvalidRequest-clause-text c =
-    let r = c.refused_body-in-InvalidRequest.result in
-    subst (λ (f : RpcFault). IfOk r (λ a. TellsFault f a.text)) (sym c.in-InvalidRequest.is) c.refused_body-in-InvalidRequest.ensures.text
+    let r = c.error_without_id-in-InvalidRequest.result in
+    subst (λ (f : RpcFault). IfOk r (λ a. TellsFault f a.text)) (sym c.in-InvalidRequest.is) c.error_without_id-in-InvalidRequest.ensures.text
 
 pub returns-in-InvalidParams-clause-text : goal.returns-in-InvalidParams-clause-text
 returns-in-InvalidParams-clause-text c =
     let to : option_map (λ i. view i.now) c.as_ref.result ≡ option_map view c.in-InvalidParams.id = search rules in
-    let told = subst (λ (i : Option Data). IfOk c.refused.result (λ a. IsTextFor (respond i (error (code_number InvalidParams) (codes "Invalid params"))) a.text)) to c.refused.ensures.text in
-    subst (λ (f : RpcFault). IfOk c.refused.result (λ a. TellsFault f a.text)) (sym c.in-InvalidParams.is) told
+    let told = subst (λ (i : Option Data). IfOk c.error_answer.result (λ a. IsTextFor (respond i (error (code_number InvalidParams) (codes "Invalid params"))) a.text)) to c.error_answer.ensures.text in
+    subst (λ (f : RpcFault). IfOk c.error_answer.result (λ a. TellsFault f a.text)) (sym c.in-InvalidParams.is) told

@@ -5,8 +5,5 @@ use Rattle.cts_api.proofs.settling.settle.Goals as goal
 pub returns-in_default : goal.returns-in_default
 returns-in_default c = grind (arith, common_steps)
 
-pub returns-in-Ok : goal.returns-in-Ok
-returns-in-Ok c = grind (arith, common_steps)
-
-pub returns-in_ok-text-in-Ok-false : goal.returns-in_ok-text-in-Ok-false
-returns-in_ok-text-in-Ok-false c = grind (arith, common_steps)
+pub returns : goal.returns
+returns c = grind (arith, common_steps)

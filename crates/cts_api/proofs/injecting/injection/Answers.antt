@@ -10,7 +10,7 @@ use Rattle.cts_api.specs.Kinds.{members_given}
 use Rattle.cts_api.specs.Seen.{packet_name}
 use Rattle.cts_api.specs.Telling.{point}
 use Rattle.cts_api.proofs.Injected.{is_injected}
-use Rattle.cts_api.proofs.injecting.inject.Goals as goal
+use Rattle.cts_api.proofs.injecting.injection.Goals as goal
 
 pub returns-in-Ok : goal.returns-in-Ok
 returns-in-Ok c =
@@ -24,5 +24,5 @@ returns-in-Ok c =
     let over = subst (λ (l : List (List ℕ × Given)). Injects (filter_map (with_item p.items) l) (stood (option_map (λ t. t.now) c.current-current.result) p.length) c.in-Ok.bytes) given c.in-Ok.ensures.injected in
     is_injected h (packet_name c.args.names) members (n, p) c.in-Ok.bytes (view c.nothing.result) named
     (subst (λ (l : List (List ℕ × Given)). injection_refusal p.items l ≡ None) given c.in-Ok.ensures.refused)
-    (λ bytes is. c.is_of_bytes.ensures bytes (here ∙ is))
+    (λ bytes is. c.recall_current_bytes.ensures bytes (here ∙ is))
     (subst (λ (o : Option (List ℕ)). Injects (filter_map (with_item p.items) members) (stood o p.length) c.in-Ok.bytes) here over) c.nothing.ensures
