@@ -20,6 +20,7 @@ pub use end::End;
 pub use framer::Framer;
 pub use ident::ident_by;
 pub use laws::{lines, lines_may_post};
-pub use place::{is_line, line_place};
+pub use naming::{command_label, packet_label};
+pub use place::{is_interface, is_line, is_slot, line_place};
 pub use saying::said;
 pub use taking::Taken;

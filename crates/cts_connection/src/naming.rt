@@ -11,8 +11,13 @@ use cts_base::{Memory, Name};
 use cts_def::{Ident, Label, Packet, Site, Time};
 use std::alloc::Global;
 
-/// What is stated beside the bytes of a packet.
-pub(crate) fn packet_label(
+/// What is stated beside the bytes of a packet in a frame and in a log: its time, and the names of its target and of itself, which are
+/// `UNKNOWN` where no definition fits.
+///
+/// # Errors
+///
+/// `Memory`.
+pub fn packet_label(
     alloc: Global,
     site: &Site,
     time: Time,
@@ -34,8 +39,12 @@ pub(crate) fn packet_label(
     }
 }
 
-/// What is stated beside the bytes of a command.
-pub(crate) fn command_label(site: &Site, time: Time, command: u32) -> Result<Label, Memory>
+/// What is stated beside the bytes of a command in a frame and in a log: its time, and the names of its target and of itself.
+///
+/// # Errors
+///
+/// `Memory`.
+pub fn command_label(site: &Site, time: Time, command: u32) -> Result<Label, Memory>
     requires { command < length site.now.definitions.commands }
     ensures { IfOk result (λ l. heading_of l ≡ heading_by (command_names site.now command) time) }
 {

@@ -26,13 +26,15 @@ pub fn is_line(site: &Site, by: u32) -> bool
     is_slot(site, by) || is_interface(site, by)
 }
 
-pub(crate) fn is_interface(site: &Site, by: u32) -> bool
+/// Whether a maker is an interface.
+pub fn is_interface(site: &Site, by: u32) -> bool
     ensures { result ≡ is_interface site.now by }
 {
     (by as usize) < interfaces_of(site)
 }
 
-fn is_slot(site: &Site, by: u32) -> bool
+/// Whether a maker is a slot of a router.
+pub fn is_slot(site: &Site, by: u32) -> bool
     ensures { result ≡ is_slot site.now by }
 {
     if by < FIRST_SLOT {

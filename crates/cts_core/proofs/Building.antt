@@ -1,15 +1,13 @@
--- What the environment of a site is where the site is built.
-use Rattle.std.proofs.Common.{◌≡◌, ℕ, ◌<◌, Bool, true, false, ◌&&◌, ◌||◌, length, refl, sym, ◌∙◌, ap, arith}
-use Rattle.std.specs.Prelude.{nat_lt, nat_le}
-use Rattle.std.proofs.lemmas.Bool.{eqb-true, ltb-true}
+-- What tests tell, and where the connections of lines stand.
+use Rattle.std.proofs.Common.{◌≡◌, ℕ, ◌<◌, Bool, true, false, ◌&&◌, length, refl, sym, subst, arith}
+use Rattle.std.specs.Prelude.{◌≢◌, nat_lt}
 use Rattle.std.proofs.lemmas.Bool.Decides.{nat_tests}
-use Rattle.cts_def.specs.Makers.{first_slot, router_of}
-use Rattle.cts_def.specs.Sites.{SiteData}
-use Rattle.cts_core.specs.States.{is_line}
-use Rattle.cts_core.specs.Environments.{environment_of}
-use Rattle.cts_entry.specs.Workers.{is_slot}
+use Rattle.cts_connection.specs.LinePlaces.{is_line, line_place}
+use Rattle.cts_connection.proofs.Placing.{lines_have_places, places_are_apart}
+use Rattle.cts_def.specs.Sites.{IsSoundSite, SiteData}
+use Rattle.cts_core.specs.States.{State}
+use Rattle.cts_core.specs.Worlds.{Held, IsSoundHeld, RepresentsWithin}
 use Rattle.cts_table.specs.declared.basis.Basis.{Basis}
-use Rattle.cts_core.specs.Built.{is_built_site}
 
 pub and_tells : (a b : Bool) → (a && b) ≡ true → (a ≡ true) × (b ≡ true)
 and_tells true b h = (refl, h)
@@ -19,24 +17,23 @@ pub and_false : (a b : Bool) → b ≡ false → (a && b) ≡ false
 and_false true b h = h
 and_false false b h = refl
 
--- ---- makers
-
-no_slot : (site : SiteData) (by : ℕ) → is_built_site site ≡ true → is_slot site by ≡ false
-no_slot site by built =
-    let none = eqb-true (length site.routers) 0 built in
-    and_false (nat_le first_slot by) (nat_lt (router_of by) (length site.routers)) (ap (nat_lt (router_of by)) none ∙ none_below (router_of by))
-  where
-    none_below : (n : ℕ) → nat_lt n 0 ≡ false
-    none_below n = grind (arith, nat_tests)
-
-pub line_is : (base : Basis) (by : ℕ) → is_built_site base.site ≡ true → is_line (environment_of base) by ≡ nat_lt by (length base.site.interfaces)
-line_is base by built = ap (λ (b : Bool). b || nat_lt by (length base.site.interfaces)) (no_slot base.site by built)
-
--- what is enabled of a line is so of an interface
-pub enabled_line : (base : Basis) (by : ℕ) (b : Bool) → is_built_site base.site ≡ true → (is_line (environment_of base) by && b) ≡ true → (by < length base.site.interfaces) × (b ≡ true)
-enabled_line base by b built t =
-    let parts = and_tells (nat_lt by (length base.site.interfaces)) b (ap (λ (line : Bool). line && b) (sym (line_is base by built)) ∙ t) in
-    (ltb-true by (length base.site.interfaces) parts.0, parts.1)
-
 pub below : (n m : ℕ) → n < m → nat_lt n m ≡ true
 below n m h = grind (arith, nat_tests)
+
+-- ---- the places of lines
+
+pub place_held : (w : Held) (by : ℕ) → IsSoundHeld w → is_line w.basis.site by ≡ true → line_place w.basis.site by < length w.connections
+place_held w by h line = let there = lines_have_places w.basis.site by h.site line in omega (arith, there, h.count)
+
+pub place_other : (site : SiteData) (k by : ℕ) → IsSoundSite site → is_line site k ≡ true → is_line site by ≡ true → k ≢ by → line_place site k ≢ line_place site by
+place_other site k by sound one line other same = other (places_are_apart site k by sound one line same)
+
+-- the same of what represents a state
+module _ (base : Basis) (w : Held) (s : State) (sound : IsSoundSite base.site) (h : RepresentsWithin base w s) where
+  pub place_shown : (by : ℕ) → is_line base.site by ≡ true → line_place w.basis.site by < length w.connections
+  place_shown by line =
+      let there : line_place base.site by < length w.connections = omega (arith, lines_have_places base.site by sound line, h.count) in
+      subst (λ (b : Basis). line_place b.site by < length w.connections) (sym h.basis) there
+
+  pub shown_other : (k by : ℕ) → is_line base.site k ≡ true → is_line base.site by ≡ true → k ≢ by → line_place w.basis.site k ≢ line_place w.basis.site by
+  shown_other k by one line other = subst (λ (b : Basis). line_place b.site k ≢ line_place b.site by) (sym h.basis) (place_other base.site k by sound one line other)

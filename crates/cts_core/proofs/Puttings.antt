@@ -1,27 +1,26 @@
 -- What is put of the next entries of a history.
 use Rattle.std.proofs.Common.{◌≡◌, ℕ, ◌+◌, ◌<◌, ◌≤◌, Bool, true, false, ◌&&◌, List, ◌++◌, length, take, drop, refl, sym, ◌∙◌, ap, subst, arith, length-append, Option, Some, None}
-use Rattle.std.specs.Prelude.{MatchOption, nat_le, nat_lt}
+use Rattle.std.specs.Prelude.{MatchOption, nat_le}
 use Rattle.std.proofs.Math.Seq.{take-append_seam}
-use Rattle.std.proofs.lemmas.Bool.{ltb-true}
 use Rattle.std.proofs.lemmas.Bool.Decides.{nat_tests}
 use Rattle.std.proofs.lemmas.List.{length-take-le, take-append-drop}
 use Rattle.cts_def.specs.Sites.{SiteData}
 use Rattle.cts_entry.specs.declared.entry.Entry.{Entry}
-use Rattle.cts_entry.specs.declared.event.Event.TheVariants.{Write}
 use Rattle.cts_entry.specs.Histories.{is_connected}
 use Rattle.cts_entry.specs.Queues.{refused, spelled}
 use Rattle.cts_table.specs.declared.basis.Basis.{Basis}
 use Rattle.cts_told.specs.Routing.{Routing, queue, spell, walk}
 use Rattle.cts_told.proofs.Walks.{queue_walk, walk-append}
-use Rattle.cts_connection.specs.Connections.{HeldConnection, HeldCursor, HoldsNext, connection_at, entries_ahead}
+use Rattle.cts_connection.specs.Connections.{HeldConnection, HeldCursor, HoldsNext, entries_ahead}
+use Rattle.cts_connection.specs.LinePlaces.{is_line}
 use Rattle.cts_connection.specs.Routings.{site_routing, writers_at}
 use Rattle.cts_connection.specs.Writings.{spell_by}
 use Rattle.cts_core.specs.Cursors.{IsPassed}
 use Rattle.cts_core.specs.Environments.{environment_of, site_environment}
-use Rattle.cts_core.specs.States.{State, ahead, is_enabled, put_next}
-use Rattle.cts_core.specs.Worlds.{Held, IsSoundHeld, RepresentsWithin}
-use Rattle.cts_core.specs.Writings.{IsNext, can_write}
-use Rattle.cts_core.proofs.Building.{and_false, and_tells}
+use Rattle.cts_core.specs.States.{State, ahead, put_next}
+use Rattle.cts_core.specs.Worlds.{Held, RepresentsWithin, connection_of}
+use Rattle.cts_core.specs.Writings.{IsNext, ahead_in, can_pass, walk_in}
+use Rattle.cts_core.proofs.Building.{and_false}
 use Rattle.cts_core.proofs.Passing.{ahead_is, passed_on}
 
 -- ---- what a Write puts
@@ -30,16 +29,14 @@ and_same : (a b c : Bool) → (a ≡ true → b ≡ c) → (a && b) ≡ (a && c)
 and_same true b c h = h refl
 and_same false b c h = refl
 
--- what may be written is what is enabled
-pub can_write_is : (base : Basis) (w : Held) (s : State) (by count : ℕ) → RepresentsWithin base w s → can_write w by count ≡ is_enabled (environment_of base) s (Write by count)
-can_write_is base w s by count h =
-    let c = connection_at w.connections by in
+-- a line may pass so many of its entries where the event that passes them is enabled
+pub can_pass_is : (base : Basis) (w : Held) (s : State) (by count : ℕ) → RepresentsWithin base w s → is_line base.site by ≡ true → can_pass w by count ≡ (is_connected by s.history && nat_le count (length (ahead (environment_of base) s by)))
+can_pass_is base w s by count h line =
+    let c = connection_of w by in
+    let mine = h.connections by line in
     let ahead_of : SiteData → List Entry → ℕ = λ site l. length (walk (site_routing site) by (drop c.cursor.place l)) in
-    ap (λ (b : Basis). nat_lt by (length b.site.interfaces) && (c.connected && nat_le count (ahead_of b.site w.history))) h.basis
-    ∙ and_same (nat_lt by (length base.site.interfaces)) (c.connected && nat_le count (ahead_of base.site w.history)) (is_connected by s.history && nat_le count (length (ahead (environment_of base) s by))) (λ t.
-    let m : by < length base.site.interfaces = ltb-true by (length base.site.interfaces) t in
-    let mine = h.connections by m in
-    ap (λ (b : Bool). b && nat_le count (ahead_of base.site w.history)) mine.connected
+    ap (λ (b : Basis). c.connected && nat_le count (ahead_of b.site w.history)) h.basis
+    ∙ (ap (λ (b : Bool). b && nat_le count (ahead_of base.site w.history)) mine.connected
     ∙ and_same (is_connected by s.history) (nat_le count (ahead_of base.site w.history)) (nat_le count (length (ahead (environment_of base) s by))) (λ on.
     ap (λ (l : List Entry). nat_le count (ahead_of base.site l)) h.history ∙ ap (λ (l : List Entry). nat_le count (length l)) (sym (ahead_is (site_environment base.site) s by c.cursor.place c.cursor.refused (mine.passed on)))))
 
@@ -77,30 +74,22 @@ fewer n count h = grind (arith, nat_tests)
 enough : (n count : ℕ) → count ≤ n → nat_le count n ≡ true
 enough n count h = grind (arith, nat_tests)
 
-both_true : (a b c : Bool) → (a && b) ≡ true → c ≡ true → (a && (b && c)) ≡ true
-both_true a b c h k = grind arith
+-- a line that is not connected passes nothing
+pub not_open : (w : Held) (by count : ℕ) → (connection_of w by).connected ≡ false → can_pass w by count ≡ false
+not_open w by count off = ap (λ (b : Bool). b && nat_le count (length (walk_in w by (ahead_in w by)))) off
 
--- an interface that is not connected writes nothing
-pub not_open : (w : Held) (by count : ℕ) → (nat_lt by (length w.basis.site.interfaces) && (connection_at w.connections by).connected) ≡ false → can_write w by count ≡ false
-not_open w by count off =
-    let c = connection_at w.connections by in
-    neither (nat_lt by (length w.basis.site.interfaces)) c.connected (nat_le count (length (walk (site_routing w.basis.site) by (entries_ahead c w.history)))) off
+pub next_is : (w : Held) (by count : ℕ) (next : Option ℕ) (site : SiteData) (old : HeldConnection) (history : List Entry) → (connection_of w by).connected ≡ true → site ≡ w.basis.site → old ≡ connection_of w by → history ≡ w.history
+    → HoldsNext site by (entries_ahead old history) count next → MatchOption next (can_pass w by count ≡ false) (λ n. IsNext w by count n)
+next_is w by count next site old history on of_site held same found =
+    here next (subst (λ (x : SiteData). HoldsNext x by (ahead_in w by) count next) of_site
+    (subst (λ (l : List Entry). HoldsNext site by (entries_ahead (connection_of w by) l) count next) same (subst (λ (c : HeldConnection). HoldsNext site by (entries_ahead c history) count next) held found)))
   where
-    neither : (a b c : Bool) → (a && b) ≡ false → (a && (b && c)) ≡ false
-    neither a b c h = grind arith
-
-pub next_is : (w : Held) (by count : ℕ) (next : Option ℕ) (site : SiteData) (old : HeldConnection) (history : List Entry) → IsSoundHeld w → (nat_lt by (length w.basis.site.interfaces) && (connection_at w.connections by).connected) ≡ true → site ≡ w.basis.site → old ≡ connection_at w.connections by → history ≡ w.history
-    → HoldsNext site by (entries_ahead old history) count next → MatchOption next (can_write w by count ≡ false) (λ n. IsNext w by count n)
-next_is w by count next site old history sound on of_site held same found =
-    here next (subst (λ (x : SiteData). HoldsNext x by (entries_ahead (connection_at w.connections by) w.history) count next) of_site
-    (subst (λ (l : List Entry). HoldsNext site by (entries_ahead (connection_at w.connections by) l) count next) same (subst (λ (c : HeldConnection). HoldsNext site by (entries_ahead c history) count next) held found)))
-  where
-    here : (o : Option ℕ) → HoldsNext w.basis.site by (entries_ahead (connection_at w.connections by) w.history) count o → MatchOption o (can_write w by count ≡ false) (λ n. IsNext w by count n)
-    here None few = and_false _ _ (and_false _ _ (fewer _ count few))
+    here : (o : Option ℕ) → HoldsNext w.basis.site by (ahead_in w by) count o → MatchOption o (can_pass w by count ≡ false) (λ n. IsNext w by count n)
+    here None few = and_false _ _ (fewer _ count few)
     here (Some n) more =
         let g = site_routing w.basis.site in
-        let rest = entries_ahead (connection_at w.connections by) w.history in
-        let m : by < length w.basis.site.interfaces = ltb-true by (length w.basis.site.interfaces) (and_tells _ _ on).0 in
+        let rest = ahead_in w by in
         let cut : walk g by rest ≡ walk g by (take n rest) ++ walk g by (drop n rest) = ap (walk g by) (sym (take-append-drop n rest)) ∙ walk-append g by (take n rest) (drop n rest) in
         let least : count ≤ length (walk g by rest) = omega (arith, more.1, ap length cut, length-append (walk g by (take n rest)) (walk g by (drop n rest))) in
-        record { enabled = both_true _ _ _ on (enough _ count least); there = omega (arith, m, sound.count); within = more.0; count_is = more.1 }
+        let test : nat_le count (length (walk g by rest)) ≡ true = enough _ count least in
+        record { enabled = rw (on, test) refl; within = more.0; count_is = more.1 }

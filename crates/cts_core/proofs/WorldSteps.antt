@@ -1,58 +1,55 @@
 -- What the world stands for after each event.
-use Rattle.std.proofs.Common.{◌≡◌, ℕ, zero, suc, ◌+◌, ◌≤◌, ◌<◌, Bool, true, false, ◌&&◌, not, List, [], ◌∷◌, ◌++◌, length, map, filter, take, Option, Some, None, Ok, Err, refl, sym, ◌∙◌, ap, subst, arith, unwrap_or, append_assoc, ◌⊎◌, inl, inr}
+use Rattle.std.proofs.Common.{◌≡◌, ℕ, zero, suc, ◌+◌, ◌<◌, Bool, true, false, ◌&&◌, not, List, [], ◌∷◌, ◌++◌, length, map, filter, Option, Some, None, Ok, Err, refl, sym, ◌∙◌, ap, subst, arith, unwrap_or, append_assoc, ◌⊎◌, inl, inr}
 use Rattle.std.specs.Prelude.{◌==◌, ◌≢◌, nat_le, nat_lt, set, slice_index_or, if◌then◌else◌}
 use Rattle.std.proofs.lemmas.List.{append-nil, nil_from_length, length-set, get_or-set_same, get_or-set_other, set-set, length-map}
-use Rattle.std.proofs.lemmas.Bool.{cases_eq, eq-eqb, ne_eqb, ltb-true}
+use Rattle.std.proofs.lemmas.Bool.{cases_eq, eq-eqb, ne_eqb}
 use Rattle.cts_chain.specs.Builds.{AreFresh, IsFresh, use_specs, writes}
 use Rattle.cts_chain.specs.Chains.{AllSettled, StagesStand, framings_of, last_fault, loss_in}
 use Rattle.cts_chain.specs.Laws.{AreOf}
 use Rattle.cts_chain.specs.Shapes.{ChainData, IsSameChain, writers}
 use Rattle.cts_chain.proofs.Settled.{settled_gives_all, renewed_stands}
-use Rattle.cts_def.specs.Makers.{first_desk, first_slot, server}
-use Rattle.cts_def.specs.Protocols.{SpecData, UseData}
-use Rattle.cts_def.specs.Sites.{InterfaceData, SiteData}
+use Rattle.cts_def.specs.Makers.{first_desk, server}
+use Rattle.cts_def.specs.Protocols.{UseData}
+use Rattle.cts_def.specs.Sites.{IsSoundSite, SiteData}
 use Rattle.cts_def.specs.declared.time.Time.{Time}
 use Rattle.cts_entry.specs.declared.entry.Entry.{Entry}
 use Rattle.cts_entry.specs.declared.what.What.TheVariants.{Opened, Closed, Stop as StopEntry}
 use Rattle.cts_entry.specs.declared.why.Why.{Why}
 use Rattle.cts_entry.specs.declared.why.Why.TheVariants.{BadFrame}
 use Rattle.cts_entry.specs.declared.event.Event.{Event}
-use Rattle.cts_entry.specs.declared.event.Event.TheVariants.{SetTime, Opens, Piece, Finish, Write, Call, Stop}
-use Rattle.cts_entry.specs.declared.event.Effect.TheVariants.{Posted, Reply, Written}
+use Rattle.cts_entry.specs.declared.event.Event.TheVariants.{SetTime, Opens, Piece, Finish, Call, Stop}
+use Rattle.cts_entry.specs.declared.event.Effect.TheVariants.{Posted, Reply}
 use Rattle.cts_entry.specs.Histories.{or_earlier, latest, connects, connects_maker, is_connected, is_stopped, entries_in, bytes_in}
-use Rattle.cts_entry.specs.Queues.{refused as refusals, spelled}
 use Rattle.cts_entry.proofs.Appending.{latest-append, connected-append}
-use Rattle.cts_frame.specs.Chains.{framings_at, interface_chains, uses_at}
+use Rattle.cts_frame.specs.Chains.{framings_at, framings_of as framings_in, uses_at}
 use Rattle.cts_frame.specs.Framing.{Framing, Output, plain}
 use Rattle.cts_frame.specs.Cuts.{Pieces}
 use Rattle.cts_frame.specs.Packets.{IsPackets, loss_of, Fault, fault_of}
-use Rattle.cts_frame.proofs.Chainings.{interface_framings}
-use Rattle.cts_core.specs.States.{State, is_piece, is_enabled, is_line, has_room, takes_memory, takes_room, unsent, may_close, opening, put_next}
-use Rattle.cts_core.specs.Runs.{Did, Does, silent, Appends, Receives, after, pieces_for, passed_for, closed_entry, closing}
+use Rattle.cts_core.specs.States.{State, is_piece, is_enabled, has_room, takes_memory, takes_room, unsent, may_close, opening}
+use Rattle.cts_core.specs.Runs.{Did, Does, silent, Appends, Receives, after, pieces_for, closed_entry, closing}
 use Rattle.cts_core.proofs.Chaining.{all_renewed, begins, begins_anew, plain_more, same_framings}
 use Rattle.cts_core.proofs.CursorSteps.{PassesOn, passes, passed_opened, waits, waiting_kept}
-use Rattle.cts_core.proofs.Keeping.{pieces_turned, pieces_grow, pieces_stay, cursor_grows, cursor_turned}
+use Rattle.cts_core.proofs.Keeping.{pieces_turned, pieces_grow, pieces_stay, cursor_turned}
 use Rattle.cts_told.proofs.Walks.{packets_connect}
 use Rattle.cts_core.specs.Environments.{environment_of, site_environment}
 use Rattle.cts_api.specs.Points.{point_of}
 use Rattle.cts_api.specs.Replies.{IsReply, Reply as Answer, text_of}
 use Rattle.cts_core.proofs.Replying.{reply_quiet}
-use Rattle.cts_connection.specs.Connections.{HeldConnection, HeldCursor, IsRenewed, connection_at, entries_ahead, no_chain, shut, waiting}
+use Rattle.cts_connection.specs.Connections.{HeldConnection, HeldCursor, IsRenewed, connection_at, no_chain, shut, waiting}
 use Rattle.cts_connection.specs.Routings.{site_routing, writers_at}
 use Rattle.cts_connection.specs.Takings.{TakesPiece, blamed, entries_of}
-use Rattle.cts_connection.specs.Writings.{Wrote, spell_by}
-use Rattle.cts_told.specs.Routing.{queue, walk}
 use Rattle.cts_core.specs.Kept.{is_within}
 use Rattle.cts_table.specs.declared.basis.Basis.{Basis}
 use Rattle.cts_core.specs.Takings.{Begins, IsClosed, IsOpened, Posts, Settles, Takes, lost}
-use Rattle.cts_core.specs.Worlds.{Held, IsSoundHeld, IsUnmoved, HadRoom, RepresentsWithin, Steps, IsConnection, changed, first_held}
+use Rattle.cts_core.specs.Worlds.{Held, IsSoundHeld, IsUnmoved, HadRoom, RepresentsWithin, Steps, IsConnection, changed, connection_of, first_held, with_connection}
 use Rattle.cts_core.specs.declared.fault.WorldFault.{WorldFault}
 use Rattle.cts_core.specs.declared.fault.WorldFault.TheVariants.{NotEnabled as RefusedEvent, Full, Memory}
-use Rattle.cts_core.specs.Built.{is_built_site}
+use Rattle.cts_connection.specs.LinePlaces.{is_line as is_line_of, line_count, line_place}
+use Rattle.cts_core.specs.LineChains.{line_chains}
+use Rattle.cts_core.proofs.Supplying.{chains_count, line_chain}
+use Rattle.cts_connection.proofs.Placing.{lines_have_places}
 use Rattle.cts_core.specs.Cursors.{IsPassed}
-use Rattle.cts_core.proofs.Building.{and_tells, below, line_is, enabled_line}
-use Rattle.cts_core.specs.Writings.{IsNext, PutsNext}
-use Rattle.cts_core.proofs.Puttings.{can_write_is, passed_next, put_is}
+use Rattle.cts_core.proofs.Building.{and_tells, below, place_shown, shown_other}
 use Rattle.cts_core.proofs.Postings.{connected_kept, tells_maker, tells_no_other, entries_grow, bytes_grow}
 
 and_same : (a b c : Bool) → (a ≡ true → b ≡ c) → (a && b) ≡ (a && c)
@@ -89,35 +86,30 @@ finds_full base w new s event entries n m counted size t takes appends e b full 
 
 -- ---- which events are enabled
 
--- a test of a line of a built site is one of an interface
-line_test : (base : Basis) (by : ℕ) (a b : Bool) → is_built_site base.site ≡ true → (by < length base.site.interfaces → a ≡ b) → (nat_lt by (length base.site.interfaces) && a) ≡ (is_line (environment_of base) by && b)
-line_test base by a b built same =
-    and_same (nat_lt by (length base.site.interfaces)) a b (λ t. same (ltb-true by (length base.site.interfaces) t)) ∙ ap (λ (connection : Bool). connection && b) (sym (line_is base by built))
+pub may_open_is : (base : Basis) (w : Held) (s : State) (by : ℕ) → RepresentsWithin base w s
+    → (is_line_of w.basis.site by && (not (connection_of w by).connected && not (is_stopped w.history))) ≡ is_enabled (environment_of base) s (Opens by)
+may_open_is base w s by h =
+    ap (λ (b : Basis). is_line_of b.site by && (not (connection_of w by).connected && not (is_stopped w.history))) h.basis
+    ∙ and_same (is_line_of base.site by) (not (connection_of w by).connected && not (is_stopped w.history)) (not (is_connected by s.history) && not (is_stopped s.history)) (λ line.
+    ap (λ (c : Bool). not c && not (is_stopped w.history)) (h.connections by line).connected ∙ ap (λ (l : List Entry). not (is_connected by s.history) && not (is_stopped l)) h.history)
 
-pub may_open_is : (base : Basis) (w : Held) (s : State) (by : ℕ) → is_built_site base.site ≡ true → RepresentsWithin base w s
-    → (nat_lt by (length w.basis.site.interfaces) && (not (connection_at w.connections by).connected && not (is_stopped w.history))) ≡ is_enabled (environment_of base) s (Opens by)
-may_open_is base w s by built h =
-    ap (λ (b : Basis). nat_lt by (length b.site.interfaces) && (not (connection_at w.connections by).connected && not (is_stopped w.history))) h.basis
-    ∙ line_test base by (not (connection_at w.connections by).connected && not (is_stopped w.history)) (not (is_connected by s.history) && not (is_stopped s.history)) built (λ m.
-    ap (λ (c : Bool). not c && not (is_stopped w.history)) (h.connections by m).connected ∙ ap (λ (l : List Entry). not (is_connected by s.history) && not (is_stopped l)) h.history)
+pub may_finish_is : (base : Basis) (w : Held) (s : State) (by : ℕ) (why : Why) → RepresentsWithin base w s
+    → (is_line_of w.basis.site by && ((connection_of w by).connected && may_close w.history why)) ≡ is_enabled (environment_of base) s (Finish by why)
+may_finish_is base w s by why h =
+    ap (λ (b : Basis). is_line_of b.site by && ((connection_of w by).connected && may_close w.history why)) h.basis
+    ∙ and_same (is_line_of base.site by) ((connection_of w by).connected && may_close w.history why) (is_connected by s.history && may_close s.history why) (λ line.
+    ap (λ (c : Bool). c && may_close w.history why) (h.connections by line).connected ∙ ap (λ (l : List Entry). is_connected by s.history && may_close l why) h.history)
 
-pub may_finish_is : (base : Basis) (w : Held) (s : State) (by : ℕ) (why : Why) → is_built_site base.site ≡ true → RepresentsWithin base w s
-    → (nat_lt by (length w.basis.site.interfaces) && ((connection_at w.connections by).connected && may_close w.history why)) ≡ is_enabled (environment_of base) s (Finish by why)
-may_finish_is base w s by why built h =
-    ap (λ (b : Basis). nat_lt by (length b.site.interfaces) && ((connection_at w.connections by).connected && may_close w.history why)) h.basis
-    ∙ line_test base by ((connection_at w.connections by).connected && may_close w.history why) (is_connected by s.history && may_close s.history why) built (λ m.
-    ap (λ (c : Bool). c && may_close w.history why) (h.connections by m).connected ∙ ap (λ (l : List Entry). is_connected by s.history && may_close l why) h.history)
-
-pub may_receive_is : (base : Basis) (w : Held) (s : State) (by : ℕ) (piece : List ℕ) → is_built_site base.site ≡ true → RepresentsWithin base w s
-    → (nat_lt by (length w.basis.site.interfaces) && ((connection_at w.connections by).connected && is_piece piece)) ≡ is_enabled (environment_of base) s (Piece by piece)
-may_receive_is base w s by piece built h =
-    ap (λ (b : Basis). nat_lt by (length b.site.interfaces) && ((connection_at w.connections by).connected && is_piece piece)) h.basis
-    ∙ line_test base by ((connection_at w.connections by).connected && is_piece piece) (is_connected by s.history && is_piece piece) built (λ m. ap (λ (c : Bool). c && is_piece piece) (h.connections by m).connected)
+pub may_receive_is : (base : Basis) (w : Held) (s : State) (by : ℕ) (piece : List ℕ) → RepresentsWithin base w s
+    → (is_line_of w.basis.site by && ((connection_of w by).connected && is_piece piece)) ≡ is_enabled (environment_of base) s (Piece by piece)
+may_receive_is base w s by piece h =
+    ap (λ (b : Basis). is_line_of b.site by && ((connection_of w by).connected && is_piece piece)) h.basis
+    ∙ and_same (is_line_of base.site by) ((connection_of w by).connected && is_piece piece) (is_connected by s.history && is_piece piece) (λ line. ap (λ (c : Bool). c && is_piece piece) (h.connections by line).connected)
 
 -- ---- the connections after an event
 
 -- a connection stands as before where neither the history nor the pieces say more of it
-connection_kept : (site : SiteData) (s t : State) (k : ℕ) (c : HeldConnection) → is_connected k t.history ≡ is_connected k s.history → t.pieces k ≡ s.pieces k → PassesOn site s t k → IsConnection site s k c → IsConnection site t k c
+pub connection_kept : (site : SiteData) (s t : State) (k : ℕ) (c : HeldConnection) → is_connected k t.history ≡ is_connected k s.history → t.pieces k ≡ s.pieces k → PassesOn site s t k → IsConnection site s k c → IsConnection site t k c
 connection_kept site s t k c e p on h = record {
   connected = h.connected ∙ sym e;
   framings = h.framings;
@@ -129,21 +121,22 @@ connection_kept site s t k c e p on h = record {
   passed = λ stands. on c.cursor.place c.cursor.refused (h.passed (sym e ∙ stands));
 }
 
-connection_set : (site : SiteData) (s t : State) (connections : List HeldConnection) (by : ℕ) (connection : HeldConnection) (k : ℕ) → by < length connections → IsConnection site t by connection
-    → (k ≢ by → is_connected k t.history ≡ is_connected k s.history) → (k ≢ by → t.pieces k ≡ s.pieces k) → (k ≢ by → PassesOn site s t k) → IsConnection site s k (connection_at connections k)
-    → ((k ≡ by) ⊎ (k ≢ by)) → IsConnection site t k (connection_at (set connections by connection) k)
-connection_set site s t connections by connection k m mine c p on before (inl same) =
-    subst (λ (j : ℕ). IsConnection site t j (connection_at (set connections by connection) j)) (sym same) (subst (λ (x : HeldConnection). IsConnection site t by x) (sym (get_or-set_same connections by connection (shut no_chain) m)) mine)
-connection_set site s t connections by connection k m mine c p on before (inr other) =
-    connection_kept site s t k (connection_at (set connections by connection) k) (c other) (p other) (on other) (subst (λ (x : HeldConnection). IsConnection site s k x) (sym (get_or-set_other connections by k connection (shut no_chain) other)) before)
-
 -- one connection is changed to this one, and each other stands as before
-connections_set : (site : SiteData) (s t : State) (connections : List HeldConnection) (n by : ℕ) (connection : HeldConnection) → length connections ≡ n → by < n → ((k : ℕ) → k < n → IsConnection site s k (connection_at connections k)) → IsConnection site t by connection
-    → ((k : ℕ) → k ≢ by → is_connected k t.history ≡ is_connected k s.history) → ((k : ℕ) → k ≢ by → t.pieces k ≡ s.pieces k) → ((k : ℕ) → k ≢ by → PassesOn site s t k)
-    → (k : ℕ) → k < n → IsConnection site t k (connection_at (set connections by connection) k)
-connections_set site s t connections n by connection e m before mine c p on k h = connection_set site s t connections by connection k (omega (arith, e, m)) mine (c k) (p k) (on k) (before k h) (cases_eq k by)
+module _ (base : Basis) (w : Held) (s t : State) (by : ℕ) (connection : HeldConnection) (sound : IsSoundSite base.site) (h : RepresentsWithin base w s) (line : is_line_of base.site by ≡ true) (mine : IsConnection base.site t by connection) where
+  connection_set : (k : ℕ) → (k ≢ by → is_connected k t.history ≡ is_connected k s.history) → (k ≢ by → t.pieces k ≡ s.pieces k) → (k ≢ by → PassesOn base.site s t k) → is_line_of base.site k ≡ true → ((k ≡ by) ⊎ (k ≢ by))
+      → IsConnection base.site t k (connection_of (with_connection by w connection) k)
+  connection_set k c p on one (inl same) =
+      subst (λ (j : ℕ). IsConnection base.site t j (connection_of (with_connection by w connection) j)) (sym same)
+      (subst (λ (x : HeldConnection). IsConnection base.site t by x) (sym (get_or-set_same w.connections (line_place w.basis.site by) connection (shut no_chain) (place_shown base w s sound h by line))) mine)
+  connection_set k c p on one (inr other) =
+      connection_kept base.site s t k (connection_of (with_connection by w connection) k) (c other) (p other) (on other)
+      (subst (λ (x : HeldConnection). IsConnection base.site s k x) (sym (get_or-set_other w.connections (line_place w.basis.site by) (line_place w.basis.site k) connection (shut no_chain) (shown_other base w s sound h k by one line other))) (h.connections k one))
 
-set_count : (connections : List HeldConnection) (n by : ℕ) (connection : HeldConnection) → length connections ≡ n → length (set connections by connection) ≡ n
+  pub connections_set : ((k : ℕ) → k ≢ by → is_connected k t.history ≡ is_connected k s.history) → ((k : ℕ) → k ≢ by → t.pieces k ≡ s.pieces k) → ((k : ℕ) → k ≢ by → PassesOn base.site s t k)
+      → (k : ℕ) → is_line_of base.site k ≡ true → IsConnection base.site t k (connection_of (with_connection by w connection) k)
+  connections_set c p on k one = connection_set k (c k) (p k) (on k) one (cases_eq k by)
+
+pub set_count : (connections : List HeldConnection) (n by : ℕ) (connection : HeldConnection) → length connections ≡ n → length (set connections by connection) ≡ n
 set_count connections n by connection e = length-set connections by connection ∙ e
 
 -- ---- no connection stands
@@ -167,22 +160,21 @@ fresh_count [] (c ∷ cs) f = absurd f
 fresh_count (uses ∷ chains) [] f = absurd f
 fresh_count (uses ∷ chains) (c ∷ cs) f = ap suc (fresh_count chains cs f.1)
 
-first_connection : (site : SiteData) (cs : List ChainData) (by : ℕ) → length site.interfaces ≤ 16 → AreFresh (interface_chains site) cs → by < length site.interfaces → IsConnection site opening by (connection_at (map shut cs) by)
-first_connection site cs by few f m =
-    let at : by < length cs = omega (arith, m, fresh_count (interface_chains site) cs f, length-map site.interfaces (λ (i : InterfaceData). i.chain)) in
-    let fresh = fresh_at site (interface_chains site) cs by f at in
-    begins site opening by (connection_at (map shut cs) by) (shut_at cs by) (fresh.framings ∙ sym (interface_framings site by (omega (arith, few, m)))) (fresh.writing ∙ ap (λ (uses : List UseData). use_specs (filter writes uses)) (sym (interface_uses site by (omega (arith, few, m))))) refl fresh.idle.drained fresh.stands (λ stands. absurd (cc stands))
-  where
-    interface_uses : (site : SiteData) (by : ℕ) → by < first_slot → uses_at site by ≡ slice_index_or (interface_chains site) by []
-    interface_uses site by h = rw (below by first_slot h) refl
+first_connection : (site : SiteData) (cs : List ChainData) (by : ℕ) → IsSoundSite site → AreFresh (line_chains site) cs → is_line_of site by ≡ true → IsConnection site opening by (connection_at (map shut cs) (line_place site by))
+first_connection site cs by sound f line =
+    let place = line_place site by in
+    let at : place < length cs = omega (arith, lines_have_places site by sound line, fresh_count (line_chains site) cs f, chains_count site) in
+    let fresh = fresh_at site (line_chains site) cs place f at in
+    let uses : slice_index_or (line_chains site) place [] ≡ uses_at site by = line_chain site by sound line in
+    begins site opening by (connection_at (map shut cs) place) (shut_at cs place) (fresh.framings ∙ ap framings_in uses) (fresh.writing ∙ ap (λ (us : List UseData). use_specs (filter writes us)) uses) refl fresh.idle.drained fresh.stands (λ stands. absurd (cc stands))
 
-pub stands_first : (base : Basis) (w : Held) (cs : List ChainData) → length base.site.interfaces ≤ 16 → AreFresh (interface_chains base.site) cs → w ≡ first_held base.site base.entries base.bytes cs → RepresentsWithin base w opening
-stands_first base w cs few f e = subst (λ (x : Held). RepresentsWithin base x opening) (sym e) (record {
+pub stands_first : (base : Basis) (w : Held) (cs : List ChainData) → IsSoundSite base.site → AreFresh (line_chains base.site) cs → w ≡ first_held base.site base.entries base.bytes cs → RepresentsWithin base w opening
+stands_first base w cs sound f e = subst (λ (x : Held). RepresentsWithin base x opening) (sym e) (record {
   history = refl;
   time = refl;
   basis = refl;
-  count = length-map cs shut ∙ (fresh_count (interface_chains base.site) cs f ∙ length-map base.site.interfaces (λ (i : InterfaceData). i.chain));
-  connections = λ by m. first_connection base.site cs by few f m;
+  count = length-map cs shut ∙ (fresh_count (line_chains base.site) cs f ∙ chains_count base.site);
+  connections = λ by line. first_connection base.site cs by sound f line;
 })
 
 -- ---- the clock and the Stop
@@ -200,7 +192,7 @@ time_set base w s time m h =
         time = refl;
         basis = h.basis;
         count = h.count;
-        connections = λ k m. connection_kept base.site s (after s (SetTime time) did) k (connection_at w.connections k) (ap (is_connected k) (sym all)) (pieces_stay k (SetTime time) [] s.pieces refl refl) (passes base.site s (SetTime time) did k refl refl) (h.connections k m);
+        connections = λ k m. connection_kept base.site s (after s (SetTime time) did) k (connection_of w k) (ap (is_connected k) (sym all)) (pieces_stay k (SetTime time) [] s.pieces refl refl) (passes base.site s (SetTime time) did k refl refl) (h.connections k m);
       },
     )
 
@@ -218,7 +210,7 @@ stopped base w new s off n h =
       time = h.time;
       basis = h.basis;
       count = h.count;
-      connections = λ k m. connection_kept base.site s (after s Stop did) k (connection_at w.connections k) (connected_kept k s.history (entry ∷ []) (stop_tells_none k (31 == k))) (pieces_stay k Stop (entry ∷ []) s.pieces (stop_tells_none k (31 == k)) refl) (passes base.site s Stop did k (stop_tells_none k (31 == k)) refl) (h.connections k m);
+      connections = λ k m. connection_kept base.site s (after s Stop did) k (connection_of w k) (connected_kept k s.history (entry ∷ []) (stop_tells_none k (31 == k))) (pieces_stay k Stop (entry ∷ []) s.pieces (stop_tells_none k (31 == k)) refl) (passes base.site s Stop did k (stop_tells_none k (31 == k)) refl) (h.connections k m);
     } in (
       did,
       record {
@@ -243,25 +235,25 @@ others_kept by s entry e k other = connected_kept k s.history (entry ∷ []) (te
 maker_told : (by : ℕ) (s : State) (entry : Entry) (on : Bool) → entry.by ≡ by → connects entry.what ≡ Some on → on ≡ is_connected by (s.history ++ entry ∷ [])
 maker_told by s entry on e t = sym (connected-append by s.history (entry ∷ []) ∙ ap (λ (o : Option Bool). unwrap_or (or_earlier o (latest (connects_maker by) s.history)) false) (tells_maker by entry e ∙ t))
 
-pub opens : (base : Basis) (w new : Held) (s : State) (by : ℕ) → is_built_site base.site ≡ true → IsOpened by w new → is_enabled (environment_of base) s (Opens by) ≡ true → is_within w.basis w.history 1 0 ≡ true → RepresentsWithin base w s
+pub opens : (base : Basis) (w new : Held) (s : State) (by : ℕ) → IsSoundSite base.site → IsOpened by w new → is_enabled (environment_of base) s (Opens by) ≡ true → is_within w.basis w.history 1 0 ≡ true → RepresentsWithin base w s
     → (did : Did) × Does (environment_of base) s (Opens by) did × (Posted ≡ did.effect) × RepresentsWithin base new (after s (Opens by) did)
-opens base w new s by built n t fits h =
-    let m : by < length base.site.interfaces = (enabled_line base by _ built t).0 in
+opens base w new s by sound n t fits h =
+    let line = (and_tells (is_line_of base.site by) _ t).0 in
     let entry : Entry = record { by = by; time = s.time; what = Opened } in
     let did : Did = record { entries = entry ∷ []; effect = Posted } in
     let moved : State = after s (Opens by) did in
     let same : w.history ++ record { by = by; time = w.time; what = Opened } ∷ [] ≡ moved.history =
     ap (λ (l : List Entry). l ++ record { by = by; time = w.time; what = Opened } ∷ []) h.history ∙ ap (λ (now : Time). s.history ++ record { by = by; time = now; what = Opened } ∷ []) h.time in
     let mine : IsConnection base.site moved by n.0 =
-    begins_anew base.site s moved by true (connection_at w.connections by) n.0 n.1 (h.connections by m) (maker_told by s entry true refl refl) (pieces_turned by (Opens by) (entry ∷ []) s.pieces true (tells_maker by entry refl))
+    begins_anew base.site s moved by true (connection_of w by) n.0 n.1 (h.connections by line) (maker_told by s entry true refl refl) (pieces_turned by (Opens by) (entry ∷ []) s.pieces true (tells_maker by entry refl))
     (λ stands. passed_opened base.site moved by s.history entry n.0.cursor refl refl refl (cursor_turned by (Opens by) (entry ∷ []) s.cursor true (tells_maker by entry refl))
     (n.2 ∙ ap (λ (l : List Entry). record { place = length l; refused = 0 }) (ap (λ (x : Held). x.history) n.3 ∙ same))) in
     let whole : RepresentsWithin base (changed by w (record { by = by; time = w.time; what = Opened } ∷ []) n.0) moved = record {
       history = same;
       time = h.time;
       basis = h.basis;
-      count = set_count w.connections (length base.site.interfaces) by n.0 h.count;
-      connections = connections_set base.site s moved w.connections (length base.site.interfaces) by n.0 h.count m h.connections mine (others_kept by s entry refl) (λ k other. pieces_stay k (Opens by) (entry ∷ []) s.pieces (tells_no_other k entry other) refl) (λ k other. passes base.site s (Opens by) did k (tells_no_other k entry other) refl);
+      count = set_count w.connections (line_count base.site) (line_place w.basis.site by) n.0 h.count;
+      connections = connections_set base w s moved by n.0 sound h line mine (others_kept by s entry refl) (λ k other. pieces_stay k (Opens by) (entry ∷ []) s.pieces (tells_no_other k entry other) refl) (λ k other. passes base.site s (Opens by) did k (tells_no_other k entry other) refl);
     } in (
       did,
       record {
@@ -298,14 +290,14 @@ none_passed : {P : Type 0} (off : Bool) → off ≡ false → off ≡ true → P
 none_passed true h k = absurd (cc h)
 none_passed false h k = absurd (cc k)
 
-pub finished : (base : Basis) (w new : Held) (s : State) (by : ℕ) (why : Why) → is_built_site base.site ≡ true → IsClosed by w why new → is_enabled (environment_of base) s (Finish by why) ≡ true → RepresentsWithin base w s
+pub finished : (base : Basis) (w new : Held) (s : State) (by : ℕ) (why : Why) → IsSoundSite base.site → IsClosed by w why new → is_enabled (environment_of base) s (Finish by why) ≡ true → RepresentsWithin base w s
     → (did : Did) × Does (environment_of base) s (Finish by why) did × (Posted ≡ did.effect) × RepresentsWithin base new (after s (Finish by why) did)
-finished base w new s by why built n t h =
-    let line = enabled_line base by _ built t in
-    let m : by < length base.site.interfaces = line.0 in
-    let on : is_connected by s.history ≡ true = (and_tells (is_connected by s.history) (may_close s.history why) line.1).0 in
-    let old = connection_at w.connections by in
-    let mine = h.connections by m in
+finished base w new s by why sound n t h =
+    let parts = and_tells (is_line_of base.site by) _ t in
+    let line = parts.0 in
+    let on : is_connected by s.history ≡ true = (and_tells (is_connected by s.history) (may_close s.history why) parts.1).0 in
+    let old = connection_of w by in
+    let mine = h.connections by line in
     let all = given_by base.site s by old mine in
     let left = unsent (environment_of base) s by in
     let entry = closed_entry s.time by why left all.cuts in
@@ -317,8 +309,8 @@ finished base w new s by why built n t h =
       history = ap (λ (l : List Entry). l ++ lost w.basis.site by w.time w.history old why ∷ []) h.history ∙ ap (λ (x : Entry). s.history ++ x ∷ []) (closed_entry_is w.basis.site by w.time s.time w.history why old left all.cuts h.time all.loss_is waits_is);
       time = h.time;
       basis = h.basis;
-      count = set_count w.connections (length base.site.interfaces) by n.0 h.count;
-      connections = connections_set base.site s moved w.connections (length base.site.interfaces) by n.0 h.count m h.connections
+      count = set_count w.connections (line_count base.site) (line_place w.basis.site by) n.0 h.count;
+      connections = connections_set base w s moved by n.0 sound h line
           (begins_anew base.site s moved by false old n.0 n.1 mine told (pieces_turned by (Finish by why) (entry ∷ []) s.pieces false (tells_maker by entry refl)) (λ stands. none_passed (is_connected by moved.history) (sym told) stands))
           (others_kept by s entry refl) (λ k other. pieces_stay k (Finish by why) (entry ∷ []) s.pieces (tells_no_other k entry other) refl) (λ k other. passes base.site s (Finish by why) did k (tells_no_other k entry other) refl);
     } in (
@@ -366,35 +358,36 @@ whole_of site history by now old piece entries unposted why new all t =
 
 -- what is known where a chain was fed a piece and gave all its packets
 record IsFed (site : SiteData) (w : Held) (s : State) (by : ℕ) (piece : List ℕ) (entries : List Entry) (why : Option Why) (c : HeldConnection) : Type 0 where
-  there : by < length site.interfaces
-  before : IsConnection site s by (connection_at w.connections by)
+  rules : IsSoundSite site
+  line : is_line_of site by ≡ true
+  before : IsConnection site s by (connection_of w by)
   on : is_connected by s.history ≡ true
-  flag : c.connected ≡ (connection_at w.connections by).connected
-  cursor : c.cursor ≡ (connection_at w.connections by).cursor
-  taken : TakesWhole site w.history by w.time (connection_at w.connections by).chain piece entries why c.chain
+  flag : c.connected ≡ (connection_of w by).connected
+  cursor : c.cursor ≡ (connection_of w by).cursor
+  taken : TakesWhole site w.history by w.time (connection_of w by).chain piece entries why c.chain
   framings : framings_of c.chain.stages ≡ framings_at site by
   writing : writers c.chain ≡ writers_at site by
   stands : StagesStand c.chain.stages (map plain (s.pieces by ++ piece ∷ [])) (before.packets ++ taken.packets)
   all : AreOf c.chain.stages (s.pieces by ++ piece ∷ []) (before.packets ++ taken.packets)
 
-is_fed : (base : Basis) (w mid : Held) (s : State) (by : ℕ) (piece : List ℕ) (entries : List Entry) (unposted : ℕ) (why : Option Why) → is_built_site base.site ≡ true → is_enabled (environment_of base) s (Piece by piece) ≡ true → RepresentsWithin base w s → unposted ≡ 0
+is_fed : (base : Basis) (w mid : Held) (s : State) (by : ℕ) (piece : List ℕ) (entries : List Entry) (unposted : ℕ) (why : Option Why) → IsSoundSite base.site → is_enabled (environment_of base) s (Piece by piece) ≡ true → RepresentsWithin base w s → unposted ≡ 0
     → (k : Takes by w piece entries unposted why mid) → IsFed base.site w s by piece entries why k.0
-is_fed base w mid s by piece entries unposted why built t h all k =
-    let line = enabled_line base by _ built t in
-    let m : by < length base.site.interfaces = line.0 in
-    let before = h.connections by m in
-    let old = (connection_at w.connections by).chain in
+is_fed base w mid s by piece entries unposted why sound t h all k =
+    let parts = and_tells (is_line_of base.site by) _ t in
+    let before = h.connections by parts.0 in
+    let old = (connection_of w by).chain in
     let taken : TakesWhole base.site w.history by w.time old piece entries why k.0.chain =
     whole_of base.site w.history by w.time old piece entries unposted why k.0.chain all (subst (λ (b : Basis). TakesPiece b.site w.history by w.time old piece entries unposted why k.0.chain) h.basis k.3) in
     let stands = subst (λ (ins : List Output). StagesStand k.0.chain.stages ins (before.packets ++ taken.packets)) (plain_more (s.pieces by) piece) (taken.stands (map plain (s.pieces by)) before.packets before.stands) in
     record {
-      there = m;
+      rules = sound;
+      line = parts.0;
       before = before;
-      on = (and_tells (is_connected by s.history) (is_piece piece) line.1).0;
+      on = (and_tells (is_connected by s.history) (is_piece piece) parts.1).0;
       flag = k.1;
       cursor = k.2;
       taken = taken;
-      framings = same_framings (connection_at w.connections by).chain k.0.chain taken.same ∙ before.framings;
+      framings = same_framings (connection_of w by).chain k.0.chain taken.same ∙ before.framings;
       writing = taken.same.writers ∙ before.writing;
       stands = stands;
       all = settled_gives_all k.0.chain.stages (s.pieces by ++ piece ∷ []) (before.packets ++ taken.packets) taken.settled stands;
@@ -422,7 +415,7 @@ posts_received : (base : Basis) (w : Held) (s : State) (by : ℕ) (piece : List 
     → Receives (environment_of base) s by piece (posts base.site s.history by s.time (unsent (environment_of base) s by) k.taken.packets k.all.cuts (fault_of k.all.cuts))
 unfolding posts tail_of
 posts_received base w s by piece entries why c h k =
-    let old = connection_at w.connections by in
+    let old = connection_of w by in
     let first = given_by base.site s by old k.before in
     let packets = k.taken.packets in
     record {
@@ -492,14 +485,14 @@ stands_whole base w s by piece entries why c h k did d e =
       history = ap (λ (l : List Entry). l ++ entries) h.history ∙ ap (λ (l : List Entry). s.history ++ l) (sym d);
       time = h.time;
       basis = h.basis;
-      count = set_count w.connections (length base.site.interfaces) by c h.count;
-      connections = connections_set base.site s moved w.connections (length base.site.interfaces) by c h.count k.there h.connections mine (λ j other. kept j) (λ j other. pieces_stay j (Piece by piece) did.entries s.pieces (none j) (piece_of_other j by piece other)) (λ j other. passes base.site s (Piece by piece) did j (none j) refl);
+      count = set_count w.connections (line_count base.site) (line_place w.basis.site by) c h.count;
+      connections = connections_set base w s moved by c k.rules h k.line mine (λ j other. kept j) (λ j other. pieces_stay j (Piece by piece) did.entries s.pieces (none j) (piece_of_other j by piece other)) (λ j other. passes base.site s (Piece by piece) did j (none j) refl);
     }
 
 -- a stage has failed, and the connection is closed
 stands_bad : (base : Basis) (w : Held) (s : State) (by : ℕ) (piece : List ℕ) (entries : List Entry) (why : Option Why) (c : HeldConnection) → RepresentsWithin base w s → (k : IsFed base.site w s by piece entries why c)
     → (did : Did) (reason : Why) → did.entries ≡ entries ++ closed_entry s.time by reason (unsent (environment_of base) s by) k.all.cuts ∷ [] → (shutting : HeldConnection) → IsRenewed false c shutting
-    → RepresentsWithin base (record w { history = (w.history ++ entries) ++ lost w.basis.site by w.time (w.history ++ entries) c reason ∷ []; connections = set w.connections by shutting }) (after s (Piece by piece) did)
+    → RepresentsWithin base (record w { history = (w.history ++ entries) ++ lost w.basis.site by w.time (w.history ++ entries) c reason ∷ []; connections = set w.connections (line_place w.basis.site by) shutting }) (after s (Piece by piece) did)
 stands_bad base w s by piece entries why c h k did reason d shutting r =
     let moved : State = after s (Piece by piece) did in
     let packets = k.taken.packets in
@@ -524,20 +517,21 @@ stands_bad base w s by piece entries why c h k did reason d shutting r =
           ∙ (append_assoc s.history entries (lost w.basis.site by w.time (w.history ++ entries) c reason ∷ []) ∙ (ap (λ (x : Entry). s.history ++ (entries ++ x ∷ [])) last ∙ ap (λ (l : List Entry). s.history ++ l) (sym d)));
       time = h.time;
       basis = h.basis;
-      count = set_count w.connections (length base.site.interfaces) by shutting h.count;
-      connections = connections_set base.site s moved w.connections (length base.site.interfaces) by shutting h.count k.there h.connections mine
+      count = set_count w.connections (line_count base.site) (line_place w.basis.site by) shutting h.count;
+      connections = connections_set base w s moved by shutting k.rules h k.line mine
           (λ j other. connected_kept j s.history did.entries (others j other)) (λ j other. pieces_stay j (Piece by piece) did.entries s.pieces (others j other) (piece_of_other j by piece other)) (λ j other. passes base.site s (Piece by piece) did j (others j other) refl);
     }
 
 -- what is held with a connection set twice
-set_twice : (w : Held) (by : ℕ) (entries : List Entry) (c shutting : HeldConnection) (reason : Why) (new : Held) → by < length w.connections
-    → IsRenewed false (connection_at (set w.connections by c) by) shutting → new ≡ changed by (changed by w entries c) (lost w.basis.site by w.time (w.history ++ entries) (connection_at (set w.connections by c) by) reason ∷ []) shutting
-    → IsRenewed false c shutting × (new ≡ record w { history = (w.history ++ entries) ++ lost w.basis.site by w.time (w.history ++ entries) c reason ∷ []; connections = set w.connections by shutting })
+set_twice : (w : Held) (by : ℕ) (entries : List Entry) (c shutting : HeldConnection) (reason : Why) (new : Held) → line_place w.basis.site by < length w.connections
+    → IsRenewed false (connection_of (changed by w entries c) by) shutting → new ≡ changed by (changed by w entries c) (lost w.basis.site by w.time (w.history ++ entries) (connection_of (changed by w entries c) by) reason ∷ []) shutting
+    → IsRenewed false c shutting × (new ≡ record w { history = (w.history ++ entries) ++ lost w.basis.site by w.time (w.history ++ entries) c reason ∷ []; connections = set w.connections (line_place w.basis.site by) shutting })
 set_twice w by entries c shutting reason new m r n =
-    let same = get_or-set_same w.connections by c (shut no_chain) m in (
+    let place = line_place w.basis.site by in
+    let same : connection_of (changed by w entries c) by ≡ c = get_or-set_same w.connections place c (shut no_chain) m in (
       subst (λ (x : HeldConnection). IsRenewed false x shutting) same r,
-      n ∙ (ap (λ (x : HeldConnection). record w { history = (w.history ++ entries) ++ lost w.basis.site by w.time (w.history ++ entries) x reason ∷ []; connections = set (set w.connections by c) by shutting }) same
-          ∙ ap (λ (cs : List HeldConnection). record w { history = (w.history ++ entries) ++ lost w.basis.site by w.time (w.history ++ entries) c reason ∷ []; connections = cs }) (set-set w.connections by c shutting)),
+      n ∙ (ap (λ (x : HeldConnection). record w { history = (w.history ++ entries) ++ lost w.basis.site by w.time (w.history ++ entries) x reason ∷ []; connections = set (set w.connections place c) place shutting }) same
+          ∙ ap (λ (cs : List HeldConnection). record w { history = (w.history ++ entries) ++ lost w.basis.site by w.time (w.history ++ entries) c reason ∷ []; connections = cs }) (set-set w.connections place c shutting)),
     )
 
 stands_settled : (base : Basis) (w new : Held) (s : State) (by : ℕ) (piece : List ℕ) (entries : List Entry) (why : Option Why) (c : HeldConnection) → RepresentsWithin base w s → (k : IsFed base.site w s by piece entries why c)
@@ -548,7 +542,7 @@ stands_settled base w new s by piece entries why c h k None e settles did d =
     subst (λ (x : Held). RepresentsWithin base x (after s (Piece by piece) did)) (sym settles) (stands_whole base w s by piece entries why c h k did (d ∙ append-nil entries) e)
 stands_settled base w new s by piece entries why c h k (Some fault) e settles did d =
     let reason : Why = BadFrame fault.stage fault.cause in
-    let both = set_twice w by entries c settles.0 reason new (omega (arith, h.count, k.there)) settles.1 settles.2 in
+    let both = set_twice w by entries c settles.0 reason new (place_shown base w s k.rules h by k.line) settles.1 settles.2 in
     subst (λ (x : Held). RepresentsWithin base x (after s (Piece by piece) did)) (sym both.1) (stands_bad base w s by piece entries why c h k did reason d settles.0 both.0)
 
 received : (base : Basis) (w new : Held) (s : State) (by : ℕ) (piece : List ℕ) (entries : List Entry) (why : Option Why) (c : HeldConnection) → is_enabled (environment_of base) s (Piece by piece) ≡ true → RepresentsWithin base w s → (k : IsFed base.site w s by piece entries why c)
@@ -578,14 +572,14 @@ received base w new s by piece entries why c t h k room settles =
 
 -- ---- a piece as the world takes it: it goes through the chain, and its packets are posted
 
-pub piece_done : (base : Basis) (w mid new : Held) (s : State) (by : ℕ) (piece : List ℕ) (entries : List Entry) (unposted : ℕ) (why : Option Why) → is_built_site base.site ≡ true → is_enabled (environment_of base) s (Piece by piece) ≡ true
+pub piece_done : (base : Basis) (w mid new : Held) (s : State) (by : ℕ) (piece : List ℕ) (entries : List Entry) (unposted : ℕ) (why : Option Why) → IsSoundSite base.site → is_enabled (environment_of base) s (Piece by piece) ≡ true
     → unposted ≡ 0 → Takes by w piece entries unposted why mid → Posts by mid entries why (Ok tt) new → RepresentsWithin base w s → Steps base s (Piece by piece) w (Ok Posted) new
-piece_done base w mid new s by piece entries unposted why built t all k q h =
+piece_done base w mid new s by piece entries unposted why sound t all k q h =
     let p = subst (λ (x : Held). Posts by x entries why (Ok tt) new) k.4 q in
-    received base w new s by piece entries why k.0 t h (is_fed base w mid s by piece entries unposted why built t h all k) p.0 p.1
+    received base w new s by piece entries why k.0 t h (is_fed base w mid s by piece entries unposted why sound t h all k) p.0 p.1
 
 refused : (base : Basis) (w new : Held) (s : State) (by : ℕ) (piece : List ℕ) (entries : List Entry) (why : Option Why) (c : HeldConnection) (fault : WorldFault) → is_enabled (environment_of base) s (Piece by piece) ≡ true → RepresentsWithin base w s
-    → IsFed base.site w s by piece entries why c → Posts by (record w { connections = set w.connections by c }) entries why (Err fault) new → Steps base s (Piece by piece) w (Err fault) new
+    → IsFed base.site w s by piece entries why c → Posts by (with_connection by w c) entries why (Err fault) new → Steps base s (Piece by piece) w (Err fault) new
 refused base w new s by piece entries why c RefusedEvent t h k p = absurd p
 refused base w new s by piece entries why c (Full counted size) t h k p =
     let mine_are = entries_at base w s by k.taken.packets entries k.taken.entries_are h in
@@ -597,79 +591,16 @@ refused base w new s by piece entries why c (Full counted size) t h k p =
 refused base w new s by piece entries why c Memory t h k p =
     wants_memory base w new s (Piece by piece) (record { history = ap (λ (x : Held). x.history) p.1; time = ap (λ (x : Held). x.time) p.1; basis = ap (λ (x : Held). x.basis) p.1 }) t refl tt
 
-pub piece_refused : (base : Basis) (w mid new : Held) (s : State) (by : ℕ) (piece : List ℕ) (entries : List Entry) (unposted : ℕ) (why : Option Why) (fault : WorldFault) → is_built_site base.site ≡ true → is_enabled (environment_of base) s (Piece by piece) ≡ true
+pub piece_refused : (base : Basis) (w mid new : Held) (s : State) (by : ℕ) (piece : List ℕ) (entries : List Entry) (unposted : ℕ) (why : Option Why) (fault : WorldFault) → IsSoundSite base.site → is_enabled (environment_of base) s (Piece by piece) ≡ true
     → unposted ≡ 0 → Takes by w piece entries unposted why mid → Posts by mid entries why (Err fault) new → RepresentsWithin base w s → Steps base s (Piece by piece) w (Err fault) new
-piece_refused base w mid new s by piece entries unposted why fault built t all k p h =
-    refused base w new s by piece entries why k.0 fault t h (is_fed base w mid s by piece entries unposted why built t h all k) (subst (λ (x : Held). Posts by x entries why (Err fault) new) k.4 p)
-
--- ---- what is written to a device
-
-written_of : (by count : ℕ) → passed_for by (Write by count) ≡ count
-written_of by count = ap (λ (b : Bool). if b then count else 0) (eq-eqb by by refl)
-
-written_of_other : (k by count : ℕ) → k ≢ by → passed_for k (Write by count) ≡ 0
-written_of_other k by count other = ap (λ (b : Bool). if b then count else 0) (ne_eqb by k (λ same. other (sym same)))
-
--- the connection has put the next commands
-connection_wrote : (site : SiteData) (w : Held) (s : State) (by count next : ℕ) (bytes : List ℕ) (c : HeldConnection) (did : Did) → by < length site.interfaces → is_connected by s.history ≡ true → IsConnection site s by (connection_at w.connections by)
-    → next ≤ length (entries_ahead (connection_at w.connections by) s.history) → length (walk (site_routing site) by (take next (entries_ahead (connection_at w.connections by) s.history))) ≡ count → Wrote site by (connection_at w.connections by) s.history next bytes c
-    → did.entries ≡ [] → IsConnection site (after s (Write by count) did) by c
-connection_wrote site w s by count next bytes c did m on mine within many wrote none =
-    let moved : State = after s (Write by count) did in
-    let old = connection_at w.connections by in
-    let same : moved.history ≡ s.history = ap (λ (l : List Entry). s.history ++ l) none ∙ append-nil s.history in
-    let quiet : latest (connects_maker by) did.entries ≡ None = ap (latest (connects_maker by)) none in
-    let pieces : moved.pieces by ≡ s.pieces by = pieces_stay by (Write by count) did.entries s.pieces quiet refl in
-    let cursor : moved.cursor by ≡ s.cursor by + count = cursor_grows by (Write by count) did.entries s.cursor quiet ∙ ap (λ (n : ℕ). s.cursor by + n) (written_of by count) in
-    let some = queue (site_routing site) by (take next (entries_ahead old s.history)) in
-    let further = passed_next site s moved by count next old.cursor (mine.passed on) within many same cursor in
-    let now : HeldConnection = record old { cursor = record { place = old.cursor.place + next; refused = old.cursor.refused + refusals (spell_by site (writers old.chain)) some } } in
-    subst (λ (x : HeldConnection). IsConnection site moved by x) (sym wrote.new_is) (record {
-      connected = mine.connected ∙ ap (is_connected by) (sym same);
-      framings = mine.framings;
-      writing = mine.writing;
-      packets = mine.packets;
-      stands = subst (λ (l : List (List ℕ)). StagesStand old.chain.stages (map plain l) mine.packets) (sym pieces) mine.stands;
-      settled = mine.settled;
-      unfailed = mine.unfailed;
-      passed = λ stands. subst (λ (specs : List SpecData). IsPassed (site_environment site) moved by (old.cursor.place + next) (old.cursor.refused + refusals (spell_by site specs) some)) (sym mine.writing) further;
-    })
-
-pub wrote : (base : Basis) (w new : Held) (s : State) (by count next : ℕ) (bytes : List ℕ) → IsNext w by count next → PutsNext by w next bytes new → RepresentsWithin base w s → Steps base s (Write by count) w (Ok (Written by bytes)) new
-wrote base w new s by count next bytes n k h =
-    let t : is_enabled (environment_of base) s (Write by count) ≡ true = sym (can_write_is base w s by count h) ∙ n.enabled in
-    let line = and_tells (nat_lt by (length base.site.interfaces)) _ t in
-    let m : by < length base.site.interfaces = ltb-true by (length base.site.interfaces) line.0 in
-    let on : is_connected by s.history ≡ true = (and_tells (is_connected by s.history) _ line.1).0 in
-    let old = connection_at w.connections by in
-    let mine = h.connections by m in
-    let within = subst (λ (l : List Entry). next ≤ length (entries_ahead old l)) h.history n.within in
-    let many = subst (λ (l : List Entry). length (walk (site_routing base.site) by (take next (entries_ahead old l))) ≡ count) h.history (subst (λ (b : Basis). length (walk (site_routing b.site) by (take next (entries_ahead old w.history))) ≡ count) h.basis n.count_is) in
-    let put : Wrote base.site by old s.history next bytes k.0 = subst (λ (l : List Entry). Wrote base.site by old l next bytes k.0) h.history (subst (λ (b : Basis). Wrote b.site by old w.history next bytes k.0) h.basis k.1) in
-    let did : Did = record { entries = []; effect = Written by (put_next (environment_of base) s by count) } in
-    let moved : State = after s (Write by count) did in
-    let all : s.history ≡ s.history ++ [] = sym (append-nil s.history) in
-    let gives : bytes ≡ put_next (environment_of base) s by count =
-    put.bytes_are ∙ (ap (λ (specs : List SpecData). spelled (spell_by base.site specs) (queue (site_routing base.site) by (take next (entries_ahead old s.history)))) mine.writing ∙ sym (put_is base.site s by count next old.cursor (mine.passed on) many)) in
-    let whole : RepresentsWithin base (record w { connections = set w.connections by k.0 }) moved = record {
-      history = h.history ∙ all;
-      time = h.time;
-      basis = h.basis;
-      count = set_count w.connections (length base.site.interfaces) by k.0 h.count;
-      connections = connections_set base.site s moved w.connections (length base.site.interfaces) by k.0 h.count m h.connections (connection_wrote base.site w s by count next bytes k.0 did m on mine within many put refl) (λ j other. ap (is_connected j) (sym all))
-          (λ j other. pieces_stay j (Write by count) [] s.pieces refl refl) (λ j other. passes base.site s (Write by count) did j refl (written_of_other j by count other));
-    } in (
-      did,
-      record { enabled = t; answer = silent; answered = refl; appends = refl; room = λ takes. absurd (cc takes); effect = refl },
-      ap (Written by) gives,
-      subst (λ (x : Held). RepresentsWithin base x moved) (sym k.2) whole,
-    )
+piece_refused base w mid new s by piece entries unposted why fault sound t all k p h =
+    refused base w new s by piece entries why k.0 fault t h (is_fed base w mid s by piece entries unposted why sound t h all k) (subst (λ (x : Held). Posts by x entries why (Err fault) new) k.4 p)
 
 -- ---- the site that is held
 
 -- it is the one that is stood for
-pub built_of : (base : Basis) (w : Held) (s : State) → IsSoundHeld w → RepresentsWithin base w s → is_built_site base.site ≡ true
-built_of base w s sound h = subst (λ (b : Basis). is_built_site b.site ≡ true) h.basis sound.built
+pub site_of : (base : Basis) (w : Held) (s : State) → IsSoundHeld w → RepresentsWithin base w s → IsSoundSite base.site
+site_of base w s sound h = subst (λ (b : Basis). IsSoundSite b.site) h.basis sound.site
 
 -- ---- a desk is asked
 
@@ -691,7 +622,7 @@ called base w new s desk body front text a there at says is n h =
       time = h.time;
       basis = h.basis;
       count = h.count;
-      connections = λ k m. connection_kept base.site s moved k (connection_at w.connections k) (connected_kept k s.history a.entries (none k)) (pieces_stay k (Call desk body) a.entries s.pieces (none k) refl) (passes base.site s (Call desk body) did k (none k) refl) (h.connections k m);
+      connections = λ k m. connection_kept base.site s moved k (connection_of w k) (connected_kept k s.history a.entries (none k)) (pieces_stay k (Call desk body) a.entries s.pieces (none k) refl) (passes base.site s (Call desk body) did k (none k) refl) (h.connections k m);
     } in (
       did,
       record {

@@ -1,22 +1,21 @@
 -- What a running core makes of what its connections take and post.
-use Rattle.std.specs.Prelude.{◌≡◌, ◌<◌, ℕ, true, false, List, [], ◌∷◌, ◌++◌, length, slice_set, Option, None, Some, Result, Ok, Err}
+use Rattle.std.specs.Prelude.{◌≡◌, ℕ, true, false, List, [], ◌∷◌, ◌++◌, length, Option, None, Some, Result, Ok, Err}
 use Rattle.cts_chain.specs.Chains.{loss_in}
-use Rattle.cts_connection.specs.Connections.{HeldConnection, IsRenewed, connection_at, waiting}
+use Rattle.cts_connection.specs.Connections.{HeldConnection, IsRenewed, waiting}
+use Rattle.cts_connection.specs.LinePlaces.{is_line}
 use Rattle.cts_connection.specs.Takings.{TakesPiece, blamed, entries_of}
-use Rattle.cts_def.specs.Makers.{first_slot}
 use Rattle.cts_def.specs.Sites.{SiteData}
 use Rattle.cts_def.specs.declared.time.Time.{Time}
 use Rattle.cts_entry.specs.declared.entry.Entry.{Entry}
 use Rattle.cts_entry.specs.declared.what.What.TheVariants.{Opened, Closed}
 use Rattle.cts_entry.specs.declared.why.Why.{Why}
 use Rattle.cts_entry.specs.Histories.{entries_in, bytes_in, is_connected, is_stopped}
-use Rattle.cts_entry.specs.Workers.{is_interface}
 use Rattle.cts_frame.specs.Framing.{Output}
 use Rattle.cts_frame.specs.Packets.{Fault}
 use Rattle.cts_table.specs.declared.fault.HallFault.{HallFault}
 use Rattle.cts_table.specs.declared.fault.HallFault.TheVariants.{Full as Crowded, Memory as Wanting}
 use Rattle.cts_core.specs.Kept.{is_within}
-use Rattle.cts_core.specs.Worlds.{Held, changed}
+use Rattle.cts_core.specs.Worlds.{Held, changed, connection_of, with_connection}
 use Rattle.cts_core.specs.declared.fault.WorldFault.{WorldFault}
 use Rattle.cts_core.specs.declared.fault.WorldFault.TheVariants.{NotEnabled, Full, Memory}
 
@@ -27,22 +26,21 @@ lost site by now history c why = record { by = by; time = now; what = Closed why
 -- a connection is opened: its chain begins anew, and it has passed all that stands, of which nothing is for it
 abbrev pub IsOpened : ℕ → Held → Held → Type 0
 IsOpened by w new =
-    (c : HeldConnection) × IsRenewed true (connection_at w.connections by) c × (c.cursor ≡ record { place = length new.history; refused = 0 }) × (new ≡ changed by w (record { by = by; time = w.time; what = Opened } ∷ []) c)
+    (c : HeldConnection) × IsRenewed true (connection_of w by) c × (c.cursor ≡ record { place = length new.history; refused = 0 }) × (new ≡ changed by w (record { by = by; time = w.time; what = Opened } ∷ []) c)
 
 -- a connection is closed, and what its chain holds is lost
 abbrev pub IsClosed : ℕ → Held → Why → Held → Type 0
-IsClosed by w why new = (c : HeldConnection) × IsRenewed false (connection_at w.connections by) c × (new ≡ changed by w (lost w.basis.site by w.time w.history (connection_at w.connections by) why ∷ []) c)
+IsClosed by w why new = (c : HeldConnection) × IsRenewed false (connection_of w by) c × (new ≡ changed by w (lost w.basis.site by w.time w.history (connection_of w by) why ∷ []) c)
 
 -- A piece went through the chain of a connection. These are the entries of its packets, but for so many; they are not posted yet.
 abbrev pub Takes : ℕ → Held → List ℕ → List Entry → ℕ → Option Why → Held → Type 0
 Takes by w piece entries unposted why new =
-    (c : HeldConnection) × (c.connected ≡ (connection_at w.connections by).connected) × (c.cursor ≡ (connection_at w.connections by).cursor) × TakesPiece w.basis.site w.history by w.time (connection_at w.connections by).chain piece entries unposted why c.chain × (new ≡ record w { connections = slice_set w.connections by c })
+    (c : HeldConnection) × (c.connected ≡ (connection_of w by).connected) × (c.cursor ≡ (connection_of w by).cursor) × TakesPiece w.basis.site w.history by w.time (connection_of w by).chain piece entries unposted why c.chain × (new ≡ with_connection by w c)
 
--- these are entries of packets of an interface whose connection stands, and why it has to be closed
+-- these are entries of packets of a line whose connection stands, and why it has to be closed
 pub record CanPost (by : ℕ) (w : Held) (entries : List Entry) (why : Option Why) : Type 0 where
-  pub there : by < length w.connections
-  pub narrow : by < first_slot
-  pub connected : (connection_at w.connections by).connected ≡ true
+  pub line : is_line w.basis.site by ≡ true
+  pub connected : (connection_of w by).connected ≡ true
   pub packets : List Output
   pub entries_are : entries ≡ entries_of w.basis.site w.history by w.time packets
   pub fault : Option Fault
@@ -61,11 +59,9 @@ Posts by w entries why (Err (Full counted size)) new =
 Posts by w entries why (Err Memory) new = (is_within w.basis w.history (entries_in entries) (bytes_in entries) ≡ true) × (new ≡ w)
 Posts by w entries why (Err NotEnabled) new = ⊥
 
--- an interface whose connection may be opened
+-- a line whose connection may be opened
 pub record IsShut (w : Held) (by : ℕ) : Type 0 where
-  pub interface : by < length w.basis.site.interfaces
-  pub line : is_interface w.basis.site by ≡ true
-  pub there : by < length w.connections
+  pub line : is_line w.basis.site by ≡ true
   pub off : is_connected by w.history ≡ false
   pub going : is_stopped w.history ≡ false
 

@@ -1,9 +1,9 @@
 -- What the running core holds, and the states of the defined core that it represents.
-use Rattle.std.specs.Prelude.{◌≡◌, ℕ, ◌<◌, ◌≤◌, true, false, List, [], ◌++◌, map, length, slice_set, None, Result, Ok, Err}
+use Rattle.std.specs.Prelude.{◌≡◌, ℕ, ◌≤◌, true, false, List, [], ◌++◌, map, length, slice_set, None, Result, Ok, Err}
 use Rattle.std.specs.List.{list_any}
 use Rattle.cts_chain.specs.Chains.{StagesStand, AllSettled, framings_of, last_fault}
 use Rattle.cts_chain.specs.Shapes.{ChainData, writers}
-use Rattle.cts_def.specs.Sites.{SiteData}
+use Rattle.cts_def.specs.Sites.{IsSoundSite, SiteData}
 use Rattle.cts_def.specs.declared.time.Time.{Time}
 use Rattle.cts_entry.specs.declared.entry.Entry.{Entry}
 use Rattle.cts_entry.specs.declared.event.Event.{Event}
@@ -14,9 +14,9 @@ use Rattle.cts_frame.specs.Chains.{framings_at}
 use Rattle.cts_frame.specs.Framing.{Output, plain}
 use Rattle.cts_core.specs.Environments.{basis_of, environment_of, site_environment}
 use Rattle.cts_connection.specs.Connections.{HeldConnection, connection_at, shut}
+use Rattle.cts_connection.specs.LinePlaces.{is_line, line_count, line_place}
 use Rattle.cts_connection.specs.Routings.{writers_at}
 use Rattle.cts_entry.specs.Legal.{is_ended, most_bytes as bytes_limit}
-use Rattle.cts_core.specs.Built.{is_built_site}
 use Rattle.cts_core.specs.Cursors.{IsPassed}
 use Rattle.cts_core.specs.Runs.{Appends, Did, Does, after, Refuses, NotEnabled, HistoryFull, silent}
 use Rattle.cts_core.specs.States.{State, has_room, is_enabled, takes_memory}
@@ -30,19 +30,27 @@ pub record Held : Type 0 where
   pub basis : Basis
   pub time : Time
   pub history : List Entry
-  -- the connections of the interfaces, in order
+  -- the connections of the lines, each at its place
   pub connections : List HeldConnection
+
+-- the connection of a line
+abbrev pub connection_of : Held → ℕ → HeldConnection
+connection_of w by = connection_at w.connections (line_place w.basis.site by)
+
+-- the connection of a line has become this one
+abbrev pub with_connection : ℕ → Held → HeldConnection → Held
+with_connection by w c = record w { connections = slice_set w.connections (line_place w.basis.site by) c }
 
 -- what is held with this hall
 abbrev pub held_with : Time → Shown → List HeldConnection → Held
 held_with time k connections = record { basis = k.basis; time = time; history = k.entries; connections = connections }
 
--- The site is built, each of its interfaces has its connection, which stands where the history says so, no worker has ended, and
--- the limit of bytes is no greater than that of a server.
+-- The site keeps the rules of sites, each of its lines has its connection, which stands where the history says so, no worker has ended,
+-- and the limit of bytes is no greater than that of a server.
 pub record IsSoundHeld (w : Held) : Type 0 where
-  pub built : is_built_site w.basis.site ≡ true
-  pub count : length w.connections ≡ length w.basis.site.interfaces
-  pub connected : (by : ℕ) → by < length w.connections → (connection_at w.connections by).connected ≡ is_connected by w.history
+  pub site : IsSoundSite w.basis.site
+  pub count : length w.connections ≡ line_count w.basis.site
+  pub connected : (by : ℕ) → is_line w.basis.site by ≡ true → (connection_of w by).connected ≡ is_connected by w.history
   pub lasting : list_any (λ (e : Entry). is_ended e.what) w.history ≡ false
   pub small : w.basis.bytes ≤ bytes_limit
 
@@ -51,8 +59,9 @@ abbrev pub first_held : SiteData → ℕ → ℕ → List ChainData → Held
 first_held site entries bytes chains =
     record { basis = record { site = site; entries = entries; bytes = bytes }; time = record { seconds = 0; micros = 0 }; history = []; connections = map shut chains }
 
--- A connection stands where the history says so. Its chain has the interface's protocols, was fed the pieces that came since the
--- connection was opened, has given all their packets, and has not failed. One that stands has passed what the state's has.
+-- A connection stands where the history says so. Its chain has the protocols of the interface or of the slot's router, was fed the
+-- pieces that came since the connection was opened, has given all their packets, and has not failed. One that stands has passed what
+-- the state's has.
 pub record IsConnection (site : SiteData) (s : State) (by : ℕ) (c : HeldConnection) : Type 0 where
   pub connected : c.connected ≡ is_connected by s.history
   pub framings : framings_of c.chain.stages ≡ framings_at site by
@@ -63,14 +72,14 @@ pub record IsConnection (site : SiteData) (s : State) (by : ℕ) (c : HeldConnec
   pub unfailed : last_fault 1 c.chain.stages ≡ None
   pub passed : is_connected by s.history ≡ true → IsPassed (site_environment site) s by c.cursor.place c.cursor.refused
 
--- What is held, of this site and with these limits, represents a state: the history and the time are the state's, and each interface
--- has its connection.
+-- What is held, of this site and with these limits, represents a state: the history and the time are the state's, and each line has
+-- its connection.
 pub record RepresentsWithin (base : Basis) (w : Held) (s : State) : Type 0 where
   pub history : w.history ≡ s.history
   pub time : w.time ≡ s.time
   pub basis : w.basis ≡ base
-  pub count : length w.connections ≡ length base.site.interfaces
-  pub connections : (by : ℕ) → by < length base.site.interfaces → IsConnection base.site s by (connection_at w.connections by)
+  pub count : length w.connections ≡ line_count base.site
+  pub connections : (by : ℕ) → is_line base.site by ≡ true → IsConnection base.site s by (connection_of w by)
 
 -- the same with the limits of a server
 abbrev pub Represents : SiteData → Held → State → Type 0
@@ -80,7 +89,7 @@ Represents site = RepresentsWithin (basis_of site)
 
 -- entries stand after the others, and a connection has become this one
 abbrev pub changed : ℕ → Held → List Entry → HeldConnection → Held
-changed by w entries c = record w { history = w.history ++ entries; connections = slice_set w.connections by c }
+changed by w entries c = record w { history = w.history ++ entries; connections = slice_set w.connections (line_place w.basis.site by) c }
 
 -- what the hall shows and the clock are as before
 pub record IsUnmoved (old new : Held) : Type 0 where

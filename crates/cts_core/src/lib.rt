@@ -2,15 +2,15 @@
 //! are in `cts_core_laws`. And the core that runs events, of which each step is what the definition says: the `World`.
 #![tactic(auto)]
 
-mod built;
 mod calling;
+mod chains;
+mod draining;
 mod enabling;
 mod fault;
 mod running;
 mod supplier;
 mod world;
 
-pub use built::{is_built_event, is_built_site};
 pub use cts_connection::Framer;
 pub use enabling::{is_piece, may_close, takes_room};
 pub use fault::WorldFault;

@@ -1,17 +1,17 @@
-// What a running core holds, and what each event makes of it: the interfaces of a site, each with its chain of protocols.
-ghost use Rattle.std.specs.Prelude.{◌≡◌, ◌≤◌, length, nat_lt};
+// What a running core holds, and what each event makes of it: the lines of a site, each with its chain of protocols.
 
+use crate::draining::drain;
 use crate::enabling::{is_piece, may_close};
 use crate::fault::{WorldFault, told_as};
 use cts_base::{Bytes, Memory};
-use cts_connection::{Connection, End, Framer, Taken};
-use cts_def::{SERVER, Site, Time};
+use cts_connection::{Connection, End, Framer, Taken, is_interface, is_line, is_slot, line_place};
+use cts_def::{SERVER, Time};
 use cts_entry::{Effect, Event, Why};
 use cts_table::Hall;
 use std::alloc::Global;
 use std::marker::Model;
 
-/// The history, and the connections of the interfaces.
+/// The history, and the connections of the lines.
 #[derive(Drop)]
 pub(crate) struct Running<C: Framer> {
     pub(crate) alloc: Global,
@@ -19,7 +19,7 @@ pub(crate) struct Running<C: Framer> {
     pub(crate) time: Time,
     /// All entries so far, with their site.
     pub(crate) hall: Hall,
-    /// The connections of the interfaces, in order of the site.
+    /// The connections of the lines: the interfaces in order of the site, and then two slots for each router.
     connections: Vec<Connection<C>>,
 }
 
@@ -34,23 +34,24 @@ impl<C: Framer> Model for Running<C> {
 }
 
 impl<C: Framer> Running<C> {
-    ghost use Rattle.std.specs.Prelude.{◌≡◌, ◌+◌, ◌&&◌, ◌<◌, ◌≤◌, nat_lt, not, [], length, map, true, false, vec_len, vec_capacity, IfOk, MatchOption, OnErr, Option};
-    ghost use Rattle.cts_core.specs.Built.{is_built_event, is_built_site};
+    ghost use Rattle.std.specs.Prelude.{◌≡◌, ◌+◌, ◌^◌, ◌&&◌, ◌<◌, ◌≤◌, not, [], length, map, true, false, vec_len, vec_capacity, IfOk, MatchOption, OnErr, OnOk, Option};
     ghost use Rattle.cts_core.specs.States.{State, is_piece, may_close};
+    ghost use Rattle.cts_core.specs.LineChains.{line_chains};
+    ghost use Rattle.cts_core.specs.Runs.{drained};
     ghost use Rattle.cts_core.specs.Takings.{Begins, CanPost, IsClosed, IsShut, Posts, Takes};
-    ghost use Rattle.cts_core.specs.Worlds.{IsSoundHeld, IsUnmoved, RepresentsWithin, Steps, first_held};
-    ghost use Rattle.cts_connection.specs.Connections.{connection_at};
-    ghost use Rattle.cts_core.specs.Writings.{IsNext, PutsNext, can_write};
-    ghost use Rattle.cts_connection.specs.Connections.{entries_ahead};
-    ghost use Rattle.cts_chain.specs.Builds.{AreFresh, chains_in};
+    ghost use Rattle.cts_core.specs.Worlds.{IsSoundHeld, IsUnmoved, RepresentsWithin, Steps, connection_of, first_held};
+    ghost use Rattle.cts_core.specs.Writings.{IsNext, Puts, PutsNext, ahead_in, can_pass};
+    ghost use Rattle.cts_connection.specs.LinePlaces.{is_line, line_place};
+    ghost use Rattle.cts_chain.specs.Builds.{AreFresh};
     ghost use Rattle.cts_table.specs.declared.basis.Basis.{Basis};
     ghost use Rattle.cts_entry.specs.declared.event.Event.TheVariants as event;
     ghost use Rattle.cts_entry.specs.Histories.{is_connected, is_stopped};
     ghost use Rattle.cts_entry.specs.Legal.{StopsAfter, most_bytes as bytes_limit};
+    ghost use Rattle.cts_entry.specs.Workers.{is_interface, is_slot};
     ghost use Rattle.cts_table.specs.States.{begun};
 
-    /// Nothing has happened in a hall. The chains, to which nothing was fed, are those of the interfaces of its site, in order; there is
-    /// room for their connections. It takes no memory.
+    /// Nothing has happened in a hall. The chains, to which nothing was fed, are those of the lines of its site, in order of their places;
+    /// there is room for their connections. It takes no memory.
     pub fn new(
         alloc: Global,
         hall: Hall,
@@ -58,13 +59,13 @@ impl<C: Framer> Running<C> {
         connections: Vec<Connection<C>>,
     ) -> Running<C>
         requires begun { hall ≡ begun hall.basis.site hall.basis.entries hall.basis.bytes }
-        requires built { is_built_site hall.basis.site ≡ true }
-        requires fresh { AreFresh (chains_in hall.basis.site.interfaces) (map C.shape chains.items) }
+        requires fresh { AreFresh (line_chains hall.basis.site) (map C.shape chains.items) }
         requires small { hall.basis.bytes ≤ bytes_limit }
         requires none { connections.items ≡ [] }
         requires room { vec_len connections + length chains.items ≤ vec_capacity connections }
         ensures { result ≡ first_held hall.basis.site hall.basis.entries hall.basis.bytes (map C.shape chains.items) }
     {
+        hall.is_kept();
         Running {
             alloc,
             time: Time {
@@ -84,10 +85,10 @@ impl<C: Framer> Running<C> {
         &self.hall
     }
 
-    /// Does one event, which has to be built. Where it is not done, nothing is changed.
-    pub fn step(&mut self, event: &Event) -> Result<Effect, WorldFault>
-        requires { is_built_event event.now ≡ true }
-        ensures { (base : Basis) (s : State) → RepresentsWithin base self.old s → Steps base s event.now self.old result self.new }
+    /// Does one event, where the logs have passed so many entries. Where it is not done, nothing is changed.
+    pub fn step(&mut self, event: &Event, logged: usize) -> Result<Effect, WorldFault>
+        ensures step { (base : Basis) (s : State) → s.log_cursor ≡ logged → RepresentsWithin base self.old s → Steps base s event.now self.old result self.new }
+        ensures within { OnOk result (logged + drained event.now < 2 ^ 64) }
     {
         match event {
             Event::SetTime(time) => self.set_time(*time),
@@ -97,8 +98,8 @@ impl<C: Framer> Running<C> {
             Event::Stop => self.stop(),
             Event::Write(by, count) => self.write(*by, *count),
             Event::Call(desk, body) => self.call(*desk, body.as_slice()),
-            Event::DrainLog(_) => Err(WorldFault::NotEnabled),
-            Event::DrainSlot(_, _) => Err(WorldFault::NotEnabled),
+            Event::DrainLog(count) => self.drain_log(logged, *count),
+            Event::DrainSlot(by, count) => self.drain_slot(*by, *count),
         }
     }
 
@@ -122,12 +123,13 @@ impl<C: Framer> Running<C> {
         Ok(Effect::Posted)
     }
 
-    // Opens the connection of an interface. Where there is no room or no memory for its Opened, nothing is done.
+    // Opens the connection of a line. Where there is no room or no memory for its Opened, nothing is done.
     fn begin(&mut self, by: u32) -> Result<(), WorldFault>
         requires { IsShut self.old by }
         ensures { Begins by self.old result self.new }
     {
-        let connection = &mut self.connections[by as usize];
+        let place = self.place(by);
+        let connection = &mut self.connections[place];
         told_as(connection.open(&mut self.hall, by, self.time))
     }
 
@@ -157,11 +159,12 @@ impl<C: Framer> Running<C> {
 
     // Puts a piece through the chain of a connection, and takes its packets. Nothing is posted yet.
     fn take(&mut self, by: u32, piece: &[u8]) -> Result<Taken, Memory>
-        requires { by < length self.old.basis.site.interfaces }
+        requires { is_line self.old.basis.site by ≡ true }
         ensures takes { IfOk result (λ t. Takes by self.old piece.now t.entries.items t.unposted t.why self.new) }
         ensures unmoved { IsUnmoved self.old self.new }
     {
-        let connection = &mut self.connections[by as usize];
+        let place = self.place(by);
+        let connection = &mut self.connections[place];
         connection.take(self.alloc, &self.hall, by, self.time, piece)
     }
 
@@ -173,57 +176,91 @@ impl<C: Framer> Running<C> {
         ensures { Posts by self.old taken.entries.items taken.why result self.new }
     {
         let end = taken.end();
-        let connection = &mut self.connections[by as usize];
+        let place = self.place(by);
+        let connection = &mut self.connections[place];
         told_as(connection.post(&mut self.hall, by, self.time, taken.entries, end))
     }
 
     // Appends the Closed of a connection, and gives up what its chain holds.
     fn close(&mut self, by: u32, why: Why)
-        requires there { by < length self.old.connections }
-        requires connected { (connection_at self.old.connections by).connected ≡ true }
+        requires line { is_line self.old.basis.site by ≡ true }
+        requires connected { (connection_of self.old by).connected ≡ true }
         requires stops { StopsAfter self.old.history why }
         ensures { IsClosed by self.old why self.new }
     {
         let end = End { why, unposted: 0 };
-        let connection = &mut self.connections[by as usize];
+        let place = self.place(by);
+        let connection = &mut self.connections[place];
         connection.close(&mut self.hall, by, self.time, end);
     }
 
     fn write(&mut self, by: u32, count: u64) -> Result<Effect, WorldFault>
         ensures { (base : Basis) (s : State) → RepresentsWithin base self.old s → Steps base s (event.Write by count) self.old result self.new }
     {
+        if !self.is_interface(by) {
+            return Err(WorldFault::NotEnabled);
+        }
+        let bytes = self.put_next(by, count)?;
+        Ok(Effect::Written {
+            interface: by,
+            bytes,
+        })
+    }
+
+    fn drain_slot(&mut self, by: u32, count: u64) -> Result<Effect, WorldFault>
+        ensures { (base : Basis) (s : State) → RepresentsWithin base self.old s → Steps base s (event.DrainSlot by count) self.old result self.new }
+    {
+        if !self.is_slot(by) {
+            return Err(WorldFault::NotEnabled);
+        }
+        let bytes = self.put_next(by, count)?;
+        Ok(Effect::Routed { slot: by, bytes })
+    }
+
+    // Puts what is for a line's peer of the next so many entries through which the line goes. Nothing is changed where it is not connected,
+    // or where fewer stand ahead of it, and where no memory is found.
+    fn put_next(&mut self, by: u32, count: u64) -> Result<Bytes, WorldFault>
+        requires { is_line self.old.basis.site by ≡ true }
+        ensures { Puts by self.old count result self.new }
+    {
         let Some(next) = self.next(by, count) else {
             return Err(WorldFault::NotEnabled);
         };
         let bytes = self.put(by, next)?;
-        Ok(Effect::Written {
-            interface: by,
-            bytes: Bytes::of(bytes),
-        })
+        Ok(Bytes::of(bytes))
     }
 
-    // How many of the next entries hold the next so many commands for an interface; none where it is not connected, or fewer
-    // stand ahead of it.
+    // How many of the next entries hold the next so many through which a line goes; none where it is not connected, or fewer stand ahead
+    // of it.
     fn next(&self, by: u32, count: u64) -> Option<usize>
-        ensures next { MatchOption result (can_write self.now by count ≡ false) (λ next. IsNext self.now by count next) }
-        ensures sound { IsSoundHeld self.now }
+        requires { is_line self.now.basis.site by ≡ true }
+        ensures { MatchOption result (can_pass self.now by count ≡ false) (λ next. IsNext self.now by count next) }
     {
-        if !self.is_open(by) {
+        let connection = &self.connections[self.place(by)];
+        if !connection.is_connected() {
             return None;
         }
-        let connection = &self.connections[by as usize];
         connection.next(&self.hall, by, count)
     }
 
-    // Puts the commands for an interface among the next so many entries. Where no memory is found for them, nothing is changed.
+    // Puts what is for a line's peer among the next so many entries. Where no memory is found for it, nothing is changed.
     fn put(&mut self, by: u32, next: usize) -> Result<Vec<u8>, Memory>
-        requires there { by < length self.old.connections }
-        requires within { next ≤ length (entries_ahead (connection_at self.old.connections by) self.old.history) }
+        requires line { is_line self.old.basis.site by ≡ true }
+        requires within { next ≤ length (ahead_in self.old by) }
         ensures ok { IfOk result (λ bytes. PutsNext by self.old next bytes.items self.new) }
         ensures err { OnErr result (IsUnmoved self.old self.new) }
     {
-        let connection = &mut self.connections[by as usize];
+        let place = self.place(by);
+        let connection = &mut self.connections[place];
         connection.write(self.alloc, &self.hall, by, next)
+    }
+
+    // Gives the logs the next so many entries after those that they have passed.
+    fn drain_log(&self, logged: usize, count: u64) -> Result<Effect, WorldFault>
+        ensures step { (base : Basis) (s : State) → s.log_cursor ≡ logged → RepresentsWithin base self.now s → Steps base s (event.DrainLog count) self.now result self.now }
+        ensures within { OnOk result (logged + count < 2 ^ 64) }
+    {
+        drain(self.alloc, &self.hall, logged, count)
     }
 
     fn stop(&mut self) -> Result<Effect, WorldFault>
@@ -236,62 +273,66 @@ impl<C: Framer> Running<C> {
         Ok(Effect::Posted)
     }
 
-    // ---- tests
+    // ---- lines
 
-    fn is_connected(&self, by: u32) -> bool
-        ensures { result ≡ (connection_at self.now.connections by).connected }
+    // The place of a line's connection.
+    fn place(&self, by: u32) -> usize
+        requires { is_line self.now.basis.site by ≡ true }
+        ensures place { result ≡ line_place self.now.basis.site by }
+        ensures there { result < length self.now.connections }
     {
-        match self.connections.get(by as usize) {
-            Some(connection) => connection.is_connected(),
-            None => false,
+        match line_place(self.hall.site(), by) {
+            Some(place) => place,
+            None => 0,
         }
     }
 
-    fn may_open(&self, by: u32) -> bool
-        ensures test { result ≡ (nat_lt by (length self.now.basis.site.interfaces) && (not (connection_at self.now.connections by).connected && not (is_stopped self.now.history))) }
-        ensures sound { IsSoundHeld self.now }
-        ensures few { length self.now.basis.site.interfaces ≤ 16 }
+    fn is_connected(&self, by: u32) -> bool
+        requires { is_line self.now.basis.site by ≡ true }
+        ensures { result ≡ (connection_of self.now by).connected }
     {
-        self.is_interface(by) && (!self.is_connected(by) && !self.hall.stopped())
+        self.connections[self.place(by)].is_connected()
+    }
+
+    fn may_open(&self, by: u32) -> bool
+        ensures test { result ≡ (is_line self.now.basis.site by && (not (connection_of self.now by).connected && not (is_stopped self.now.history))) }
+        ensures sound { IsSoundHeld self.now }
+    {
+        self.is_line(by) && (!self.is_connected(by) && !self.hall.stopped())
     }
 
     fn may_finish(&self, by: u32, why: Why) -> bool
-        ensures test { result ≡ (nat_lt by (length self.now.basis.site.interfaces) && ((connection_at self.now.connections by).connected && may_close self.now.history why)) }
+        ensures test { result ≡ (is_line self.now.basis.site by && ((connection_of self.now by).connected && may_close self.now.history why)) }
         ensures sound { IsSoundHeld self.now }
-        ensures few { length self.now.basis.site.interfaces ≤ 16 }
     {
-        self.is_interface(by) && (self.is_connected(by) && may_close(why, self.hall.stopped()))
+        self.is_line(by) && (self.is_connected(by) && may_close(why, self.hall.stopped()))
     }
 
     fn may_receive(&self, by: u32, piece: &[u8]) -> bool
-        ensures test { result ≡ (nat_lt by (length self.now.basis.site.interfaces) && ((connection_at self.now.connections by).connected && is_piece piece.now)) }
+        ensures test { result ≡ (is_line self.now.basis.site by && ((connection_of self.now by).connected && is_piece piece.now)) }
         ensures sound { IsSoundHeld self.now }
-        ensures few { length self.now.basis.site.interfaces ≤ 16 }
     {
-        self.is_interface(by) && (self.is_connected(by) && is_piece(piece))
+        self.is_line(by) && (self.is_connected(by) && is_piece(piece))
     }
 
-    // Whether it is an interface whose connection stands.
-    fn is_open(&self, by: u32) -> bool
-        ensures test { result ≡ (nat_lt by (length self.now.basis.site.interfaces) && (connection_at self.now.connections by).connected) }
+    fn is_line(&self, by: u32) -> bool
+        ensures test { result ≡ is_line self.now.basis.site by }
         ensures sound { IsSoundHeld self.now }
     {
-        self.is_interface(by) && self.is_connected(by)
+        is_line(self.hall.site(), by)
     }
 
     fn is_interface(&self, by: u32) -> bool
-        ensures test { result ≡ nat_lt by (length self.now.basis.site.interfaces) }
+        ensures test { result ≡ is_interface self.now.basis.site by }
         ensures sound { IsSoundHeld self.now }
-        ensures few { length self.now.basis.site.interfaces ≤ 16 }
     {
-        (by as usize) < interfaces_of(self.hall.site())
+        is_interface(self.hall.site(), by)
     }
-}
 
-// How many interfaces a site has.
-fn interfaces_of(site: &Site) -> usize
-    ensures count { result ≡ length site.now.interfaces }
-    ensures few { length site.now.interfaces ≤ 16 }
-{
-    site.interfaces.len()
+    fn is_slot(&self, by: u32) -> bool
+        ensures test { result ≡ is_slot self.now.basis.site by }
+        ensures sound { IsSoundHeld self.now }
+    {
+        is_slot(self.hall.site(), by)
+    }
 }

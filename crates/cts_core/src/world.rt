@@ -1,25 +1,24 @@
 // The core that runs events, until its history is full or memory runs out.
-ghost use Rattle.std.specs.Prelude.{◌≡◌, ◌≤◌, length, map, take};
+ghost use Rattle.std.specs.Prelude.{◌≡◌};
 ghost use Rattle.std.specs.Arc.{arc_value};
-ghost use Rattle.cts_chain.specs.Builds.{AllCanBeBuilt, chains_in};
 ghost use Rattle.cts_core.specs.Endings.{lasting};
+ghost use Rattle.cts_core.specs.Runs.{drained};
 
+use crate::chains::{chains_of, count_of};
 use crate::fault::WorldFault;
 use crate::running::Running;
 use crate::supplier::Supplier;
 use cts_chain::ChainFault;
 use cts_connection::Framer;
-use cts_def::{Interface, ProtoUse, Site};
+use cts_def::Site;
 use cts_entry::{Effect, Event, MOST_BYTES, MOST_ENTRIES};
 use cts_table::Hall;
 use std::alloc::Global;
 use std::marker::Model;
 use std::sync::Arc;
 
-// How many interfaces a site may have.
-const MOST_INTERFACES: usize = 16;
-
-/// The server's core: its history, and the connections of its interfaces with their chains of protocols.
+/// The server's core: its history, and the connections of its lines, which are its interfaces and the slots of its routers, with their
+/// chains of protocols.
 #[derive(Drop)]
 pub struct World<C: Framer> {
     /// What it holds.
@@ -27,7 +26,7 @@ pub struct World<C: Framer> {
     /// What it answers for good, once its history was full or memory ran out.
     ended: Option<WorldFault>,
     /// How many entries the logs have passed.
-    log_cursor: u64,
+    log_cursor: usize,
 }
 
 impl<C: Framer> Model for World<C> {
@@ -41,17 +40,17 @@ impl<C: Framer> Model for World<C> {
 impl<C: Framer> World<C> {
     ghost use Rattle.std.specs.Prelude.{◌≡◌, ◌≤◌, true, None, Some, Err, IfErr, IfNone, IfOk, IfSome, OnErr, OnOk};
     ghost use Rattle.cts_chain.specs.declared.build.ChainFault.TheVariants.{Memory as NoMemory};
-    ghost use Rattle.cts_chain.specs.Builds.{FaultIs, Taken, use_specs, uses_in};
+    ghost use Rattle.cts_chain.specs.Builds.{FaultIs, Taken, use_specs};
     ghost use Rattle.cts_chain.specs.Stocking.{first_short};
-    ghost use Rattle.cts_core.specs.Built.{is_built_event, is_built_site};
+    ghost use Rattle.cts_core.specs.LineChains.{line_uses};
     ghost use Rattle.cts_core.specs.States.{State, opening};
     ghost use Rattle.cts_core.specs.Endings.{GoesOn, HasPassed, LogPasses, held_in, lasting};
     ghost use Rattle.cts_core.specs.Worlds.{Represents, RepresentsWithin, Steps};
     ghost use Rattle.cts_table.specs.declared.basis.Basis.{Basis};
     ghost use Rattle.cts_entry.specs.Legal.{most_entries as entries_limit, most_bytes as bytes_limit};
 
-    /// A world of a site in which nothing has happened, with the limits of a server. The boxes of its chains are taken from the
-    /// shelf, and after a refusal the shelf is as it was.
+    /// A world of a site in which nothing has happened, with the limits of a server. The boxes of its chains, one for each interface and
+    /// two for each router, are taken from the shelf, and after a refusal the shelf is as it was.
     ///
     /// # Errors
     ///
@@ -62,13 +61,12 @@ impl<C: Framer> World<C> {
         site: Arc<Site>,
         shelf: &mut B,
     ) -> Result<World<C>, ChainFault>
-        requires { is_built_site (arc_value site) ≡ true }
         ensures stands { IfOk result (λ world. Represents (arc_value site) (held_in world) opening) }
         ensures going { IfOk result (λ world. GoesOn world) }
         ensures log { IfOk result (λ world. HasPassed world opening) }
-        ensures enough { OnOk result (first_short (B.stock shelf.old) (use_specs (uses_in (arc_value site).interfaces)) ≡ None) }
-        ensures taken { OnOk result (Taken (B.stock shelf.old) (uses_in (arc_value site).interfaces) (B.stock shelf.new)) }
-        ensures fault { IfErr result (λ e. FaultIs (B.stock shelf.old) (uses_in (arc_value site).interfaces) e) }
+        ensures enough { OnOk result (first_short (B.stock shelf.old) (use_specs (line_uses (arc_value site))) ≡ None) }
+        ensures taken { OnOk result (Taken (B.stock shelf.old) (line_uses (arc_value site)) (B.stock shelf.new)) }
+        ensures fault { IfErr result (λ e. FaultIs (B.stock shelf.old) (line_uses (arc_value site)) e) }
         ensures kept { OnErr result (B.stock shelf.new ≡ B.stock shelf.old) }
     {
         World::with_limits(alloc, site, shelf, MOST_ENTRIES, MOST_BYTES)
@@ -86,29 +84,27 @@ impl<C: Framer> World<C> {
         entries: u64,
         bytes: u64,
     ) -> Result<World<C>, ChainFault>
-        requires built { is_built_site (arc_value site) ≡ true }
         requires entries { entries ≤ entries_limit }
         requires bytes { bytes ≤ bytes_limit }
         ensures stands { IfOk result (λ world. RepresentsWithin (record { site = arc_value site; entries = entries; bytes = bytes }) (held_in world) opening) }
         ensures going { IfOk result (λ world. GoesOn world) }
         ensures log { IfOk result (λ world. HasPassed world opening) }
-        ensures enough { OnOk result (first_short (B.stock shelf.old) (use_specs (uses_in (arc_value site).interfaces)) ≡ None) }
-        ensures taken { OnOk result (Taken (B.stock shelf.old) (uses_in (arc_value site).interfaces) (B.stock shelf.new)) }
-        ensures fault { IfErr result (λ e. FaultIs (B.stock shelf.old) (uses_in (arc_value site).interfaces) e) }
+        ensures enough { OnOk result (first_short (B.stock shelf.old) (use_specs (line_uses (arc_value site))) ≡ None) }
+        ensures taken { OnOk result (Taken (B.stock shelf.old) (line_uses (arc_value site)) (B.stock shelf.new)) }
+        ensures fault { IfErr result (λ e. FaultIs (B.stock shelf.old) (line_uses (arc_value site)) e) }
         ensures kept { OnErr result (B.stock shelf.new ≡ B.stock shelf.old) }
     {
         if let Some(fault) = World::<C>::shortage(&site, shelf) {
             return Err(fault);
         }
-        let count = site.interfaces.len();
+        let count = count_of(&site);
         let Ok(connections) = Vec::with_capacity(alloc, count) else {
             return Err(ChainFault::Memory);
         };
         let Ok(hall) = Hall::with_limits(alloc, site, entries, bytes) else {
             return Err(ChainFault::Memory);
         };
-        let interfaces = hall.site().interfaces.as_slice();
-        let chains = shelf.build_all(alloc, &chains_of(interfaces)[..count])?;
+        let chains = shelf.build_all(alloc, &chains_of(hall.site())[..count])?;
         Ok(World {
             running: Running::new(alloc, hall, chains, connections),
             ended: None,
@@ -119,11 +115,10 @@ impl<C: Framer> World<C> {
     /// The first kind, in their order, of which all chains of a site together need more boxes than the shelf holds, if there is one. It
     /// takes no memory.
     pub fn shortage<B: Supplier<C>>(site: &Site, shelf: &B) -> Option<ChainFault>
-        ensures short { IfSome result (λ e. (e ≡ NoMemory → ⊥) × FaultIs (B.stock shelf.now) (uses_in site.now.interfaces) e) }
-        ensures enough { IfNone result (first_short (B.stock shelf.now) (use_specs (uses_in site.now.interfaces)) ≡ None) }
+        ensures short { IfSome result (λ e. (e ≡ NoMemory → ⊥) × FaultIs (B.stock shelf.now) (line_uses site.now) e) }
+        ensures enough { IfNone result (first_short (B.stock shelf.now) (use_specs (line_uses site.now)) ≡ None) }
     {
-        let interfaces = site.interfaces.as_slice();
-        shelf.shortage(&chains_of(interfaces)[..interfaces.len()])
+        shelf.shortage(&chains_of(site)[..count_of(site)])
     }
 
     /// The history with its site.
@@ -134,19 +129,22 @@ impl<C: Framer> World<C> {
         self.running.hall()
     }
 
-    /// How many entries of the history the logs have passed. No event that is built passes any.
+    /// How many entries of the history the logs have passed.
     pub fn log_cursor(&self) -> u64
         ensures { result ≡ self.now.log_cursor }
     {
-        self.log_cursor
+        self.log_cursor as u64
     }
 
-    /// Does one event, which has to be built. Its entries then stand at the end of the history. Where it is not enabled,
-    /// nothing is changed. Where the history is full or memory runs out nothing is appended, and the world answers that to
-    /// every further event.
+    /// Does one event. Its entries then stand at the end of the history, and the logs have passed what it drained to them. Where it is
+    /// not enabled, nothing is changed. Where the history is full or memory runs out nothing is appended, and the world answers that
+    /// to every further event.
+    ///
+    /// # Errors
+    ///
+    /// `NotEnabled`, `Full` with what counts in the history, and `Memory`.
     pub fn step(&mut self, event: &Event) -> Result<Effect, WorldFault>
-        requires { is_built_event event.now ≡ true }
-        ensures step { (base : Basis) (s : State) → GoesOn self.old → RepresentsWithin base (held_in self.old) s → Steps base s event.now (held_in self.old) result (held_in self.new) }
+        ensures step { (base : Basis) (s : State) → GoesOn self.old → HasPassed self.old s → RepresentsWithin base (held_in self.old) s → Steps base s event.now (held_in self.old) result (held_in self.new) }
         ensures log { (s : State) → HasPassed self.old s → LogPasses s event.now result self.new }
         ensures lasts { GoesOn self.old → self.new.ended ≡ lasting result }
         ensures ended { (fault : WorldFault) → self.old.ended ≡ Some fault → (result ≡ Err fault) × (self.new ≡ self.old) }
@@ -154,7 +152,10 @@ impl<C: Framer> World<C> {
         if let Some(fault) = self.ended {
             return Err(fault);
         }
-        let done = self.running.step(event);
+        let done = self.running.step(event, self.log_cursor);
+        if done.is_ok() {
+            self.log_cursor += drained(event);
+        }
         self.ended = lasting(&done);
         done
     }
@@ -175,15 +176,12 @@ fn lasting(done: &Result<Effect, WorldFault>) -> Option<WorldFault>
     }
 }
 
-// The uses of the chain of each interface, in order, and then none.
-fn chains_of(interfaces: &[Interface]) -> [&[ProtoUse]; MOST_INTERFACES]
-    requires { length interfaces.now ≤ 16 }
-    ensures chains { map (λ uses. uses.now) (take (length interfaces.now) result) ≡ chains_in interfaces.now }
-    ensures can { AllCanBeBuilt (chains_in interfaces.now) }
+// How many entries an event drains to the logs.
+fn drained(event: &Event) -> usize
+    ensures { result ≡ drained event.now }
 {
-    let mut chains: [&[ProtoUse]; MOST_INTERFACES] = [&[]; MOST_INTERFACES];
-    for (at, interface) in interfaces.iter().enumerate() {
-        chains[at] = interface.chain.as_slice();
+    match event {
+        Event::DrainLog(count) => *count as usize,
+        _ => 0,
     }
-    chains
 }

@@ -3,17 +3,17 @@ use Rattle.cts_entry.specs.declared.event.Event.TheVariants.{Finish}
 use Rattle.cts_core.specs.States.{may_close}
 use Rattle.cts_core.proofs.Holding.{is_open}
 use Rattle.cts_core.proofs.Following.{stops_after}
-use Rattle.cts_core.proofs.WorldSteps.{built_of, may_finish_is, not_enabled, finished}
+use Rattle.cts_core.proofs.WorldSteps.{finished, may_finish_is, not_enabled, site_of}
 use Rattle.cts_core.proofs.running.Running.finish.Goals as goal
 
 pub returns-then-not-may_finish : goal.returns-then-not-may_finish
 returns-then-not-may_finish g c =
     let off : c.may_finish.result ≡ false = search rules in
     let w = c.args.self.now in
-    λ base s h. not_enabled base w w s (Finish c.args.by c.args.why) c.may_finish.result (c.may_finish.ensures.test ∙ may_finish_is base w s c.args.by c.args.why (built_of base w s c.may_finish.ensures.sound h) h) off refl h
+    λ base s h. not_enabled base w w s (Finish c.args.by c.args.why) c.may_finish.result (c.may_finish.ensures.test ∙ may_finish_is base w s c.args.by c.args.why h) off refl h
 
-pub close-requires-clause-there : goal.close-requires-clause-there
-close-requires-clause-there g c = (is_open c.args.self.now c.args.by (may_close c.args.self.now.history c.args.why) c.may_finish.ensures.sound (sym c.may_finish.ensures.test ∙ (search rules))).there
+pub close-requires-clause-line : goal.close-requires-clause-line
+close-requires-clause-line g c = (is_open c.args.self.now c.args.by (may_close c.args.self.now.history c.args.why) c.may_finish.ensures.sound (sym c.may_finish.ensures.test ∙ (search rules))).line
 
 pub close-requires-clause-connected : goal.close-requires-clause-connected
 close-requires-clause-connected g c = (is_open c.args.self.now c.args.by (may_close c.args.self.now.history c.args.why) c.may_finish.ensures.sound (sym c.may_finish.ensures.test ∙ (search rules))).flag
@@ -27,6 +27,5 @@ returns g c =
     let on : c.may_finish.result ≡ true = search rules in
     let w = c.args.self.now in
     λ base s h.
-    let built = built_of base w s c.may_finish.ensures.sound h in
-    finished base w _ s c.args.by c.args.why built c.close.ensures
-    (sym (may_finish_is base w s c.args.by c.args.why built h) ∙ (sym c.may_finish.ensures.test ∙ on)) h
+    finished base w _ s c.args.by c.args.why (site_of base w s c.may_finish.ensures.sound h) c.close.ensures
+    (sym (may_finish_is base w s c.args.by c.args.why h) ∙ (sym c.may_finish.ensures.test ∙ on)) h

@@ -1,9 +1,9 @@
 use Rattle.std.proofs.Common.{◌≡◌, length, map, sym, ◌∙◌, subst}
-use Rattle.std.proofs.lemmas.List.{length-map}
-use Rattle.cts_chain.specs.Builds.{chains_in}
-use Rattle.cts_def.specs.Sites.{InterfaceData}
+use Rattle.cts_connection.specs.LinePlaces.{line_count}
+use Rattle.cts_core.specs.LineChains.{line_chains}
 use Rattle.cts_core.specs.Worlds.{IsSoundHeld, held_with}
 use Rattle.cts_core.proofs.Holding.{fresh_idle, sound_first}
+use Rattle.cts_core.proofs.Supplying.{chains_count}
 use Rattle.cts_core.proofs.WorldSteps.{fresh_count}
 use Rattle.cts_core.proofs.running.Running.new.Goals as goal
 
@@ -14,8 +14,8 @@ pub invariant_of-result : goal.invariant_of-result
 invariant_of-result g c =
     let b = c.args.hall.basis in
     let cs = map g.C.Chained.shape c.args.chains.items in
-    let count : length cs ≡ length b.site.interfaces = fresh_count (chains_in b.site.interfaces) cs c.requires.fresh ∙ length-map b.site.interfaces (λ (i : InterfaceData). i.chain) in
-    subst IsSoundHeld (λ i. held_with (record { seconds = 0; micros = 0 }) (sym c.requires.begun i) (sym c.all_shut.ensures i)) (sound_first b.site b.entries b.bytes cs c.requires.built count c.requires.small)
+    let count : length cs ≡ line_count b.site = fresh_count (line_chains b.site) cs c.requires.fresh ∙ chains_count b.site in
+    subst IsSoundHeld (λ i. held_with (record { seconds = 0; micros = 0 }) (sym c.requires.begun i) (sym c.all_shut.ensures i)) (sound_first b.site b.entries b.bytes cs c.is_kept.ensures.site count c.requires.small)
 
 pub returns : goal.returns
 returns g c = λ i. held_with (record { seconds = 0; micros = 0 }) (c.requires.begun i) (c.all_shut.ensures i)

@@ -1,25 +1,32 @@
-use Rattle.std.proofs.Common.{ℕ, List, refl, sym, subst, ◌∙◌}
-use Rattle.cts_core.specs.Writings.{PutsNext, can_write}
-use Rattle.cts_entry.specs.declared.event.Event.TheVariants.{Write}
-use Rattle.cts_core.proofs.Puttings.{can_write_is}
+use Rattle.std.proofs.Common.{rules, ◌≡◌, true, false, sym, ◌∙◌}
 use Rattle.std.proofs.lemmas.Result.{err_from_is_err_and}
-use Rattle.cts_core.proofs.WorldSteps.{not_enabled, wants_memory, wrote}
+use Rattle.cts_entry.specs.declared.event.Event.TheVariants.{Write}
+use Rattle.cts_entry.specs.declared.event.Effect.TheVariants.{Written}
+use Rattle.cts_core.proofs.PassingSteps.{has_passed, has_interface, line_of_interface, no_interface, not_passed, writes}
+use Rattle.cts_core.proofs.WorldSteps.{site_of}
 use Rattle.cts_core.proofs.running.Running.write.Goals as goal
 
-pub returns-in_default : goal.returns-in_default
-returns-in_default g c =
-    let w = c.args.self.now in
-    λ base s h. not_enabled base w w s (Write c.args.by c.args.count) (can_write w c.args.by c.args.count) (can_write_is base w s c.args.by c.args.count h) c.in_default.ensures.next refl h
+pub returns-then-not-is_interface : goal.returns-then-not-is_interface
+returns-then-not-is_interface g c =
+    let off : c.is_interface.result ≡ false = search rules in
+    λ base s h. no_interface base c.args.self.now s c.args.by c.args.count h (sym c.is_interface.ensures.test ∙ off)
 
-pub returns : goal.returns
-returns g c =
-    let w = c.args.self.now in
-    let put = subst (λ (l : List ℕ). PutsNext c.args.by w c.in-Some.next l c.put.new.self) (sym c.of.ensures) c.in_ok-bytes.ensures.ok in
-    λ base s h. wrote base w c.put.new.self s c.args.by c.args.count c.in-Some.next c.of.result c.in-Some.ensures.next put h
+pub put_next-requires : goal.put_next-requires
+put_next-requires g c = line_of_interface c.args.self.now.basis.site c.args.by (sym c.is_interface.ensures.test ∙ (search rules))
 
 pub returns-in_err-bytes : goal.returns-in_err-bytes
 returns-in_err-bytes g c =
     let w = c.args.self.now in
+    let on : c.is_interface.result ≡ true = search rules in
     let p = err_from_is_err_and c.from_residual.result c.from_residual.ensures.1 in
     rw (p.1, p.2) (λ base s h.
-    wants_memory base w c.put.new.self s (Write c.args.by c.args.count) c.in_err-bytes.ensures.err (sym (can_write_is base w s c.args.by c.args.count h) ∙ c.in-Some.ensures.next.enabled) refl tt)
+    let e = writes base s c.args.by c.args.count (has_interface base w s c.args.by c.args.count h (sym c.is_interface.ensures.test ∙ on)) in
+    not_passed base w c.put_next.new.self s (Write c.args.by c.args.count) c.args.by c.args.count (Written c.args.by) e h c.in_err-bytes.field-0.0 c.in_err-bytes.ensures)
+
+pub returns : goal.returns
+returns g c =
+    let w = c.args.self.now in
+    let on : c.is_interface.result ≡ true = search rules in
+    λ base s h.
+    let e = writes base s c.args.by c.args.count (has_interface base w s c.args.by c.args.count h (sym c.is_interface.ensures.test ∙ on)) in
+    has_passed base w c.put_next.new.self s (Write c.args.by c.args.count) c.args.by c.args.count (Written c.args.by) e h c.in_ok-bytes.bytes (site_of base w s c.is_interface.ensures.sound h) c.in_ok-bytes.ensures

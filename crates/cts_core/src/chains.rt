@@ -1,0 +1,48 @@
+// The chains of a site's lines.
+ghost use Rattle.std.specs.Prelude.{◌≡◌, ◌<◌, ◌≤◌, [], length, map, slice_index_or, take};
+ghost use Rattle.cts_chain.specs.Builds.{AllCanBeBuilt, CanBeBuilt};
+ghost use Rattle.cts_connection.specs.LinePlaces.{line_count};
+ghost use Rattle.cts_core.specs.LineChains.{line_chains};
+ghost use Rattle.cts_def.specs.Sites.{IsSoundSite};
+
+use cts_def::{ProtoUse, Site};
+
+/// How many lines a site may have: sixteen interfaces, and two slots for each of four routers.
+const MOST_LINES: usize = 24;
+
+/// How many lines a site has: its interfaces, and two slots for each router.
+pub(crate) fn count_of(site: &Site) -> usize
+    ensures count { result ≡ line_count site.now }
+    ensures few { result ≤ 24 }
+    ensures sound { IsSoundSite site.now }
+{
+    site.interfaces.as_slice().len() + 2 * site.routers.as_slice().len()
+}
+
+/// The uses of the chain of each line, in order of their places, and then none.
+pub(crate) fn chains_of(site: &Site) -> [&[ProtoUse]; MOST_LINES]
+    ensures chains { map (λ uses. uses.now) (take (line_count site.now) result) ≡ line_chains site.now }
+    ensures can { AllCanBeBuilt (line_chains site.now) }
+{
+    let mut chains: [&[ProtoUse]; MOST_LINES] = [&[]; MOST_LINES];
+    for place in 0..count_of(site) {
+        chains[place] = chain_at(site, place);
+    }
+    chains
+}
+
+/// The uses of the chain of the line at a place: those of an interface, or of a router at either of its two places.
+fn chain_at(site: &Site, place: usize) -> &[ProtoUse]
+    requires { place < line_count site.now }
+    ensures chain { result.now ≡ slice_index_or (line_chains site.now) place [] }
+    ensures can { CanBeBuilt result.now }
+{
+    let interfaces = site.interfaces.as_slice();
+    if place < interfaces.len() {
+        let interface = &interfaces[place];
+        return interface.chain.as_slice();
+    }
+    let routers = site.routers.as_slice();
+    let router = &routers[(place - interfaces.len()) / 2];
+    router.chain.as_slice()
+}
