@@ -15,8 +15,10 @@ COMMAND TOOL CUT BIG_ENDIAN;APPEND_PARAMETER TEXT 0 STRING 'a'";
 
 /// Interfaces with their ports, the number of their targets, and how the packets begin that a FIXED knows: the length, and the one
 /// id field with its number. Then routers so, with the interfaces that they route; and how many packets and commands there are.
-const WHOLE: &str =
-    "TITLE 'Demo';INTERFACE A tcpip_client_interface.rb localhost 8080 8080 10.0 nil LENGTH 0 16 0 1 BIG_ENDIAN 2 nil nil true;  TARGET INST;  TARGET BARE;INTERFACE b tcpip_client_interface.rb localhost 8081 8081 10.0 nil TERMINATED 0x0A 0x0A;  TARGET AUX;ROUTER R tcpip_server_interface.rb 2950 2950 10.0 nil PREIDENTIFIED;  ROUTE B;  ROUTE A|A 8080 2;B 8081 1;R 2950 [1, 0];4 2";
+const WHOLE: &str = "TITLE 'Demo';\
+INTERFACE A tcpip_client_interface.rb localhost 8080 8080 10.0 nil LENGTH 0 16 0 1 BIG_ENDIAN 2 nil nil true;  TARGET INST;  TARGET BARE;\
+INTERFACE b tcpip_client_interface.rb localhost 8081 8081 10.0 nil TERMINATED 0x0A 0x0A;  TARGET AUX;\
+ROUTER R tcpip_server_interface.rb 2950 2950 10.0 nil PREIDENTIFIED;  ROUTE B;  ROUTE A|A 8080 2;B 8081 1;R 2950 [1, 0];4 2";
 
 const FIXED: &str =
     "INTERFACE I tcpip_client_interface.rb h 1 1 nil nil FIXED 3;TARGET INST;ROUTER R tcpip_server_interface.rb 2 2 nil nil FIXED 4 0 nil false;ROUTE I|I 1 1 (3 8 8 Big 1 false) (4 8 16 Little -2 true);R 2 [0] (4 0 32 Big 7 false);4 2";

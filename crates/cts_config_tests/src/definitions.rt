@@ -108,7 +108,9 @@ fn names_stand_once(rt: HostRuntime) -> Result<(), Fail> {
 
 /// Names of states, items and packets that others have too.
 const FREE: &str = "\
-TELEMETRY T P BIG_ENDIAN; ITEM A 0 8 UINT; STATE ON 1; STATE OFF 1; ITEM B 0 8 UINT; STATE ON 1; LIMITS DEFAULT 1 ENABLED 1 2 3 4; ITEM C 0 8 UINT; LIMITS DEFAULT 1 ENABLED 1 2 3 4; STATE OFF 0; TELEMETRY T Q BIG_ENDIAN; ITEM A 0 8 UINT; COMMAND T P BIG_ENDIAN; PARAMETER A 0 8 UINT 0 1 0; STATE ON 1|read";
+TELEMETRY T P BIG_ENDIAN; ITEM A 0 8 UINT; STATE ON 1; STATE OFF 1; ITEM B 0 8 UINT; STATE ON 1; LIMITS DEFAULT 1 ENABLED 1 2 3 4; ITEM C 0 8 UINT; LIMITS DEFAULT 1 ENABLED 1 2 3 4; STATE OFF 0; \
+TELEMETRY T Q BIG_ENDIAN; ITEM A 0 8 UINT; \
+COMMAND T P BIG_ENDIAN; PARAMETER A 0 8 UINT 0 1 0; STATE ON 1|read";
 
 #[test]
 fn names_of_others_are_free(rt: HostRuntime) -> Result<(), Fail> {
@@ -262,7 +264,32 @@ impl Answers for Defined {
 
 /// An instrument with a packet, a line of text and a command.
 const INSTRUMENT: &str = "\
-TELEMETRY INST HS BIG_ENDIAN \"Health and status\";  APPEND_ID_ITEM PKTID 8 UINT 1 \"Packet id\";  APPEND_ITEM TEMP1 16 UINT \"Temperature\";    POLY_READ_CONVERSION -100.0 0.00305;    LIMITS DEFAULT 1 ENABLED -80.0 -70.0 60.0 80.0;    LIMITS TVAC 1 ENABLED -80.0 -70.0 0.0 80.0;    UNITS CELSIUS C;    FORMAT_STRING \"%0.3f\";  APPEND_ITEM MODE 8 UINT;    STATE OFF 0;    STATE ON 1;TELEMETRY AUX LINE BIG_ENDIAN \"A line of text\";  APPEND_ITEM TEXT 0 STRING;COMMAND INST COLLECT BIG_ENDIAN \"Start a collect\";  APPEND_ID_PARAMETER OPCODE 8 UINT 7 7 7 \"Opcode\";  APPEND_PARAMETER DURATION 16 UINT 0 10 5 \"Duration\"|Ok(Definitions { telemetry: List { items: [Packet { target: Name { text: 'INST' }, name: Name { text: 'HS' }, items: List { items: [Item { name: Name { text: 'PKTID' }, kind: Uint, offset: 0, size: 8, order: Big, id: Some(1), range: None, preset: Whole(0), states: List { items: [] }, conversion: Plain, limits: None, units: None, format: None, required: false, overflow: Error }, Item { name: Name { text: 'TEMP1' }, kind: Uint, offset: 8, size: 16, order: Big, id: None, range: None, preset: Whole(0), states: List { items: [] }, conversion: Poly(List { items: [Decimal { parts: -100000000000000 }, Decimal { parts: 3050000000 }] }), limits: Some(LimitsSetup { sets: List { items: [(Name { text: 'DEFAULT' }, Limits { red_low: Decimal { parts: -80000000000000 }, yellow_low: Decimal { parts: -70000000000000 }, yellow_high: Decimal { parts: 60000000000000 }, red_high: Decimal { parts: 80000000000000 }, green: None }), (Name { text: 'TVAC' }, Limits { red_low: Decimal { parts: -80000000000000 }, yellow_low: Decimal { parts: -70000000000000 }, yellow_high: Decimal { parts: 0 }, red_high: Decimal { parts: 80000000000000 }, green: None })] }, persistence: 1, enabled: true }), units: Some(('CELSIUS', 'C')), format: Some('%0.3f'), required: false, overflow: Error }, Item { name: Name { text: 'MODE' }, kind: Uint, offset: 24, size: 8, order: Big, id: None, range: None, preset: Whole(0), states: List { items: [StateDef { name: 'OFF', value: 0, color: None, hazardous: false }, StateDef { name: 'ON', value: 1, color: None, hazardous: false }] }, conversion: Plain, limits: None, units: None, format: None, required: false, overflow: Error }] }, length: 4, variable: false, hazardous: false }, Packet { target: Name { text: 'AUX' }, name: Name { text: 'LINE' }, items: List { items: [Item { name: Name { text: 'TEXT' }, kind: Str, offset: 0, size: 0, order: Big, id: None, range: None, preset: Raw(''), states: List { items: [] }, conversion: Plain, limits: None, units: None, format: None, required: false, overflow: Error }] }, length: 0, variable: true, hazardous: false }] }, commands: List { items: [Packet { target: Name { text: 'INST' }, name: Name { text: 'COLLECT' }, items: List { items: [Item { name: Name { text: 'OPCODE' }, kind: Uint, offset: 0, size: 8, order: Big, id: Some(7), range: Some((7, 7)), preset: Whole(7), states: List { items: [] }, conversion: Plain, limits: None, units: None, format: None, required: false, overflow: Error }, Item { name: Name { text: 'DURATION' }, kind: Uint, offset: 8, size: 16, order: Big, id: None, range: Some((0, 10)), preset: Whole(5), states: List { items: [] }, conversion: Plain, limits: None, units: None, format: None, required: false, overflow: Error }] }, length: 3, variable: false, hazardous: false }] }, set_names: List { items: [Name { text: 'DEFAULT' }, Name { text: 'TVAC' }] } })";
+TELEMETRY INST HS BIG_ENDIAN \"Health and status\";  APPEND_ID_ITEM PKTID 8 UINT 1 \"Packet id\";  APPEND_ITEM TEMP1 16 UINT \"Temperature\";    POLY_READ_CONVERSION -100.0 0.00305;    \
+LIMITS DEFAULT 1 ENABLED -80.0 -70.0 60.0 80.0;    LIMITS TVAC 1 ENABLED -80.0 -70.0 0.0 80.0;    UNITS CELSIUS C;    FORMAT_STRING \"%0.3f\";  APPEND_ITEM MODE 8 UINT;    STATE OFF 0;    STATE ON 1;\
+TELEMETRY AUX LINE BIG_ENDIAN \"A line of text\";  APPEND_ITEM TEXT 0 STRING;\
+COMMAND INST COLLECT BIG_ENDIAN \"Start a collect\";  APPEND_ID_PARAMETER OPCODE 8 UINT 7 7 7 \"Opcode\";  APPEND_PARAMETER DURATION 16 UINT 0 10 5 \"Duration\"\
+|Ok(Definitions { telemetry: List { items: [\
+Packet { target: Name { text: 'INST' }, name: Name { text: 'HS' }, items: List { items: [\
+Item { name: Name { text: 'PKTID' }, kind: Uint, offset: 0, size: 8, order: Big, id: Some(1), range: None, preset: Whole(0), states: List { items: [] }, conversion: Plain, limits: None, units: None, \
+format: None, required: false, overflow: Error }, \
+Item { name: Name { text: 'TEMP1' }, kind: Uint, offset: 8, size: 16, order: Big, id: None, range: None, preset: Whole(0), states: List { items: [] }, \
+conversion: Poly(List { items: [Decimal { parts: -100000000000000 }, Decimal { parts: 3050000000 }] }), limits: Some(LimitsSetup { sets: List { items: [(Name { text: 'DEFAULT' }, \
+Limits { red_low: Decimal { parts: -80000000000000 }, yellow_low: Decimal { parts: -70000000000000 }, yellow_high: Decimal { parts: 60000000000000 }, red_high: Decimal { parts: 80000000000000 }, \
+green: None }), (Name { text: 'TVAC' }, Limits { red_low: Decimal { parts: -80000000000000 }, yellow_low: Decimal { parts: -70000000000000 }, yellow_high: Decimal { parts: 0 }, \
+red_high: Decimal { parts: 80000000000000 }, green: None })] }, persistence: 1, enabled: true }), units: Some(('CELSIUS', 'C')), format: Some('%0.3f'), required: false, overflow: Error }, \
+Item { name: Name { text: 'MODE' }, kind: Uint, offset: 24, size: 8, order: Big, id: None, range: None, preset: Whole(0), states: List { items: [StateDef { name: 'OFF', value: 0, color: None, \
+hazardous: false }, StateDef { name: 'ON', value: 1, color: None, hazardous: false }] }, conversion: Plain, limits: None, units: None, format: None, required: false, overflow: Error }] }, length: 4, \
+variable: false, hazardous: false }, \
+Packet { target: Name { text: 'AUX' }, name: Name { text: 'LINE' }, items: List { items: [\
+Item { name: Name { text: 'TEXT' }, kind: Str, offset: 0, size: 0, order: Big, id: None, range: None, preset: Raw(''), states: List { items: [] }, conversion: Plain, limits: None, units: None, format: None, \
+required: false, overflow: Error }] }, length: 0, variable: true, hazardous: false }] }, \
+commands: List { items: [\
+Packet { target: Name { text: 'INST' }, name: Name { text: 'COLLECT' }, items: List { items: [\
+Item { name: Name { text: 'OPCODE' }, kind: Uint, offset: 0, size: 8, order: Big, id: Some(7), range: Some((7, 7)), preset: Whole(7), states: List { items: [] }, conversion: Plain, limits: None, units: None, \
+format: None, required: false, overflow: Error }, \
+Item { name: Name { text: 'DURATION' }, kind: Uint, offset: 8, size: 16, order: Big, id: None, range: Some((0, 10)), preset: Whole(5), states: List { items: [] }, conversion: Plain, limits: None, units: None, \
+format: None, required: false, overflow: Error }] }, length: 3, variable: false, hazardous: false }] }, \
+set_names: List { items: [Name { text: 'DEFAULT' }, Name { text: 'TVAC' }] } })";
 
 #[test]
 fn an_instrument_is_defined(rt: HostRuntime) -> Result<(), Fail> {
@@ -271,14 +298,66 @@ fn an_instrument_is_defined(rt: HostRuntime) -> Result<(), Fail> {
 
 const PACKETS: &str = "\
 |Ok(Definitions { telemetry: List { items: [] }, commands: List { items: [] }, set_names: List { items: [Name { text: 'DEFAULT' }] } })
-telemetry t p LITTLE_ENDIAN;META X;ALLOW_SHORT|Ok(Definitions { telemetry: List { items: [Packet { target: Name { text: 'T' }, name: Name { text: 'P' }, items: List { items: [] }, length: 0, variable: false, hazardous: false }] }, commands: List { items: [] }, set_names: List { items: [Name { text: 'DEFAULT' }] } })
-TELEMETRY T P BIG_ENDIAN;ITEM A 32 8 UINT;ITEM B 0 8 UINT;APPEND_ITEM C 4 INT;APPEND_ITEM D 8 UINT|Ok(Definitions { telemetry: List { items: [Packet { target: Name { text: 'T' }, name: Name { text: 'P' }, items: List { items: [Item { name: Name { text: 'A' }, kind: Uint, offset: 32, size: 8, order: Big, id: None, range: None, preset: Whole(0), states: List { items: [] }, conversion: Plain, limits: None, units: None, format: None, required: false, overflow: Error }, Item { name: Name { text: 'B' }, kind: Uint, offset: 0, size: 8, order: Big, id: None, range: None, preset: Whole(0), states: List { items: [] }, conversion: Plain, limits: None, units: None, format: None, required: false, overflow: Error }, Item { name: Name { text: 'C' }, kind: Int, offset: 40, size: 4, order: Big, id: None, range: None, preset: Whole(0), states: List { items: [] }, conversion: Plain, limits: None, units: None, format: None, required: false, overflow: Error }, Item { name: Name { text: 'D' }, kind: Uint, offset: 44, size: 8, order: Big, id: None, range: None, preset: Whole(0), states: List { items: [] }, conversion: Plain, limits: None, units: None, format: None, required: false, overflow: Error }] }, length: 7, variable: false, hazardous: false }] }, commands: List { items: [] }, set_names: List { items: [Name { text: 'DEFAULT' }] } })
-TELEMETRY T P LITTLE_ENDIAN;ITEM A 12 12 UINT;APPEND_ITEM B 8 UINT;ITEM C 17 2 UINT '' BIG_ENDIAN|Ok(Definitions { telemetry: List { items: [Packet { target: Name { text: 'T' }, name: Name { text: 'P' }, items: List { items: [Item { name: Name { text: 'A' }, kind: Uint, offset: 12, size: 12, order: Little, id: None, range: None, preset: Whole(0), states: List { items: [] }, conversion: Plain, limits: None, units: None, format: None, required: false, overflow: Error }, Item { name: Name { text: 'B' }, kind: Uint, offset: 16, size: 8, order: Little, id: None, range: None, preset: Whole(0), states: List { items: [] }, conversion: Plain, limits: None, units: None, format: None, required: false, overflow: Error }, Item { name: Name { text: 'C' }, kind: Uint, offset: 17, size: 2, order: Big, id: None, range: None, preset: Whole(0), states: List { items: [] }, conversion: Plain, limits: None, units: None, format: None, required: false, overflow: Error }] }, length: 3, variable: false, hazardous: false }] }, commands: List { items: [] }, set_names: List { items: [Name { text: 'DEFAULT' }] } })
-TELEMETRY T P BIG_ENDIAN;ITEM A 16 0 BLOCK|Ok(Definitions { telemetry: List { items: [Packet { target: Name { text: 'T' }, name: Name { text: 'P' }, items: List { items: [Item { name: Name { text: 'A' }, kind: Block, offset: 16, size: 0, order: Big, id: None, range: None, preset: Raw(''), states: List { items: [] }, conversion: Plain, limits: None, units: None, format: None, required: false, overflow: Error }] }, length: 2, variable: true, hazardous: false }] }, commands: List { items: [] }, set_names: List { items: [Name { text: 'DEFAULT' }] } })
-TELEMETRY T P BIG_ENDIAN;ITEM A 16 -8 STRING;ITEM B 0 8 UINT|Ok(Definitions { telemetry: List { items: [Packet { target: Name { text: 'T' }, name: Name { text: 'P' }, items: List { items: [Item { name: Name { text: 'A' }, kind: Str, offset: 16, size: -8, order: Big, id: None, range: None, preset: Raw(''), states: List { items: [] }, conversion: Plain, limits: None, units: None, format: None, required: false, overflow: Error }, Item { name: Name { text: 'B' }, kind: Uint, offset: 0, size: 8, order: Big, id: None, range: None, preset: Whole(0), states: List { items: [] }, conversion: Plain, limits: None, units: None, format: None, required: false, overflow: Error }] }, length: 3, variable: true, hazardous: false }] }, commands: List { items: [] }, set_names: List { items: [Name { text: 'DEFAULT' }] } })
-TELEMETRY T P BIG_ENDIAN;ITEM A -16 16 UINT;APPEND_ITEM B 8 UINT|Ok(Definitions { telemetry: List { items: [Packet { target: Name { text: 'T' }, name: Name { text: 'P' }, items: List { items: [Item { name: Name { text: 'A' }, kind: Uint, offset: -16, size: 16, order: Big, id: None, range: None, preset: Whole(0), states: List { items: [] }, conversion: Plain, limits: None, units: None, format: None, required: false, overflow: Error }, Item { name: Name { text: 'B' }, kind: Uint, offset: 0, size: 8, order: Big, id: None, range: None, preset: Whole(0), states: List { items: [] }, conversion: Plain, limits: None, units: None, format: None, required: false, overflow: Error }] }, length: 2, variable: true, hazardous: false }] }, commands: List { items: [] }, set_names: List { items: [Name { text: 'DEFAULT' }] } })
-TELEMETRY T P BIG_ENDIAN;ITEM A 8388600 8 UINT|Ok(Definitions { telemetry: List { items: [Packet { target: Name { text: 'T' }, name: Name { text: 'P' }, items: List { items: [Item { name: Name { text: 'A' }, kind: Uint, offset: 8388600, size: 8, order: Big, id: None, range: None, preset: Whole(0), states: List { items: [] }, conversion: Plain, limits: None, units: None, format: None, required: false, overflow: Error }] }, length: 1048576, variable: false, hazardous: false }] }, commands: List { items: [] }, set_names: List { items: [Name { text: 'DEFAULT' }] } })
-TELEMETRY T P BIG_ENDIAN;ITEM A 8388608 -8388608 STRING|Ok(Definitions { telemetry: List { items: [Packet { target: Name { text: 'T' }, name: Name { text: 'P' }, items: List { items: [Item { name: Name { text: 'A' }, kind: Str, offset: 8388608, size: -8388608, order: Big, id: None, range: None, preset: Raw(''), states: List { items: [] }, conversion: Plain, limits: None, units: None, format: None, required: false, overflow: Error }] }, length: 2097152, variable: true, hazardous: false }] }, commands: List { items: [] }, set_names: List { items: [Name { text: 'DEFAULT' }] } })";
+telemetry t p LITTLE_ENDIAN;META X;ALLOW_SHORT\
+|Ok(Definitions { telemetry: List { items: [\
+Packet { target: Name { text: 'T' }, name: Name { text: 'P' }, items: List { items: [] }, length: 0, variable: false, hazardous: false }] }, \
+commands: List { items: [] }, set_names: List { items: [Name { text: 'DEFAULT' }] } })
+TELEMETRY T P BIG_ENDIAN;ITEM A 32 8 UINT;ITEM B 0 8 UINT;APPEND_ITEM C 4 INT;APPEND_ITEM D 8 UINT\
+|Ok(Definitions { telemetry: List { items: [\
+Packet { target: Name { text: 'T' }, name: Name { text: 'P' }, items: List { items: [\
+Item { name: Name { text: 'A' }, kind: Uint, offset: 32, size: 8, order: Big, id: None, range: None, preset: Whole(0), states: List { items: [] }, conversion: Plain, limits: None, units: None, format: None, \
+required: false, overflow: Error }, \
+Item { name: Name { text: 'B' }, kind: Uint, offset: 0, size: 8, order: Big, id: None, range: None, preset: Whole(0), states: List { items: [] }, conversion: Plain, limits: None, units: None, format: None, \
+required: false, overflow: Error }, \
+Item { name: Name { text: 'C' }, kind: Int, offset: 40, size: 4, order: Big, id: None, range: None, preset: Whole(0), states: List { items: [] }, conversion: Plain, limits: None, units: None, format: None, \
+required: false, overflow: Error }, \
+Item { name: Name { text: 'D' }, kind: Uint, offset: 44, size: 8, order: Big, id: None, range: None, preset: Whole(0), states: List { items: [] }, conversion: Plain, limits: None, units: None, format: None, \
+required: false, overflow: Error }] }, length: 7, variable: false, hazardous: false }] }, \
+commands: List { items: [] }, set_names: List { items: [Name { text: 'DEFAULT' }] } })
+TELEMETRY T P LITTLE_ENDIAN;ITEM A 12 12 UINT;APPEND_ITEM B 8 UINT;ITEM C 17 2 UINT '' BIG_ENDIAN\
+|Ok(Definitions { telemetry: List { items: [\
+Packet { target: Name { text: 'T' }, name: Name { text: 'P' }, items: List { items: [\
+Item { name: Name { text: 'A' }, kind: Uint, offset: 12, size: 12, order: Little, id: None, range: None, preset: Whole(0), states: List { items: [] }, conversion: Plain, limits: None, units: None, \
+format: None, required: false, overflow: Error }, \
+Item { name: Name { text: 'B' }, kind: Uint, offset: 16, size: 8, order: Little, id: None, range: None, preset: Whole(0), states: List { items: [] }, conversion: Plain, limits: None, units: None, format: None, \
+required: false, overflow: Error }, \
+Item { name: Name { text: 'C' }, kind: Uint, offset: 17, size: 2, order: Big, id: None, range: None, preset: Whole(0), states: List { items: [] }, conversion: Plain, limits: None, units: None, format: None, \
+required: false, overflow: Error }] }, length: 3, variable: false, hazardous: false }] }, \
+commands: List { items: [] }, set_names: List { items: [Name { text: 'DEFAULT' }] } })
+TELEMETRY T P BIG_ENDIAN;ITEM A 16 0 BLOCK\
+|Ok(Definitions { telemetry: List { items: [\
+Packet { target: Name { text: 'T' }, name: Name { text: 'P' }, items: List { items: [\
+Item { name: Name { text: 'A' }, kind: Block, offset: 16, size: 0, order: Big, id: None, range: None, preset: Raw(''), states: List { items: [] }, conversion: Plain, limits: None, units: None, format: None, \
+required: false, overflow: Error }] }, length: 2, variable: true, hazardous: false }] }, \
+commands: List { items: [] }, set_names: List { items: [Name { text: 'DEFAULT' }] } })
+TELEMETRY T P BIG_ENDIAN;ITEM A 16 -8 STRING;ITEM B 0 8 UINT\
+|Ok(Definitions { telemetry: List { items: [\
+Packet { target: Name { text: 'T' }, name: Name { text: 'P' }, items: List { items: [\
+Item { name: Name { text: 'A' }, kind: Str, offset: 16, size: -8, order: Big, id: None, range: None, preset: Raw(''), states: List { items: [] }, conversion: Plain, limits: None, units: None, format: None, \
+required: false, overflow: Error }, \
+Item { name: Name { text: 'B' }, kind: Uint, offset: 0, size: 8, order: Big, id: None, range: None, preset: Whole(0), states: List { items: [] }, conversion: Plain, limits: None, units: None, format: None, \
+required: false, overflow: Error }] }, length: 3, variable: true, hazardous: false }] }, \
+commands: List { items: [] }, set_names: List { items: [Name { text: 'DEFAULT' }] } })
+TELEMETRY T P BIG_ENDIAN;ITEM A -16 16 UINT;APPEND_ITEM B 8 UINT\
+|Ok(Definitions { telemetry: List { items: [\
+Packet { target: Name { text: 'T' }, name: Name { text: 'P' }, items: List { items: [\
+Item { name: Name { text: 'A' }, kind: Uint, offset: -16, size: 16, order: Big, id: None, range: None, preset: Whole(0), states: List { items: [] }, conversion: Plain, limits: None, units: None, format: None, \
+required: false, overflow: Error }, \
+Item { name: Name { text: 'B' }, kind: Uint, offset: 0, size: 8, order: Big, id: None, range: None, preset: Whole(0), states: List { items: [] }, conversion: Plain, limits: None, units: None, format: None, \
+required: false, overflow: Error }] }, length: 2, variable: true, hazardous: false }] }, \
+commands: List { items: [] }, set_names: List { items: [Name { text: 'DEFAULT' }] } })
+TELEMETRY T P BIG_ENDIAN;ITEM A 8388600 8 UINT\
+|Ok(Definitions { telemetry: List { items: [\
+Packet { target: Name { text: 'T' }, name: Name { text: 'P' }, items: List { items: [\
+Item { name: Name { text: 'A' }, kind: Uint, offset: 8388600, size: 8, order: Big, id: None, range: None, preset: Whole(0), states: List { items: [] }, conversion: Plain, limits: None, units: None, \
+format: None, required: false, overflow: Error }] }, length: 1048576, variable: false, hazardous: false }] }, \
+commands: List { items: [] }, set_names: List { items: [Name { text: 'DEFAULT' }] } })
+TELEMETRY T P BIG_ENDIAN;ITEM A 8388608 -8388608 STRING\
+|Ok(Definitions { telemetry: List { items: [\
+Packet { target: Name { text: 'T' }, name: Name { text: 'P' }, items: List { items: [\
+Item { name: Name { text: 'A' }, kind: Str, offset: 8388608, size: -8388608, order: Big, id: None, range: None, preset: Raw(''), states: List { items: [] }, conversion: Plain, limits: None, units: None, \
+format: None, required: false, overflow: Error }] }, length: 2097152, variable: true, hazardous: false }] }, \
+commands: List { items: [] }, set_names: List { items: [Name { text: 'DEFAULT' }] } })";
 
 #[test]
 fn packets_end_behind_their_items(rt: HostRuntime) -> Result<(), Fail> {
@@ -286,11 +365,50 @@ fn packets_end_behind_their_items(rt: HostRuntime) -> Result<(), Fail> {
 }
 
 const LAST: &str = "\
-TELEMETRY T P BIG_ENDIAN;ITEM A 0 8 UINT;UNITS Volts V;UNITS Amps A;FORMAT_STRING %d;FORMAT_STRING %x;OVERFLOW TRUNCATE;OVERFLOW SATURATE|Ok(Definitions { telemetry: List { items: [Packet { target: Name { text: 'T' }, name: Name { text: 'P' }, items: List { items: [Item { name: Name { text: 'A' }, kind: Uint, offset: 0, size: 8, order: Big, id: None, range: None, preset: Whole(0), states: List { items: [] }, conversion: Plain, limits: None, units: Some(('Amps', 'A')), format: Some('%x'), required: false, overflow: Saturate }] }, length: 1, variable: false, hazardous: false }] }, commands: List { items: [] }, set_names: List { items: [Name { text: 'DEFAULT' }] } })
-TELEMETRY T P BIG_ENDIAN;ITEM A 0 8 UINT;POLY_READ_CONVERSION 1;POLY_READ_CONVERSION 0 -2.5;OVERFLOW ERROR|Ok(Definitions { telemetry: List { items: [Packet { target: Name { text: 'T' }, name: Name { text: 'P' }, items: List { items: [Item { name: Name { text: 'A' }, kind: Uint, offset: 0, size: 8, order: Big, id: None, range: None, preset: Whole(0), states: List { items: [] }, conversion: Poly(List { items: [Decimal { parts: 0 }, Decimal { parts: -2500000000000 }] }), limits: None, units: None, format: None, required: false, overflow: Error }] }, length: 1, variable: false, hazardous: false }] }, commands: List { items: [] }, set_names: List { items: [Name { text: 'DEFAULT' }] } })
-TELEMETRY T P BIG_ENDIAN;ITEM A 0 8 UINT;SEG_POLY_READ_CONVERSION 5 1;SEG_POLY_READ_CONVERSION 0.5 2 3|Ok(Definitions { telemetry: List { items: [Packet { target: Name { text: 'T' }, name: Name { text: 'P' }, items: List { items: [Item { name: Name { text: 'A' }, kind: Uint, offset: 0, size: 8, order: Big, id: None, range: None, preset: Whole(0), states: List { items: [] }, conversion: Segments(List { items: [Segment { bound: Decimal { parts: 5000000000000 }, coefficients: List { items: [Decimal { parts: 1000000000000 }] } }, Segment { bound: Decimal { parts: 500000000000 }, coefficients: List { items: [Decimal { parts: 2000000000000 }, Decimal { parts: 3000000000000 }] } }] }), limits: None, units: None, format: None, required: false, overflow: Error }] }, length: 1, variable: false, hazardous: false }] }, commands: List { items: [] }, set_names: List { items: [Name { text: 'DEFAULT' }] } })
-TELEMETRY T P BIG_ENDIAN;ITEM A 0 8 UINT;LIMITS default 3 DISABLED 1 1 4 4 2 3;LIMITS tvac 9 ENABLED 1 2 3 4;ITEM B 0 8 UINT;LIMITS DEFAULT 4294967295 ENABLED 1 2 3 4;LIMITS S 1 ENABLED 1 2 3 4;LIMITS TVAC 1 ENABLED 1 2 3 4|Ok(Definitions { telemetry: List { items: [Packet { target: Name { text: 'T' }, name: Name { text: 'P' }, items: List { items: [Item { name: Name { text: 'A' }, kind: Uint, offset: 0, size: 8, order: Big, id: None, range: None, preset: Whole(0), states: List { items: [] }, conversion: Plain, limits: Some(LimitsSetup { sets: List { items: [(Name { text: 'DEFAULT' }, Limits { red_low: Decimal { parts: 1000000000000 }, yellow_low: Decimal { parts: 1000000000000 }, yellow_high: Decimal { parts: 4000000000000 }, red_high: Decimal { parts: 4000000000000 }, green: Some((Decimal { parts: 2000000000000 }, Decimal { parts: 3000000000000 })) }), (Name { text: 'TVAC' }, Limits { red_low: Decimal { parts: 1000000000000 }, yellow_low: Decimal { parts: 2000000000000 }, yellow_high: Decimal { parts: 3000000000000 }, red_high: Decimal { parts: 4000000000000 }, green: None })] }, persistence: 3, enabled: false }), units: None, format: None, required: false, overflow: Error }, Item { name: Name { text: 'B' }, kind: Uint, offset: 0, size: 8, order: Big, id: None, range: None, preset: Whole(0), states: List { items: [] }, conversion: Plain, limits: Some(LimitsSetup { sets: List { items: [(Name { text: 'DEFAULT' }, Limits { red_low: Decimal { parts: 1000000000000 }, yellow_low: Decimal { parts: 2000000000000 }, yellow_high: Decimal { parts: 3000000000000 }, red_high: Decimal { parts: 4000000000000 }, green: None }), (Name { text: 'S' }, Limits { red_low: Decimal { parts: 1000000000000 }, yellow_low: Decimal { parts: 2000000000000 }, yellow_high: Decimal { parts: 3000000000000 }, red_high: Decimal { parts: 4000000000000 }, green: None }), (Name { text: 'TVAC' }, Limits { red_low: Decimal { parts: 1000000000000 }, yellow_low: Decimal { parts: 2000000000000 }, yellow_high: Decimal { parts: 3000000000000 }, red_high: Decimal { parts: 4000000000000 }, green: None })] }, persistence: 4294967295, enabled: true }), units: None, format: None, required: false, overflow: Error }] }, length: 1, variable: false, hazardous: false }] }, commands: List { items: [] }, set_names: List { items: [Name { text: 'DEFAULT' }, Name { text: 'TVAC' }, Name { text: 'S' }] } })
-TELEMETRY T P BIG_ENDIAN;ITEM A 0 8 INT;STATE on 1 GREEN;STATE low -1 YELLOW;STATE '' 0x7f RED;STATE other 1000|Ok(Definitions { telemetry: List { items: [Packet { target: Name { text: 'T' }, name: Name { text: 'P' }, items: List { items: [Item { name: Name { text: 'A' }, kind: Int, offset: 0, size: 8, order: Big, id: None, range: None, preset: Whole(0), states: List { items: [StateDef { name: 'ON', value: 1, color: Some(StateGreen), hazardous: false }, StateDef { name: 'LOW', value: -1, color: Some(StateYellow), hazardous: false }, StateDef { name: '', value: 127, color: Some(StateRed), hazardous: false }, StateDef { name: 'OTHER', value: 1000, color: None, hazardous: false }] }, conversion: Plain, limits: None, units: None, format: None, required: false, overflow: Error }] }, length: 1, variable: false, hazardous: false }] }, commands: List { items: [] }, set_names: List { items: [Name { text: 'DEFAULT' }] } })";
+TELEMETRY T P BIG_ENDIAN;ITEM A 0 8 UINT;UNITS Volts V;UNITS Amps A;FORMAT_STRING %d;FORMAT_STRING %x;OVERFLOW TRUNCATE;OVERFLOW SATURATE\
+|Ok(Definitions { telemetry: List { items: [\
+Packet { target: Name { text: 'T' }, name: Name { text: 'P' }, items: List { items: [\
+Item { name: Name { text: 'A' }, kind: Uint, offset: 0, size: 8, order: Big, id: None, range: None, preset: Whole(0), states: List { items: [] }, conversion: Plain, limits: None, units: Some(('Amps', 'A')), \
+format: Some('%x'), required: false, overflow: Saturate }] }, length: 1, variable: false, hazardous: false }] }, \
+commands: List { items: [] }, set_names: List { items: [Name { text: 'DEFAULT' }] } })
+TELEMETRY T P BIG_ENDIAN;ITEM A 0 8 UINT;POLY_READ_CONVERSION 1;POLY_READ_CONVERSION 0 -2.5;OVERFLOW ERROR\
+|Ok(Definitions { telemetry: List { items: [\
+Packet { target: Name { text: 'T' }, name: Name { text: 'P' }, items: List { items: [\
+Item { name: Name { text: 'A' }, kind: Uint, offset: 0, size: 8, order: Big, id: None, range: None, preset: Whole(0), states: List { items: [] }, conversion: Poly(List { items: [Decimal { parts: 0 }, \
+Decimal { parts: -2500000000000 }] }), limits: None, units: None, format: None, required: false, overflow: Error }] }, length: 1, variable: false, hazardous: false }] }, \
+commands: List { items: [] }, set_names: List { items: [Name { text: 'DEFAULT' }] } })
+TELEMETRY T P BIG_ENDIAN;ITEM A 0 8 UINT;SEG_POLY_READ_CONVERSION 5 1;SEG_POLY_READ_CONVERSION 0.5 2 3\
+|Ok(Definitions { telemetry: List { items: [\
+Packet { target: Name { text: 'T' }, name: Name { text: 'P' }, items: List { items: [\
+Item { name: Name { text: 'A' }, kind: Uint, offset: 0, size: 8, order: Big, id: None, range: None, preset: Whole(0), states: List { items: [] }, \
+conversion: Segments(List { items: [Segment { bound: Decimal { parts: 5000000000000 }, coefficients: List { items: [Decimal { parts: 1000000000000 }] } }, Segment { bound: Decimal { parts: 500000000000 }, \
+coefficients: List { items: [Decimal { parts: 2000000000000 }, Decimal { parts: 3000000000000 }] } }] }), limits: None, units: None, format: None, required: false, overflow: Error }] }, length: 1, \
+variable: false, hazardous: false }] }, commands: List { items: [] }, \
+set_names: List { items: [Name { text: 'DEFAULT' }] } })
+TELEMETRY T P BIG_ENDIAN;ITEM A 0 8 UINT;LIMITS default 3 DISABLED 1 1 4 4 2 3;LIMITS tvac 9 ENABLED 1 2 3 4;ITEM B 0 8 UINT;LIMITS DEFAULT 4294967295 ENABLED 1 2 3 4;LIMITS S 1 ENABLED 1 2 3 4;\
+LIMITS TVAC 1 ENABLED 1 2 3 4\
+|Ok(Definitions { telemetry: List { items: [\
+Packet { target: Name { text: 'T' }, name: Name { text: 'P' }, items: List { items: [\
+Item { name: Name { text: 'A' }, kind: Uint, offset: 0, size: 8, order: Big, id: None, range: None, preset: Whole(0), states: List { items: [] }, conversion: Plain, \
+limits: Some(LimitsSetup { sets: List { items: [(Name { text: 'DEFAULT' }, Limits { red_low: Decimal { parts: 1000000000000 }, yellow_low: Decimal { parts: 1000000000000 }, \
+yellow_high: Decimal { parts: 4000000000000 }, red_high: Decimal { parts: 4000000000000 }, green: Some((Decimal { parts: 2000000000000 }, Decimal { parts: 3000000000000 })) }), (Name { text: 'TVAC' }, \
+Limits { red_low: Decimal { parts: 1000000000000 }, yellow_low: Decimal { parts: 2000000000000 }, yellow_high: Decimal { parts: 3000000000000 }, red_high: Decimal { parts: 4000000000000 }, green: None })] }, \
+persistence: 3, enabled: false }), units: None, format: None, required: false, overflow: Error }, \
+Item { name: Name { text: 'B' }, kind: Uint, offset: 0, size: 8, order: Big, id: None, range: None, preset: Whole(0), states: List { items: [] }, conversion: Plain, \
+limits: Some(LimitsSetup { sets: List { items: [(Name { text: 'DEFAULT' }, Limits { red_low: Decimal { parts: 1000000000000 }, yellow_low: Decimal { parts: 2000000000000 }, \
+yellow_high: Decimal { parts: 3000000000000 }, red_high: Decimal { parts: 4000000000000 }, green: None }), (Name { text: 'S' }, Limits { red_low: Decimal { parts: 1000000000000 }, \
+yellow_low: Decimal { parts: 2000000000000 }, yellow_high: Decimal { parts: 3000000000000 }, red_high: Decimal { parts: 4000000000000 }, green: None }), (Name { text: 'TVAC' }, \
+Limits { red_low: Decimal { parts: 1000000000000 }, yellow_low: Decimal { parts: 2000000000000 }, yellow_high: Decimal { parts: 3000000000000 }, red_high: Decimal { parts: 4000000000000 }, green: None })] }, \
+persistence: 4294967295, enabled: true }), units: None, format: None, required: false, overflow: Error }] }, length: 1, variable: false, hazardous: false }] }, \
+commands: List { items: [] }, \
+set_names: List { items: [Name { text: 'DEFAULT' }, Name { text: 'TVAC' }, Name { text: 'S' }] } })
+TELEMETRY T P BIG_ENDIAN;ITEM A 0 8 INT;STATE on 1 GREEN;STATE low -1 YELLOW;STATE '' 0x7f RED;STATE other 1000\
+|Ok(Definitions { telemetry: List { items: [\
+Packet { target: Name { text: 'T' }, name: Name { text: 'P' }, items: List { items: [\
+Item { name: Name { text: 'A' }, kind: Int, offset: 0, size: 8, order: Big, id: None, range: None, preset: Whole(0), states: List { items: [StateDef { name: 'ON', value: 1, color: Some(StateGreen), \
+hazardous: false }, StateDef { name: 'LOW', value: -1, color: Some(StateYellow), hazardous: false }, StateDef { name: '', value: 127, color: Some(StateRed), hazardous: false }, StateDef { name: 'OTHER', \
+value: 1000, color: None, hazardous: false }] }, conversion: Plain, limits: None, units: None, format: None, required: false, overflow: Error }] }, length: 1, variable: false, hazardous: false }] }, \
+commands: List { items: [] }, set_names: List { items: [Name { text: 'DEFAULT' }] } })";
 
 #[test]
 fn the_last_detail_counts_and_the_first_limits(rt: HostRuntime) -> Result<(), Fail> {
@@ -298,10 +416,36 @@ fn the_last_detail_counts_and_the_first_limits(rt: HostRuntime) -> Result<(), Fa
 }
 
 const PRESETS: &str = "\
-COMMAND T C BIG_ENDIAN;HAZARDOUS 'Not now';APPEND_PARAMETER A 12 INT MIN MAX MIN;REQUIRED;APPEND_PARAMETER B 8 UINT MIN_INT8 MAX_UINT64 MAX|Ok(Definitions { telemetry: List { items: [] }, commands: List { items: [Packet { target: Name { text: 'T' }, name: Name { text: 'C' }, items: List { items: [Item { name: Name { text: 'A' }, kind: Int, offset: 0, size: 12, order: Big, id: None, range: Some((-2048, 2047)), preset: Whole(-2048), states: List { items: [] }, conversion: Plain, limits: None, units: None, format: None, required: true, overflow: Error }, Item { name: Name { text: 'B' }, kind: Uint, offset: 12, size: 8, order: Big, id: None, range: Some((-128, 18446744073709551615)), preset: Whole(255), states: List { items: [] }, conversion: Plain, limits: None, units: None, format: None, required: false, overflow: Error }] }, length: 3, variable: false, hazardous: true }] }, set_names: List { items: [Name { text: 'DEFAULT' }] } })
-COMMAND T C BIG_ENDIAN;PARAMETER A 0 32 BLOCK 0x414243;PARAMETER B 0 32 BLOCK 0x1;PARAMETER C 0 32 STRING 0x41|Ok(Definitions { telemetry: List { items: [] }, commands: List { items: [Packet { target: Name { text: 'T' }, name: Name { text: 'C' }, items: List { items: [Item { name: Name { text: 'A' }, kind: Block, offset: 0, size: 32, order: Big, id: None, range: None, preset: Raw('ABC'), states: List { items: [] }, conversion: Plain, limits: None, units: None, format: None, required: false, overflow: Error }, Item { name: Name { text: 'B' }, kind: Block, offset: 0, size: 32, order: Big, id: None, range: None, preset: Raw('0x1'), states: List { items: [] }, conversion: Plain, limits: None, units: None, format: None, required: false, overflow: Error }, Item { name: Name { text: 'C' }, kind: Str, offset: 0, size: 32, order: Big, id: None, range: None, preset: Raw('0x41'), states: List { items: [] }, conversion: Plain, limits: None, units: None, format: None, required: false, overflow: Error }] }, length: 4, variable: false, hazardous: false }] }, set_names: List { items: [Name { text: 'DEFAULT' }] } })
-COMMAND T C BIG_ENDIAN;PARAMETER A 0 0 STRING 'a ÿ'|Ok(Definitions { telemetry: List { items: [] }, commands: List { items: [Packet { target: Name { text: 'T' }, name: Name { text: 'C' }, items: List { items: [Item { name: Name { text: 'A' }, kind: Str, offset: 0, size: 0, order: Big, id: None, range: None, preset: Raw('a ÿ'), states: List { items: [] }, conversion: Plain, limits: None, units: None, format: None, required: false, overflow: Error }] }, length: 0, variable: true, hazardous: false }] }, set_names: List { items: [Name { text: 'DEFAULT' }] } })
-COMMAND T C BIG_ENDIAN;PARAMETER A 0 8 UINT 0 10 20;STATE off 0;STATE fire 1 HAZARDOUS 'It burns'|Ok(Definitions { telemetry: List { items: [] }, commands: List { items: [Packet { target: Name { text: 'T' }, name: Name { text: 'C' }, items: List { items: [Item { name: Name { text: 'A' }, kind: Uint, offset: 0, size: 8, order: Big, id: None, range: Some((0, 10)), preset: Whole(20), states: List { items: [StateDef { name: 'OFF', value: 0, color: None, hazardous: false }, StateDef { name: 'FIRE', value: 1, color: None, hazardous: true }] }, conversion: Plain, limits: None, units: None, format: None, required: false, overflow: Error }] }, length: 1, variable: false, hazardous: false }] }, set_names: List { items: [Name { text: 'DEFAULT' }] } })";
+COMMAND T C BIG_ENDIAN;HAZARDOUS 'Not now';APPEND_PARAMETER A 12 INT MIN MAX MIN;REQUIRED;APPEND_PARAMETER B 8 UINT MIN_INT8 MAX_UINT64 MAX\
+|Ok(Definitions { telemetry: List { items: [] }, commands: List { items: [\
+Packet { target: Name { text: 'T' }, name: Name { text: 'C' }, items: List { items: [\
+Item { name: Name { text: 'A' }, kind: Int, offset: 0, size: 12, order: Big, id: None, range: Some((-2048, 2047)), preset: Whole(-2048), states: List { items: [] }, conversion: Plain, limits: None, \
+units: None, format: None, required: true, overflow: Error }, \
+Item { name: Name { text: 'B' }, kind: Uint, offset: 12, size: 8, order: Big, id: None, range: Some((-128, 18446744073709551615)), preset: Whole(255), states: List { items: [] }, conversion: Plain, \
+limits: None, units: None, format: None, required: false, overflow: Error }] }, length: 3, variable: false, hazardous: true }] }, \
+set_names: List { items: [Name { text: 'DEFAULT' }] } })
+COMMAND T C BIG_ENDIAN;PARAMETER A 0 32 BLOCK 0x414243;PARAMETER B 0 32 BLOCK 0x1;PARAMETER C 0 32 STRING 0x41\
+|Ok(Definitions { telemetry: List { items: [] }, commands: List { items: [\
+Packet { target: Name { text: 'T' }, name: Name { text: 'C' }, items: List { items: [\
+Item { name: Name { text: 'A' }, kind: Block, offset: 0, size: 32, order: Big, id: None, range: None, preset: Raw('ABC'), states: List { items: [] }, conversion: Plain, limits: None, units: None, format: None, \
+required: false, overflow: Error }, \
+Item { name: Name { text: 'B' }, kind: Block, offset: 0, size: 32, order: Big, id: None, range: None, preset: Raw('0x1'), states: List { items: [] }, conversion: Plain, limits: None, units: None, format: None, \
+required: false, overflow: Error }, \
+Item { name: Name { text: 'C' }, kind: Str, offset: 0, size: 32, order: Big, id: None, range: None, preset: Raw('0x41'), states: List { items: [] }, conversion: Plain, limits: None, units: None, format: None, \
+required: false, overflow: Error }] }, length: 4, variable: false, hazardous: false }] }, \
+set_names: List { items: [Name { text: 'DEFAULT' }] } })
+COMMAND T C BIG_ENDIAN;PARAMETER A 0 0 STRING 'a ÿ'\
+|Ok(Definitions { telemetry: List { items: [] }, commands: List { items: [\
+Packet { target: Name { text: 'T' }, name: Name { text: 'C' }, items: List { items: [\
+Item { name: Name { text: 'A' }, kind: Str, offset: 0, size: 0, order: Big, id: None, range: None, preset: Raw('a ÿ'), states: List { items: [] }, conversion: Plain, limits: None, units: None, format: None, \
+required: false, overflow: Error }] }, length: 0, variable: true, hazardous: false }] }, \
+set_names: List { items: [Name { text: 'DEFAULT' }] } })
+COMMAND T C BIG_ENDIAN;PARAMETER A 0 8 UINT 0 10 20;STATE off 0;STATE fire 1 HAZARDOUS 'It burns'\
+|Ok(Definitions { telemetry: List { items: [] }, commands: List { items: [\
+Packet { target: Name { text: 'T' }, name: Name { text: 'C' }, items: List { items: [\
+Item { name: Name { text: 'A' }, kind: Uint, offset: 0, size: 8, order: Big, id: None, range: Some((0, 10)), preset: Whole(20), states: List { items: [StateDef { name: 'OFF', value: 0, color: None, \
+hazardous: false }, StateDef { name: 'FIRE', value: 1, color: None, hazardous: true }] }, conversion: Plain, limits: None, units: None, format: None, required: false, overflow: Error }] }, length: 1, \
+variable: false, hazardous: false }] }, set_names: List { items: [Name { text: 'DEFAULT' }] } })";
 
 #[test]
 fn commands_have_defaults(rt: HostRuntime) -> Result<(), Fail> {

@@ -300,8 +300,14 @@ const DEFAULTS: &str = "\
 ;PROTOCOL READ BURST 1|Some(List { items: [ProtoUse { spec: Burst { discard: 1, sync: Bytes { held: [] }, fill: false }, reads: true, writes: false }] })
 ;PROTOCOL READ_WRITE BURST 0x0C|Some(List { items: [ProtoUse { spec: Burst { discard: 12, sync: Bytes { held: [] }, fill: false }, reads: true, writes: true }] })
 ;PROTOCOL WRITE BURST 1|Some(List { items: [ProtoUse { spec: Burst { discard: 1, sync: Bytes { held: [] }, fill: false }, reads: false, writes: true }, ProtoUse { spec: Burst { discard: 0, sync: Bytes { held: [] }, fill: false }, reads: true, writes: false }] })
- LENGTH;PROTOCOL WRITE BURST 2|Some(List { items: [ProtoUse { spec: Length { place: Place { offset: 0, bits: 16, order: Big }, value_offset: 0, per_count: 1, discard: 0, sync: Bytes { held: [] }, max: None, fill: false }, reads: true, writes: true }, ProtoUse { spec: Burst { discard: 2, sync: Bytes { held: [] }, fill: false }, reads: false, writes: true }] })
-;PROTOCOL READ TerminatedProtocol 0x0A 0x0A;PROTOCOL READ LengthProtocol 0 8 0 1|Some(List { items: [ProtoUse { spec: Terminated { write: Bytes { held: [10] }, read: Bytes { held: [10] }, strip: true, discard: 0, sync: Bytes { held: [] }, fill: false }, reads: true, writes: false }, ProtoUse { spec: Length { place: Place { offset: 0, bits: 8, order: Big }, value_offset: 0, per_count: 1, discard: 0, sync: Bytes { held: [] }, max: None, fill: false }, reads: true, writes: false }] })";
+ LENGTH;PROTOCOL WRITE BURST 2\
+|Some(List { items: [\
+ProtoUse { spec: Length { place: Place { offset: 0, bits: 16, order: Big }, value_offset: 0, per_count: 1, discard: 0, sync: Bytes { held: [] }, max: None, fill: false }, reads: true, writes: true }, \
+ProtoUse { spec: Burst { discard: 2, sync: Bytes { held: [] }, fill: false }, reads: false, writes: true }] })
+;PROTOCOL READ TerminatedProtocol 0x0A 0x0A;PROTOCOL READ LengthProtocol 0 8 0 1\
+|Some(List { items: [\
+ProtoUse { spec: Terminated { write: Bytes { held: [10] }, read: Bytes { held: [10] }, strip: true, discard: 0, sync: Bytes { held: [] }, fill: false }, reads: true, writes: false }, \
+ProtoUse { spec: Length { place: Place { offset: 0, bits: 8, order: Big }, value_offset: 0, per_count: 1, discard: 0, sync: Bytes { held: [] }, max: None, fill: false }, reads: true, writes: false }] })";
 
 #[test]
 fn parameters_that_are_left_out_have_defaults(rt: HostRuntime) -> Result<(), Fail> {
@@ -310,7 +316,10 @@ fn parameters_that_are_left_out_have_defaults(rt: HostRuntime) -> Result<(), Fai
 
 /// What a file says: its port, its desks, and how many interfaces and routers; the last of a setting counts, and an empty file is a site.
 const COUNTS: &str = "\
-title A;TITLE B;PORT CTS_API 1;DESKS 1;PORT CTS_API 65535;DESKS 3;INTERFACE A tcpip_client_interface.rb here 2 2 10.0 nil;RECONNECT_DELAY 1.5;DONT_RECONNECT;RECONNECT_DELAY 0.25;DONT_LOG;LOG DEFAULT;INTERFACE B tcpip_server_interface.rb 3 0x3 -1 nil;LOG DEFAULT;DONT_LOG;PORT CTS_API 80;INTERFACE C tcpip_client_interface.rb '' 4 4 nil nil|(80, 3, 3, 0)
+title A;TITLE B;PORT CTS_API 1;DESKS 1;PORT CTS_API 65535;DESKS 3;\
+INTERFACE A tcpip_client_interface.rb here 2 2 10.0 nil;RECONNECT_DELAY 1.5;DONT_RECONNECT;RECONNECT_DELAY 0.25;DONT_LOG;LOG DEFAULT;\
+INTERFACE B tcpip_server_interface.rb 3 0x3 -1 nil;LOG DEFAULT;DONT_LOG;PORT CTS_API 80;\
+INTERFACE C tcpip_client_interface.rb '' 4 4 nil nil|(80, 3, 3, 0)
 |(7777, 4, 0, 0)";
 
 struct Counts;
@@ -339,8 +348,10 @@ fn the_last_of_a_setting_counts_and_an_empty_file_is_a_site(rt: HostRuntime) -> 
 }
 
 /// A file of three interfaces with settings.
-const SETTINGS: &str =
-    "title A;TITLE B;PORT CTS_API 1;DESKS 1;PORT CTS_API 65535;DESKS 3;INTERFACE A tcpip_client_interface.rb here 2 2 10.0 nil;RECONNECT_DELAY 1.5;DONT_RECONNECT;RECONNECT_DELAY 0.25;DONT_LOG;LOG DEFAULT;INTERFACE B tcpip_server_interface.rb 3 0x3 -1 nil;LOG DEFAULT;DONT_LOG;PORT CTS_API 80;INTERFACE C tcpip_client_interface.rb '' 4 4 nil nil";
+const SETTINGS: &str = "title A;TITLE B;PORT CTS_API 1;DESKS 1;PORT CTS_API 65535;DESKS 3;\
+INTERFACE A tcpip_client_interface.rb here 2 2 10.0 nil;RECONNECT_DELAY 1.5;DONT_RECONNECT;RECONNECT_DELAY 0.25;DONT_LOG;LOG DEFAULT;\
+INTERFACE B tcpip_server_interface.rb 3 0x3 -1 nil;LOG DEFAULT;DONT_LOG;PORT CTS_API 80;\
+INTERFACE C tcpip_client_interface.rb '' 4 4 nil nil";
 
 /// Whom each of them connects to, its port, whether it serves, its delay, whether it reconnects, and whether it is logged.
 const INTERFACE_SETTINGS: &str = "\

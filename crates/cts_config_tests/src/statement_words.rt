@@ -427,7 +427,9 @@ fn an_item_says_its_place_kind_order_and_values(rt: HostRuntime) -> Result<(), F
 }
 
 const DETAILS: &str = "\
-ti LIMITS tvac 3 ENABLED -80.0 -70.0 60.0 80.0 -20.0 20.5|Ok(Detail(Limits(LimitsLine { set: Name { text: 'TVAC' }, persistence: 3, enabled: true, limits: Limits { red_low: Decimal { parts: -80000000000000 }, yellow_low: Decimal { parts: -70000000000000 }, yellow_high: Decimal { parts: 60000000000000 }, red_high: Decimal { parts: 80000000000000 }, green: Some((Decimal { parts: -20000000000000 }, Decimal { parts: 20500000000000 })) } })))
+ti LIMITS tvac 3 ENABLED -80.0 -70.0 60.0 80.0 -20.0 20.5\
+|Ok(Detail(Limits(LimitsLine { set: Name { text: 'TVAC' }, persistence: 3, enabled: true, limits: Limits { red_low: Decimal { parts: -80000000000000 }, yellow_low: Decimal { parts: -70000000000000 }, \
+yellow_high: Decimal { parts: 60000000000000 }, red_high: Decimal { parts: 80000000000000 }, green: Some((Decimal { parts: -20000000000000 }, Decimal { parts: 20500000000000 })) } })))
 ti STATE été 0x10 YELLOW|Ok(Detail(State(StateDef { name: 'Ã©TÃ©', value: 16, color: Some(StateYellow), hazardous: false })))
 ti SEG_POLY_READ_CONVERSION -1.5 2 3|Ok(Detail(Segment(Segment { bound: Decimal { parts: -1500000000000 }, coefficients: List { items: [Decimal { parts: 2000000000000 }, Decimal { parts: 3000000000000 }] } })))";
 
