@@ -17,12 +17,7 @@ use std::alloc::Global;
 /// # Errors
 ///
 /// `Memory`.
-pub fn packet_label(
-    alloc: Global,
-    site: &Site,
-    time: Time,
-    ident: Ident,
-) -> Result<Label, Memory>
+pub fn packet_label(alloc: Global, site: &Site, time: Time, ident: Ident) -> Result<Label, Memory>
     requires { IsIdent site.now ident }
     ensures { IfOk result (λ l. heading_of l ≡ heading_by (packet_names site.now ident) time) }
 {
