@@ -1,16 +1,24 @@
 -- What is kept beside the entries stands for one entry more.
-use Rattle.std.proofs.Common.{◌≡◌, ◌≢◌, ◌∷◌, [], ◌++◌, ℕ, zero, suc, ◌<◌, ◌≤◌, Bool, true, false, List, length, set, refl, sym, ◌∙◌, ap, arith, Option, Some, None, unwrap_or, replicate}
+use Rattle.std.proofs.Common.{◌≡◌, ◌≢◌, ◌∷◌, [], ◌++◌, ℕ, zero, suc, ◌<◌, ◌≤◌, Bool, true, false, List, length, set, take, refl, sym, ◌∙◌, ap, subst, arith, Option, Some, None, unwrap_or, replicate}
 use Rattle.std.specs.Prelude.{◌==◌, if◌then◌else◌, slice_get}
 use Rattle.std.proofs.lemmas.Grind.{common_steps}
+use Rattle.cts_def.specs.Most.{most_sets}
 use Rattle.cts_def.specs.Sites.{SiteData, IsSoundSite}
 use Rattle.cts_entry.specs.declared.entry.Entry.{Entry}
-use Rattle.cts_entry.specs.Histories.{connects, connects_maker, is_connected, or_earlier, latest}
+use Rattle.cts_entry.specs.declared.what.What.{What}
+use Rattle.cts_entry.specs.declared.what.What.TheVariants.{Opened, Packet, Closed, Command, SetLimits, Enable, LimitsSetIs, Injected, Unrouted, Stop, Ended}
+use Rattle.cts_entry.specs.Histories.{connects, connects_maker, entries_for, is_connected, or_earlier, latest}
 use Rattle.cts_entry.proofs.Appending.{connected-append}
+use Rattle.cts_watch.specs.Places.{room_at, room_for}
+use Rattle.cts_watch.specs.Sets.{known_sets, set_named, sets_known, with_named}
+use Rattle.cts_watch.specs.Watcher.{WatcherData, WatcherTells}
+use Rattle.cts_watch.proofs.SetSteps.{all_append}
+use Rattle.cts_watch.proofs.WatcherSteps.{tells_spare}
 use Rattle.cts_table.specs.Connected.{MakersTell, most_makers, noted_maker, told_open}
-use Rattle.cts_table.specs.Keeping.{AllOfSite}
+use Rattle.cts_table.specs.Keeping.{AllOfSite, IsOfSite, IsSaid}
 use Rattle.cts_table.specs.Kept.{AllTell}
 use Rattle.cts_table.specs.Marking.{MarksData, begun_marks, noted, with_one}
-use Rattle.cts_table.proofs.MarkSteps.{begun_tells, each_all, each_of, each_with, past_is, tells_noted, with_long}
+use Rattle.cts_table.proofs.MarkSteps.{begun_tells, each_all, each_of, each_with, get_last, past_is, tells_noted, with_long}
 use Rattle.cts_table.proofs.Owing.{maker_small}
 
 -- ---- who is connected
@@ -74,13 +82,44 @@ open_is_connected site by h bs sound all t = by_there (slice_get bs by) refl
     by_there (Some b) is = t.open_is by b is
     by_there None is = let over = past_none bs by is in let l = t.long in sym (none_open by h (foreign_from site by [] h sound all (omega (arith, over, l))))
 
+-- ---- how many sets are known
+
+few_named : (site : SiteData) (before : List Entry) (by : ℕ) (what : What) → length (known_sets site before) ≤ most_sets → IsSaid site before by what → length (with_named (known_sets site before) (set_named what)) ≤ most_sets
+few_named site before by Opened few s = few
+few_named site before by (Packet ident bytes) few s = few
+few_named site before by (Closed why loss unposted unsent) few s = few
+few_named site before by (Command interface command bytes) few s = few
+few_named site before by (SetLimits enabled packet item persistence set limits) few s = s.2
+few_named site before by (Enable packet item enabled) few s = few
+few_named site before by (LimitsSetIs set) few s = few
+few_named site before by (Injected packet bytes) few s = few
+few_named site before by (Unrouted why bytes) few s = few
+few_named site before by Stop few s = few
+few_named site before by Ended few s = few
+
+pub few_sets : (site : SiteData) (h : List Entry) (e : Entry) → sets_known site h ≤ most_sets → IsOfSite site h e → sets_known site (h ++ e ∷ []) ≤ most_sets
+few_sets site h e few of = subst (λ (k : List (List ℕ)). length k ≤ most_sets) (sym (all_append site.definitions.set_names h e)) (few_named site h e.by e.what few of.said)
+
 -- ---- all of it
 
-pub all_noted : (site : SiteData) (h : List Entry) (e : Entry) (m : MarksData) (o : List Bool) (n : MarksData) (p : List Bool) → n ≡ noted site (length h) e m → p ≡ noted_maker e o → AllTell site h m o → AllTell site (h ++ e ∷ []) n p
-all_noted site h e m o n p nn pp t = record { marks = rw nn (tells_noted site h e m t.marks); makers = rw pp (makers_noted h e o t.makers) }
+pub all_noted : (site : SiteData) (h : List Entry) (e : Entry) (m : MarksData) (o : List Bool) (w : WatcherData) (n : MarksData) (p : List Bool) (v : WatcherData) → n ≡ noted site (length h) e m → p ≡ noted_maker e o →
+    WatcherTells site (h ++ e ∷ []) v → IsOfSite site h e → AllTell site h m o w → AllTell site (h ++ e ∷ []) n p v
+all_noted site h e m o w n p v nn pp tells of t = record { marks = rw nn (tells_noted site h e m t.marks); makers = rw pp (makers_noted h e o t.makers); watcher = tells; sets = few_sets site h e t.sets of }
 
-pub all_begun : (site : SiteData) (m : MarksData) (o : List Bool) → m ≡ begun_marks site → o ≡ replicate most_makers false → AllTell site [] m o
-all_begun site m o mm oo = record { marks = rw mm (begun_tells site); makers = rw oo makers_begun }
+pub all_begun : (site : SiteData) (m : MarksData) (o : List Bool) (w : WatcherData) → m ≡ begun_marks site → o ≡ replicate most_makers false → WatcherTells site [] w → sets_known site [] ≤ most_sets → AllTell site [] m o w
+all_begun site m o w mm oo tells few = record { marks = rw mm (begun_tells site); makers = rw oo makers_begun; watcher = tells; sets = few }
+
+pub all_spare : (site : SiteData) (h : List Entry) (m : MarksData) (o : List Bool) (w : WatcherData) (s : ℕ) → AllTell site h m o w → AllTell site h m o (record w { spare = s })
+all_spare site h m o w s t = record { marks = t.marks; makers = t.makers; watcher = tells_spare site h w s t.watcher; sets = t.sets }
+
+-- ---- the last entry
+
+pub last_room : (h : List Entry) (e : Entry) → room_at (h ++ e ∷ []) (length h) ≡ entries_for e.what
+last_room h e = ap room_for (get_last h e)
+
+pub take_first : {A : Type 0} (h : List A) (e : A) → take (length h) (h ++ e ∷ []) ≡ h
+take_first [] e = refl
+take_first (x ∷ h) e = ap (λ xs. x ∷ xs) (take_first h e)
 
 -- ---- a write
 

@@ -10,7 +10,6 @@ use Rattle.cts_table.specs.Keeping.{IsKept}
 use Rattle.cts_table.specs.States.{Shown}
 use Rattle.cts_entry.specs.Workers.{is_worker}
 use Rattle.cts_table.specs.Kept.{AllTell}
-use Rattle.cts_watch.specs.Watching.{watches}
 use Rattle.cts_table.specs.declared.hall.Hall.TheInside.{Inside}
 
 abbrev pub basis_of : Inside → Basis
@@ -36,8 +35,8 @@ pub record IsSound (a : Inside) : Type 0 where
   pub kept : IsKept (basis_of a) a.entries.items
   pub site : IsSoundSite (arc_value a.site)
   pub stopped : a.stopped ≡ is_stopped a.entries.items
-  pub watched : a.watched ≡ watches (arc_value a.site)
-  pub tells : AllTell (arc_value a.site) a.entries.items a.marks a.makers
+  pub tells : AllTell (arc_value a.site) a.entries.items a.marks a.makers a.watcher
+  pub spare : a.spare_entries ≤ a.watcher.spare
   pub used_entries : a.used_entries ≡ entries_in a.entries.items
   pub used_bytes : a.used_bytes ≡ bytes_in a.entries.items
   pub within_entries : a.used_entries + a.spare_entries ≤ a.limit_entries

@@ -5,11 +5,13 @@ ghost use Rattle.cts_def.specs.Makers.{server};
 ghost use Rattle.cts_def.specs.Sites.{IsSoundSite};
 ghost use Rattle.cts_entry.specs.Histories.{is_connected, is_stopped};
 ghost use Rattle.cts_entry.specs.Legal.{has_ended, most_bytes, most_entries};
+ghost use Rattle.cts_def.specs.Most.{most_sets};
 ghost use Rattle.cts_def.specs.declared.ident.Ident.TheVariants.{Unknown};
 ghost use Rattle.cts_table.specs.Keeping.{IsKept};
 ghost use Rattle.cts_table.specs.Lookups.{commands_in, counts_of};
 ghost use Rattle.cts_table.specs.Marking.{HeardTells};
-ghost use Rattle.cts_watch.specs.Watching.{watches};
+ghost use Rattle.cts_watch.specs.Sets.{sets_known};
+ghost use Rattle.cts_watch.specs.Watcher.{WatcherTells};
 ghost use Rattle.cts_table.specs.States.{added, begun, CanAdd, IsRoomAnswer, with_room};
 
 use crate::makers::Makers;
@@ -18,7 +20,7 @@ use crate::{Basis, Counts, HallFault, History};
 use cts_base::Memory;
 use cts_def::Site;
 use cts_entry::{Entry, MOST_BYTES, MOST_ENTRIES, Stands, bytes_for, entries_for, is_stop};
-use cts_watch::watches;
+use cts_watch::Watcher;
 use std::alloc::Global;
 use std::marker::Model;
 use std::sync::Arc;
@@ -35,7 +37,7 @@ pub struct Hall {
     entries: Vec<Entry>,
     marks: Marks,
     makers: Makers,
-    watched: bool,
+    watcher: Watcher,
     stopped: bool,
     used_entries: u64,
     used_bytes: u64,
@@ -89,7 +91,7 @@ impl Hall {
         let _desks = rules.desks;
         let marks = Marks::begin(alloc, rules)?;
         let makers = Makers::begin(alloc)?;
-        let watched = watches(rules);
+        let watcher = Watcher::begin(alloc, rules)?;
         let places = Vec::with_capacity(alloc, MOST_OWED)?;
         Ok(Hall {
             site,
@@ -98,7 +100,7 @@ impl Hall {
             entries: places,
             marks,
             makers,
-            watched,
+            watcher,
             stopped: false,
             used_entries: 0,
             used_bytes: 0,
@@ -123,6 +125,9 @@ impl Hall {
         }
         let spare_entries = self.spare_entries.max(entries);
         let spare_bytes = self.spare_bytes.max(bytes);
+        if self.watcher.reserve(spare_entries).is_err() {
+            return Err(HallFault::Memory);
+        }
         if self
             .entries
             .reserve(MOST_OWED + 2 * spare_entries as usize)
@@ -147,6 +152,7 @@ impl Hall {
         self.marks.note(&self.site, at as u64, &entry);
         self.makers.note(&entry);
         self.entries.push_reserved(entry);
+        self.watcher.note(&self.site, self.entries.as_slice(), at);
         self.stopped |= stops;
         self.used_entries += entries;
         self.used_bytes += bytes;
@@ -159,13 +165,6 @@ impl Hall {
         ensures { result.now ≡ self.now.entries }
     {
         self.entries.as_slice()
-    }
-
-    /// Whether an item of the site has limits or state colours, so that its limits state may change.
-    pub(crate) fn is_watched(&self) -> bool
-        ensures { result ≡ watches self.now.basis.site }
-    {
-        self.watched
     }
 
     /// The site of the history.
@@ -238,6 +237,14 @@ impl Hall {
         ensures { result ≡ commands_in command self.now.entries }
     {
         self.marks.sent(command)
+    }
+
+    /// What is kept of limits.
+    pub(crate) fn watcher(&self) -> &Watcher
+        ensures tells { WatcherTells self.now.basis.site self.now.entries result.now }
+        ensures few { sets_known self.now.basis.site self.now.entries ≤ most_sets }
+    {
+        &self.watcher
     }
 
     /// Whether a Stop stands. The server itself, whose Stop it may be, never ends.

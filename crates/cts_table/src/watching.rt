@@ -18,22 +18,21 @@ impl Hall {
     pub fn limits_set(&self) -> &Name
         ensures { result.now ≡ current_set self.now.entries }
     {
-        cts_watch::limits_set(self.site(), self.entries())
+        self.watcher().limits_set(self.site(), self.entries())
     }
 
     /// Whether a limits set is known, by its name in any case.
     pub fn set_known(&self, set: &[u8]) -> bool
         ensures { result ≡ is_set_known self.now.basis.site self.now.entries (in_upper_case set.now) }
     {
-        cts_watch::set_known(self.site(), set, self.entries())
+        self.watcher().set_known(self.site(), self.entries(), set)
     }
 
     /// How many limits sets are known.
     pub fn sets_known(&self) -> u32
         ensures { result ≡ sets_known self.now.basis.site self.now.entries }
     {
-        self.is_kept();
-        cts_watch::sets_known(self.site(), self.entries())
+        self.watcher().sets_known(self.site(), self.entries())
     }
 
     /// The limits of an item that count where a set is asked for, by its name in any case: its own in that set, or those of
@@ -42,26 +41,24 @@ impl Hall {
         ensures used { result ≡ limits_of self.now.basis.site packet item (in_upper_case set.now) self.now.entries }
         ensures none { is_none result ≡ not (has_limits (item_at self.now.basis.site packet item)) }
     {
-        cts_watch::limits_of(self.site(), packet, item, set, self.entries())
+        self.watcher()
+            .limits_of(self.site(), self.entries(), packet, item, set)
     }
 
     /// The limits state of an item, and Stale where there is no such item.
     pub fn state_of(&self, packet: u32, item: u32) -> Color
         ensures { result ≡ state_at self.now.basis.site packet item self.now.entries }
     {
-        self.is_kept();
-        cts_watch::state_of(self.site(), packet, item, self.entries())
+        self.watcher()
+            .state_of(self.site(), self.entries(), packet, item)
     }
 
     /// The changes of limits states at the entries from this one on, in the order of the entries, and at one entry in the order
-    /// of the items. It goes once over the entries, and over none where no item of the site has limits or state colours. `Memory` where none was found for them, or for what is kept of the items.
+    /// of the items. It looks at no entry. `Memory` where none was found for them.
     pub fn events(&self, alloc: Global, from: u64) -> Result<Vec<LimitsEvent>, Memory>
         ensures { IfOk result (λ found. found.items ≡ events_from self.now.basis.site self.now.entries from) }
     {
-        self.is_kept();
-        if !self.is_watched() {
-            return Ok(Vec::new(alloc));
-        }
-        cts_watch::events(alloc, self.site(), self.entries(), from)
+        self.watcher()
+            .events(alloc, self.site(), self.entries(), from)
     }
 }

@@ -7,3 +7,10 @@ pub mod Tells
 pub mod Noted
 pub mod Placed
 pub mod Unwatched
+pub mod Widths
+pub mod PlaceSteps
+pub mod Keyed
+pub mod GridSteps
+pub mod CellSteps
+pub mod NoteSteps
+pub mod WatcherSteps

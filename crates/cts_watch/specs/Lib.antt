@@ -9,3 +9,8 @@ pub mod Events
 pub mod Watching
 pub mod Steps
 pub mod Keeping
+pub mod Cells
+pub mod Grid
+pub mod Places
+pub mod Widest
+pub mod Watcher

@@ -2,19 +2,23 @@
 #![tactic(auto)]
 
 mod bringing;
+mod cells;
 mod changes;
 mod choices;
 mod finding;
 mod following;
+mod grid;
 mod kept;
 mod known;
 mod laws;
+mod places;
 mod row;
 mod running;
 mod sampling;
 mod settings;
 mod table;
 mod types;
+mod watcher;
 mod watching;
 
 pub use bringing::brought;
@@ -26,4 +30,5 @@ pub use known::{set_known, sets_known};
 pub use laws::known_sets_stand_once;
 pub use running::state_of;
 pub use types::{LimitsEvent, LimitsUsed};
+pub use watcher::Watcher;
 pub use watching::{is_watched, watches};
