@@ -5,7 +5,7 @@ use Rattle.std.proofs.lemmas.Grind.{flat_map-append}
 use Rattle.std.proofs.lemmas.List.Elements.{filter-append}
 use Rattle.std.proofs.lemmas.List.Sums.{sum_by-cons}
 use Rattle.cts_connection.specs.Routings.{is_logged, site_routing}
-use Rattle.cts_core.specs.Drainings.{commands_logged, packets_logged}
+use Rattle.cts_core.specs.Drainings.{site_commands_log, site_packets_log}
 use Rattle.cts_def.specs.Sites.{SiteData}
 use Rattle.cts_entry.specs.declared.entry.Entry.{Entry}
 use Rattle.cts_entry.specs.Histories.{bytes_for, bytes_in, commands_to, packets_from}
@@ -14,25 +14,25 @@ use Rattle.cts_told.specs.Routing.{names_in}
 use Rattle.cts_told.specs.Streams.{lay_out}
 
 module _ (site : SiteData) where
-  packets-append : (xs ys : List Entry) → packets_logged site (xs ++ ys) ≡ packets_logged site xs ++ packets_logged site ys
+  packets-append : (xs ys : List Entry) → site_packets_log site (xs ++ ys) ≡ site_packets_log site xs ++ site_packets_log site ys
   packets-append xs ys =
       let f = lay_out laid_out (names_in (site_routing site)) in
       let test = packets_from (is_logged site) in
       ap (λ (l : List Entry). flat_map f l) (filter-append test xs ys) ∙ flat_map-append f (filter test xs) (filter test ys)
 
-  commands-append : (xs ys : List Entry) → commands_logged site (xs ++ ys) ≡ commands_logged site xs ++ commands_logged site ys
+  commands-append : (xs ys : List Entry) → site_commands_log site (xs ++ ys) ≡ site_commands_log site xs ++ site_commands_log site ys
   commands-append xs ys =
       let f = lay_out laid_out (names_in (site_routing site)) in
       let test = commands_to (is_logged site) in
       ap (λ (l : List Entry). flat_map f l) (filter-append test xs ys) ∙ flat_map-append f (filter test xs) (filter test ys)
 
-  pub packets_more : (e : Entry) (es : List Entry) (sofar new all : List ℕ) → new ≡ sofar ++ packets_logged site (e ∷ []) → sofar ++ packets_logged site (e ∷ es) ≡ all → new ++ packets_logged site es ≡ all
+  pub packets_more : (e : Entry) (es : List Entry) (sofar new all : List ℕ) → new ≡ sofar ++ site_packets_log site (e ∷ []) → sofar ++ site_packets_log site (e ∷ es) ≡ all → new ++ site_packets_log site es ≡ all
   packets_more e es sofar new all n h =
-      ap (λ (l : List ℕ). l ++ packets_logged site es) n ∙ (append_assoc sofar (packets_logged site (e ∷ [])) (packets_logged site es) ∙ (ap (λ (l : List ℕ). sofar ++ l) (sym (packets-append (e ∷ []) es)) ∙ h))
+      ap (λ (l : List ℕ). l ++ site_packets_log site es) n ∙ (append_assoc sofar (site_packets_log site (e ∷ [])) (site_packets_log site es) ∙ (ap (λ (l : List ℕ). sofar ++ l) (sym (packets-append (e ∷ []) es)) ∙ h))
 
-  pub commands_more : (e : Entry) (es : List Entry) (sofar new all : List ℕ) → new ≡ sofar ++ commands_logged site (e ∷ []) → sofar ++ commands_logged site (e ∷ es) ≡ all → new ++ commands_logged site es ≡ all
+  pub commands_more : (e : Entry) (es : List Entry) (sofar new all : List ℕ) → new ≡ sofar ++ site_commands_log site (e ∷ []) → sofar ++ site_commands_log site (e ∷ es) ≡ all → new ++ site_commands_log site es ≡ all
   commands_more e es sofar new all n h =
-      ap (λ (l : List ℕ). l ++ commands_logged site es) n ∙ (append_assoc sofar (commands_logged site (e ∷ [])) (commands_logged site es) ∙ (ap (λ (l : List ℕ). sofar ++ l) (sym (commands-append (e ∷ []) es)) ∙ h))
+      ap (λ (l : List ℕ). l ++ site_commands_log site es) n ∙ (append_assoc sofar (site_commands_log site (e ∷ [])) (site_commands_log site es) ∙ (ap (λ (l : List ℕ). sofar ++ l) (sym (commands-append (e ∷ []) es)) ∙ h))
 
 -- ---- how many bytes
 

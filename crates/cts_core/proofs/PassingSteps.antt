@@ -21,7 +21,7 @@ use Rattle.cts_connection.specs.LinePlaces.{is_line, line_count, line_place}
 use Rattle.cts_connection.specs.Routings.{site_routing}
 use Rattle.cts_connection.specs.Writings.{Wrote, spell_by}
 use Rattle.cts_core.specs.Cursors.{IsPassed}
-use Rattle.cts_core.specs.Drainings.{Drains, commands_logged, packets_logged}
+use Rattle.cts_core.specs.Drainings.{Drains, site_commands_log, site_packets_log}
 use Rattle.cts_core.specs.Environments.{environment_of, site_environment}
 use Rattle.cts_core.specs.Runs.{Appends, Did, IsAnswered, after, effect_of, passed_for, pieces_for, silent, time_after}
 use Rattle.cts_core.specs.States.{State, ahead, is_enabled, log_ahead, put_next, takes_memory, takes_room}
@@ -220,11 +220,11 @@ module _ (base : Basis) (w : Held) (s : State) (n place : ℕ) (at : s.log_curso
         connections = λ k line. connection_kept base.site s (after s (DrainLog n) log_did) k (connection_of w k) (ap (is_connected k) (sym none)) (pieces_stay k (DrainLog n) [] s.pieces refl refl) (passes base.site s (DrainLog n) log_did k refl refl) (h.connections k line);
       }
 
-  logs_are : packets_logged w.basis.site (take n (drop place w.history)) ≡ packets_logged base.site (take n (log_ahead s))
-  logs_are = ap (λ (b : Basis). packets_logged b.site (take n (drop place w.history))) h.basis ∙ ap (λ (l : List Entry). packets_logged base.site (take n l)) ahead_is
+  logs_are : site_packets_log w.basis.site (take n (drop place w.history)) ≡ site_packets_log base.site (take n (log_ahead s))
+  logs_are = ap (λ (b : Basis). site_packets_log b.site (take n (drop place w.history))) h.basis ∙ ap (λ (l : List Entry). site_packets_log base.site (take n l)) ahead_is
 
-  commands_are : commands_logged w.basis.site (take n (drop place w.history)) ≡ commands_logged base.site (take n (log_ahead s))
-  commands_are = ap (λ (b : Basis). commands_logged b.site (take n (drop place w.history))) h.basis ∙ ap (λ (l : List Entry). commands_logged base.site (take n l)) ahead_is
+  commands_are : site_commands_log w.basis.site (take n (drop place w.history)) ≡ site_commands_log base.site (take n (log_ahead s))
+  commands_are = ap (λ (b : Basis). site_commands_log b.site (take n (drop place w.history))) h.basis ∙ ap (λ (l : List Entry). site_commands_log base.site (take n l)) ahead_is
 
   pub drained_logs : (result : Result Effect WorldFault) → Drains w.basis.site w.history place n result → Steps base s (DrainLog n) w result w
   unfolding log_did

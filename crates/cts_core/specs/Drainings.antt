@@ -10,16 +10,16 @@ use Rattle.cts_core.specs.declared.fault.WorldFault.{WorldFault}
 use Rattle.cts_core.specs.declared.fault.WorldFault.TheVariants.{NotEnabled, Full, Memory}
 
 -- what the log of packets and the log of commands of a site have of some entries
-abbrev pub packets_logged : SiteData → List Entry → List ℕ
-packets_logged site entries = packets_log (site_environment site) entries
+abbrev pub site_packets_log : SiteData → List Entry → List ℕ
+site_packets_log site entries = packets_log (site_environment site) entries
 
-abbrev pub commands_logged : SiteData → List Entry → List ℕ
-commands_logged site entries = commands_log (site_environment site) entries
+abbrev pub site_commands_log : SiteData → List Entry → List ℕ
+site_commands_log site entries = commands_log (site_environment site) entries
 
 -- What the logs take of the next so many entries after a place: nothing exactly where fewer stand there.
 abbrev pub Drains : SiteData → List Entry → ℕ → ℕ → Result Effect WorldFault → Type 0
 Drains site history place n (Ok effect) =
-    (n ≤ length (drop place history)) × (effect ≡ Logged (packets_logged site (take n (drop place history))) (commands_logged site (take n (drop place history))))
+    (n ≤ length (drop place history)) × (effect ≡ Logged (site_packets_log site (take n (drop place history))) (site_commands_log site (take n (drop place history))))
 Drains site history place n (Err NotEnabled) = length (drop place history) < n
 Drains site history place n (Err Memory) = n ≤ length (drop place history)
 Drains site history place n (Err (Full entries bytes)) = ⊥

@@ -5,7 +5,7 @@ ghost use Rattle.cts_entry.specs.declared.entry.Entry.{Entry as EntryData};
 ghost use Rattle.cts_entry.specs.declared.event.Effect.TheVariants.{Logged};
 ghost use Rattle.cts_entry.specs.Histories.{bytes_in};
 ghost use Rattle.cts_connection.specs.Routings.{is_logged, packet_names};
-ghost use Rattle.cts_core.specs.Drainings.{Drains, commands_logged, packets_logged};
+ghost use Rattle.cts_core.specs.Drainings.{Drains, site_commands_log, site_packets_log};
 ghost use Rattle.cts_log.specs.Logged.{laid_out};
 ghost use Rattle.cts_table.specs.Keeping.{AllOfSite, IsIdent, IsOfSite};
 ghost use Rattle.cts_told.specs.Routing.{heading_of};
@@ -45,7 +45,7 @@ pub(crate) fn drain(
 fn logs_of(alloc: Global, site: &Site, entries: &[Entry]) -> Result<Effect, Memory>
     requires of_site { (before : List EntryData) × AllOfSite site.now before entries.now }
     requires small { bytes_in entries.now < 2 ^ 32 }
-    ensures { IfOk result (λ effect. effect ≡ Logged (packets_logged site.now entries.now) (commands_logged site.now entries.now)) }
+    ensures { IfOk result (λ effect. effect ≡ Logged (site_packets_log site.now entries.now) (site_commands_log site.now entries.now)) }
 {
     let mut tlm = Vec::new(alloc);
     let mut cmd = Vec::new(alloc);
@@ -66,8 +66,8 @@ fn put_logs(
 ) -> Result<(), Memory>
     requires of_site { (before : List EntryData) × AllOfSite site.now before entries.now }
     requires small { bytes_in entries.now < 2 ^ 32 }
-    ensures tlm { OnOk result (tlm.new.items ≡ tlm.old.items ++ packets_logged site.now entries.now) }
-    ensures cmd { OnOk result (cmd.new.items ≡ cmd.old.items ++ commands_logged site.now entries.now) }
+    ensures tlm { OnOk result (tlm.new.items ≡ tlm.old.items ++ site_packets_log site.now entries.now) }
+    ensures cmd { OnOk result (cmd.new.items ≡ cmd.old.items ++ site_commands_log site.now entries.now) }
 {
     let mut left = entries;
     'left: while let Some((entry, after)) = left.split_first() {
@@ -86,8 +86,8 @@ fn put_entry(
 ) -> Result<(), Memory>
     requires of_site { (before : List EntryData) × IsOfSite site.now before entry.now }
     requires small { bytes_in (entry.now ∷ []) < 2 ^ 32 }
-    ensures tlm { OnOk result (tlm.new.items ≡ tlm.old.items ++ packets_logged site.now (entry.now ∷ [])) }
-    ensures cmd { OnOk result (cmd.new.items ≡ cmd.old.items ++ commands_logged site.now (entry.now ∷ [])) }
+    ensures tlm { OnOk result (tlm.new.items ≡ tlm.old.items ++ site_packets_log site.now (entry.now ∷ [])) }
+    ensures cmd { OnOk result (cmd.new.items ≡ cmd.old.items ++ site_commands_log site.now (entry.now ∷ [])) }
 {
     match &entry.what {
         What::Packet { ident, bytes } => {

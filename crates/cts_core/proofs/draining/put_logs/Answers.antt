@@ -1,6 +1,6 @@
 use Rattle.std.proofs.Common.{rules, ◌≡◌, ◌<◌, ◌∷◌, ◌++◌, [], List, subst}
 use Rattle.std.specs.Prelude.{◌^◌}
-use Rattle.cts_core.specs.Drainings.{commands_logged, packets_logged}
+use Rattle.cts_core.specs.Drainings.{site_commands_log, site_packets_log}
 use Rattle.cts_entry.specs.declared.entry.Entry.{Entry}
 use Rattle.cts_entry.specs.Histories.{bytes_in}
 use Rattle.cts_table.specs.Keeping.{AllOfSite}
@@ -29,7 +29,7 @@ left-preserved c =
       of_site = (h.0 ++ e ∷ [], (subst (AllOfSite site h.0) split h.1).1);
       small = rest_small e es (2 ^ 32) (subst (λ (l : List Entry). bytes_in l < 2 ^ 32) split c.left.invariant.small);
       tlm = packets_more site e es c.left.tlm.items c.put_entry.new.tlm.items _ c.in_ok-put_entry.ensures.tlm
-          (subst (λ (l : List Entry). c.left.tlm.items ++ packets_logged site l ≡ c.args.tlm.now.items ++ packets_logged site c.args.entries.now) split c.left.invariant.tlm);
+          (subst (λ (l : List Entry). c.left.tlm.items ++ site_packets_log site l ≡ c.args.tlm.now.items ++ site_packets_log site c.args.entries.now) split c.left.invariant.tlm);
       cmd = commands_more site e es c.left.cmd.items c.put_entry.new.cmd.items _ c.in_ok-put_entry.ensures.cmd
-          (subst (λ (l : List Entry). c.left.cmd.items ++ commands_logged site l ≡ c.args.cmd.now.items ++ commands_logged site c.args.entries.now) split c.left.invariant.cmd);
+          (subst (λ (l : List Entry). c.left.cmd.items ++ site_commands_log site l ≡ c.args.cmd.now.items ++ site_commands_log site c.args.entries.now) split c.left.invariant.cmd);
     }

@@ -1,6 +1,6 @@
 use Rattle.std.proofs.Common.{◌≡◌, ◌<◌, List, ◌++◌, length}
 use Rattle.std.specs.Prelude.{◌^◌}
-use Rattle.cts_core.specs.Drainings.{commands_logged, packets_logged}
+use Rattle.cts_core.specs.Drainings.{site_commands_log, site_packets_log}
 use Rattle.cts_entry.specs.declared.entry.Entry.{Entry}
 use Rattle.cts_entry.specs.Histories.{bytes_in}
 use Rattle.cts_table.specs.Keeping.{AllOfSite}
@@ -10,8 +10,8 @@ abbrev pub invariant-left : goal.invariant-left
 invariant-left l = record {
   of_site : (before : List Entry) × AllOfSite l.site before l.left;
   small : bytes_in l.left < 2 ^ 32;
-  tlm : l.tlm.items ++ packets_logged l.site l.left ≡ l.initial.tlm.items ++ packets_logged l.site l.entries;
-  cmd : l.cmd.items ++ commands_logged l.site l.left ≡ l.initial.cmd.items ++ commands_logged l.site l.entries;
+  tlm : l.tlm.items ++ site_packets_log l.site l.left ≡ l.initial.tlm.items ++ site_packets_log l.site l.entries;
+  cmd : l.cmd.items ++ site_commands_log l.site l.left ≡ l.initial.cmd.items ++ site_commands_log l.site l.entries;
 }
 
 abbrev pub decreases-left : goal.decreases-left
