@@ -47,8 +47,8 @@ impl<W: Write> Sink for Console<W> {
     }
 }
 
-// Writes all bytes, again where a write is interrupted. A write that takes nothing is a fault.
-fn write_whole<W: Write>(out: &mut W, bytes: &[u8]) -> Result<(), PutFailed>
+/// Writes all bytes, again where a write is interrupted. A write that takes nothing is a fault.
+pub(crate) fn write_whole<W: Write>(out: &mut W, bytes: &[u8]) -> Result<(), PutFailed>
     ensures whole { OnOk result (Appends (W.contents out.old) (W.contents out.new) bytes.now) }
     ensures part { OnErr result (AppendsPart (W.contents out.old) (W.contents out.new) bytes.now) }
 {

@@ -1,9 +1,12 @@
-//! What the program stands on outside of it: the files of the system and standard output, each behind its trait of `cts_outside`.
-//! They tell nothing of content, since no proof sees what a system keeps; what they count is exact.
+//! What the program stands on outside of it: the files of the system, standard output and the files of the packet logs, each
+//! behind its trait of `cts_outside`. They tell nothing of content, since no proof sees what a system keeps; what they count is
+//! exact.
 #![tactic(auto)]
 
 mod console;
 mod disk;
+mod vault;
 
 pub use crate::console::Console;
 pub use crate::disk::DiskFiles;
+pub use crate::vault::{DiskVault, Opening};

@@ -1,8 +1,8 @@
-//! The program: it takes the words of the command line, a shelf of blank protocols, the files of the system and standard output,
-//! and ends with the status of the command that the words ask for. All else stands in the crates below.
+//! The program: it takes the words of the command line, a shelf of blank protocols, the files of the system, standard output and the
+//! files of the packet logs, and ends with the status of the command that the words ask for. All else stands in the crates below.
 #![tactic(auto)]
 
-use cts_adapters::{Console, DiskFiles};
+use cts_adapters::{Console, DiskFiles, DiskVault, Opening};
 use cts_base::Memory;
 use cts_chain::Chain;
 use cts_fixed::Fixed;
@@ -18,6 +18,11 @@ use std::{env, io};
 
 /// How many boxes of each kind of protocol there are.
 const BOXES: u32 = 32;
+
+/// The files of the packet logs of a replay, which are replaced.
+const TLM: &str = "replay_tlm.bin";
+
+const CMD: &str = "replay_cmd.bin";
 
 fn main(rt: HostRuntime) -> ExitCode {
     let status = perform(&rt).unwrap_or(Status::Memory);
@@ -50,8 +55,9 @@ fn perform<R: Env + Print + AllocGlobal + Files<File = File>>(rt: &R) -> Result<
     }
     let mut files = DiskFiles::new(rt);
     let mut out = Console::new(io::writer(rt));
+    let mut vault = DiskVault::new(rt, Opening::Replaced, TLM, CMD);
     let words = words.as_slice();
-    Ok(run::<Chain, Shelf, _, _>(alloc, words, &mut shelf, &mut files, &mut out))
+    Ok(run::<Chain, Shelf, _, _, _>(alloc, words, &mut shelf, &mut files, &mut out, &mut vault))
 }
 
 // The words after the program's name. Where one of them is not UTF-8 there are none, which no command takes.

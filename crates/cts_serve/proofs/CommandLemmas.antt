@@ -1,38 +1,35 @@
--- What a command answers and puts, from its phases.
+-- What a command answers and does, from its phases.
 use Rattle.std.proofs.Common.{◌≡◌, ◌≢◌, ℕ, Bool, true, false, List, [], ◌∷◌, ◌++◌, length, take, Option, Some, None, option_map, IfSome, MatchOption, Result, Ok, Err, refl, sym, ◌∙◌, ap, subst, arith, ◌⊎◌, inl, inr}
 use Rattle.std.specs.Prelude.{nat_lt, nat_eq}
 use Rattle.std.proofs.Math.Seq.{take-length}
 use Rattle.std.proofs.lemmas.Bool.Decides.{nat_tests}
-use Rattle.cts_chain.specs.Builds.{FaultIs, Taken, uses_in}
+use Rattle.cts_chain.specs.Builds.{FaultIs, Taken}
 use Rattle.cts_chain.specs.declared.build.ChainFault.{ChainFault}
 use Rattle.cts_chain.specs.declared.build.ChainFault.TheVariants as chain
-use Rattle.cts_core_laws.proofs.Judging.{run_judged}
 use Rattle.cts_core_laws.proofs.OneRun.{has_run}
-use Rattle.cts_core_laws.proofs.Legality.{core_is_legal}
-use Rattle.cts_core_laws.proofs.SiteSound.{apart, by_desks, legally, site_sound}
-use Rattle.cts_core_laws.proofs.Telling.{core_is_told}
-use Rattle.cts_core.specs.Built.{is_built_site}
+use Rattle.cts_core_laws.proofs.SiteSound.{site_sound}
+use Rattle.cts_core.specs.LineChains.{line_uses}
 use Rattle.cts_core.specs.Environments.{basis_of, site_environment}
-use Rattle.cts_core.specs.Runs.{Did, Ending, Finished, NotEnabled, HistoryFull, Runs}
+use Rattle.cts_core.specs.Runs.{Did, Ending, Finished, NotEnabled, HistoryFull}
 use Rattle.cts_core.specs.States.{opening}
 use Rattle.cts_def.specs.Sites.{SiteData}
 use Rattle.cts_entry.specs.declared.event.Event.{Event}
-use Rattle.cts_outside.proofs.Putting.{appended-nil}
 use Rattle.cts_outside.specs.Causes.{Rose, Steady}
-use Rattle.cts_outside.specs.Seen.{FilesSeen, SinkSeen}
+use Rattle.cts_outside.specs.Seen.{FilesSeen, SinkSeen, VaultSeen}
 use Rattle.cts_proto.specs.Meaning.{Meaning}
 use Rattle.cts_proto.specs.Stock.{stocked}
+use Rattle.cts_serve.specs.Acts.{Act, AreDone, DoesAll, EndsWith, LogFails, Outside, PutFails, outside, puts}
 use Rattle.cts_serve.specs.Causes.{chain_halt, put_answer}
-use Rattle.cts_serve.specs.Command.{Answers, CommandLeaves, Completes, IsDone, IsDueOf, LeavesShelf, Outcome, Performs, PerformsOf, PerformsScript, PutsFor, PutsOf, ShelfAfter, ShelfAt, ShelfBy, first_phases, misused, outcome_of, phases}
+use Rattle.cts_serve.specs.Command.{Answers, CommandLeaves, Completes, DoesFor, DoesOf, IsDone, IsDueOf, LeavesShelf, Outcome, Performs, PerformsOf, PerformsScript, ShelfAfter, ShelfAt, ShelfBy, first_phases, misused, outcome_of, phases}
 use Rattle.cts_serve.specs.Dump.{IsDump, PutsLog, dump_answer, log_phase}
 use Rattle.cts_serve.specs.Endings.{Ends, EndsHalted, halt_line, halt_status, refused_as}
-use Rattle.cts_serve.specs.Lines.{counts_line, memory_line, read_fault_line, usage_line}
-use Rattle.cts_serve.specs.Load.{bytes_of, events_asked, script_phase, site_asked, site_phases}
+use Rattle.cts_serve.specs.Lines.{counts_line, log_fault_line, memory_line, read_fault_line, usage_line}
+use Rattle.cts_serve.specs.Load.{bytes_of, digest_asked, events_asked, script_phase, site_asked, site_phases}
 use Rattle.cts_serve.specs.Load.Files.{GivesBytes, log_limit, within}
-use Rattle.cts_serve.specs.Phases.{FileCounts, HaltsAt, HaltsIn, IsFound, Phase, Takes, TakesAt, asking, file_halt, first_halt, is_fault}
-use Rattle.cts_serve.specs.Putting.{FailsWithin, IsPut, Printed, PutsBody, PutsText, SinkCounts}
-use Rattle.cts_serve.specs.Replay.{IsReplay, ReplaysBuilt, ReplaysBy, are_built_events, replay_answer, replay_body, script_phases}
-use Rattle.cts_serve.specs.Start.{built_phase, shelf_phase, short_halt, short_kind, unless, world_phases}
+use Rattle.cts_serve.specs.Phases.{FileCounts, HaltsAt, HaltsIn, IsFound, Phase, Takes, TakesAt, file_halt, first_halt, is_fault}
+use Rattle.cts_serve.specs.Putting.{Printed, PutsText, SinkCounts, VaultCounts}
+use Rattle.cts_serve.specs.Replay.{IsReplay, Replays, replay_acts, replay_answer}
+use Rattle.cts_serve.specs.Start.{shelf_phase, short_halt, short_kind}
 use Rattle.cts_serve.specs.Transcript.{events_of}
 use Rattle.cts_serve.specs.declared.halt.Halt.{Halt}
 use Rattle.cts_serve.specs.declared.halt.Halt.TheVariants as halt
@@ -41,82 +38,80 @@ use Rattle.cts_serve.specs.declared.halt.file_kind.FileKind.{FileKind}
 use Rattle.cts_serve.specs.declared.halt.file_kind.FileKind.TheVariants.{Configuration, Script}
 use Rattle.cts_serve.specs.declared.halt.status.Status.{Status}
 use Rattle.cts_serve.specs.declared.halt.status.Status.TheVariants as is
-use Rattle.cts_serve.specs.declared.putting.Unput.{Unput}
-use Rattle.cts_serve.specs.declared.putting.Unput.TheVariants as unput
+use Rattle.cts_serve.specs.declared.putting.Undone.{Undone}
 use Rattle.cts_serve.specs.declared.words.Command.{Command}
 use Rattle.cts_serve.specs.declared.words.Command.TheVariants.{Check, Replay, Dump}
+use Rattle.cts_serve.proofs.ActLemmas.{all_of, put_done, sink_of, vault_of}
 use Rattle.cts_serve.proofs.DumpLemmas.{some_dump}
-use Rattle.cts_serve.proofs.EndingLemmas.{fails_still, printed_then}
-use Rattle.cts_serve.proofs.PhaseLemmas.{first_past, front, here, none_alone, none_both, past, read_past}
+use Rattle.cts_serve.proofs.EndingLemmas.{ends_with, fails_still}
+use Rattle.cts_serve.proofs.LogLemmas.{replay_is}
+use Rattle.cts_serve.proofs.PhaseLemmas.{first_past, front, here, none_alone, past, read_past}
 
--- a body and an end of which this holds
-abbrev Some_due : (List ℕ → Result (Unit {0}) Halt → Type 0) → Type 0
-Some_due done = (body : List ℕ) × (due : Result (Unit {0}) Halt) × done body due
-
-nothing_put : (out : SinkSeen) → IsPut [] out out
-nothing_put out = (refl, sym (appended-nil out.told))
+-- acts and an end of which this holds
+abbrev Some_due : (List Act → Result (Unit {0}) Halt → Type 0) → Type 0
+Some_due done = (acts : List Act) × (due : Result (Unit {0}) Halt) × done acts due
 
 -- ---- a command halts at a phase, or goes on after it
 
-due_by : (h : Option Halt) (done : List ℕ → Result (Unit {0}) Halt → Type 0) → Some_due done
-    → Some_due (λ body due. MatchOption h (done body due) (λ halt. (body ≡ []) × (due ≡ Err halt)))
+due_by : (h : Option Halt) (done : List Act → Result (Unit {0}) Halt → Type 0) → Some_due done
+    → Some_due (λ acts due. MatchOption h (done acts due) (λ halt. (acts ≡ []) × (due ≡ Err halt)))
 due_by (Some h) done some = ([], Err h, (refl, refl))
 due_by None done some = some
 
-pub some_due : (ps : List Phase) (done : List ℕ → Result (Unit {0}) Halt → Type 0) → Some_due done → Some_due (IsDueOf ps done)
+pub some_due : (ps : List Phase) (done : List Act → Result (Unit {0}) Halt → Type 0) → Some_due done → Some_due (IsDueOf ps done)
 some_due ps done some = due_by (first_halt ps) done some
 
-is_due : (ps : List Phase) (done : List ℕ → Result (Unit {0}) Halt → Type 0) (body : List ℕ) (due : Result (Unit {0}) Halt) (first : Option Halt) → first_halt ps ≡ first
-    → MatchOption first (done body due) (λ x. (body ≡ []) × (due ≡ Err x)) → IsDueOf ps done body due
-is_due ps done body due first e m = subst (λ (o : Option Halt). MatchOption o (done body due) (λ x. (body ≡ []) × (due ≡ Err x))) (sym e) m
+is_due : (ps : List Phase) (done : List Act → Result (Unit {0}) Halt → Type 0) (acts : List Act) (due : Result (Unit {0}) Halt) (first : Option Halt) → first_halt ps ≡ first
+    → MatchOption first (done acts due) (λ x. (acts ≡ []) × (due ≡ Err x)) → IsDueOf ps done acts due
+is_due ps done acts due first e m = subst (λ (o : Option Halt). MatchOption o (done acts due) (λ x. (acts ≡ []) × (due ≡ Err x))) (sym e) m
 
-halts_so : (ps : List Phase) (done : List ℕ → Result (Unit {0}) Halt → Type 0) (h : Halt) → first_halt ps ≡ Some h → IsDueOf ps done [] (Err h)
+halts_so : (ps : List Phase) (done : List Act → Result (Unit {0}) Halt → Type 0) (h : Halt) → first_halt ps ≡ Some h → IsDueOf ps done [] (Err h)
 halts_so ps done h e = is_due ps done [] (Err h) (Some h) e (refl, refl)
 
-goes_so : (ps : List Phase) (done : List ℕ → Result (Unit {0}) Halt → Type 0) (body : List ℕ) (due : Result (Unit {0}) Halt) → first_halt ps ≡ None → done body due → IsDueOf ps done body due
-goes_so ps done body due e k = is_due ps done body due None e k
+goes_so : (ps : List Phase) (done : List Act → Result (Unit {0}) Halt → Type 0) (acts : List Act) (due : Result (Unit {0}) Halt) → first_halt ps ≡ None → done acts due → IsDueOf ps done acts due
+goes_so ps done acts due e k = is_due ps done acts due None e k
 
-pub halts_here : (ps : List Phase) (done : List ℕ → Result (Unit {0}) Halt → Type 0) → Some_due done → (h : Halt) (out : SinkSeen) → HaltsIn ps h → PerformsOf ps done (Err h) out out
-halts_here ps done some halt.Memory out k = let o = some_due ps done some in record { body = o.0; due = o.1; is = o.2; puts = (0, nothing_put out) }
-halts_here ps done some (halt.ReadFault name) out k = let o = some_due ps done some in record { body = o.0; due = o.1; is = o.2; puts = (k, refl) }
-halts_here ps done some (halt.Absent name) out k = record { body = []; due = Err (halt.Absent name); is = halts_so ps done (halt.Absent name) k; puts = (refl, nothing_put out) }
-halts_here ps done some halt.WriteFault out k = absurd k
-halts_here ps done some (halt.Refused name kind line cause) out k = record { body = []; due = Err (halt.Refused name kind line cause); is = halts_so ps done (halt.Refused name kind line cause) k; puts = (refl, nothing_put out) }
-halts_here ps done some (halt.ShelfEmpty kind needed stocked) out k = record { body = []; due = Err (halt.ShelfEmpty kind needed stocked); is = halts_so ps done (halt.ShelfEmpty kind needed stocked) k; puts = (refl, nothing_put out) }
-halts_here ps done some (halt.HistoryFull entries bytes) out k = record { body = []; due = Err (halt.HistoryFull entries bytes); is = halts_so ps done (halt.HistoryFull entries bytes) k; puts = (refl, nothing_put out) }
-halts_here ps done some (halt.LogRefused place) out k = record { body = []; due = Err (halt.LogRefused place); is = halts_so ps done (halt.LogRefused place) k; puts = (refl, nothing_put out) }
-halts_here ps done some (halt.NotBuilt name) out k = record { body = []; due = Err (halt.NotBuilt name); is = halts_so ps done (halt.NotBuilt name) k; puts = (refl, nothing_put out) }
+pub halts_here : (ps : List Phase) (done : List Act → Result (Unit {0}) Halt → Type 0) → Some_due done → (h : Halt) (o : Outside) → HaltsIn ps h → PerformsOf ps done (Err h) o o
+halts_here ps done some halt.Memory o k = let d = some_due ps done some in record { acts = d.0; due = d.1; is = d.2; does = (0, refl) }
+halts_here ps done some (halt.ReadFault name) o k = let d = some_due ps done some in record { acts = d.0; due = d.1; is = d.2; does = (k, refl) }
+halts_here ps done some (halt.Absent name) o k = record { acts = []; due = Err (halt.Absent name); is = halts_so ps done (halt.Absent name) k; does = (refl, refl) }
+halts_here ps done some halt.WriteFault o k = absurd k
+halts_here ps done some halt.LogFault o k = absurd k
+halts_here ps done some (halt.Refused name kind line cause) o k = record { acts = []; due = Err (halt.Refused name kind line cause); is = halts_so ps done (halt.Refused name kind line cause) k; does = (refl, refl) }
+halts_here ps done some (halt.ShelfEmpty kind needed stocked) o k = record { acts = []; due = Err (halt.ShelfEmpty kind needed stocked); is = halts_so ps done (halt.ShelfEmpty kind needed stocked) k; does = (refl, refl) }
+halts_here ps done some (halt.HistoryFull entries bytes) o k = record { acts = []; due = Err (halt.HistoryFull entries bytes); is = halts_so ps done (halt.HistoryFull entries bytes) k; does = (refl, refl) }
+halts_here ps done some (halt.LogRefused place) o k = record { acts = []; due = Err (halt.LogRefused place); is = halts_so ps done (halt.LogRefused place) k; does = (refl, refl) }
 
 -- phases in front that have no reason to halt
-puts_past : (ps qs : List Phase) (body : List ℕ) (due answer : Result (Unit {0}) Halt) (old new : SinkSeen) → first_halt ps ≡ None → PutsOf qs body due answer old new → PutsOf (ps ++ qs) body due answer old new
-puts_past ps qs body due (Ok done) old new e k = k
-puts_past ps qs body due (Err halt.Memory) old new e k = k
-puts_past ps qs body due (Err (halt.ReadFault name)) old new e k = (read_past ps qs name e k.0, k.1)
-puts_past ps qs body due (Err (halt.Absent name)) old new e k = k
-puts_past ps qs body due (Err halt.WriteFault) old new e k = k
-puts_past ps qs body due (Err (halt.Refused name kind line cause)) old new e k = k
-puts_past ps qs body due (Err (halt.ShelfEmpty kind needed stocked)) old new e k = k
-puts_past ps qs body due (Err (halt.HistoryFull entries bytes)) old new e k = k
-puts_past ps qs body due (Err (halt.LogRefused place)) old new e k = k
-puts_past ps qs body due (Err (halt.NotBuilt name)) old new e k = k
+does_past : (ps qs : List Phase) (acts : List Act) (due answer : Result (Unit {0}) Halt) (old new : Outside) → first_halt ps ≡ None → DoesOf qs acts due answer old new → DoesOf (ps ++ qs) acts due answer old new
+does_past ps qs acts due (Ok done) old new e k = k
+does_past ps qs acts due (Err halt.Memory) old new e k = k
+does_past ps qs acts due (Err (halt.ReadFault name)) old new e k = (read_past ps qs name e k.0, k.1)
+does_past ps qs acts due (Err (halt.Absent name)) old new e k = k
+does_past ps qs acts due (Err halt.WriteFault) old new e k = k
+does_past ps qs acts due (Err halt.LogFault) old new e k = k
+does_past ps qs acts due (Err (halt.Refused name kind line cause)) old new e k = k
+does_past ps qs acts due (Err (halt.ShelfEmpty kind needed stocked)) old new e k = k
+does_past ps qs acts due (Err (halt.HistoryFull entries bytes)) old new e k = k
+does_past ps qs acts due (Err (halt.LogRefused place)) old new e k = k
 
-due_past : (ps qs : List Phase) (done : List ℕ → Result (Unit {0}) Halt → Type 0) (body : List ℕ) (due : Result (Unit {0}) Halt) → first_halt ps ≡ None → IsDueOf qs done body due → IsDueOf (ps ++ qs) done body due
-due_past ps qs done body due e k = subst (λ (o : Option Halt). MatchOption o (done body due) (λ x. (body ≡ []) × (due ≡ Err x))) (sym (first_past ps qs e)) k
+due_past : (ps qs : List Phase) (done : List Act → Result (Unit {0}) Halt → Type 0) (acts : List Act) (due : Result (Unit {0}) Halt) → first_halt ps ≡ None → IsDueOf qs done acts due → IsDueOf (ps ++ qs) done acts due
+due_past ps qs done acts due e k = subst (λ (o : Option Halt). MatchOption o (done acts due) (λ x. (acts ≡ []) × (due ≡ Err x))) (sym (first_past ps qs e)) k
 
-performs_past : (ps qs : List Phase) (done : List ℕ → Result (Unit {0}) Halt → Type 0) (answer : Result (Unit {0}) Halt) (old new : SinkSeen) → first_halt ps ≡ None → PerformsOf qs done answer old new → PerformsOf (ps ++ qs) done answer old new
-performs_past ps qs done answer old new e k = record { body = k.body; due = k.due; is = due_past ps qs done k.body k.due e k.is; puts = puts_past ps qs k.body k.due answer old new e k.puts }
+performs_past : (ps qs : List Phase) (done : List Act → Result (Unit {0}) Halt → Type 0) (answer : Result (Unit {0}) Halt) (old new : Outside) → first_halt ps ≡ None → PerformsOf qs done answer old new → PerformsOf (ps ++ qs) done answer old new
+performs_past ps qs done answer old new e k = record { acts = k.acts; due = k.due; is = due_past ps qs done k.acts k.due e k.is; does = does_past ps qs k.acts k.due answer old new e k.does }
 
 -- what is done is named otherwise
-due_as : (first : Option Halt) (done done' : List ℕ → Result (Unit {0}) Halt → Type 0) (body : List ℕ) (due : Result (Unit {0}) Halt) → (done body due → done' body due)
-    → MatchOption first (done body due) (λ x. (body ≡ []) × (due ≡ Err x)) → MatchOption first (done' body due) (λ x. (body ≡ []) × (due ≡ Err x))
-due_as (Some h) done done' body due renames m = m
-due_as None done done' body due renames m = renames m
+due_as : (first : Option Halt) (done done' : List Act → Result (Unit {0}) Halt → Type 0) (acts : List Act) (due : Result (Unit {0}) Halt) → (done acts due → done' acts due)
+    → MatchOption first (done acts due) (λ x. (acts ≡ []) × (due ≡ Err x)) → MatchOption first (done' acts due) (λ x. (acts ≡ []) × (due ≡ Err x))
+due_as (Some h) done done' acts due renames m = m
+due_as None done done' acts due renames m = renames m
 
-performs_as : (ps : List Phase) (done done' : List ℕ → Result (Unit {0}) Halt → Type 0) (answer : Result (Unit {0}) Halt) (old new : SinkSeen) → ((body : List ℕ) (due : Result (Unit {0}) Halt) → done body due → done' body due)
+performs_as : (ps : List Phase) (done done' : List Act → Result (Unit {0}) Halt → Type 0) (answer : Result (Unit {0}) Halt) (old new : Outside) → ((acts : List Act) (due : Result (Unit {0}) Halt) → done acts due → done' acts due)
     → PerformsOf ps done answer old new → PerformsOf ps done' answer old new
-performs_as ps done done' answer old new renames k = record { body = k.body; due = k.due; is = due_as (first_halt ps) done done' k.body k.due (renames k.body k.due) k.is; puts = k.puts }
+performs_as ps done done' answer old new renames k = record { acts = k.acts; due = k.due; is = due_as (first_halt ps) done done' k.acts k.due (renames k.acts k.due) k.is; does = k.does }
 
--- ---- what a body that is put leaves of the counts
+-- ---- what acts leave of the counts of files
 
 -- it is no fault of a file
 abbrev pub OfNoFile : Result (Unit {0}) Halt → Type 0
@@ -125,91 +120,88 @@ OfNoFile (Err (halt.ReadFault name)) = ⊥
 OfNoFile (Err (halt.Absent name)) = ⊥
 OfNoFile (Err h) = Unit {0}
 
-pub puts_of : (ps : List Phase) (body : List ℕ) (due answer : Result (Unit {0}) Halt) (old new : SinkSeen) (own : OfNoFile due) → PutsBody body due answer old new → PutsOf ps body due answer old new
-puts_of ps body due (Ok done) old new own k = k
-puts_of ps body due (Err halt.Memory) old new own k = k
-puts_of ps body due (Err (halt.ReadFault name)) old new own k = absurd (subst OfNoFile (sym k.0) own)
-puts_of ps body due (Err (halt.Absent name)) old new own k = k
-puts_of ps body due (Err halt.WriteFault) old new own k = k
-puts_of ps body due (Err (halt.Refused name kind line cause)) old new own k = k
-puts_of ps body due (Err (halt.ShelfEmpty kind needed stocked)) old new own k = k
-puts_of ps body due (Err (halt.HistoryFull entries bytes)) old new own k = k
-puts_of ps body due (Err (halt.LogRefused place)) old new own k = k
-puts_of ps body due (Err (halt.NotBuilt name)) old new own k = k
+pub does_of : (ps : List Phase) (acts : List Act) (due answer : Result (Unit {0}) Halt) (old new : Outside) (own : OfNoFile due) → DoesAll acts due answer old new → DoesOf ps acts due answer old new
+does_of ps acts due (Ok done) old new own k = k
+does_of ps acts due (Err halt.Memory) old new own k = k
+does_of ps acts due (Err (halt.ReadFault name)) old new own k = absurd (subst OfNoFile (sym k.0) own)
+does_of ps acts due (Err (halt.Absent name)) old new own k = k
+does_of ps acts due (Err halt.WriteFault) old new own k = k
+does_of ps acts due (Err halt.LogFault) old new own k = k
+does_of ps acts due (Err (halt.Refused name kind line cause)) old new own k = k
+does_of ps acts due (Err (halt.ShelfEmpty kind needed stocked)) old new own k = k
+does_of ps acts due (Err (halt.HistoryFull entries bytes)) old new own k = k
+does_of ps acts due (Err (halt.LogRefused place)) old new own k = k
 
-pub counts_of : (body : List ℕ) (due answer : Result (Unit {0}) Halt) (old new : SinkSeen) (files files' : FilesSeen) → OfNoFile due → PutsBody body due answer old new → IsFound files files' → FileCounts answer files files'
-counts_of body due (Ok done) old new files files' own k f = f
-counts_of body due (Err halt.Memory) old new files files' own k f = f
-counts_of body due (Err (halt.ReadFault name)) old new files files' own k f = absurd (subst OfNoFile (sym k.0) own)
-counts_of body due (Err (halt.Absent name)) old new files files' own k f = absurd (subst OfNoFile (sym k.0) own)
-counts_of body due (Err halt.WriteFault) old new files files' own k f = f
-counts_of body due (Err (halt.Refused name kind line cause)) old new files files' own k f = f
-counts_of body due (Err (halt.ShelfEmpty kind needed stocked)) old new files files' own k f = f
-counts_of body due (Err (halt.HistoryFull entries bytes)) old new files files' own k f = f
-counts_of body due (Err (halt.LogRefused place)) old new files files' own k f = f
-counts_of body due (Err (halt.NotBuilt name)) old new files files' own k f = f
-
-pub faults_of : (body : List ℕ) (due answer : Result (Unit {0}) Halt) (old new : SinkSeen) → PutsBody body due answer old new → SinkCounts answer old new
-faults_of body due (Ok done) old new k = k.1.0
-faults_of body due (Err halt.Memory) old new k = k.1.0
-faults_of body due (Err (halt.ReadFault name)) old new k = k.1.0
-faults_of body due (Err (halt.Absent name)) old new k = k.1.0
-faults_of body due (Err halt.WriteFault) old new k = k.0
-faults_of body due (Err (halt.Refused name kind line cause)) old new k = k.1.0
-faults_of body due (Err (halt.ShelfEmpty kind needed stocked)) old new k = k.1.0
-faults_of body due (Err (halt.HistoryFull entries bytes)) old new k = k.1.0
-faults_of body due (Err (halt.LogRefused place)) old new k = k.1.0
-faults_of body due (Err (halt.NotBuilt name)) old new k = k.1.0
+pub counts_of : (acts : List Act) (due answer : Result (Unit {0}) Halt) (old new : Outside) (files files' : FilesSeen) → OfNoFile due → DoesAll acts due answer old new → IsFound files files' → FileCounts answer files files'
+counts_of acts due (Ok done) old new files files' own k f = f
+counts_of acts due (Err halt.Memory) old new files files' own k f = f
+counts_of acts due (Err (halt.ReadFault name)) old new files files' own k f = absurd (subst OfNoFile (sym k.0) own)
+counts_of acts due (Err (halt.Absent name)) old new files files' own k f = absurd (subst OfNoFile (sym k.0) own)
+counts_of acts due (Err halt.WriteFault) old new files files' own k f = f
+counts_of acts due (Err halt.LogFault) old new files files' own k f = f
+counts_of acts due (Err (halt.Refused name kind line cause)) old new files files' own k f = f
+counts_of acts due (Err (halt.ShelfEmpty kind needed stocked)) old new files files' own k f = f
+counts_of acts due (Err (halt.HistoryFull entries bytes)) old new files files' own k f = f
+counts_of acts due (Err (halt.LogRefused place)) old new files files' own k f = f
 
 -- ---- a check
 
-check_puts : (body : List ℕ) (put : Result (Unit {0}) Unput) (old new : SinkSeen) → PutsText body put old new → PutsBody body (Ok tt) (put_answer put) old new
-check_puts body (Ok done) old new p = (refl, p)
-check_puts body (Err unput.WriteFault) old new p = p
-check_puts body (Err unput.Memory) old new p = (0, subst (IsPut [] old) (sym p) (nothing_put old))
+check_does : (text : List ℕ) (put : Result (Unit {0}) Undone) (old new : SinkSeen) (vault : VaultSeen) → PutsText text put old new → DoesAll (puts text) (Ok tt) (put_answer put) (outside old vault) (outside new vault)
+check_does text put old new vault p = all_of (puts text) put (outside old vault) (outside new vault) (put_done text put old new vault p)
 
-pub check_counts : (body : List ℕ) (put : Result (Unit {0}) Unput) (old new : SinkSeen) (files files' : FilesSeen) → PutsText body put old new → IsFound files files' → FileCounts (put_answer put) files files'
-check_counts body put old new files files' p f = counts_of body (Ok tt) (put_answer put) old new files files' tt (check_puts body put old new p) f
+-- the count of a vault is not asked here
+abbrev pub no_vault : VaultSeen
+no_vault = record { told = None; faults = 0 }
 
-pub check_faults : (body : List ℕ) (put : Result (Unit {0}) Unput) (old new : SinkSeen) → PutsText body put old new → SinkCounts (put_answer put) old new
-check_faults body put old new p = faults_of body (Ok tt) (put_answer put) old new (check_puts body put old new p)
+pub check_counts : (text : List ℕ) (put : Result (Unit {0}) Undone) (old new : SinkSeen) (files files' : FilesSeen) → PutsText text put old new → IsFound files files' → FileCounts (put_answer put) files files'
+check_counts text put old new files files' p f = counts_of (puts text) (Ok tt) (put_answer put) (outside old no_vault) (outside new no_vault) files files' tt (check_does text put old new no_vault p) f
 
-abbrev TakesSite : (List ℕ → Option (List ℕ)) → List ℕ → List ℕ → Result SiteData Halt → Type 0
-TakesSite all definitions site answer = Takes (site_phases all definitions site) (site_asked all definitions site) answer
+pub check_faults : (text : List ℕ) (put : Result (Unit {0}) Undone) (old new : SinkSeen) → PutsText text put old new → SinkCounts (put_answer put) old new
+check_faults text put old new p = sink_of (puts text) (Ok tt) (put_answer put) (outside old no_vault) (outside new no_vault) (check_does text put old new no_vault p)
+
+-- a check puts one text, so that no log fails
+pub check_logs : (text : List ℕ) (put : Result (Unit {0}) Undone) (old new : SinkSeen) (vault : VaultSeen) → PutsText text put old new → VaultCounts (put_answer put) vault vault
+check_logs text put old new vault p = vault_of (puts text) (Ok tt) (put_answer put) (outside old vault) (outside new vault) (check_does text put old new vault p)
+
+abbrev TakesSite : (List ℕ → Option (List ℕ)) → List ℕ → List ℕ → Result (SiteData × List ℕ) Halt → Type 0
+TakesSite all definitions site answer = Takes (site_phases all definitions site) (site_asked all definitions site, digest_asked all definitions) answer
 
 some_check : (all : List ℕ → Option (List ℕ)) (definitions site : List ℕ) → Some_due (IsDone all (Check definitions site))
-some_check all definitions site = (counts_line (site_asked all definitions site), Ok tt, (refl, refl))
+some_check all definitions site = (puts (counts_line (site_asked all definitions site)), Ok tt, (refl, refl))
 
-pub check_performs : (stock : List Meaning) (told : Option (List ℕ → Option (List ℕ))) (definitions site : List ℕ) (x : SiteData) (put : Result (Unit {0}) Unput) (old new : SinkSeen)
-    → IfSome told (λ all. TakesSite all definitions site (Ok x)) → PutsText (counts_line x) put old new → IfSome told (λ all. Performs stock all (Check definitions site) (put_answer put) old new)
-check_performs stock None definitions site x put old new s p = tt
-check_performs stock (Some all) definitions site x put old new s p = record {
-  body = counts_line x;
+pub check_performs : (stock : List Meaning) (told : Option (List ℕ → Option (List ℕ))) (definitions site : List ℕ) (x : SiteData × List ℕ) (put : Result (Unit {0}) Undone) (old new : SinkSeen) (vault : VaultSeen)
+    → IfSome told (λ all. TakesSite all definitions site (Ok x)) → PutsText (counts_line x.0) put old new → IfSome told (λ all. Performs stock all (Check definitions site) (put_answer put) (outside old vault) (outside new vault))
+check_performs stock None definitions site x put old new vault s p = tt
+check_performs stock (Some all) definitions site x put old new vault s p = record {
+  acts = puts (counts_line x.0);
   due = Ok tt;
-  is = goes_so (site_phases all definitions site) (IsDone all (Check definitions site)) (counts_line x) (Ok tt) s.0 (ap counts_line s.1, refl);
-  puts = puts_of (site_phases all definitions site) (counts_line x) (Ok tt) (put_answer put) old new tt (check_puts (counts_line x) put old new p);
+  is = goes_so (site_phases all definitions site) (IsDone all (Check definitions site)) (puts (counts_line x.0)) (Ok tt) s.0 (ap (λ (y : SiteData × List ℕ). puts (counts_line y.0)) s.1, refl);
+  does = does_of (site_phases all definitions site) (puts (counts_line x.0)) (Ok tt) (put_answer put) (outside old vault) (outside new vault) tt (check_does (counts_line x.0) put old new vault p);
 }
 
-pub check_fails : (stock : List Meaning) (told : Option (List ℕ → Option (List ℕ))) (definitions site : List ℕ) (h : Halt) (out : SinkSeen)
-    → IfSome told (λ all. TakesSite all definitions site (Err h)) → IfSome told (λ all. Performs stock all (Check definitions site) (Err h) out out)
-check_fails stock None definitions site h out k = tt
-check_fails stock (Some all) definitions site h out k = halts_here (site_phases all definitions site) (IsDone all (Check definitions site)) (some_check all definitions site) h out k
+pub check_fails : (stock : List Meaning) (told : Option (List ℕ → Option (List ℕ))) (definitions site : List ℕ) (h : Halt) (o : Outside)
+    → IfSome told (λ all. TakesSite all definitions site (Err h)) → IfSome told (λ all. Performs stock all (Check definitions site) (Err h) o o)
+check_fails stock None definitions site h o k = tt
+check_fails stock (Some all) definitions site h o k = halts_here (site_phases all definitions site) (IsDone all (Check definitions site)) (some_check all definitions site) h o k
 
 -- ---- a dump
 
-dump_of_no_file : (file body : List ℕ) (due : Result (Unit {0}) Halt) → IsDump file body due → OfNoFile due
-dump_of_no_file file body due (inl a) = subst OfNoFile (sym a.due_is) (by_place a.place (nat_eq a.place (length file)) refl)
+dump_of_no_file : (file : List ℕ) (acts : List Act) (due : Result (Unit {0}) Halt) → IsDump file acts due → OfNoFile due
+dump_of_no_file file acts due (inl a) = subst OfNoFile (sym a.due_is) (by_place a.place (nat_eq a.place (length file)) refl)
   where
     by_place : (place : ℕ) (whole : Bool) → nat_eq place (length file) ≡ whole → OfNoFile (dump_answer place (length file))
     by_place place true e = rw e tt
     by_place place false e = rw e tt
-dump_of_no_file file body due (inr a) = subst OfNoFile (sym a.refused) tt
+dump_of_no_file file acts due (inr a) = subst OfNoFile (sym a.refused) tt
 
-pub dump_counts : (file : List ℕ) (answer : Result (Unit {0}) Halt) (old new : SinkSeen) (files files' : FilesSeen) → PutsLog file answer old new → IsFound files files' → FileCounts answer files files'
-dump_counts file answer old new files files' p f = counts_of p.body p.due answer old new files files' (dump_of_no_file file p.body p.due p.is) p.puts f
+pub dump_counts : (file : List ℕ) (answer : Result (Unit {0}) Halt) (old new : Outside) (files files' : FilesSeen) → PutsLog file answer old new → IsFound files files' → FileCounts answer files files'
+dump_counts file answer old new files files' p f = counts_of p.acts p.due answer old new files files' (dump_of_no_file file p.acts p.due p.is) p.does f
 
-pub dump_faults : (file : List ℕ) (answer : Result (Unit {0}) Halt) (old new : SinkSeen) → PutsLog file answer old new → SinkCounts answer old new
-dump_faults file answer old new p = faults_of p.body p.due answer old new p.puts
+pub dump_faults : (file : List ℕ) (answer : Result (Unit {0}) Halt) (old new : Outside) → PutsLog file answer old new → SinkCounts answer old.out new.out
+dump_faults file answer old new p = sink_of p.acts p.due answer old new p.does
+
+pub dump_logs : (file : List ℕ) (answer : Result (Unit {0}) Halt) (old new : Outside) → PutsLog file answer old new → VaultCounts answer old.vault new.vault
+dump_logs file answer old new p = vault_of p.acts p.due answer old new p.does
 
 some_dumped : (all : List ℕ → Option (List ℕ)) (log : List ℕ) → Some_due (IsDone all (Dump log))
 some_dumped all log = some_dump (bytes_of (all log))
@@ -220,155 +212,117 @@ small_log all log file k =
     let judged : within log_limit (halt.LogRefused log_limit) (λ b. None) file ≡ None = rw small refl in
     ap (file_halt log (within log_limit (halt.LogRefused log_limit) (λ b. None))) k.0 ∙ judged
 
-pub dump_performs : (stock : List Meaning) (told : Option (List ℕ → Option (List ℕ))) (log file : List ℕ) (answer : Result (Unit {0}) Halt) (old new : SinkSeen)
+pub dump_performs : (stock : List Meaning) (told : Option (List ℕ → Option (List ℕ))) (log file : List ℕ) (answer : Result (Unit {0}) Halt) (old new : Outside)
     → IfSome told (λ all. GivesBytes log_limit (halt.LogRefused log_limit) log (all log) (Ok file)) → PutsLog file answer old new → IfSome told (λ all. Performs stock all (Dump log) answer old new)
 dump_performs stock None log file answer old new k p = tt
 dump_performs stock (Some all) log file answer old new k p = record {
-  body = p.body;
+  acts = p.acts;
   due = p.due;
-  is = goes_so (log_phase all log ∷ []) (IsDone all (Dump log)) p.body p.due (none_alone (log_phase all log) (small_log all log file k))
-      (subst (λ (f : Option (List ℕ)). IsDump (bytes_of f) p.body p.due) (sym k.0) p.is);
-  puts = puts_of (log_phase all log ∷ []) p.body p.due answer old new (dump_of_no_file file p.body p.due p.is) p.puts;
+  is = goes_so (log_phase all log ∷ []) (IsDone all (Dump log)) p.acts p.due (none_alone (log_phase all log) (small_log all log file k))
+      (subst (λ (f : Option (List ℕ)). IsDump (bytes_of f) p.acts p.due) (sym k.0) p.is);
+  does = does_of (log_phase all log ∷ []) p.acts p.due answer old new (dump_of_no_file file p.acts p.due p.is) p.does;
 }
 
-pub dump_fails : (stock : List Meaning) (told : Option (List ℕ → Option (List ℕ))) (log : List ℕ) (h : Halt) (out : SinkSeen)
-    → IfSome told (λ all. GivesBytes log_limit (halt.LogRefused log_limit) log (all log) (Err h)) → IfSome told (λ all. Performs stock all (Dump log) (Err h) out out)
-dump_fails stock None log h out k = tt
-dump_fails stock (Some all) log h out k = halts_here (log_phase all log ∷ []) (IsDone all (Dump log)) (some_dumped all log) h out (here (log_phase all log) [] h (k (λ bytes. None)))
+pub dump_fails : (stock : List Meaning) (told : Option (List ℕ → Option (List ℕ))) (log : List ℕ) (h : Halt) (o : Outside)
+    → IfSome told (λ all. GivesBytes log_limit (halt.LogRefused log_limit) log (all log) (Err h)) → IfSome told (λ all. Performs stock all (Dump log) (Err h) o o)
+dump_fails stock None log h o k = tt
+dump_fails stock (Some all) log h o k = halts_here (log_phase all log ∷ []) (IsDone all (Dump log)) (some_dumped all log) h o (here (log_phase all log) [] h (k (λ bytes. None)))
 
 -- ---- a replay's world
-
-is_built_none : (name : List ℕ) (site : SiteData) → is_built_site site ≡ true → (built_phase name site).halts ≡ None
-is_built_none name site e = ap (λ (b : Bool). unless b (halt.NotBuilt name)) e
 
 not_short : (stock : List Meaning) (site : SiteData) → short_kind stock site ≡ None → (shelf_phase stock site).halts ≡ None
 not_short stock site e = ap (option_map (short_halt stock site)) e
 
-pub world_made : (stock : List Meaning) (name : List ℕ) (site : SiteData) → is_built_site site ≡ true → short_kind stock site ≡ None → first_halt (world_phases stock name site) ≡ None
-world_made stock name site b e = none_both (built_phase name site) (shelf_phase stock site) (is_built_none name site b) (not_short stock site e)
+pub world_made : (stock : List Meaning) (site : SiteData) → short_kind stock site ≡ None → first_halt (shelf_phase stock site ∷ []) ≡ None
+world_made stock site e = none_alone (shelf_phase stock site) (not_short stock site e)
 
-pub not_built : (stock : List Meaning) (name : List ℕ) (site : SiteData) → is_built_site site ≡ false → HaltsIn (world_phases stock name site) (halt.NotBuilt name)
-not_built stock name site e = here (built_phase name site) (shelf_phase stock site ∷ []) (halt.NotBuilt name) (ap (λ (b : Bool). unless b (halt.NotBuilt name)) e)
-
-pub shelf_fails : (stock : List Meaning) (name : List ℕ) (site : SiteData) (why : ChainFault) → is_built_site site ≡ true → FaultIs stock (uses_in site.interfaces) why
-    → HaltsIn (world_phases stock name site) (chain_halt why) × (is_fault (chain_halt why) ≡ false)
-shelf_fails stock name site chain.Memory b f = (tt, refl)
-shelf_fails stock name site (chain.ShelfEmpty kind n there) b f =
+pub shelf_fails : (stock : List Meaning) (site : SiteData) (why : ChainFault) → FaultIs stock (line_uses site) why
+    → HaltsIn (shelf_phase stock site ∷ []) (chain_halt why) × (is_fault (chain_halt why) ≡ false)
+shelf_fails stock site chain.Memory f = (tt, refl)
+shelf_fails stock site (chain.ShelfEmpty kind n there) f =
     let due : short_halt stock site kind ≡ halt.ShelfEmpty kind n there = ap (λ (m : ℕ). halt.ShelfEmpty kind m (stocked kind stock)) (sym f.1) ∙ ap (λ (m : ℕ). halt.ShelfEmpty kind n m) (sym f.2) in
-    let short : (shelf_phase stock site).halts ≡ Some (halt.ShelfEmpty kind n there) = ap (option_map (short_halt stock site)) f.0 ∙ ap (λ (h : Halt). Some h) due in (
-      past (built_phase name site ∷ []) (shelf_phase stock site ∷ []) (halt.ShelfEmpty kind n there) (none_alone (built_phase name site) (is_built_none name site b)) (here (shelf_phase stock site) [] (halt.ShelfEmpty kind n there) short),
-      refl,
-    )
+    let short : (shelf_phase stock site).halts ≡ Some (halt.ShelfEmpty kind n there) = ap (option_map (short_halt stock site)) f.0 ∙ ap (λ (h : Halt). Some h) due in
+    (here (shelf_phase stock site) [] (halt.ShelfEmpty kind n there) short, refl)
 
 -- ---- a script
 
-replay_is : (site : SiteData) (script : List ℕ) (events : List (ℕ × Event)) (dids : List Did) (ending : Ending) → Runs (site_environment site) opening (events_of events) dids ending
-    → IsReplay site script events (replay_body site dids ending) (replay_answer script events dids ending)
-replay_is site script events dids ending runs = record {
-  dids = dids;
-  ending = ending;
-  runs = runs;
-  legal = core_is_legal (basis_of site) (legally (basis_of site)) (events_of events) dids ending runs;
-  lines = λ sound m line. core_is_told (site_environment site) (site_sound (basis_of site)) (by_desks (basis_of site)) (events_of events) dids ending m (apart (basis_of site) sound) line runs;
-  commands = run_judged site opening (events_of events) dids ending runs;
-  body_is = refl;
-  due_is = refl;
-}
-
-some_replay : (site : SiteData) (script : List ℕ) (events : List (ℕ × Event)) → Some_due (IsReplay site script events)
-some_replay site script events =
+some_replay : (digest : List ℕ) (site : SiteData) (script : List ℕ) (events : List (ℕ × Event)) → Some_due (IsReplay digest site script events)
+some_replay digest site script events =
     let run = has_run (site_environment site) (site_sound (basis_of site)) opening (events_of events) in
-    (replay_body site run.0 run.1, replay_answer script events run.0 run.1, replay_is site script events run.0 run.1 run.2)
+    (replay_acts digest site events run.0 run.1, replay_answer script events run.0 run.1, replay_is digest site script events run.0 run.1 run.2)
 
 replay_of_no_file : (script : List ℕ) (events : List (ℕ × Event)) (dids : List Did) (ending : Ending) → OfNoFile (replay_answer script events dids ending)
 replay_of_no_file script events dids Finished = tt
 replay_of_no_file script events dids NotEnabled = tt
 replay_of_no_file script events dids HistoryFull = tt
 
-pub script_fails : (told : Option (List ℕ → Option (List ℕ))) (site : SiteData) (script : List ℕ) (h : Halt) (out : SinkSeen)
-    → IfSome told (λ all. HaltsAt (script_phase all site script) h) → IfSome told (λ all. PerformsScript all site script (Err h) out out)
-script_fails None site script h out k = tt
-script_fails (Some all) site script h out k =
-    halts_here (script_phases all site script) (IsReplay site script (events_asked all site script)) (some_replay site script (events_asked all site script)) h out
-    (here (script_phase all site script) (asking (unless (are_built_events (events_asked all site script)) (halt.NotBuilt script)) ∷ []) h k)
+pub script_fails : (told : Option (List ℕ → Option (List ℕ))) (digest : List ℕ) (site : SiteData) (script : List ℕ) (h : Halt) (o : Outside)
+    → IfSome told (λ all. HaltsAt (script_phase all site script) h) → IfSome told (λ all. PerformsScript all digest site script (Err h) o o)
+script_fails None digest site script h o k = tt
+script_fails (Some all) digest site script h o k =
+    halts_here (script_phase all site script ∷ []) (IsReplay digest site script (events_asked all site script)) (some_replay digest site script (events_asked all site script)) h o
+    (here (script_phase all site script) [] h k)
 
-abbrev built_next : (List ℕ → Option (List ℕ)) → SiteData → List ℕ → Phase
-built_next all site script = asking (unless (are_built_events (events_asked all site script)) (halt.NotBuilt script))
+pub script_replays : (told : Option (List ℕ → Option (List ℕ))) (digest : List ℕ) (site : SiteData) (script : List ℕ) (events : List (ℕ × Event)) (answer : Result (Unit {0}) Halt) (old new : Outside)
+    → IfSome told (λ all. TakesAt (script_phase all site script) (events_asked all site script) (Ok events)) → Replays digest site script events answer old new → IfSome told (λ all. PerformsScript all digest site script answer old new)
+script_replays None digest site script events answer old new t k = tt
+script_replays (Some all) digest site script events answer old new t k =
+    let acts = replay_acts digest site events k.dids k.ending in
+    let due = replay_answer script events k.dids k.ending in
+    record {
+      acts = acts;
+      due = due;
+      is = goes_so (script_phase all site script ∷ []) (IsReplay digest site script (events_asked all site script)) acts due (none_alone (script_phase all site script) t.0)
+          (subst (λ (es : List (ℕ × Event)). IsReplay digest site script es acts due) t.1 (replay_is digest site script events k.dids k.ending k.runs));
+      does = does_of (script_phase all site script ∷ []) acts due answer old new (replay_of_no_file script events k.dids k.ending) k.does;
+    }
 
-module _ (all : List ℕ → Option (List ℕ)) (site : SiteData) (script : List ℕ) (events : List (ℕ × Event)) (answer : Result (Unit {0}) Halt) (old new : SinkSeen)
-    (taken : TakesAt (script_phase all site script) (events_asked all site script) (Ok events)) where
-  by_built : (built : Bool) → are_built_events events ≡ built → ReplaysBy built site script events answer old new → PerformsScript all site script answer old new
-  by_built true e k =
-      let built : (built_next all site script).halts ≡ None = ap (λ (es : List (ℕ × Event)). unless (are_built_events es) (halt.NotBuilt script)) (sym taken.1) ∙ ap (λ (b : Bool). unless b (halt.NotBuilt script)) e in
-      let done = replay_is site script events k.dids k.ending k.runs in
-      record {
-        body = replay_body site k.dids k.ending;
-        due = replay_answer script events k.dids k.ending;
-        is = goes_so (script_phases all site script) (IsReplay site script (events_asked all site script)) (replay_body site k.dids k.ending) (replay_answer script events k.dids k.ending)
-            (none_both (script_phase all site script) (built_next all site script) taken.0 built)
-            (subst (λ (es : List (ℕ × Event)). IsReplay site script es (replay_body site k.dids k.ending) (replay_answer script events k.dids k.ending)) taken.1 done);
-        puts = puts_of (script_phases all site script) (replay_body site k.dids k.ending) (replay_answer script events k.dids k.ending) answer old new (replay_of_no_file script events k.dids k.ending) k.puts;
-      }
-  by_built false e k =
-      let lacks : (built_next all site script).halts ≡ Some (halt.NotBuilt script) = ap (λ (es : List (ℕ × Event)). unless (are_built_events es) (halt.NotBuilt script)) (sym taken.1) ∙ ap (λ (b : Bool). unless b (halt.NotBuilt script)) e in
-      let halts = past (script_phase all site script ∷ []) (built_next all site script ∷ []) (halt.NotBuilt script) (none_alone (script_phase all site script) taken.0) (here (built_next all site script) [] (halt.NotBuilt script) lacks) in
-      let performs = halts_here (script_phases all site script) (IsReplay site script (events_asked all site script)) (some_replay site script (events_asked all site script)) (halt.NotBuilt script) old halts in
-      subst (λ (a : Result (Unit {0}) Halt). PerformsScript all site script a old new) (sym k.0) (subst (λ (o : SinkSeen). PerformsScript all site script (Err (halt.NotBuilt script)) old o) (sym k.1) performs)
+pub script_counts : (digest : List ℕ) (site : SiteData) (script : List ℕ) (events : List (ℕ × Event)) (answer : Result (Unit {0}) Halt) (old new : Outside) (files files' : FilesSeen)
+    → Replays digest site script events answer old new → IsFound files files' → FileCounts answer files files'
+script_counts digest site script events answer old new files files' k f =
+    counts_of (replay_acts digest site events k.dids k.ending) (replay_answer script events k.dids k.ending) answer old new files files' (replay_of_no_file script events k.dids k.ending) k.does f
 
-pub script_replays : (told : Option (List ℕ → Option (List ℕ))) (site : SiteData) (script : List ℕ) (events : List (ℕ × Event)) (answer : Result (Unit {0}) Halt) (old new : SinkSeen)
-    → IfSome told (λ all. TakesAt (script_phase all site script) (events_asked all site script) (Ok events)) → ReplaysBuilt site script events answer old new → IfSome told (λ all. PerformsScript all site script answer old new)
-script_replays None site script events answer old new t k = tt
-script_replays (Some all) site script events answer old new t k = by_built all site script events answer old new t (are_built_events events) refl k
+pub script_faults : (digest : List ℕ) (site : SiteData) (script : List ℕ) (events : List (ℕ × Event)) (answer : Result (Unit {0}) Halt) (old new : Outside) → Replays digest site script events answer old new → SinkCounts answer old.out new.out
+script_faults digest site script events answer old new k = sink_of (replay_acts digest site events k.dids k.ending) (replay_answer script events k.dids k.ending) answer old new k.does
 
-script_counts_by : (built : Bool) (site : SiteData) (script : List ℕ) (events : List (ℕ × Event)) (answer : Result (Unit {0}) Halt) (old new : SinkSeen) (files files' : FilesSeen)
-    → ReplaysBy built site script events answer old new → IsFound files files' → FileCounts answer files files' × SinkCounts answer old new
-script_counts_by true site script events answer old new files files' k f = (
-  counts_of (replay_body site k.dids k.ending) (replay_answer script events k.dids k.ending) answer old new files files' (replay_of_no_file script events k.dids k.ending) k.puts f,
-  faults_of (replay_body site k.dids k.ending) (replay_answer script events k.dids k.ending) answer old new k.puts,
-)
-script_counts_by false site script events answer old new files files' k f = (
-  subst (λ (a : Result (Unit {0}) Halt). FileCounts a files files') (sym k.0) f,
-  subst (λ (a : Result (Unit {0}) Halt). SinkCounts a old new) (sym k.0) (ap (λ (o : SinkSeen). o.faults) k.1),
-)
-
-pub script_counts : (site : SiteData) (script : List ℕ) (events : List (ℕ × Event)) (answer : Result (Unit {0}) Halt) (old new : SinkSeen) (files files' : FilesSeen)
-    → ReplaysBuilt site script events answer old new → IsFound files files' → FileCounts answer files files' × SinkCounts answer old new
-script_counts site script events answer old new files files' k f = script_counts_by (are_built_events events) site script events answer old new files files' k f
+pub script_logs : (digest : List ℕ) (site : SiteData) (script : List ℕ) (events : List (ℕ × Event)) (answer : Result (Unit {0}) Halt) (old new : Outside) → Replays digest site script events answer old new → VaultCounts answer old.vault new.vault
+script_logs digest site script events answer old new k = vault_of (replay_acts digest site events k.dids k.ending) (replay_answer script events k.dids k.ending) answer old new k.does
 
 -- ---- a replay
 
 module _ (stock : List Meaning) (definitions site script : List ℕ) where
   abbrev after_site : (List ℕ → Option (List ℕ)) → List Phase
-  after_site all = world_phases stock site (site_asked all definitions site) ++ script_phases all (site_asked all definitions site) script
+  after_site all = shelf_phase stock (site_asked all definitions site) ∷ script_phase all (site_asked all definitions site) script ∷ []
 
   some_done : (all : List ℕ → Option (List ℕ)) → Some_due (IsDone all (Replay definitions site script))
-  some_done all = some_replay (site_asked all definitions site) script (events_asked all (site_asked all definitions site) script)
+  some_done all = some_replay (digest_asked all definitions) (site_asked all definitions site) script (events_asked all (site_asked all definitions site) script)
 
-  pub replay_unloaded : (told : Option (List ℕ → Option (List ℕ))) (h : Halt) (out : SinkSeen)
-      → IfSome told (λ all. TakesSite all definitions site (Err h)) → IfSome told (λ all. Performs stock all (Replay definitions site script) (Err h) out out)
-  replay_unloaded None h out k = tt
-  replay_unloaded (Some all) h out k =
-      halts_here (phases stock all (Replay definitions site script)) (IsDone all (Replay definitions site script)) (some_done all) h out (front (site_phases all definitions site) (after_site all) h k)
+  pub replay_unloaded : (told : Option (List ℕ → Option (List ℕ))) (h : Halt) (o : Outside)
+      → IfSome told (λ all. TakesSite all definitions site (Err h)) → IfSome told (λ all. Performs stock all (Replay definitions site script) (Err h) o o)
+  replay_unloaded None h o k = tt
+  replay_unloaded (Some all) h o k =
+      halts_here (phases stock all (Replay definitions site script)) (IsDone all (Replay definitions site script)) (some_done all) h o (front (site_phases all definitions site) (after_site all) h k)
 
-  pub replay_unmade : (told : Option (List ℕ → Option (List ℕ))) (x : SiteData) (h : Halt) (out : SinkSeen)
-      → IfSome told (λ all. TakesSite all definitions site (Ok x)) → HaltsIn (world_phases stock site x) h → IfSome told (λ all. Performs stock all (Replay definitions site script) (Err h) out out)
-  replay_unmade None x h out s k = tt
-  replay_unmade (Some all) x h out s k =
-      let k' = subst (λ (y : SiteData). HaltsIn (world_phases stock site y) h) s.1 k in
-      halts_here (phases stock all (Replay definitions site script)) (IsDone all (Replay definitions site script)) (some_done all) h out
-      (past (site_phases all definitions site) (after_site all) h s.0 (front (world_phases stock site (site_asked all definitions site)) (script_phases all (site_asked all definitions site) script) h k'))
+  pub replay_unmade : (told : Option (List ℕ → Option (List ℕ))) (x : SiteData × List ℕ) (h : Halt) (o : Outside)
+      → IfSome told (λ all. TakesSite all definitions site (Ok x)) → HaltsIn (shelf_phase stock x.0 ∷ []) h → IfSome told (λ all. Performs stock all (Replay definitions site script) (Err h) o o)
+  replay_unmade None x h o s k = tt
+  replay_unmade (Some all) x h o s k =
+      let k' = subst (λ (y : SiteData × List ℕ). HaltsIn (shelf_phase stock y.0 ∷ []) h) s.1 k in
+      halts_here (phases stock all (Replay definitions site script)) (IsDone all (Replay definitions site script)) (some_done all) h o
+      (past (site_phases all definitions site) (after_site all) h s.0 (front (shelf_phase stock (site_asked all definitions site) ∷ []) (script_phase all (site_asked all definitions site) script ∷ []) h k'))
 
-  pub replay_performs : (told second : Option (List ℕ → Option (List ℕ))) (x y : SiteData) (answer : Result (Unit {0}) Halt) (old new : SinkSeen) → second ≡ told → y ≡ x
-      → IfSome told (λ all. TakesSite all definitions site (Ok x)) → first_halt (world_phases stock site x) ≡ None → IfSome second (λ all. PerformsScript all y script answer old new)
+  pub replay_performs : (told second : Option (List ℕ → Option (List ℕ))) (x : SiteData × List ℕ) (y : SiteData) (answer : Result (Unit {0}) Halt) (old new : Outside) → second ≡ told → y ≡ x.0
+      → IfSome told (λ all. TakesSite all definitions site (Ok x)) → first_halt (shelf_phase stock x.0 ∷ []) ≡ None → IfSome second (λ all. PerformsScript all x.1 y script answer old new)
       → IfSome told (λ all. Performs stock all (Replay definitions site script) answer old new)
   replay_performs None second x y answer old new same on s w k = tt
   replay_performs (Some all) second x y answer old new same on s w k =
-      let k' = subst (λ (t : Option (List ℕ → Option (List ℕ))). IfSome t (λ all. PerformsScript all y script answer old new)) same k in
-      let k'' = subst (λ (t : SiteData). PerformsScript all t script answer old new) (on ∙ s.1) k' in
-      let w' = subst (λ (t : SiteData). first_halt (world_phases stock site t) ≡ None) s.1 w in
+      let k' = subst (λ (t : Option (List ℕ → Option (List ℕ))). IfSome t (λ all. PerformsScript all x.1 y script answer old new)) same k in
+      let on_site = subst (λ (t : SiteData). PerformsScript all x.1 t script answer old new) on k' in
+      let k'' = subst (λ (t : SiteData × List ℕ). PerformsScript all t.1 t.0 script answer old new) s.1 on_site in
+      let w' = subst (λ (t : SiteData × List ℕ). first_halt (shelf_phase stock t.0 ∷ []) ≡ None) s.1 w in
       performs_past (site_phases all definitions site) (after_site all) (IsDone all (Replay definitions site script)) answer old new s.0
-      (performs_past (world_phases stock site (site_asked all definitions site)) (script_phases all (site_asked all definitions site) script) (IsDone all (Replay definitions site script)) answer old new w'
-      (performs_as (script_phases all (site_asked all definitions site) script) (IsReplay (site_asked all definitions site) script (events_asked all (site_asked all definitions site) script)) (IsDone all (Replay definitions site script)) answer old new (λ body due r. r) k''))
+      (performs_past (shelf_phase stock (site_asked all definitions site) ∷ []) (script_phase all (site_asked all definitions site) script ∷ []) (IsDone all (Replay definitions site script)) answer old new w'
+      (performs_as (script_phase all (site_asked all definitions site) script ∷ []) (IsReplay (digest_asked all definitions) (site_asked all definitions site) script (events_asked all (site_asked all definitions site) script)) (IsDone all (Replay definitions site script)) answer old new (λ acts due r. r) k''))
 
 -- ---- there is an outcome, whatever the files hold
 
@@ -380,107 +334,115 @@ some_outcome stock files (Dump log) = some_due (phases stock files (Dump log)) (
 -- ---- the status of what was done, and what is put with its last line
 
 module _ (stock : List Meaning) (files : List ℕ → Option (List ℕ)) (command : Command) where
-  abbrev Puts : List ℕ → Result (Unit {0}) Halt → Status → SinkSeen → SinkSeen → Type 0
-  Puts body due status old new = PutsFor stock files (Some command) (outcome_of body due) status old new
+  abbrev For : List Act → Result (Unit {0}) Halt → Status → Outside → Outside → Type 0
+  For acts due status old new = DoesFor stock files (Some command) (outcome_of acts due) status old new
 
-  body_of : (body : List ℕ) (due : Result (Unit {0}) Halt) → body ≡ (outcome_of body due).body
-  body_of body (Ok done) = refl
-  body_of body (Err why) = refl
+  acts_of : (acts : List Act) (due : Result (Unit {0}) Halt) → acts ≡ (outcome_of acts due).acts
+  acts_of acts (Ok done) = refl
+  acts_of acts (Err why) = refl
 
-  wanted : (body : List ℕ) (due : Result (Unit {0}) Halt) (n : ℕ) (status : Status) (old mid new : SinkSeen) → IsPut (take n body) old mid → status ≡ is.Memory → Printed mid new [] memory_line → Puts body due status old new
-  wanted body due n status old mid new m e h =
-      subst (λ (st : Status). Puts body due st old new) (sym e) (n, subst (λ (t : List ℕ). Printed old new (take n t) memory_line) (body_of body due) (printed_then old mid new (take n body) memory_line m h))
+  wanted : (acts : List Act) (due : Result (Unit {0}) Halt) (n : ℕ) (status : Status) (old mid new : Outside) → AreDone (take n acts) old mid → status ≡ is.Memory → Printed mid.out new.out memory_line → new.vault ≡ mid.vault → For acts due status old new
+  wanted acts due n status old mid new m e h v =
+      subst (λ (st : Status). For acts due st old new) (sym e) (n, subst (λ (t : List Act). EndsWith (take n t) memory_line old new) (acts_of acts due) (ends_with (take n acts) memory_line old mid new m h v))
 
-  -- a command that halts with a last line after its body
-  halted : (h : Halt) (own : (body : List ℕ) (old new : SinkSeen) → Printed old new body (halt_line h) → Puts body (Err h) (halt_status h) old new) (body : List ℕ) (due : Result (Unit {0}) Halt) (status : Status) (old mid new : SinkSeen)
-      → (Err h ≡ due) × IsPut body old mid → EndsHalted h status mid new → Puts body due status old new
-  halted h own body due status old mid new p (inl k) =
-      subst (λ (d : Result (Unit {0}) Halt). Puts body d status old new) p.0
-      (subst (λ (st : Status). Puts body (Err h) st old new) (sym k.0) (own body old new (printed_then old mid new body (halt_line h) p.1 k.1)))
-  halted h own body due status old mid new p (inr k) =
-      wanted body due (length body) status old mid new (subst (λ (t : List ℕ). IsPut t old mid) (sym (take-length body)) p.1) k.1 k.2
+  -- a command that halts with a last line after its acts
+  halted : (h : Halt) (own : (acts : List Act) (old new : Outside) → EndsWith acts (halt_line h) old new → For acts (Err h) (halt_status h) old new) (acts : List Act) (due : Result (Unit {0}) Halt) (status : Status) (old mid new : Outside)
+      → (Err h ≡ due) × AreDone acts old mid → EndsHalted h status mid.out new.out → new.vault ≡ mid.vault → For acts due status old new
+  halted h own acts due status old mid new p (inl k) v =
+      subst (λ (d : Result (Unit {0}) Halt). For acts d status old new) p.0
+      (subst (λ (st : Status). For acts (Err h) st old new) (sym k.0) (own acts old new (ends_with acts (halt_line h) old mid new p.1 k.1 v)))
+  halted h own acts due status old mid new p (inr k) v =
+      wanted acts due (length acts) status old mid new (subst (λ (t : List Act). AreDone t old mid) (sym (take-length acts)) p.1) k.1 k.2 v
 
-  refused_own : (name : List ℕ) (kind : FileKind) (line : ℕ) (cause : Cause) (body : List ℕ) (old new : SinkSeen) → Printed old new body (halt_line (halt.Refused name kind line cause)) → Puts body (Err (halt.Refused name kind line cause)) (refused_as kind) old new
-  refused_own name Configuration line cause body old new k = (refl, k)
-  refused_own name Script line cause body old new k = (refl, k)
+  refused_own : (name : List ℕ) (kind : FileKind) (line : ℕ) (cause : Cause) (acts : List Act) (old new : Outside) → EndsWith acts (halt_line (halt.Refused name kind line cause)) old new → For acts (Err (halt.Refused name kind line cause)) (refused_as kind) old new
+  refused_own name Configuration line cause acts old new k = (refl, k)
+  refused_own name Script line cause acts old new k = (refl, k)
 
-  pub answered : (body : List ℕ) (due answer : Result (Unit {0}) Halt) (status : Status) (old mid new : SinkSeen) → PutsOf (phases stock files command) body due answer old mid → Ends answer status mid new → Puts body due status old new
-  answered body due (Ok done) status old mid new p h =
-      subst (λ (d : Result (Unit {0}) Halt). Puts body d status old new) p.0
-      (subst (λ (st : Status). Puts body (Ok done) st old new) (sym h.0) (refl, ap (λ (s : SinkSeen). s.told) h.1 ∙ p.1.1))
-  answered body due (Err halt.WriteFault) status old mid new p (inl h) =
-      subst (λ (st : Status). Puts body due st old new) (sym h.0) (subst (λ (t : List ℕ). FailsWithin t old new) (body_of body due) (fails_still old mid new body p h.1))
-  answered body due (Err halt.WriteFault) status old mid new p (inr h) = absurd (cc (h.0))
-  answered body due (Err halt.Memory) status old mid new p (inl h) = wanted body due p.0 status old mid new p.1 h.0 h.1
-  answered body due (Err halt.Memory) status old mid new p (inr h) = wanted body due p.0 status old mid new p.1 h.1 h.2
-  answered body due (Err (halt.ReadFault name)) status old mid new p (inl h) =
-      subst (λ (st : Status). Puts body due st old new) (sym h.0) (name, p.0, subst (λ (o : SinkSeen). Printed o new [] (read_fault_line name)) p.1 h.1)
-  answered body due (Err (halt.ReadFault name)) status old mid new p (inr h) =
-      wanted body due 0 status old mid new (subst (IsPut [] old) (sym p.1) (nothing_put old)) h.1 h.2
-  answered body due (Err (halt.Absent name)) status old mid new p h = halted (halt.Absent name) (λ b o n k. (refl, k)) body due status old mid new p h
-  answered body due (Err (halt.Refused name kind line cause)) status old mid new p h = halted (halt.Refused name kind line cause) (refused_own name kind line cause) body due status old mid new p h
-  answered body due (Err (halt.ShelfEmpty kind needed stocked)) status old mid new p h = halted (halt.ShelfEmpty kind needed stocked) (λ b o n k. (refl, k)) body due status old mid new p h
-  answered body due (Err (halt.HistoryFull entries bytes)) status old mid new p h = halted (halt.HistoryFull entries bytes) (λ b o n k. (refl, k)) body due status old mid new p h
-  answered body due (Err (halt.LogRefused place)) status old mid new p h = halted (halt.LogRefused place) (λ b o n k. (refl, k)) body due status old mid new p h
-  answered body due (Err (halt.NotBuilt name)) status old mid new p h = halted (halt.NotBuilt name) (λ b o n k. (refl, k)) body due status old mid new p h
+  pub answered : (acts : List Act) (due answer : Result (Unit {0}) Halt) (status : Status) (old mid new : Outside) → DoesOf (phases stock files command) acts due answer old mid → Ends answer status mid.out new.out → new.vault ≡ mid.vault → For acts due status old new
+  answered acts due (Ok done) status old mid new p h v =
+      let same : new ≡ mid = λ i. record { out = h.1 i; vault = v i } in
+      subst (λ (d : Result (Unit {0}) Halt). For acts d status old new) p.0
+      (subst (λ (st : Status). For acts (Ok done) st old new) (sym h.0) (refl, same ∙ p.1))
+  answered acts due (Err halt.WriteFault) status old mid new p (inl h) v =
+      subst (λ (st : Status). For acts due st old new) (sym h.0) (subst (λ (t : List Act). PutFails t old new) (acts_of acts due) (fails_still acts old mid new p h.1 v))
+  answered acts due (Err halt.WriteFault) status old mid new p (inr h) v = absurd (cc (h.0))
+  answered acts due (Err halt.LogFault) status old mid new p (inl h) v =
+      subst (λ (st : Status). For acts due st old new) (sym h.0) (mid, subst (λ (t : List Act). LogFails t old mid) (acts_of acts due) p, ends_with [] log_fault_line mid mid new refl h.1 v)
+  answered acts due (Err halt.LogFault) status old mid new p (inr h) v = absurd (cc (h.0))
+  answered acts due (Err halt.Memory) status old mid new p (inl h) v = wanted acts due p.0 status old mid new p.1 h.0 h.1 v
+  answered acts due (Err halt.Memory) status old mid new p (inr h) v = wanted acts due p.0 status old mid new p.1 h.1 h.2 v
+  answered acts due (Err (halt.ReadFault name)) status old mid new p (inl h) v =
+      subst (λ (st : Status). For acts due st old new) (sym h.0) (name, p.0, ends_with [] (read_fault_line name) old mid new p.1 h.1 v)
+  answered acts due (Err (halt.ReadFault name)) status old mid new p (inr h) v = wanted acts due 0 status old mid new p.1 h.1 h.2 v
+  answered acts due (Err (halt.Absent name)) status old mid new p h v = halted (halt.Absent name) (λ a o n k. (refl, k)) acts due status old mid new p h v
+  answered acts due (Err (halt.Refused name kind line cause)) status old mid new p h v = halted (halt.Refused name kind line cause) (refused_own name kind line cause) acts due status old mid new p h v
+  answered acts due (Err (halt.ShelfEmpty kind needed stocked)) status old mid new p h v = halted (halt.ShelfEmpty kind needed stocked) (λ a o n k. (refl, k)) acts due status old mid new p h v
+  answered acts due (Err (halt.HistoryFull entries bytes)) status old mid new p h v = halted (halt.HistoryFull entries bytes) (λ a o n k. (refl, k)) acts due status old mid new p h v
+  answered acts due (Err (halt.LogRefused place)) status old mid new p h v = halted (halt.LogRefused place) (λ a o n k. (refl, k)) acts due status old mid new p h v
 
 -- what a command performed, with its last line, is its answer
-pub answers : (stock : List Meaning) (told : Option (List ℕ → Option (List ℕ))) (command : Command) (asked : Option Command) (answer : Result (Unit {0}) Halt) (status : Status) (old mid new : SinkSeen) → asked ≡ Some command
-    → IfSome told (λ all. Performs stock all command answer old mid) → Ends answer status mid new → IfSome told (λ all. Answers stock all asked status old new)
-answers stock None command asked answer status old mid new e p h = tt
-answers stock (Some all) command asked answer status old mid new e p h =
+pub answers : (stock : List Meaning) (told : Option (List ℕ → Option (List ℕ))) (command : Command) (asked : Option Command) (answer : Result (Unit {0}) Halt) (status : Status) (old mid new : Outside) → asked ≡ Some command
+    → IfSome told (λ all. Performs stock all command answer old mid) → Ends answer status mid.out new.out → new.vault ≡ mid.vault → IfSome told (λ all. Answers stock all asked status old new)
+answers stock None command asked answer status old mid new e p h v = tt
+answers stock (Some all) command asked answer status old mid new e p h v =
     subst (λ (c : Option Command). Answers stock all c status old new) (sym e) (record {
-      outcome = outcome_of p.body p.due;
-      is = record { body = p.body; due = p.due; is = p.is; outcome = refl };
-      puts = answered stock all command p.body p.due answer status old mid new p.puts h;
+      outcome = outcome_of p.acts p.due;
+      is = record { acts = p.acts; due = p.due; is = p.is; outcome = refl };
+      does = answered stock all command p.acts p.due answer status old mid new p.does h v;
     })
 
-pub misused_answers : (stock : List Meaning) (told : Option (List ℕ → Option (List ℕ))) (asked : Option Command) (status : Status) (old new : SinkSeen) → asked ≡ None → status ≡ is.Usage → Printed old new [] usage_line
+pub misused_answers : (stock : List Meaning) (told : Option (List ℕ → Option (List ℕ))) (asked : Option Command) (status : Status) (old new : Outside) → asked ≡ None → status ≡ is.Usage → Printed old.out new.out usage_line → new.vault ≡ old.vault
     → IfSome told (λ all. Answers stock all asked status old new)
-misused_answers stock None asked status old new e u h = tt
-misused_answers stock (Some all) asked status old new e u h =
-    subst (λ (c : Option Command). Answers stock all c status old new) (sym e) (subst (λ (st : Status). Answers stock all None st old new) (sym u) (record { outcome = misused; is = refl; puts = (refl, h) }))
+misused_answers stock None asked status old new e u h v = tt
+misused_answers stock (Some all) asked status old new e u h v =
+    subst (λ (c : Option Command). Answers stock all c status old new) (sym e)
+    (subst (λ (st : Status). Answers stock all None st old new) (sym u) (record { outcome = misused; is = refl; does = (refl, ends_with [] usage_line old old new refl h v) }))
 
 -- ---- where no count rose, the status is the outcome's
 
-status_of : (stock : List Meaning) (files : List ℕ → Option (List ℕ)) (asked : Option Command) (o : Outcome) (status : Status) (old new : SinkSeen) (no_read : status ≢ is.ReadFault) (no_write : status ≢ is.WriteFault) → PutsFor stock files asked o status old new → (status ≡ o.status) ⊎ (status ≡ is.Memory)
-status_of stock files asked o is.Memory old new a b h = inr refl
-status_of stock files asked o is.ReadFault old new a b h = absurd (a refl)
-status_of stock files asked o is.WriteFault old new a b h = absurd (b refl)
-status_of stock files asked o is.Ok old new a b h = inl (sym h.0)
-status_of stock files asked o is.Usage old new a b h = inl (sym h.0)
-status_of stock files asked o is.Absent old new a b h = inl (sym h.0)
-status_of stock files asked o is.ConfigRefused old new a b h = inl (sym h.0)
-status_of stock files asked o is.ShelfEmpty old new a b h = inl (sym h.0)
-status_of stock files asked o is.ScriptRefused old new a b h = inl (sym h.0)
-status_of stock files asked o is.HistoryFull old new a b h = inl (sym h.0)
-status_of stock files asked o is.LogRefused old new a b h = inl (sym h.0)
-status_of stock files asked o is.NotBuilt old new a b h = inl (sym h.0)
+status_of : (stock : List Meaning) (files : List ℕ → Option (List ℕ)) (asked : Option Command) (o : Outcome) (status : Status) (old new : Outside) (no_read : status ≢ is.ReadFault) (no_write : status ≢ is.WriteFault) (no_log : status ≢ is.LogFault)
+    → DoesFor stock files asked o status old new → (status ≡ o.status) ⊎ (status ≡ is.Memory)
+status_of stock files asked o is.Memory old new a b c h = inr refl
+status_of stock files asked o is.ReadFault old new a b c h = absurd (a refl)
+status_of stock files asked o is.WriteFault old new a b c h = absurd (b refl)
+status_of stock files asked o is.LogFault old new a b c h = absurd (c refl)
+status_of stock files asked o is.Ok old new a b c h = inl (sym h.0)
+status_of stock files asked o is.Usage old new a b c h = inl (sym h.0)
+status_of stock files asked o is.Absent old new a b c h = inl (sym h.0)
+status_of stock files asked o is.ConfigRefused old new a b c h = inl (sym h.0)
+status_of stock files asked o is.ShelfEmpty old new a b c h = inl (sym h.0)
+status_of stock files asked o is.ScriptRefused old new a b c h = inl (sym h.0)
+status_of stock files asked o is.HistoryFull old new a b c h = inl (sym h.0)
+status_of stock files asked o is.LogRefused old new a b c h = inl (sym h.0)
 
 steady_rose : (before now : ℕ) → Steady before now → Rose before now → ⊥
 steady_rose before now s r = omega (arith, s, r.1)
 
-pub completes : (stock : List Meaning) (told : Option (List ℕ → Option (List ℕ))) (asked : Option Command) (status : Status) (old new : SinkSeen) (faults faults_now : ℕ)
-    → (status ≡ is.ReadFault → Rose faults faults_now) → (status ≡ is.WriteFault → Rose old.faults new.faults) → Steady faults faults_now → Steady old.faults new.faults
+pub completes : (stock : List Meaning) (told : Option (List ℕ → Option (List ℕ))) (asked : Option Command) (status : Status) (old new : Outside) (faults faults_now : ℕ)
+    → (status ≡ is.ReadFault → Rose faults faults_now) → (status ≡ is.WriteFault → Rose old.out.faults new.out.faults) → (status ≡ is.LogFault → Rose old.vault.faults new.vault.faults)
+    → Steady faults faults_now → Steady old.out.faults new.out.faults → Steady old.vault.faults new.vault.faults
     → IfSome told (λ all. Answers stock all asked status old new) → IfSome told (λ all. Completes stock all asked status)
-completes stock None asked status old new f f' read write sf so h = tt
-completes stock (Some all) asked status old new f f' read write sf so h =
-    record { outcome = h.outcome; is = h.is; status_is = status_of stock all asked h.outcome status old new (λ e. steady_rose f f' sf (read e)) (λ e. steady_rose old.faults new.faults so (write e)) h.puts }
+completes stock None asked status old new f f' read write log sf so sv h = tt
+completes stock (Some all) asked status old new f f' read write log sf so sv h = record {
+  outcome = h.outcome;
+  is = h.is;
+  status_is = status_of stock all asked h.outcome status old new (λ e. steady_rose f f' sf (read e)) (λ e. steady_rose old.out.faults new.out.faults so (write e)) (λ e. steady_rose old.vault.faults new.vault.faults sv (log e)) h.does;
+}
 
 -- ---- the shelf
 
 -- the phases had no reason, and the world was made
-begun_shelf : (site : SiteData) (answer : Result (Unit {0}) Halt) (old new : List Meaning) → Taken old (uses_in site.interfaces) new → ShelfBy site None answer old new
+begun_shelf : (site : SiteData) (answer : Result (Unit {0}) Halt) (old new : List Meaning) → Taken old (line_uses site) new → ShelfBy site None answer old new
 begun_shelf site (Ok done) old new t = t
 begun_shelf site (Err halt.Memory) old new t = inr t
 begun_shelf site (Err (halt.ReadFault name)) old new t = inr t
 begun_shelf site (Err (halt.Absent name)) old new t = t
 begun_shelf site (Err halt.WriteFault) old new t = t
+begun_shelf site (Err halt.LogFault) old new t = t
 begun_shelf site (Err (halt.Refused name kind line cause)) old new t = t
 begun_shelf site (Err (halt.ShelfEmpty kind needed stocked)) old new t = t
 begun_shelf site (Err (halt.HistoryFull entries bytes)) old new t = t
 begun_shelf site (Err (halt.LogRefused place)) old new t = t
-begun_shelf site (Err (halt.NotBuilt name)) old new t = t
 
 never_some : {A : Type 0} (ps : List Phase) (h : Halt) → first_halt ps ≡ None → first_halt ps ≡ Some h → A
 never_some ps h e k = absurd (cc (sym e ∙ k))
@@ -492,33 +454,33 @@ unbegun_by site ps halt.Memory None old new e k same = inl same
 unbegun_by site ps (halt.ReadFault name) None old new e k same = inl same
 unbegun_by site ps (halt.Absent name) None old new e k same = never_some ps (halt.Absent name) e k
 unbegun_by site ps halt.WriteFault None old new e k same = absurd k
+unbegun_by site ps halt.LogFault None old new e k same = absurd k
 unbegun_by site ps (halt.Refused name kind line cause) None old new e k same = never_some ps (halt.Refused name kind line cause) e k
 unbegun_by site ps (halt.ShelfEmpty kind needed stocked) None old new e k same = never_some ps (halt.ShelfEmpty kind needed stocked) e k
 unbegun_by site ps (halt.HistoryFull entries bytes) None old new e k same = never_some ps (halt.HistoryFull entries bytes) e k
 unbegun_by site ps (halt.LogRefused place) None old new e k same = never_some ps (halt.LogRefused place) e k
-unbegun_by site ps (halt.NotBuilt name) None old new e k same = never_some ps (halt.NotBuilt name) e k
 
 module _ (stock new : List Meaning) (definitions site : List ℕ) where
   pub unloaded_shelf : (told : Option (List ℕ → Option (List ℕ))) (h : Halt) → IfSome told (λ all. TakesSite all definitions site (Err h)) → new ≡ stock → IfSome told (λ all. LeavesShelf all definitions site (Err h) stock new)
   unloaded_shelf None h k same = tt
   unloaded_shelf (Some all) h k same =
       unbegun_by (site_asked all definitions site) (first_phases stock all definitions site) h (first_halt (first_phases stock all definitions site)) stock new refl
-      (front (site_phases all definitions site) (world_phases stock site (site_asked all definitions site)) h k) same
+      (front (site_phases all definitions site) (shelf_phase stock (site_asked all definitions site) ∷ []) h k) same
 
-  pub unmade_shelf : (told : Option (List ℕ → Option (List ℕ))) (x : SiteData) (h : Halt) → IfSome told (λ all. TakesSite all definitions site (Ok x)) → HaltsIn (world_phases stock site x) h → new ≡ stock
+  pub unmade_shelf : (told : Option (List ℕ → Option (List ℕ))) (x : SiteData × List ℕ) (h : Halt) → IfSome told (λ all. TakesSite all definitions site (Ok x)) → HaltsIn (shelf_phase stock x.0 ∷ []) h → new ≡ stock
       → IfSome told (λ all. LeavesShelf all definitions site (Err h) stock new)
   unmade_shelf None x h s k same = tt
   unmade_shelf (Some all) x h s k same =
       unbegun_by (site_asked all definitions site) (first_phases stock all definitions site) h (first_halt (first_phases stock all definitions site)) stock new refl
-      (past (site_phases all definitions site) (world_phases stock site (site_asked all definitions site)) h s.0 (subst (λ (y : SiteData). HaltsIn (world_phases stock site y) h) s.1 k)) same
+      (past (site_phases all definitions site) (shelf_phase stock (site_asked all definitions site) ∷ []) h s.0 (subst (λ (y : SiteData × List ℕ). HaltsIn (shelf_phase stock y.0 ∷ []) h) s.1 k)) same
 
-  pub made_shelf : (told : Option (List ℕ → Option (List ℕ))) (x : SiteData) (answer : Result (Unit {0}) Halt) → IfSome told (λ all. TakesSite all definitions site (Ok x)) → first_halt (world_phases stock site x) ≡ None
-      → Taken stock (uses_in x.interfaces) new → IfSome told (λ all. LeavesShelf all definitions site answer stock new)
+  pub made_shelf : (told : Option (List ℕ → Option (List ℕ))) (x : SiteData × List ℕ) (answer : Result (Unit {0}) Halt) → IfSome told (λ all. TakesSite all definitions site (Ok x)) → first_halt (shelf_phase stock x.0 ∷ []) ≡ None
+      → Taken stock (line_uses x.0) new → IfSome told (λ all. LeavesShelf all definitions site answer stock new)
   made_shelf None x answer s w t = tt
   made_shelf (Some all) x answer s w t =
       let none : first_halt (first_phases stock all definitions site) ≡ None =
-      first_past (site_phases all definitions site) (world_phases stock site (site_asked all definitions site)) s.0 ∙ subst (λ (y : SiteData). first_halt (world_phases stock site y) ≡ None) s.1 w in
-      subst (λ (o : Option Halt). ShelfBy (site_asked all definitions site) o answer stock new) (sym none) (begun_shelf (site_asked all definitions site) answer stock new (subst (λ (y : SiteData). Taken stock (uses_in y.interfaces) new) s.1 t))
+      first_past (site_phases all definitions site) (shelf_phase stock (site_asked all definitions site) ∷ []) s.0 ∙ subst (λ (y : SiteData × List ℕ). first_halt (shelf_phase stock y.0 ∷ []) ≡ None) s.1 w in
+      subst (λ (o : Option Halt). ShelfBy (site_asked all definitions site) o answer stock new) (sym none) (begun_shelf (site_asked all definitions site) answer stock new (subst (λ (y : SiteData × List ℕ). Taken stock (line_uses y.0) new) s.1 t))
 
 -- the same by the status, with which want of memory may have come
 shelf_status : (site : SiteData) (first : Option Halt) (answer : Result (Unit {0}) Halt) (status : Status) (old new : List Meaning) (out out' : SinkSeen) → ShelfBy site first answer old new → Ends answer status out out' → ShelfAt site first status old new
@@ -531,7 +493,9 @@ shelf_status site None (Err (halt.ReadFault name)) status old new out out' k (in
 shelf_status site None (Err (halt.Absent name)) status old new out out' k (inl h) = rw h.0 k
 shelf_status site None (Err (halt.Absent name)) status old new out out' k (inr h) = rw h.1 (inr k)
 shelf_status site None (Err halt.WriteFault) status old new out out' k (inl h) = rw h.0 k
+shelf_status site None (Err halt.LogFault) status old new out out' k (inl h) = rw h.0 k
 shelf_status site None (Err halt.WriteFault) status old new out out' k (inr h) = rw h.1 (inr k)
+shelf_status site None (Err halt.LogFault) status old new out out' k (inr h) = rw h.1 (inr k)
 shelf_status site None (Err (halt.Refused name Configuration line cause)) status old new out out' k (inl h) = rw h.0 k
 shelf_status site None (Err (halt.Refused name Configuration line cause)) status old new out out' k (inr h) = rw h.1 (inr k)
 shelf_status site None (Err (halt.Refused name Script line cause)) status old new out out' k (inl h) = rw h.0 k
@@ -542,8 +506,6 @@ shelf_status site None (Err (halt.HistoryFull entries bytes)) status old new out
 shelf_status site None (Err (halt.HistoryFull entries bytes)) status old new out out' k (inr h) = rw h.1 (inr k)
 shelf_status site None (Err (halt.LogRefused place)) status old new out out' k (inl h) = rw h.0 k
 shelf_status site None (Err (halt.LogRefused place)) status old new out out' k (inr h) = rw h.1 (inr k)
-shelf_status site None (Err (halt.NotBuilt name)) status old new out out' k (inl h) = rw h.0 k
-shelf_status site None (Err (halt.NotBuilt name)) status old new out out' k (inr h) = rw h.1 (inr k)
 
 pub command_shelf : (told : Option (List ℕ → Option (List ℕ))) (command : Command) (asked : Option Command) (answer : Result (Unit {0}) Halt) (status : Status) (old new : List Meaning) (out out' : SinkSeen) → asked ≡ Some command
     → IfSome told (λ all. CommandLeaves all command answer old new) → Ends answer status out out' → IfSome told (λ all. ShelfAfter all asked status old new)

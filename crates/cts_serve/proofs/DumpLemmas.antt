@@ -5,7 +5,7 @@ use Rattle.std.specs.List.{All, flat_map}
 use Rattle.std.proofs.lemmas.Bool.{cases_order}
 use Rattle.std.proofs.lemmas.Bool.Decides.{nat_tests}
 use Rattle.std.proofs.lemmas.Grind.{flat_map-append}
-use Rattle.std.proofs.lemmas.List.{append-nil, take_at, drop_at}
+use Rattle.std.proofs.lemmas.List.{append-nil, drop_at}
 use Rattle.std.proofs.lemmas.List.Elements.{All-append, All-cons, All-nil}
 use Rattle.cts_log.specs.Files.{kind_of, log_head_len}
 use Rattle.cts_log.specs.Dumping.{IsDumpLine}
@@ -15,14 +15,12 @@ use Rattle.cts_log.specs.declared.kind.LogKind.{LogKind}
 use Rattle.cts_log.proofs.EntriesAgain.{read_again}
 use Rattle.cts_log.proofs.LogHeads.{heads_are_exact}
 use Rattle.cts_log.proofs.ReadOnce.{BeginsWithNone, begins_to_read}
-use Rattle.cts_outside.specs.Seen.{SinkSeen}
-use Rattle.cts_outside.proofs.Putting.{appended-nil}
+use Rattle.cts_serve.specs.Acts.{Act, AreDone, Outside, PutFails, is_put, puts}
 use Rattle.cts_serve.specs.Dump.{AreLines, IsPrinted, IsDump, PutsLines, PutsLog, dump_answer}
-use Rattle.cts_serve.specs.Putting.{IsPut, FailsWithin}
 use Rattle.cts_serve.specs.declared.halt.Halt.{Halt}
 use Rattle.cts_serve.specs.declared.halt.Halt.TheVariants as halt
 use Rattle.cts_serve.proofs.MomentLemmas.{lines_of}
-use Rattle.cts_serve.proofs.ReplayLemmas.{put_then, fails_then, fails_first}
+use Rattle.cts_serve.proofs.ActLemmas.{done_then, fails_first, fails_then, wants_whole}
 
 -- ---- whether some numbers begin with a whole entry, also where they are no bytes
 
@@ -155,34 +153,34 @@ ahead r es h =
 
 -- ---- lines one after the other
 
-lines_then : (es fs : List Logged) (text more : List ℕ) → AreLines es text → AreLines fs more → AreLines (es ++ fs) (text ++ more)
-lines_then [] fs text more a b = subst (AreLines fs) (sym (ap (λ t. t ++ more) a)) b
-lines_then (e ∷ es) fs text more a b = (a.0, a.1 ++ more, a.2, lines_then es fs a.1 more a.3 b, ap (λ t. t ++ more) a.4 ∙ append_assoc a.0 a.1 more)
+lines_then : (es fs : List Logged) (acts more : List Act) → AreLines es acts → AreLines fs more → AreLines (es ++ fs) (acts ++ more)
+lines_then [] fs acts more a b = subst (AreLines fs) (sym (ap (λ t. t ++ more) a)) b
+lines_then (e ∷ es) fs acts more a b = (a.0, a.1 ++ more, a.2, lines_then es fs a.1 more a.3 b, ap (λ t. t ++ more) a.4 ∙ append_assoc (puts a.0) a.1 more)
 
-one_line : (e : Logged) (line : List ℕ) → IsDumpLine e line → AreLines (e ∷ []) line
-one_line e line h = (line, [], h, refl, sym (append-nil line))
+one_line : (e : Logged) (line : List ℕ) → IsDumpLine e line → AreLines (e ∷ []) (puts line)
+one_line e line h = (line, [], h, refl, sym (append-nil (puts line)))
 
 -- ---- how far a dump has come
 
 -- The reader has read these entries of the file, and their lines were put.
-pub record IsFar (file : List ℕ) (r : ReaderData) (text : List ℕ) (old new : SinkSeen) : Type 0 where
+pub record IsFar (file : List ℕ) (r : ReaderData) (acts : List Act) (old new : Outside) : Type 0 where
   pub file_is : r.file ≡ file
   pub entries : List Logged
   pub read : HasRead r entries
-  pub lines : AreLines entries text
-  pub put : IsPut text old new
+  pub lines : AreLines entries acts
+  pub done : AreDone acts old new
 
-pub begun : (r : ReaderData) (out : SinkSeen) → HasRead r [] → IsFar r.file r [] out out
-begun r out h = record { file_is = refl; entries = []; read = h; lines = refl; put = (refl, sym (appended-nil out.told)) }
+pub begun : (r : ReaderData) (o : Outside) → HasRead r [] → IsFar r.file r [] o o
+begun r o h = record { file_is = refl; entries = []; read = h; lines = refl; done = refl }
 
-pub goes_on : (file : List ℕ) (r s : ReaderData) (text line : List ℕ) (e : Logged) (old mid new : SinkSeen) (f : IsFar file r text old mid) → s.file ≡ r.file → HasRead s (f.entries ++ e ∷ [])
-    → IsDumpLine e line → IsPut line mid new → IsFar file s (text ++ line) old new
-goes_on file r s text line e old mid new f same more is put = record {
+pub goes_on : (file : List ℕ) (r s : ReaderData) (acts : List Act) (line : List ℕ) (e : Logged) (old mid new : Outside) (f : IsFar file r acts old mid) → s.file ≡ r.file → HasRead s (f.entries ++ e ∷ [])
+    → IsDumpLine e line → AreDone (puts line) mid new → IsFar file s (acts ++ puts line) old new
+goes_on file r s acts line e old mid new f same more is put = record {
   file_is = same ∙ f.file_is;
   entries = f.entries ++ e ∷ [];
   read = more;
-  lines = lines_then f.entries (e ∷ []) text line f.lines (one_line e line is);
-  put = put_then old mid new text line f.put put;
+  lines = lines_then f.entries (e ∷ []) acts (puts line) f.lines (one_line e line is);
+  done = done_then old mid new acts (puts line) f.done put;
 }
 
 -- less of the file is left after an entry
@@ -193,33 +191,33 @@ shorter r s es fs h k same =
     omega (arith, place, ap length file, k.within, end_long (drop r.place r.file))
 
 -- whatever is left, its lines stand after those so far
-pub rest_of : (r : ReaderData) (es : List Logged) (text : List ℕ) → HasRead r es → AreLines es text → (more : List ℕ) × (due : Result (Unit {0}) Halt) × IsPrinted r.file (text ++ more) due
-rest_of r es text h lines =
+pub rest_of : (r : ReaderData) (es : List Logged) (acts : List Act) → HasRead r es → AreLines es acts → (more : List Act) × (due : Result (Unit {0}) Halt) × IsPrinted r.file (acts ++ more) due
+rest_of r es acts h lines =
     let a = ahead r es h in
     let more = lines_of a.entries a.fit in
-    (more.0, dump_answer a.place (length r.file), record { kind = a.kind; entries = es ++ a.entries; place = a.place; read = a.read; lines = lines_then es a.entries text more.0 lines more.1; due_is = refl })
+    (more.0, dump_answer a.place (length r.file), record { kind = a.kind; entries = es ++ a.entries; place = a.place; read = a.read; lines = lines_then es a.entries acts more.0 lines more.1; due_is = refl })
 
 -- memory was wanted
-pub wants : (file : List ℕ) (r : ReaderData) (text : List ℕ) (old new : SinkSeen) → IsFar file r text old new → PutsLines file (Err halt.Memory) old new
-wants file r text old new f =
-    let all = rest_of r f.entries text f.read f.lines in
+pub wants : (file : List ℕ) (r : ReaderData) (acts : List Act) (old new : Outside) → IsFar file r acts old new → PutsLines file (Err halt.Memory) old new
+wants file r acts old new f =
+    let all = rest_of r f.entries acts f.read f.lines in
     record {
-      body = text ++ all.0;
+      acts = acts ++ all.0;
       due = all.1;
-      printed = subst (λ (t : List ℕ). IsPrinted t (text ++ all.0) all.1) f.file_is all.2;
-      puts = (length text, subst (λ (t : List ℕ). IsPut t old new) (sym (take_at text all.0 (length text) refl)) f.put);
+      printed = subst (λ (t : List ℕ). IsPrinted t (acts ++ all.0) all.1) f.file_is all.2;
+      does = wants_whole old new acts all.0 f.done;
     }
 
 -- a put failed within the line of an entry
-pub faulted : (file : List ℕ) (r s : ReaderData) (text line : List ℕ) (e : Logged) (old mid new : SinkSeen) (f : IsFar file r text old mid) → s.file ≡ r.file → HasRead s (f.entries ++ e ∷ [])
-    → IsDumpLine e line → FailsWithin line mid new → PutsLines file (Err halt.WriteFault) old new
-faulted file r s text line e old mid new f same more is fails =
-    let all = rest_of s (f.entries ++ e ∷ []) (text ++ line) more (lines_then f.entries (e ∷ []) text line f.lines (one_line e line is)) in
+pub faulted : (file : List ℕ) (r s : ReaderData) (acts : List Act) (line : List ℕ) (e : Logged) (old mid new : Outside) (f : IsFar file r acts old mid) → s.file ≡ r.file → HasRead s (f.entries ++ e ∷ [])
+    → IsDumpLine e line → PutFails (puts line) mid new → PutsLines file (Err halt.WriteFault) old new
+faulted file r s acts line e old mid new f same more is fails =
+    let all = rest_of s (f.entries ++ e ∷ []) (acts ++ puts line) more (lines_then f.entries (e ∷ []) acts (puts line) f.lines (one_line e line is)) in
     record {
-      body = (text ++ line) ++ all.0;
+      acts = (acts ++ puts line) ++ all.0;
       due = all.1;
-      printed = subst (λ (t : List ℕ). IsPrinted t ((text ++ line) ++ all.0) all.1) (same ∙ f.file_is) all.2;
-      puts = fails_first old new (text ++ line) all.0 (fails_then old mid new text line f.put fails);
+      printed = subst (λ (t : List ℕ). IsPrinted t ((acts ++ puts line) ++ all.0) all.1) (same ∙ f.file_is) all.2;
+      does = fails_first is_put old new (acts ++ puts line) all.0 (fails_then is_put old mid new acts (puts line) f.done fails);
     }
 
 at_end : (n : ℕ) → dump_answer n n ≡ Ok tt
@@ -228,21 +226,21 @@ at_end n = let e : nat_eq n n ≡ true = grind (arith, nat_tests) in rw e refl
 before_end : (place n : ℕ) → place < n → dump_answer place n ≡ Err (halt.LogRefused place)
 before_end place n h = let e : nat_eq place n ≡ false = grind (arith, nat_tests) in rw e refl
 
-pub ends_well : (file : List ℕ) (r : ReaderData) (text : List ℕ) (old new : SinkSeen) (f : IsFar file r text old new) → (kind : LogKind) × IsLogRead r.file kind f.entries (length r.file) → PutsLines file (Ok tt) old new
-ends_well file r text old new f h = record {
-  body = text;
+pub ends_well : (file : List ℕ) (r : ReaderData) (acts : List Act) (old new : Outside) (f : IsFar file r acts old new) → (kind : LogKind) × IsLogRead r.file kind f.entries (length r.file) → PutsLines file (Ok tt) old new
+ends_well file r acts old new f h = record {
+  acts = acts;
   due = Ok tt;
-  printed = subst (λ (t : List ℕ). IsPrinted t text (Ok tt)) f.file_is (record { kind = h.0; entries = f.entries; place = length r.file; read = h.1; lines = f.lines; due_is = sym (at_end (length r.file)) });
-  puts = (refl, f.put);
+  printed = subst (λ (t : List ℕ). IsPrinted t acts (Ok tt)) f.file_is (record { kind = h.0; entries = f.entries; place = length r.file; read = h.1; lines = f.lines; due_is = sym (at_end (length r.file)) });
+  does = (refl, f.done);
 }
 
-pub ends_cut : (file : List ℕ) (r : ReaderData) (text : List ℕ) (place : ℕ) (old new : SinkSeen) (f : IsFar file r text old new) → (kind : LogKind) × IsLogRead r.file kind f.entries place × (place < length r.file)
+pub ends_cut : (file : List ℕ) (r : ReaderData) (acts : List Act) (place : ℕ) (old new : Outside) (f : IsFar file r acts old new) → (kind : LogKind) × IsLogRead r.file kind f.entries place × (place < length r.file)
     → PutsLines file (Err (halt.LogRefused place)) old new
-ends_cut file r text place old new f h = record {
-  body = text;
+ends_cut file r acts place old new f h = record {
+  acts = acts;
   due = Err (halt.LogRefused place);
-  printed = subst (λ (t : List ℕ). IsPrinted t text (Err (halt.LogRefused place))) f.file_is (record { kind = h.0; entries = f.entries; place = place; read = h.1; lines = f.lines; due_is = sym (before_end place (length r.file) h.2) });
-  puts = (refl, f.put);
+  printed = subst (λ (t : List ℕ). IsPrinted t acts (Err (halt.LogRefused place))) f.file_is (record { kind = h.0; entries = f.entries; place = place; read = h.1; lines = f.lines; due_is = sym (before_end place (length r.file) h.2) });
+  does = (refl, f.done);
 }
 
 -- ---- files without a head
@@ -253,25 +251,25 @@ no_head file e kind head x is same =
     let never : None ≡ Some kind = sym e ∙ known in
     cc never
 
-pub no_log : (file : List ℕ) (out : SinkSeen) → kind_of file ≡ None → PutsLog file (Err (halt.LogRefused 0)) out out
-no_log file out e = record {
-  body = [];
+pub no_log : (file : List ℕ) (o : Outside) → kind_of file ≡ None → PutsLog file (Err (halt.LogRefused 0)) o o
+no_log file o e = record {
+  acts = [];
   due = Err (halt.LogRefused 0);
   is = inr (record { none = no_head file e; nothing = refl; refused = refl });
-  puts = (refl, (refl, sym (appended-nil out.told)));
+  does = (refl, refl);
 }
 
-pub with_head : (file : List ℕ) (answer : Result (Unit {0}) Halt) (old new : SinkSeen) → PutsLines file answer old new → PutsLog file answer old new
-with_head file answer old new h = record { body = h.body; due = h.due; is = inl h.printed; puts = h.puts }
+pub with_head : (file : List ℕ) (answer : Result (Unit {0}) Halt) (old new : Outside) → PutsLines file answer old new → PutsLog file answer old new
+with_head file answer old new h = record { acts = h.acts; due = h.due; is = inl h.printed; does = h.does }
 
 -- ---- each file has a dump
 
-by_kind : (file : List ℕ) (kind : Option LogKind) → kind_of file ≡ kind → (body : List ℕ) × (due : Result (Unit {0}) Halt) × IsDump file body due
+by_kind : (file : List ℕ) (kind : Option LogKind) → kind_of file ≡ kind → (acts : List Act) × (due : Result (Unit {0}) Halt) × IsDump file acts due
 by_kind file None e = ([], Err (halt.LogRefused 0), inr (record { none = no_head file e; nothing = refl; refused = refl }))
 by_kind file (Some kind) e =
     let start : ReaderData = record { file = file; place = min log_head_len (length file) } in
     let all = rest_of start [] [] (begins_to_read file (ap is_some e)) refl in
     (all.0, all.1, inl all.2)
 
-pub some_dump : (file : List ℕ) → (body : List ℕ) × (due : Result (Unit {0}) Halt) × IsDump file body due
+pub some_dump : (file : List ℕ) → (acts : List Act) × (due : Result (Unit {0}) Halt) × IsDump file acts due
 some_dump file = by_kind file (kind_of file) refl

@@ -15,22 +15,22 @@ use Rattle.cts_log.proofs.OneText.{entries_have_one_line}
 use Rattle.cts_log.proofs.ReadOnce.{logs_are_read_once, no_head_no_read}
 use Rattle.cts_log.specs.Logged.{Logged}
 use Rattle.cts_log.specs.Reading.{IsLogRead}
-use Rattle.cts_outside.specs.Seen.{SinkSeen}
 use Rattle.cts_proto.specs.Meaning.{Meaning}
 use Rattle.cts_words.specs.declared.fault.WordFault.{WordFault}
 use Rattle.cts_words.specs.declared.fault.WordFault.TheVariants as words
 use Rattle.cts_words.specs.declared.statement.Statement.{Statement}
 use Rattle.cts_words.specs.Statements.{said}
+use Rattle.cts_serve.specs.Acts.{Act, Outside, puts}
 use Rattle.cts_serve.specs.Causes.{words_halt}
 use Rattle.cts_serve.specs.Command.{Answers, Completes, IsDone, IsDueOf, IsOutcome, Outcome, misused, outcome_of, phases}
 use Rattle.cts_serve.specs.Dump.{AreLines, IsDump, dump_answer, log_phase}
 use Rattle.cts_serve.specs.Endings.{halt_status}
 use Rattle.cts_serve.specs.Laws.{HasOneOutcome, HasOutcome, IsBadLog, IsShort, IsWholeLog, RefusedExactly, ShortExactly}
-use Rattle.cts_serve.specs.Load.{bytes_of, definitions_asked, definitions_phase, definitions_read, events_asked, script_phase, script_read, site_asked, site_phase, site_phases, site_read}
+use Rattle.cts_serve.specs.Load.{bytes_of, definitions_asked, definitions_phase, definitions_read, digest_asked, events_asked, script_phase, script_read, site_asked, site_phase, site_phases, site_read}
 use Rattle.cts_serve.specs.Load.Files.{file_limit, judge, judge_said, log_limit, verdict, within}
-use Rattle.cts_serve.specs.Phases.{Phase, asking, file_halt, first_halt}
-use Rattle.cts_serve.specs.Replay.{IsReplay, are_built_events, replay_answer, replay_body, script_phases}
-use Rattle.cts_serve.specs.Start.{built_phase, shelf_phase, short_halt, short_kind, unless}
+use Rattle.cts_serve.specs.Phases.{Phase, file_halt, first_halt}
+use Rattle.cts_serve.specs.Replay.{IsReplay, replay_acts, replay_answer}
+use Rattle.cts_serve.specs.Start.{shelf_phase, short_halt, short_kind}
 use Rattle.cts_serve.specs.Transcript.{events_of}
 use Rattle.cts_serve.specs.declared.halt.Halt.{Halt}
 use Rattle.cts_serve.specs.declared.halt.Halt.TheVariants as halt
@@ -47,52 +47,52 @@ use Rattle.cts_serve.proofs.PhaseLemmas.{first_front, first_past, none_alone}
 
 -- ---- one outcome
 
-one_text : (es : List Logged) (text other : List ℕ) → AreLines es text → AreLines es other → text ≡ other
-one_text [] text other a b = a ∙ sym b
-one_text (e ∷ es) text other a b = a.4 ∙ (ap₂ ◌++◌ (entries_have_one_line e a.0 b.0 a.2 b.2) (one_text es a.1 b.1 a.3 b.3) ∙ sym b.4)
+one_text : (es : List Logged) (acts other : List Act) → AreLines es acts → AreLines es other → acts ≡ other
+one_text [] acts other a b = a ∙ sym b
+one_text (e ∷ es) acts other a b = a.4 ∙ (ap₂ ◌++◌ (ap puts (entries_have_one_line e a.0 b.0 a.2 b.2)) (one_text es a.1 b.1 a.3 b.3) ∙ sym b.4)
 
-abbrev Same : List ℕ → List ℕ → Result (Unit {0}) Halt → Result (Unit {0}) Halt → Type 0
-Same body other due answer = (body ≡ other) × (due ≡ answer)
+abbrev Same : List Act → List Act → Result (Unit {0}) Halt → Result (Unit {0}) Halt → Type 0
+Same acts other due answer = (acts ≡ other) × (due ≡ answer)
 
-one_dump : (file body other : List ℕ) (due answer : Result (Unit {0}) Halt) → IsDump file body due → IsDump file other answer → Same body other due answer
-one_dump file body other due answer (inl a) (inl b) =
+one_dump : (file : List ℕ) (acts other : List Act) (due answer : Result (Unit {0}) Halt) → IsDump file acts due → IsDump file other answer → Same acts other due answer
+one_dump file acts other due answer (inl a) (inl b) =
     let same = logs_are_read_once file a.kind b.kind a.entries b.entries a.place b.place a.read b.read in (
-      one_text b.entries body other (subst (λ (es : List Logged). AreLines es body) same.1 a.lines) b.lines,
+      one_text b.entries acts other (subst (λ (es : List Logged). AreLines es acts) same.1 a.lines) b.lines,
       a.due_is ∙ (ap (λ (n : ℕ). dump_answer n (length file)) same.2 ∙ sym b.due_is),
     )
-one_dump file body other due answer (inl a) (inr b) = absurd (no_head_no_read file a.kind a.entries a.place b.none a.read)
-one_dump file body other due answer (inr a) (inl b) = absurd (no_head_no_read file b.kind b.entries b.place a.none b.read)
-one_dump file body other due answer (inr a) (inr b) = (a.nothing ∙ sym b.nothing, a.refused ∙ sym b.refused)
+one_dump file acts other due answer (inl a) (inr b) = absurd (no_head_no_read file a.kind a.entries a.place b.none a.read)
+one_dump file acts other due answer (inr a) (inl b) = absurd (no_head_no_read file b.kind b.entries b.place a.none b.read)
+one_dump file acts other due answer (inr a) (inr b) = (a.nothing ∙ sym b.nothing, a.refused ∙ sym b.refused)
 
 -- a script's events have one run
-one_replay : (site : SiteData) (script : List ℕ) (events : List (ℕ × Event)) (body other : List ℕ) (due answer : Result (Unit {0}) Halt) → IsReplay site script events body due → IsReplay site script events other answer → Same body other due answer
-one_replay site script events body other due answer h k =
+one_replay : (digest : List ℕ) (site : SiteData) (script : List ℕ) (events : List (ℕ × Event)) (acts other : List Act) (due answer : Result (Unit {0}) Halt) → IsReplay digest site script events acts due → IsReplay digest site script events other answer → Same acts other due answer
+one_replay digest site script events acts other due answer h k =
     let same = has_one_run (site_environment site) (site_sound (basis_of site)) opening (events_of events) h.dids k.dids h.ending k.ending h.runs k.runs in (
-      h.body_is ∙ (ap (λ (ds : List Did). replay_body site ds h.ending) same.0 ∙ (ap (λ (e : Ending). replay_body site k.dids e) same.1 ∙ sym k.body_is)),
+      h.acts_are ∙ (ap (λ (ds : List Did). replay_acts digest site events ds h.ending) same.0 ∙ (ap (λ (e : Ending). replay_acts digest site events k.dids e) same.1 ∙ sym k.acts_are)),
       h.due_is ∙ (ap (λ (ds : List Did). replay_answer script events ds h.ending) same.0 ∙ (ap (λ (e : Ending). replay_answer script events k.dids e) same.1 ∙ sym k.due_is)),
     )
 
-one_done : (files : List ℕ → Option (List ℕ)) (command : Command) (body other : List ℕ) (due answer : Result (Unit {0}) Halt) → IsDone files command body due → IsDone files command other answer → Same body other due answer
-one_done files (Check definitions site) body other due answer h k = (h.0 ∙ sym k.0, h.1 ∙ sym k.1)
-one_done files (Replay definitions site script) body other due answer h k = one_replay (site_asked files definitions site) script (events_asked files (site_asked files definitions site) script) body other due answer h k
-one_done files (Dump log) body other due answer h k = one_dump (bytes_of (files log)) body other due answer h k
+one_done : (files : List ℕ → Option (List ℕ)) (command : Command) (acts other : List Act) (due answer : Result (Unit {0}) Halt) → IsDone files command acts due → IsDone files command other answer → Same acts other due answer
+one_done files (Check definitions site) acts other due answer h k = (h.0 ∙ sym k.0, h.1 ∙ sym k.1)
+one_done files (Replay definitions site script) acts other due answer h k = one_replay (digest_asked files definitions) (site_asked files definitions site) script (events_asked files (site_asked files definitions site) script) acts other due answer h k
+one_done files (Dump log) acts other due answer h k = one_dump (bytes_of (files log)) acts other due answer h k
 
-one_by : (h : Option Halt) (files : List ℕ → Option (List ℕ)) (command : Command) (body other : List ℕ) (due answer : Result (Unit {0}) Halt)
-    → MatchOption h (IsDone files command body due) (λ x. (body ≡ []) × (due ≡ Err x)) → MatchOption h (IsDone files command other answer) (λ x. (other ≡ []) × (answer ≡ Err x)) → Same body other due answer
-one_by (Some x) files command body other due answer h k = (h.0 ∙ sym k.0, h.1 ∙ sym k.1)
-one_by None files command body other due answer h k = one_done files command body other due answer h k
+one_by : (h : Option Halt) (files : List ℕ → Option (List ℕ)) (command : Command) (acts other : List Act) (due answer : Result (Unit {0}) Halt)
+    → MatchOption h (IsDone files command acts due) (λ x. (acts ≡ []) × (due ≡ Err x)) → MatchOption h (IsDone files command other answer) (λ x. (other ≡ []) × (answer ≡ Err x)) → Same acts other due answer
+one_by (Some x) files command acts other due answer h k = (h.0 ∙ sym k.0, h.1 ∙ sym k.1)
+one_by None files command acts other due answer h k = one_done files command acts other due answer h k
 
 pub has_one_outcome : HasOneOutcome
 has_one_outcome stock files None o p h k = h ∙ sym k
 has_one_outcome stock files (Some command) o p h k =
-    let same = one_by (first_halt (phases stock files command)) files command h.body k.body h.due k.due h.is k.is in
+    let same = one_by (first_halt (phases stock files command)) files command h.acts k.acts h.due k.due h.is k.is in
     h.outcome ∙ (ap₂ outcome_of same.0 same.1 ∙ sym k.outcome)
 
 pub has_outcome : HasOutcome
 has_outcome stock files None = (misused, refl)
 has_outcome stock files (Some command) =
     let o = some_outcome stock files command in
-    (outcome_of o.0 o.1, record { body = o.0; due = o.1; is = o.2; outcome = refl })
+    (outcome_of o.0 o.1, record { acts = o.0; due = o.1; is = o.2; outcome = refl })
 
 -- ---- statuses that neither a file of a site or script nor a replay has
 
@@ -104,7 +104,6 @@ pub record IsOther (s : Status) : Type 0 where
   pub config_refused : is.ConfigRefused ≢ s
   pub script_refused : is.ScriptRefused ≢ s
   pub history_full : is.HistoryFull ≢ s
-  pub not_built : is.NotBuilt ≢ s
 
 shelf_is_other : IsOther is.ShelfEmpty
 shelf_is_other = record {
@@ -115,7 +114,6 @@ shelf_is_other = record {
   config_refused = λ e. absurd (cc);
   script_refused = λ e. absurd (cc);
   history_full = λ e. absurd (cc);
-  not_built = λ e. absurd (cc);
 }
 
 log_is_other : IsOther is.LogRefused
@@ -127,7 +125,6 @@ log_is_other = record {
   config_refused = λ e. absurd (cc);
   script_refused = λ e. absurd (cc);
   history_full = λ e. absurd (cc);
-  not_built = λ e. absurd (cc);
 }
 
 module _ (s : Status) (other : IsOther s) where
@@ -171,59 +168,46 @@ module _ (s : Status) (other : IsOther s) where
   of_file kind name reads None = other.absent
   of_file kind name reads (Some bytes) = of_bytes kind name reads bytes (nat_lt file_limit (length bytes)) refl
 
-  of_built : (name : List ℕ) (built : Bool) → Other (unless built (halt.NotBuilt name))
-  of_built name true = tt
-  of_built name false = other.not_built
-
   module _ (files : List ℕ → Option (List ℕ)) (definitions site : List ℕ) where
     of_site : Other (first_halt (site_phases files definitions site))
     of_site =
         other_or (definitions_phase files definitions).halts (first_halt (site_phase files (definitions_asked files definitions) site ∷ [])) (of_file Configuration definitions definitions_read (files definitions))
         (other_or (site_phase files (definitions_asked files definitions) site).halts None (of_file Configuration site (site_read (definitions_asked files definitions)) (files site)) tt)
 
-    -- before the shelf
-    of_before : Other (first_halt (site_phases files definitions site ++ built_phase site (site_asked files definitions site) ∷ []))
-    of_before =
-        let built = built_phase site (site_asked files definitions site) in
-        other_or (definitions_phase files definitions).halts (first_halt (site_phase files (definitions_asked files definitions) site ∷ built ∷ [])) (of_file Configuration definitions definitions_read (files definitions))
-        (other_or (site_phase files (definitions_asked files definitions) site).halts (first_halt (built ∷ [])) (of_file Configuration site (site_read (definitions_asked files definitions)) (files site)) (other_or built.halts None (of_built site _) tt))
-
-    -- after it
-    of_script : (x : SiteData) (script : List ℕ) → Other (first_halt (script_phases files x script))
-    of_script x script =
-        other_or (script_phase files x script).halts (first_halt (asking (unless (are_built_events (events_asked files x script)) (halt.NotBuilt script)) ∷ [])) (of_file Script script (script_read x) (files script))
-        (other_or (unless (are_built_events (events_asked files x script)) (halt.NotBuilt script)) None (of_built script (are_built_events (events_asked files x script))) tt)
+    -- after the shelf
+    of_script : (x : SiteData) (script : List ℕ) → Other (first_halt (script_phase files x script ∷ []))
+    of_script x script = other_or (script_phase files x script).halts None (of_file Script script (script_read x) (files script)) tt
 
   -- a command that ends so has this status
   abbrev Has : Result (Unit {0}) Halt → Type 0
   Has due = (outcome_of [] due).status ≡ s
 
-  status_alone : (body : List ℕ) (due : Result (Unit {0}) Halt) → (outcome_of body due).status ≡ (outcome_of [] due).status
-  status_alone body (Ok done) = refl
-  status_alone body (Err h) = refl
+  status_alone : (acts : List Act) (due : Result (Unit {0}) Halt) → (outcome_of acts due).status ≡ (outcome_of [] due).status
+  status_alone acts (Ok done) = refl
+  status_alone acts (Err h) = refl
 
   of_run : (script : List ℕ) (events : List (ℕ × Event)) (dids : List Did) (ending : Ending) → Has (replay_answer script events dids ending) → ⊥
   of_run script events dids Finished h = other.ok h
   of_run script events dids NotEnabled h = other.script_refused h
   of_run script events dids HistoryFull h = other.history_full h
 
-  of_replay : (site : SiteData) (script : List ℕ) (events : List (ℕ × Event)) (body : List ℕ) (due : Result (Unit {0}) Halt) → IsReplay site script events body due → Has due → ⊥
-  of_replay site script events body due r h = of_run script events r.dids r.ending (subst Has r.due_is h)
+  of_replay : (digest : List ℕ) (site : SiteData) (script : List ℕ) (events : List (ℕ × Event)) (acts : List Act) (due : Result (Unit {0}) Halt) → IsReplay digest site script events acts due → Has due → ⊥
+  of_replay digest site script events acts due r h = of_run script events r.dids r.ending (subst Has r.due_is h)
 
   -- phases whose reasons all have another status
-  of_phases : (first : Option Halt) (done : Type 0) (body : List ℕ) (due : Result (Unit {0}) Halt) → Other first → (done → Has due → ⊥) → MatchOption first done (λ x. (body ≡ []) × (due ≡ Err x)) → Has due → ⊥
-  of_phases None done body due k d m h = d m h
-  of_phases (Some x) done body due k d m h = k (subst Has m.1 h)
+  of_phases : (first : Option Halt) (done : Type 0) (acts : List Act) (due : Result (Unit {0}) Halt) → Other first → (done → Has due → ⊥) → MatchOption first done (λ x. (acts ≡ []) × (due ≡ Err x)) → Has due → ⊥
+  of_phases None done acts due k d m h = d m h
+  of_phases (Some x) done acts due k d m h = k (subst Has m.1 h)
 
-  of_check : (files : List ℕ → Option (List ℕ)) (definitions site body : List ℕ) (due : Result (Unit {0}) Halt) → IsDueOf (site_phases files definitions site) (IsDone files (Check definitions site)) body due → Has due → ⊥
-  of_check files definitions site body due m h =
-      of_phases (first_halt (site_phases files definitions site)) (IsDone files (Check definitions site) body due) body due (of_site files definitions site) (λ d k. other.ok (subst Has d.1 k)) m h
+  of_check : (files : List ℕ → Option (List ℕ)) (definitions site : List ℕ) (acts : List Act) (due : Result (Unit {0}) Halt) → IsDueOf (site_phases files definitions site) (IsDone files (Check definitions site)) acts due → Has due → ⊥
+  of_check files definitions site acts due m h =
+      of_phases (first_halt (site_phases files definitions site)) (IsDone files (Check definitions site) acts due) acts due (of_site files definitions site) (λ d k. other.ok (subst Has d.1 k)) m h
 
-has_status : (s : Status) (other : IsOther s) (body : List ℕ) (due : Result (Unit {0}) Halt) (o : Outcome) → o ≡ outcome_of body due → o.status ≡ s → (outcome_of [] due).status ≡ s
-has_status s other body due o e h = sym (status_alone s other body due) ∙ (sym (ap (λ (t : Outcome). t.status) e) ∙ h)
+has_status : (s : Status) (other : IsOther s) (acts : List Act) (due : Result (Unit {0}) Halt) (o : Outcome) → o ≡ outcome_of acts due → o.status ≡ s → (outcome_of [] due).status ≡ s
+has_status s other acts due o e h = sym (status_alone s other acts due) ∙ (sym (ap (λ (t : Outcome). t.status) e) ∙ h)
 
-outcome_status : (body : List ℕ) (due : Result (Unit {0}) Halt) (h : Halt) (o : Outcome) → o ≡ outcome_of body due → due ≡ Err h → o.status ≡ halt_status h
-outcome_status body due h o e f = ap (λ (t : Outcome). t.status) e ∙ ap (λ (d : Result (Unit {0}) Halt). (outcome_of body d).status) f
+outcome_status : (acts : List Act) (due : Result (Unit {0}) Halt) (h : Halt) (o : Outcome) → o ≡ outcome_of acts due → due ≡ Err h → o.status ≡ halt_status h
+outcome_status acts due h o e f = ap (λ (t : Outcome). t.status) e ∙ ap (λ (d : Result (Unit {0}) Halt). (outcome_of acts d).status) f
 
 -- ---- a shelf that is short
 
@@ -232,46 +216,46 @@ module _ (stock : List Meaning) (files : List ℕ → Option (List ℕ)) (defini
   x = site_asked files definitions site
 
   abbrev before : List Phase
-  before = site_phases files definitions site ++ built_phase site x ∷ []
+  before = site_phases files definitions site
 
   abbrev rest : List Phase
-  rest = shelf_phase stock x ∷ script_phases files x script
+  rest = shelf_phase stock x ∷ script_phase files x script ∷ []
 
-  abbrev Done : List ℕ → Result (Unit {0}) Halt → Type 0
-  Done body due = IsDone files (Replay definitions site script) body due
+  abbrev Done : List Act → Result (Unit {0}) Halt → Type 0
+  Done acts due = IsDone files (Replay definitions site script) acts due
 
-  abbrev Due : List Phase → List ℕ → Result (Unit {0}) Halt → Type 0
-  Due ps body due = IsDueOf ps (IsDone files (Replay definitions site script)) body due
+  abbrev Due : List Phase → List Act → Result (Unit {0}) Halt → Type 0
+  Due ps acts due = IsDueOf ps (IsDone files (Replay definitions site script)) acts due
 
   -- after the phases before the shelf
-  past_before : (body : List ℕ) (due : Result (Unit {0}) Halt) → first_halt before ≡ None → Due (before ++ rest) body due → Due rest body due
-  past_before body due e m = subst (λ (o : Option Halt). MatchOption o (Done body due) (λ h. (body ≡ []) × (due ≡ Err h))) (first_past before rest e) m
+  past_before : (acts : List Act) (due : Result (Unit {0}) Halt) → first_halt before ≡ None → Due (before ++ rest) acts due → Due rest acts due
+  past_before acts due e m = subst (λ (o : Option Halt). MatchOption o (Done acts due) (λ h. (acts ≡ []) × (due ≡ Err h))) (first_past before rest e) m
 
-  by_kind : (kind : Option Kind) (body : List ℕ) (due : Result (Unit {0}) Halt) → short_kind stock x ≡ kind → first_halt before ≡ None → Due rest body due → (outcome_of [] due).status ≡ is.ShelfEmpty → IsShort stock files (Some (Replay definitions site script))
-  by_kind (Some kind) body due k e m h = record { definitions = definitions; site = site; script = script; asked_is = refl; taken = e; kind = kind; short = k }
-  by_kind None body due k e m h =
+  by_kind : (kind : Option Kind) (acts : List Act) (due : Result (Unit {0}) Halt) → short_kind stock x ≡ kind → first_halt before ≡ None → Due rest acts due → (outcome_of [] due).status ≡ is.ShelfEmpty → IsShort stock files (Some (Replay definitions site script))
+  by_kind (Some kind) acts due k e m h = record { definitions = definitions; site = site; script = script; asked_is = refl; taken = e; kind = kind; short = k }
+  by_kind None acts due k e m h =
       let none : (shelf_phase stock x).halts ≡ None = ap (option_map (short_halt stock x)) k in
-      let m' = subst (λ (o : Option Halt). MatchOption o (Done body due) (λ h. (body ≡ []) × (due ≡ Err h))) (first_past (shelf_phase stock x ∷ []) (script_phases files x script) (none_alone (shelf_phase stock x) none)) m in
-      absurd (of_phases is.ShelfEmpty shelf_is_other (first_halt (script_phases files x script)) (Done body due) body due (of_script is.ShelfEmpty shelf_is_other files definitions site x script)
-      (λ d s. of_replay is.ShelfEmpty shelf_is_other x script (events_asked files x script) body due d s) m' h)
+      let m' = subst (λ (o : Option Halt). MatchOption o (Done acts due) (λ h. (acts ≡ []) × (due ≡ Err h))) (first_past (shelf_phase stock x ∷ []) (script_phase files x script ∷ []) (none_alone (shelf_phase stock x) none)) m in
+      absurd (of_phases is.ShelfEmpty shelf_is_other (first_halt (script_phase files x script ∷ [])) (Done acts due) acts due (of_script is.ShelfEmpty shelf_is_other files definitions site x script)
+      (λ d s. of_replay is.ShelfEmpty shelf_is_other (digest_asked files definitions) x script (events_asked files x script) acts due d s) m' h)
 
-  by_first : (first : Option Halt) (body : List ℕ) (due : Result (Unit {0}) Halt) → first_halt before ≡ first → Other is.ShelfEmpty shelf_is_other first → Due (before ++ rest) body due → (outcome_of [] due).status ≡ is.ShelfEmpty → IsShort stock files (Some (Replay definitions site script))
-  by_first None body due e o m h = by_kind (short_kind stock x) body due refl e (past_before body due e m) h
-  by_first (Some f) body due e o m h = absurd (o (front_status body due f e m h))
+  by_first : (first : Option Halt) (acts : List Act) (due : Result (Unit {0}) Halt) → first_halt before ≡ first → Other is.ShelfEmpty shelf_is_other first → Due (before ++ rest) acts due → (outcome_of [] due).status ≡ is.ShelfEmpty → IsShort stock files (Some (Replay definitions site script))
+  by_first None acts due e o m h = by_kind (short_kind stock x) acts due refl e (past_before acts due e m) h
+  by_first (Some f) acts due e o m h = absurd (o (front_status acts due f e m h))
     where
-      front_status : (body : List ℕ) (due : Result (Unit {0}) Halt) (f : Halt) → first_halt before ≡ Some f → Due (before ++ rest) body due → (outcome_of [] due).status ≡ is.ShelfEmpty → halt_status f ≡ is.ShelfEmpty
-      front_status body due f e m h =
-          let m' = subst (λ (o : Option Halt). MatchOption o (Done body due) (λ y. (body ≡ []) × (due ≡ Err y))) (first_front before rest f e) m in
+      front_status : (acts : List Act) (due : Result (Unit {0}) Halt) (f : Halt) → first_halt before ≡ Some f → Due (before ++ rest) acts due → (outcome_of [] due).status ≡ is.ShelfEmpty → halt_status f ≡ is.ShelfEmpty
+      front_status acts due f e m h =
+          let m' = subst (λ (o : Option Halt). MatchOption o (Done acts due) (λ y. (acts ≡ []) × (due ≡ Err y))) (first_front before rest f e) m in
           sym (ap (λ (d : Result (Unit {0}) Halt). (outcome_of [] d).status) m'.1) ∙ h
 
   short_where : (o : Outcome) → IsOutcome stock files (Some (Replay definitions site script)) o → o.status ≡ is.ShelfEmpty → IsShort stock files (Some (Replay definitions site script))
-  short_where o h e = by_first (first_halt before) h.body h.due refl (of_before is.ShelfEmpty shelf_is_other files definitions site) h.is (has_status is.ShelfEmpty shelf_is_other h.body h.due o h.outcome e)
+  short_where o h e = by_first (first_halt before) h.acts h.due refl (of_site is.ShelfEmpty shelf_is_other files definitions site) h.is (has_status is.ShelfEmpty shelf_is_other h.acts h.due o h.outcome e)
 
   short_told : (o : Outcome) (kind : Kind) → IsOutcome stock files (Some (Replay definitions site script)) o → first_halt before ≡ None → short_kind stock x ≡ Some kind → o.status ≡ is.ShelfEmpty
   short_told o kind h e k =
-      let short : first_halt rest ≡ Some (short_halt stock x kind) = ap (λ (t : Option Kind). option_or (option_map (short_halt stock x) t) (first_halt (script_phases files x script))) k in
-      let m = subst (λ (t : Option Halt). MatchOption t (Done h.body h.due) (λ y. (h.body ≡ []) × (h.due ≡ Err y))) (first_past before rest e ∙ short) h.is in
-      outcome_status h.body h.due (short_halt stock x kind) o h.outcome m.1
+      let short : first_halt rest ≡ Some (short_halt stock x kind) = ap (λ (t : Option Kind). option_or (option_map (short_halt stock x) t) (first_halt (script_phase files x script ∷ []))) k in
+      let m = subst (λ (t : Option Halt). MatchOption t (Done h.acts h.due) (λ y. (h.acts ≡ []) × (h.due ≡ Err y))) (first_past before rest e ∙ short) h.is in
+      outcome_status h.acts h.due (short_halt stock x kind) o h.outcome m.1
 
 same_replay : (a b c d e f : List ℕ) → Some (Replay a b c) ≡ Some (Replay d e f) → (a ≡ d) × (b ≡ e) × (c ≡ f)
 same_replay a b c d e f same = (cc same, cc same, cc same)
@@ -283,18 +267,18 @@ no_replay_dumped : (a c d e : List ℕ) → Some (Dump a) ≡ Some (Replay c d e
 no_replay_dumped a c d e same = absurd (cc same)
 
 -- a dump asks no shelf
-dumped_status : (file body : List ℕ) (due : Result (Unit {0}) Halt) → IsDump file body due → (outcome_of [] due).status ≢ is.ShelfEmpty
-dumped_status file body due (inl a) = λ e. by_place a.place (nat_eq a.place (length file)) refl (subst (λ (d : Result (Unit {0}) Halt). (outcome_of [] d).status ≡ is.ShelfEmpty) a.due_is e)
+dumped_status : (file : List ℕ) (acts : List Act) (due : Result (Unit {0}) Halt) → IsDump file acts due → (outcome_of [] due).status ≢ is.ShelfEmpty
+dumped_status file acts due (inl a) = λ e. by_place a.place (nat_eq a.place (length file)) refl (subst (λ (d : Result (Unit {0}) Halt). (outcome_of [] d).status ≡ is.ShelfEmpty) a.due_is e)
   where
     by_place : (place : ℕ) (whole : Bool) → nat_eq place (length file) ≡ whole → (outcome_of [] (dump_answer place (length file))).status ≡ is.ShelfEmpty → ⊥
     by_place place true e = rw e (λ k. absurd (cc k))
     by_place place false e = rw e (λ k. absurd (cc k))
-dumped_status file body due (inr a) = λ e. absurd (cc (sym (ap (λ (d : Result (Unit {0}) Halt). (outcome_of [] d).status) a.refused) ∙ e))
+dumped_status file acts due (inr a) = λ e. absurd (cc (sym (ap (λ (d : Result (Unit {0}) Halt). (outcome_of [] d).status) a.refused) ∙ e))
 
-pub no_shelf_dumped : (files : List ℕ → Option (List ℕ)) (log body : List ℕ) (due : Result (Unit {0}) Halt) → IsDueOf (log_phase files log ∷ []) (IsDone files (Dump log)) body due → (outcome_of [] due).status ≢ is.ShelfEmpty
-no_shelf_dumped files log body due m =
-    of_phases is.ShelfEmpty shelf_is_other (first_halt (log_phase files log ∷ [])) (IsDone files (Dump log) body due) body due
-    (other_or is.ShelfEmpty shelf_is_other (log_phase files log).halts None (of_log (files log)) tt) (λ d e. dumped_status (bytes_of (files log)) body due d e) m
+pub no_shelf_dumped : (files : List ℕ → Option (List ℕ)) (log : List ℕ) (acts : List Act) (due : Result (Unit {0}) Halt) → IsDueOf (log_phase files log ∷ []) (IsDone files (Dump log)) acts due → (outcome_of [] due).status ≢ is.ShelfEmpty
+no_shelf_dumped files log acts due m =
+    of_phases is.ShelfEmpty shelf_is_other (first_halt (log_phase files log ∷ [])) (IsDone files (Dump log) acts due) acts due
+    (other_or is.ShelfEmpty shelf_is_other (log_phase files log).halts None (of_log (files log)) tt) (λ d e. dumped_status (bytes_of (files log)) acts due d e) m
   where
     by_size : (bytes : List ℕ) (large : Bool) → nat_lt log_limit (length bytes) ≡ large → Other is.ShelfEmpty shelf_is_other (within log_limit (halt.LogRefused log_limit) (λ b. None) bytes)
     by_size bytes true e = rw e (λ k. absurd (cc k))
@@ -307,11 +291,11 @@ no_shelf_dumped files log body due m =
 pub short_exactly : ShortExactly
 short_exactly stock files None o h = (λ e. absurd (cc (sym (ap (λ (t : Outcome). t.status) h) ∙ e)), λ s. absurd (cc (s.asked_is)))
 short_exactly stock files (Some (Check definitions site)) o h = (
-  λ e. absurd (of_check is.ShelfEmpty shelf_is_other files definitions site h.body h.due h.is (has_status is.ShelfEmpty shelf_is_other h.body h.due o h.outcome e)),
+  λ e. absurd (of_check is.ShelfEmpty shelf_is_other files definitions site h.acts h.due h.is (has_status is.ShelfEmpty shelf_is_other h.acts h.due o h.outcome e)),
   λ s. absurd (no_replay_checked definitions site s.definitions s.site s.script s.asked_is),
 )
 short_exactly stock files (Some (Dump log)) o h = (
-  λ e. absurd (no_shelf_dumped files log h.body h.due h.is (has_status is.ShelfEmpty shelf_is_other h.body h.due o h.outcome e)),
+  λ e. absurd (no_shelf_dumped files log h.acts h.due h.is (has_status is.ShelfEmpty shelf_is_other h.acts h.due o h.outcome e)),
   λ s. absurd (no_replay_dumped log s.definitions s.site s.script s.asked_is),
 )
 short_exactly stock files (Some (Replay definitions site script)) o h = (
@@ -332,32 +316,32 @@ before_end : (place n : ℕ) → nat_eq place n ≡ false → (outcome_of [] (du
 before_end place n e = rw e refl
 
 -- where it is refused it is no whole log
-never_whole : (file body : List ℕ) (due : Result (Unit {0}) Halt) → IsDump file body due → (outcome_of [] due).status ≡ is.LogRefused → IsWholeLog file → ⊥
-never_whole file body due (inl a) e w =
+never_whole : (file : List ℕ) (acts : List Act) (due : Result (Unit {0}) Halt) → IsDump file acts due → (outcome_of [] due).status ≡ is.LogRefused → IsWholeLog file → ⊥
+never_whole file acts due (inl a) e w =
     let same = logs_are_read_once file a.kind w.0 a.entries w.1 a.place (length file) a.read w.2 in
     at_end a.place (length file) same.2 (subst (λ (d : Result (Unit {0}) Halt). (outcome_of [] d).status ≡ is.LogRefused) a.due_is e)
-never_whole file body due (inr a) e w = no_head_no_read file w.0 w.1 (length file) a.none w.2
+never_whole file acts due (inr a) e w = no_head_no_read file w.0 w.1 (length file) a.none w.2
 
 -- and where it is none it is refused
 by_place : (file : List ℕ) (place : ℕ) (whole : Bool) → nat_eq place (length file) ≡ whole → (place ≡ length file → ⊥) → (outcome_of [] (dump_answer place (length file))).status ≡ is.LogRefused
 by_place file place false e n = before_end place (length file) e
 by_place file place true e n = absurd (n (grind (arith, nat_tests)))
 
-is_refused : (file body : List ℕ) (due : Result (Unit {0}) Halt) → IsDump file body due → (IsWholeLog file → ⊥) → (outcome_of [] due).status ≡ is.LogRefused
-is_refused file body due (inl a) n =
+is_refused : (file : List ℕ) (acts : List Act) (due : Result (Unit {0}) Halt) → IsDump file acts due → (IsWholeLog file → ⊥) → (outcome_of [] due).status ≡ is.LogRefused
+is_refused file acts due (inl a) n =
     subst (λ (d : Result (Unit {0}) Halt). (outcome_of [] d).status ≡ is.LogRefused) (sym a.due_is)
     (by_place file a.place (nat_eq a.place (length file)) refl (λ e. n (a.kind, a.entries, subst (λ (p : ℕ). IsLogRead file a.kind a.entries p) e a.read)))
-is_refused file body due (inr a) n = ap (λ (d : Result (Unit {0}) Halt). (outcome_of [] d).status) a.refused
+is_refused file acts due (inr a) n = ap (λ (d : Result (Unit {0}) Halt). (outcome_of [] d).status) a.refused
 
-module _ (files : List ℕ → Option (List ℕ)) (log : List ℕ) (body : List ℕ) (due : Result (Unit {0}) Halt) where
+module _ (files : List ℕ → Option (List ℕ)) (log : List ℕ) (acts : List Act) (due : Result (Unit {0}) Halt) where
   abbrev Log_due : Option (List ℕ) → Type 0
-  Log_due file = MatchOption (option_or (file_halt log (within log_limit (halt.LogRefused log_limit) (λ b. None)) file) None) (IsDump (bytes_of file) body due) (λ x. (body ≡ []) × (due ≡ Err x))
+  Log_due file = MatchOption (option_or (file_halt log (within log_limit (halt.LogRefused log_limit) (λ b. None)) file) None) (IsDump (bytes_of file) acts due) (λ x. (acts ≡ []) × (due ≡ Err x))
 
   bad_by_size : (file : List ℕ) (large : Bool) → nat_lt log_limit (length file) ≡ large → Log_due (Some file) → (outcome_of [] due).status ≡ is.LogRefused → (log_limit < length file) ⊎ (IsWholeLog file → ⊥)
   bad_by_size file true e m told = inl (grind (arith, nat_tests))
   bad_by_size file false e m told =
-      let m' : IsDump file body due = subst (λ (b : Option Halt). MatchOption (option_or b None) (IsDump file body due) (λ x. (body ≡ []) × (due ≡ Err x))) (within_small file e) m in
-      inr (never_whole file body due m' told)
+      let m' : IsDump file acts due = subst (λ (b : Option Halt). MatchOption (option_or b None) (IsDump file acts due) (λ x. (acts ≡ []) × (due ≡ Err x))) (within_small file e) m in
+      inr (never_whole file acts due m' told)
     where
       within_small : (file : List ℕ) → nat_lt log_limit (length file) ≡ false → within log_limit (halt.LogRefused log_limit) (λ b. None) file ≡ None
       within_small file e = rw e refl
@@ -368,7 +352,7 @@ module _ (files : List ℕ → Option (List ℕ)) (log : List ℕ) (body : List 
 
   told_by_size : (file : List ℕ) (large : Bool) → nat_lt log_limit (length file) ≡ large → Log_due (Some file) → (log_limit < length file) ⊎ (IsWholeLog file → ⊥) → (outcome_of [] due).status ≡ is.LogRefused
   told_by_size file true e m bad =
-      let m' = subst (λ (b : Option Halt). MatchOption (option_or b None) (IsDump file body due) (λ x. (body ≡ []) × (due ≡ Err x))) (within_large file e) m in
+      let m' = subst (λ (b : Option Halt). MatchOption (option_or b None) (IsDump file acts due) (λ x. (acts ≡ []) × (due ≡ Err x))) (within_large file e) m in
       ap (λ (d : Result (Unit {0}) Halt). (outcome_of [] d).status) m'.1
     where
       within_large : (file : List ℕ) → nat_lt log_limit (length file) ≡ true → within log_limit (halt.LogRefused log_limit) (λ b. None) file ≡ Some (halt.LogRefused log_limit)
@@ -378,8 +362,8 @@ module _ (files : List ℕ → Option (List ℕ)) (log : List ℕ) (body : List 
       not_large : (n : ℕ) → log_limit < n → nat_lt log_limit n ≡ false → ⊥
       not_large n l f = grind (arith, nat_tests)
   told_by_size file false e m (inr none) =
-      let m' : IsDump file body due = subst (λ (b : Option Halt). MatchOption (option_or b None) (IsDump file body due) (λ x. (body ≡ []) × (due ≡ Err x))) (within_small' file e) m in
-      is_refused file body due m' none
+      let m' : IsDump file acts due = subst (λ (b : Option Halt). MatchOption (option_or b None) (IsDump file acts due) (λ x. (acts ≡ []) × (due ≡ Err x))) (within_small' file e) m in
+      is_refused file acts due m' none
     where
       within_small' : (file : List ℕ) → nat_lt log_limit (length file) ≡ false → within log_limit (halt.LogRefused log_limit) (λ b. None) file ≡ None
       within_small' file e = rw e refl
@@ -390,8 +374,8 @@ same_log a b e = cc e
 log_told : (stock : List Meaning) (files : List ℕ → Option (List ℕ)) (log : List ℕ) (o : Outcome) → IsOutcome stock files (Some (Dump log)) o → IsBadLog files (Some (Dump log)) → o.status ≡ is.LogRefused
 log_told stock files log o h b =
     let there : files log ≡ Some b.file = ap files (same_log log b.log b.asked_is) ∙ b.file_is in
-    let m : Log_due files log h.body h.due (Some b.file) = subst (Log_due files log h.body h.due) there h.is in
-    ap (λ (t : Outcome). t.status) h.outcome ∙ (status_alone is.LogRefused log_is_other h.body h.due ∙ told_by_size files log h.body h.due b.file (nat_lt log_limit (length b.file)) refl m b.bad)
+    let m : Log_due files log h.acts h.due (Some b.file) = subst (Log_due files log h.acts h.due) there h.is in
+    ap (λ (t : Outcome). t.status) h.outcome ∙ (status_alone is.LogRefused log_is_other h.acts h.due ∙ told_by_size files log h.acts h.due b.file (nat_lt log_limit (length b.file)) refl m b.bad)
 
 no_log_checked : (a b c : List ℕ) → Some (Check a b) ≡ Some (Dump c) → ⊥
 no_log_checked a b c same = absurd (cc same)
@@ -403,40 +387,39 @@ no_log_short : (stock : List Meaning) (site : SiteData) (kind : Option Kind) →
 no_log_short stock site None = tt
 no_log_short stock site (Some kind) = λ e. absurd (cc e)
 
-replay_not_log : (stock : List Meaning) (files : List ℕ → Option (List ℕ)) (definitions site script body : List ℕ) (due : Result (Unit {0}) Halt)
-    → IsDueOf (phases stock files (Replay definitions site script)) (IsDone files (Replay definitions site script)) body due → (outcome_of [] due).status ≢ is.LogRefused
-replay_not_log stock files definitions site script body due m =
+replay_not_log : (stock : List Meaning) (files : List ℕ → Option (List ℕ)) (definitions site script : List ℕ) (acts : List Act) (due : Result (Unit {0}) Halt)
+    → IsDueOf (phases stock files (Replay definitions site script)) (IsDone files (Replay definitions site script)) acts due → (outcome_of [] due).status ≢ is.LogRefused
+replay_not_log stock files definitions site script acts due m =
     let s = is.LogRefused in
     let other = log_is_other in
     let y = site_asked files definitions site in
-    of_phases s other (first_halt (phases stock files (Replay definitions site script))) (IsDone files (Replay definitions site script) body due) body due
+    of_phases s other (first_halt (phases stock files (Replay definitions site script))) (IsDone files (Replay definitions site script) acts due) acts due
     (other_or s other (definitions_phase files definitions).halts _ (of_file s other Configuration definitions definitions_read (files definitions))
     (other_or s other (site_phase files (definitions_asked files definitions) site).halts _ (of_file s other Configuration site (site_read (definitions_asked files definitions)) (files site))
-    (other_or s other (built_phase site y).halts _ (of_built s other site _)
-    (other_or s other (shelf_phase stock y).halts _ (no_log_short stock y (short_kind stock y)) (of_script s other files definitions site y script)))))
-    (λ d e. of_replay s other y script (events_asked files y script) body due d e) m
+    (other_or s other (shelf_phase stock y).halts _ (no_log_short stock y (short_kind stock y)) (of_script s other files definitions site y script))))
+    (λ d e. of_replay s other (digest_asked files definitions) y script (events_asked files y script) acts due d e) m
 
 pub refused_exactly : RefusedExactly
 refused_exactly stock files None o h = (λ e. absurd (cc (sym (ap (λ (t : Outcome). t.status) h) ∙ e)), λ b. absurd (cc (b.asked_is)))
 refused_exactly stock files (Some (Check definitions site)) o h = (
-  λ e. absurd (of_check is.LogRefused log_is_other files definitions site h.body h.due h.is (has_status is.LogRefused log_is_other h.body h.due o h.outcome e)),
+  λ e. absurd (of_check is.LogRefused log_is_other files definitions site h.acts h.due h.is (has_status is.LogRefused log_is_other h.acts h.due o h.outcome e)),
   λ b. absurd (no_log_checked definitions site b.log b.asked_is),
 )
 refused_exactly stock files (Some (Replay definitions site script)) o h = (
-  λ e. absurd (replay_not_log stock files definitions site script h.body h.due h.is (has_status is.LogRefused log_is_other h.body h.due o h.outcome e)),
+  λ e. absurd (replay_not_log stock files definitions site script h.acts h.due h.is (has_status is.LogRefused log_is_other h.acts h.due o h.outcome e)),
   λ b. absurd (no_log_replayed definitions site script b.log b.asked_is),
 )
 refused_exactly stock files (Some (Dump log)) o h = (
-  λ e. bad_log files log h.body h.due (files log) refl h.is (has_status is.LogRefused log_is_other h.body h.due o h.outcome e),
+  λ e. bad_log files log h.acts h.due (files log) refl h.is (has_status is.LogRefused log_is_other h.acts h.due o h.outcome e),
   λ b. log_told stock files log o h b,
 )
 
 -- ---- the same of an answer
 
-short_in : (stock : List Meaning) (all : List ℕ → Option (List ℕ)) (asked : Option Command) (old new : SinkSeen) → Answers stock all asked is.ShelfEmpty old new → IsShort stock all asked
-short_in stock all asked old new a = (short_exactly stock all asked a.outcome a.is).0 a.puts.0
+short_in : (stock : List Meaning) (all : List ℕ → Option (List ℕ)) (asked : Option Command) (old new : Outside) → Answers stock all asked is.ShelfEmpty old new → IsShort stock all asked
+short_in stock all asked old new a = (short_exactly stock all asked a.outcome a.is).0 a.does.0
 
-pub short_answer : (stock : List Meaning) (told : Option (List ℕ → Option (List ℕ))) (asked : Option Command) (status : Status) (old new : SinkSeen) → IfSome told (λ all. Answers stock all asked status old new)
+pub short_answer : (stock : List Meaning) (told : Option (List ℕ → Option (List ℕ))) (asked : Option Command) (status : Status) (old new : Outside) → IfSome told (λ all. Answers stock all asked status old new)
     → status ≡ is.ShelfEmpty → IfSome told (λ all. IsShort stock all asked)
 short_answer stock None asked status old new a e = tt
 short_answer stock (Some all) asked status old new a e = short_in stock all asked old new (subst (λ (st : Status). Answers stock all asked st old new) e a)
@@ -451,10 +434,10 @@ pub short_answered : (stock : List Meaning) (told : Option (List ℕ → Option 
 short_answered stock None asked status c = tt
 short_answered stock (Some all) asked status c = λ s. short_then stock all asked status c.outcome c.is s c.status_is
 
-refused_in : (stock : List Meaning) (all : List ℕ → Option (List ℕ)) (asked : Option Command) (old new : SinkSeen) → Answers stock all asked is.LogRefused old new → IsBadLog all asked
-refused_in stock all asked old new a = (refused_exactly stock all asked a.outcome a.is).0 a.puts.0
+refused_in : (stock : List Meaning) (all : List ℕ → Option (List ℕ)) (asked : Option Command) (old new : Outside) → Answers stock all asked is.LogRefused old new → IsBadLog all asked
+refused_in stock all asked old new a = (refused_exactly stock all asked a.outcome a.is).0 a.does.0
 
-pub refused_answer : (stock : List Meaning) (told : Option (List ℕ → Option (List ℕ))) (asked : Option Command) (status : Status) (old new : SinkSeen) → IfSome told (λ all. Answers stock all asked status old new)
+pub refused_answer : (stock : List Meaning) (told : Option (List ℕ → Option (List ℕ))) (asked : Option Command) (status : Status) (old new : Outside) → IfSome told (λ all. Answers stock all asked status old new)
     → status ≡ is.LogRefused → IfSome told (λ all. IsBadLog all asked)
 refused_answer stock None asked status old new a e = tt
 refused_answer stock (Some all) asked status old new a e = refused_in stock all asked old new (subst (λ (st : Status). Answers stock all asked st old new) e a)

@@ -1,9 +1,11 @@
 pub mod PhaseLemmas
+pub mod ActLemmas
 pub mod LoadLemmas
 pub mod EndingLemmas
 pub mod StoryLemmas
 pub mod ReplayLemmas
 pub mod MomentLemmas
+pub mod LogLemmas
 pub mod DumpLemmas
 pub mod CommandLemmas
 pub mod LawLemmas

@@ -18,6 +18,7 @@ use Rattle.jiff_core.specs.declared.civil.time.Time.{Time as TimeOfDay}
 use Rattle.cts_def.specs.declared.time.Time.{Time}
 use Rattle.cts_log.specs.Dumping.{IsDumpLine, IsMoment, shown_name}
 use Rattle.cts_log.specs.Logged.{Logged, FitsLogged}
+use Rattle.cts_serve.specs.Acts.{Act, puts}
 use Rattle.cts_serve.specs.Dump.{AreLines}
 
 -- ---- days
@@ -104,9 +105,9 @@ line_of e f =
     let m = moment_of e.heading.time f.heading.seconds f.heading.micros in
     (m.0 ++ (32 ∷ (shown_name e.heading.target ++ (32 ∷ (shown_name e.heading.packet ++ (32 ∷ (encode_lower e.bytes ++ 10 ∷ [])))))), (m.0, m.1, refl))
 
-pub lines_of : (es : List Logged) → All FitsLogged es → (text : List ℕ) × AreLines es text
+pub lines_of : (es : List Logged) → All FitsLogged es → (acts : List Act) × AreLines es acts
 lines_of [] a = ([], refl)
 lines_of (e ∷ es) a =
     let line = line_of e (All-head FitsLogged e es a) in
     let more = lines_of es (All-tail FitsLogged e es a) in
-    (line.0 ++ more.0, (line.0, more.0, line.1, more.1, refl))
+    (puts line.0 ++ more.0, (line.0, more.0, line.1, more.1, refl))

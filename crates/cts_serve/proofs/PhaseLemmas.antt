@@ -2,9 +2,9 @@
 use Rattle.std.proofs.Common.{◌≡◌, ℕ, false, List, [], ◌∷◌, ◌++◌, Option, Some, None, Result, Ok, Err, refl, ◌∙◌, ap, subst, inl, inr}
 use Rattle.std.specs.Option.{option_or}
 use Rattle.cts_outside.specs.Causes.{Rose}
-use Rattle.cts_outside.specs.Seen.{FilesSeen, SinkSeen}
+use Rattle.cts_outside.specs.Seen.{FilesSeen, SinkSeen, VaultSeen}
 use Rattle.cts_serve.specs.Phases.{FileCounts, HaltCounts, HaltsAt, HaltsIn, IsFound, IsRead, LoadCounts, LoadHalts, Phase, first_halt, is_fault}
-use Rattle.cts_serve.specs.Putting.{HaltFaults}
+use Rattle.cts_serve.specs.Putting.{HaltFaults, HaltLogs}
 use Rattle.cts_serve.specs.declared.halt.Halt.{Halt}
 use Rattle.cts_serve.specs.declared.halt.Halt.TheVariants as halt
 
@@ -19,11 +19,11 @@ here p ps halt.Memory k = tt
 here p ps (halt.ReadFault name) k = inl k
 here p ps (halt.Absent name) k = first_here p ps (halt.Absent name) k
 here p ps halt.WriteFault k = absurd k
+here p ps halt.LogFault k = absurd k
 here p ps (halt.Refused name kind line cause) k = first_here p ps (halt.Refused name kind line cause) k
 here p ps (halt.ShelfEmpty kind needed stocked) k = first_here p ps (halt.ShelfEmpty kind needed stocked) k
 here p ps (halt.HistoryFull entries bytes) k = first_here p ps (halt.HistoryFull entries bytes) k
 here p ps (halt.LogRefused place) k = first_here p ps (halt.LogRefused place) k
-here p ps (halt.NotBuilt name) k = first_here p ps (halt.NotBuilt name) k
 
 -- ---- phases in front of others
 
@@ -64,11 +64,11 @@ front ps qs halt.Memory k = tt
 front ps qs (halt.ReadFault name) k = read_front ps qs name k
 front ps qs (halt.Absent name) k = first_front ps qs (halt.Absent name) k
 front ps qs halt.WriteFault k = absurd k
+front ps qs halt.LogFault k = absurd k
 front ps qs (halt.Refused name kind line cause) k = first_front ps qs (halt.Refused name kind line cause) k
 front ps qs (halt.ShelfEmpty kind needed stocked) k = first_front ps qs (halt.ShelfEmpty kind needed stocked) k
 front ps qs (halt.HistoryFull entries bytes) k = first_front ps qs (halt.HistoryFull entries bytes) k
 front ps qs (halt.LogRefused place) k = first_front ps qs (halt.LogRefused place) k
-front ps qs (halt.NotBuilt name) k = first_front ps qs (halt.NotBuilt name) k
 
 -- a command that halts after phases that have no reason to
 pub past : (ps qs : List Phase) (h : Halt) → first_halt ps ≡ None → HaltsIn qs h → HaltsIn (ps ++ qs) h
@@ -76,11 +76,11 @@ past ps qs halt.Memory e k = tt
 past ps qs (halt.ReadFault name) e k = read_past ps qs name e k
 past ps qs (halt.Absent name) e k = first_past ps qs e ∙ k
 past ps qs halt.WriteFault e k = absurd k
+past ps qs halt.LogFault e k = absurd k
 past ps qs (halt.Refused name kind line cause) e k = first_past ps qs e ∙ k
 past ps qs (halt.ShelfEmpty kind needed stocked) e k = first_past ps qs e ∙ k
 past ps qs (halt.HistoryFull entries bytes) e k = first_past ps qs e ∙ k
 past ps qs (halt.LogRefused place) e k = first_past ps qs e ∙ k
-past ps qs (halt.NotBuilt name) e k = first_past ps qs e ∙ k
 
 -- one phase that has none
 pub none_alone : (p : Phase) → p.halts ≡ None → first_halt (p ∷ []) ≡ None
@@ -96,27 +96,27 @@ halt_after halt.Memory files mid files' f k = (k.0 ∙ f.0, k.1 ∙ f.1)
 halt_after (halt.ReadFault name) files mid files' f k = (subst (λ (n : ℕ). Rose n files'.faults) f.0 k.0, k.1 ∙ f.1)
 halt_after (halt.Absent name) files mid files' f k = (k.0 ∙ f.0, subst (λ (n : ℕ). Rose n files'.absences) f.1 k.1)
 halt_after halt.WriteFault files mid files' f k = (k.0 ∙ f.0, k.1 ∙ f.1)
+halt_after halt.LogFault files mid files' f k = (k.0 ∙ f.0, k.1 ∙ f.1)
 halt_after (halt.Refused name kind line cause) files mid files' f k = (k.0 ∙ f.0, k.1 ∙ f.1)
 halt_after (halt.ShelfEmpty kind needed stocked) files mid files' f k = (k.0 ∙ f.0, k.1 ∙ f.1)
 halt_after (halt.HistoryFull entries bytes) files mid files' f k = (k.0 ∙ f.0, k.1 ∙ f.1)
 halt_after (halt.LogRefused place) files mid files' f k = (k.0 ∙ f.0, k.1 ∙ f.1)
-halt_after (halt.NotBuilt name) files mid files' f k = (k.0 ∙ f.0, k.1 ∙ f.1)
 
 -- files that were found, and then the counts of what came after
 pub counts_after : {T : Type 0} (answer : Result T Halt) (files mid files' : FilesSeen) → IsFound files mid → FileCounts answer mid files' → FileCounts answer files files'
 counts_after (Ok x) files mid files' f k = (k.0 ∙ f.0, k.1 ∙ f.1)
 counts_after (Err h) files mid files' f k = halt_after h files mid files' f k
 
-load_after : (h : Halt) (files mid files' : FilesSeen) → IsFound files mid → LoadHalts h mid files' → LoadHalts h files files'
+pub load_after : (h : Halt) (files mid files' : FilesSeen) → IsFound files mid → LoadHalts h mid files' → LoadHalts h files files'
 load_after halt.Memory files mid files' f k = (k.0 ∙ f.0, k.1 ∙ f.1)
 load_after (halt.ReadFault name) files mid files' f k = (subst (λ (n : ℕ). Rose n files'.faults) f.0 k.0, k.1 ∙ f.1)
 load_after (halt.Absent name) files mid files' f k = (k.0 ∙ f.0, subst (λ (n : ℕ). Rose n files'.absences) f.1 k.1)
 load_after halt.WriteFault files mid files' f k = absurd k
+load_after halt.LogFault files mid files' f k = absurd k
 load_after (halt.Refused name kind line cause) files mid files' f k = (k.0 ∙ f.0, k.1 ∙ f.1)
 load_after (halt.ShelfEmpty kind needed stocked) files mid files' f k = (k.0 ∙ f.0, k.1 ∙ f.1)
 load_after (halt.HistoryFull entries bytes) files mid files' f k = (k.0 ∙ f.0, k.1 ∙ f.1)
 load_after (halt.LogRefused place) files mid files' f k = (k.0 ∙ f.0, k.1 ∙ f.1)
-load_after (halt.NotBuilt name) files mid files' f k = (k.0 ∙ f.0, k.1 ∙ f.1)
 
 pub loads_after : {T : Type 0} (answer : Result T Halt) (files mid files' : FilesSeen) → IsFound files mid → LoadCounts answer mid files' → LoadCounts answer files files'
 loads_after (Ok x) files mid files' f k = (k.0 ∙ f.0, k.1 ∙ f.1)
@@ -128,22 +128,33 @@ load_counts halt.Memory files files' k = k
 load_counts (halt.ReadFault name) files files' k = k
 load_counts (halt.Absent name) files files' k = k
 load_counts halt.WriteFault files files' k = absurd k
+load_counts halt.LogFault files files' k = absurd k
 load_counts (halt.Refused name kind line cause) files files' k = k
 load_counts (halt.ShelfEmpty kind needed stocked) files files' k = k
 load_counts (halt.HistoryFull entries bytes) files files' k = k
 load_counts (halt.LogRefused place) files files' k = k
-load_counts (halt.NotBuilt name) files files' k = k
 
 pub load_faults : (h : Halt) (files files' : FilesSeen) (out : SinkSeen) → LoadHalts h files files' → HaltFaults h out out
 load_faults halt.Memory files files' out k = refl
 load_faults (halt.ReadFault name) files files' out k = refl
 load_faults (halt.Absent name) files files' out k = refl
 load_faults halt.WriteFault files files' out k = absurd k
+load_faults halt.LogFault files files' out k = absurd k
 load_faults (halt.Refused name kind line cause) files files' out k = refl
 load_faults (halt.ShelfEmpty kind needed stocked) files files' out k = refl
 load_faults (halt.HistoryFull entries bytes) files files' out k = refl
 load_faults (halt.LogRefused place) files files' out k = refl
-load_faults (halt.NotBuilt name) files files' out k = refl
+
+pub load_logs : (h : Halt) (files files' : FilesSeen) (vault : VaultSeen) → LoadHalts h files files' → HaltLogs h vault vault
+load_logs halt.Memory files files' vault k = refl
+load_logs (halt.ReadFault name) files files' vault k = refl
+load_logs (halt.Absent name) files files' vault k = refl
+load_logs halt.WriteFault files files' vault k = absurd k
+load_logs halt.LogFault files files' vault k = absurd k
+load_logs (halt.Refused name kind line cause) files files' vault k = refl
+load_logs (halt.ShelfEmpty kind needed stocked) files files' vault k = refl
+load_logs (halt.HistoryFull entries bytes) files files' vault k = refl
+load_logs (halt.LogRefused place) files files' vault k = refl
 
 -- what is no fault of the outside leaves all counts
 pub load_stays : (h : Halt) (files mid : FilesSeen) → is_fault h ≡ false → IsFound files mid → LoadHalts h files mid
@@ -151,19 +162,30 @@ load_stays halt.Memory files mid f k = k
 load_stays (halt.ReadFault name) files mid f k = absurd (cc f)
 load_stays (halt.Absent name) files mid f k = absurd (cc f)
 load_stays halt.WriteFault files mid f k = absurd (cc f)
+load_stays halt.LogFault files mid f k = absurd (cc f)
 load_stays (halt.Refused name kind line cause) files mid f k = k
 load_stays (halt.ShelfEmpty kind needed stocked) files mid f k = k
 load_stays (halt.HistoryFull entries bytes) files mid f k = k
 load_stays (halt.LogRefused place) files mid f k = k
-load_stays (halt.NotBuilt name) files mid f k = k
 
 pub faults_stay : (h : Halt) (out : SinkSeen) → is_fault h ≡ false → HaltFaults h out out
 faults_stay halt.Memory out f = refl
 faults_stay (halt.ReadFault name) out f = refl
 faults_stay (halt.Absent name) out f = refl
 faults_stay halt.WriteFault out f = absurd (cc f)
+faults_stay halt.LogFault out f = absurd (cc f)
 faults_stay (halt.Refused name kind line cause) out f = refl
 faults_stay (halt.ShelfEmpty kind needed stocked) out f = refl
 faults_stay (halt.HistoryFull entries bytes) out f = refl
 faults_stay (halt.LogRefused place) out f = refl
-faults_stay (halt.NotBuilt name) out f = refl
+
+pub logs_stay : (h : Halt) (vault : VaultSeen) → is_fault h ≡ false → HaltLogs h vault vault
+logs_stay halt.Memory vault f = refl
+logs_stay (halt.ReadFault name) vault f = absurd (cc f)
+logs_stay (halt.Absent name) vault f = absurd (cc f)
+logs_stay halt.WriteFault vault f = absurd (cc f)
+logs_stay halt.LogFault vault f = absurd (cc f)
+logs_stay (halt.Refused name kind line cause) vault f = refl
+logs_stay (halt.ShelfEmpty kind needed stocked) vault f = refl
+logs_stay (halt.HistoryFull entries bytes) vault f = refl
+logs_stay (halt.LogRefused place) vault f = refl

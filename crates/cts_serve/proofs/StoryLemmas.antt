@@ -1,19 +1,22 @@
 -- What a story tells of an event, from what the world and the follower say.
-use Rattle.std.proofs.Common.{◌≡◌, ℕ, ◌≤◌, ◌++◌, List, length, take, drop, None, Ok, Err, sym, ◌∙◌, ap, subst, arith, length-append}
-use Rattle.std.proofs.Math.Seq.{drop-append_seam, take-append_seam}
-use Rattle.cts_core.specs.Endings.{WorldData, held_in, lasting}
-use Rattle.cts_core.specs.Environments.{basis_of}
+use Rattle.std.proofs.Common.{◌≡◌, ℕ, ◌-◌, ◌≤◌, nat_le, true, ◌++◌, List, length, take, drop, None, Result, Ok, Err, sym, ◌∙◌, ap, subst, arith, length-append, length-drop}
+use Rattle.std.proofs.Math.Seq.{drop-append_seam, take-append_seam, take-length}
+use Rattle.std.proofs.lemmas.Bool.Decides.{nat_tests}
+use Rattle.cts_core.specs.Endings.{HasPassed, LogPasses, WorldData, held_in, lasting}
+use Rattle.cts_core.specs.Environments.{basis_of, site_environment}
 use Rattle.cts_core.specs.Runs.{Did, after}
-use Rattle.cts_core.specs.States.{State}
-use Rattle.cts_core.specs.Worlds.{Represents, Steps}
+use Rattle.cts_core.specs.States.{State, commands_log, log_ahead, packets_log}
+use Rattle.cts_core.specs.Worlds.{Held, Represents, Steps}
 use Rattle.cts_core.specs.declared.fault.WorldFault.{WorldFault}
 use Rattle.cts_core.specs.declared.fault.WorldFault.TheVariants as fault
 use Rattle.cts_def.specs.Sites.{SiteData}
 use Rattle.cts_entry.specs.declared.entry.Entry.{Entry}
 use Rattle.cts_entry.specs.declared.event.Effect.{Effect}
+use Rattle.cts_entry.specs.declared.event.Effect.TheVariants.{Logged}
 use Rattle.cts_entry.specs.declared.event.Event.{Event}
+use Rattle.cts_entry.specs.declared.event.Event.TheVariants.{DrainLog}
 use Rattle.cts_script.specs.Effects.{effect_line}
-use Rattle.cts_serve.specs.Story.{Stands, StoryData, Tells}
+use Rattle.cts_serve.specs.Story.{Drains, Stands, StoryData, Tells}
 use Rattle.cts_serve.specs.Transcript.{event_text, lines_of}
 use Rattle.cts_table.specs.declared.basis.Basis.{Basis}
 use Rattle.cts_watch.specs.Following.{FollowerData, Follows}
@@ -24,10 +27,10 @@ site_is site s story h = ap (λ (b : Basis). b.site) h.represents.basis
 
 -- nothing was done
 pub refused_tells : (site : SiteData) (s : State) (event : Event) (old : StoryData) (world : WorldData) (why : WorldFault)
-    → Stands site s old → Steps (basis_of site) s event (held_in old.world) (Err why) (held_in world) → world.ended ≡ lasting (Err why) → Tells site s event (Err why) (record { world = world; follower = old.follower })
-refused_tells site s event old world fault.NotEnabled h k e = (k.0, record { represents = k.2; going = e; follows = h.follows })
-refused_tells site s event old world (fault.Full entries bytes) h k e = (k.0, k.1, k.2)
-refused_tells site s event old world fault.Memory h k e = tt
+    → Stands site s old → Steps (basis_of site) s event (held_in old.world) (Err why) (held_in world) → LogPasses s event (Err why) world → world.ended ≡ lasting (Err why) → Tells site s event (Err why) (record { world = world; follower = old.follower })
+refused_tells site s event old world fault.NotEnabled h k p e = (k.0, record { represents = k.2; going = e; passed = p; follows = h.follows })
+refused_tells site s event old world (fault.Full entries bytes) h k p e = (k.0, k.1, k.2)
+refused_tells site s event old world fault.Memory h k p e = tt
 
 -- an event was done, and n entries stood before it; the hall shows these entries on this basis
 module _ (site : SiteData) (s : State) (event : Event) (did : Did) (old : StoryData) (world : WorldData) (h : Stands site s old) (k : Represents site (held_in world) (after s event did))
@@ -61,18 +64,46 @@ module _ (site : SiteData) (s : State) (event : Event) (did : Did) (old : StoryD
       ∙ ap (λ (t : SiteData). lines_of t s.history did.entries ++ effect_line t effect) on_site
       ∙ ap (λ (f : Effect). lines_of site s.history did.entries ++ effect_line site f) gives
 
-  stands_on : (follower : FollowerData) → world.ended ≡ None → Follows basis.site entries follower → Stands site (after s event did) (record { world = world; follower = follower })
-  stands_on follower e f = record {
+  stands_on : (follower : FollowerData) → world.ended ≡ None → HasPassed world (after s event did) → Follows basis.site entries follower → Stands site (after s event did) (record { world = world; follower = follower })
+  stands_on follower e p f = record {
     represents = k;
     going = e;
+    passed = p;
     follows = subst (λ (l : List Entry). Follows site l follower) all_is (subst (λ (t : SiteData). Follows t entries follower) on_site f);
   }
 
--- its text is told
+-- its text is told, and what it gave besides
 pub done_tells : (site : SiteData) (s : State) (event : Event) (old : StoryData) (world : WorldData) (follower : FollowerData) (effect : Effect)
-    → Stands site s old → Steps (basis_of site) s event (held_in old.world) (Ok effect) (held_in world) → world.ended ≡ lasting (Ok effect)
+    → Stands site s old → Steps (basis_of site) s event (held_in old.world) (Ok effect) (held_in world) → LogPasses s event (Ok effect) world → world.ended ≡ lasting (Ok effect)
     → (n : ℕ) (entries : List Entry) (basis : Basis) (text : List ℕ) → n ≡ length (held_in old.world).history → entries ≡ (held_in world).history → basis ≡ (held_in world).basis
     → text ≡ lines_of basis.site (take n entries) (drop n entries) ++ effect_line basis.site effect → Follows basis.site entries follower
-    → Tells site s event (Ok text) (record { world = world; follower = follower })
-done_tells site s event old world follower effect h k e n entries basis text number there on t f =
-    (k.0, k.1, t ∙ text_is site s event k.0 old world h k.3 n entries basis number there on effect k.2, stands_on site s event k.0 old world h k.3 n entries basis number there on follower e f)
+    → Tells site s event (Ok (text, effect)) (record { world = world; follower = follower })
+done_tells site s event old world follower effect h k p e n entries basis text number there on t f = (
+  k.0,
+  k.1,
+  t ∙ text_is site s event k.0 old world h k.3 n entries basis number there on effect k.2,
+  k.2,
+  stands_on site s event k.0 old world h k.3 n entries basis number there on follower e p f,
+)
+
+-- ---- the rest for the logs
+
+-- so many entries are ahead of the logs
+enough : (site : SiteData) (s : State) (n count : ℕ) → n ≡ length s.history → count ≡ n - s.log_cursor → nat_le count (length (log_ahead s)) ≡ true
+enough site s n count e f =
+    let l = length-drop s.log_cursor s.history in
+    grind (arith, nat_tests, l, e, f)
+
+-- and they are all of them
+all_ahead : (s : State) (n count : ℕ) → n ≡ length s.history → count ≡ n - s.log_cursor → take count (log_ahead s) ≡ log_ahead s
+all_ahead s n count e f =
+    let same : count ≡ length (log_ahead s) = omega (arith, e, f, length-drop s.log_cursor s.history) in
+    ap (λ (k : ℕ). take k (log_ahead s)) same ∙ take-length (log_ahead s)
+
+pub rest_drains : (site : SiteData) (s : State) (old new : Held) (n count : ℕ) (result : Result Effect WorldFault) → n ≡ length s.history → count ≡ n - s.log_cursor
+    → Steps (basis_of site) s (DrainLog count) old result new → Drains site s result
+rest_drains site s old new n count (Ok effect) e f k =
+    k.2 ∙ (k.1.effect ∙ ap (λ (es : List Entry). Logged (packets_log (site_environment site) es) (commands_log (site_environment site) es)) (all_ahead s n count e f))
+rest_drains site s old new n count (Err fault.NotEnabled) e f k = absurd (cc (sym (enough site s n count e f) ∙ k.0))
+rest_drains site s old new n count (Err (fault.Full entries bytes)) e f k = absurd (cc k.0.1)
+rest_drains site s old new n count (Err fault.Memory) e f k = tt

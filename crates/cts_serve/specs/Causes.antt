@@ -8,13 +8,13 @@ use Rattle.cts_scriptread.specs.Causes.{name_of_cause as name_of_script_cause}
 use Rattle.cts_words.specs.declared.fault.WordFault.{WordFault}
 use Rattle.cts_words.specs.declared.fault.WordFault.TheVariants as words
 use Rattle.cts_serve.specs.declared.halt.Halt.{Halt}
-use Rattle.cts_serve.specs.declared.halt.Halt.TheVariants.{Memory, WriteFault, Refused, ShelfEmpty}
+use Rattle.cts_serve.specs.declared.halt.Halt.TheVariants.{Memory, WriteFault, LogFault, Refused, ShelfEmpty}
 use Rattle.cts_serve.specs.declared.halt.cause.Cause.{Cause}
 use Rattle.cts_serve.specs.declared.halt.cause.Cause.TheVariants as cause
 use Rattle.cts_serve.specs.declared.halt.file_kind.FileKind.{FileKind}
 use Rattle.cts_serve.specs.declared.halt.file_kind.FileKind.TheVariants.{Configuration, Script}
-use Rattle.cts_serve.specs.declared.putting.Unput.{Unput}
-use Rattle.cts_serve.specs.declared.putting.Unput.TheVariants as unput
+use Rattle.cts_serve.specs.declared.putting.Undone.{Undone}
+use Rattle.cts_serve.specs.declared.putting.Undone.TheVariants as undone
 
 -- a cause as it is printed
 abbrev pub cause_text : Cause → List ℕ
@@ -45,11 +45,12 @@ abbrev pub chain_halt : ChainFault → Halt
 chain_halt (chain.ShelfEmpty kind needed stocked) = ShelfEmpty kind needed stocked
 chain_halt chain.Memory = Memory
 
--- a text that was not put
-abbrev pub unput_halt : Unput → Halt
-unput_halt unput.WriteFault = WriteFault
-unput_halt unput.Memory = Memory
+-- what was not done outside
+abbrev pub undone_halt : Undone → Halt
+undone_halt undone.WriteFault = WriteFault
+undone_halt undone.LogFault = LogFault
+undone_halt undone.Memory = Memory
 
-abbrev pub put_answer : Result (Unit {0}) Unput → Result (Unit {0}) Halt
+abbrev pub put_answer : Result (Unit {0}) Undone → Result (Unit {0}) Halt
 put_answer (Ok done) = Ok done
-put_answer (Err why) = Err (unput_halt why)
+put_answer (Err why) = Err (undone_halt why)

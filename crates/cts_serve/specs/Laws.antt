@@ -1,15 +1,19 @@
 -- Laws of outcomes.
-use Rattle.std.specs.Prelude.{◌≡◌, ◌↔◌, ◌<◌, ◌⊎◌, ◌++◌, ℕ, List, length, ◌∷◌, [], Option, Some, None}
+use Rattle.std.specs.Prelude.{◌≡◌, ◌↔◌, ◌<◌, ◌⊎◌, ◌++◌, ℕ, List, length, [], Option, Some, None, option_map}
 use Rattle.cts_def.specs.declared.proto_spec.Kind.{Kind}
 use Rattle.cts_log.specs.Logged.{Logged}
 use Rattle.cts_log.specs.Reading.{IsLogRead}
 use Rattle.cts_log.specs.declared.kind.LogKind.{LogKind}
+use Rattle.cts_outside.specs.Contents.{appended}
+use Rattle.cts_outside.specs.Vaults.{Logs, log_of}
+use Rattle.cts_outside.specs.declared.vault.LogKind.{LogKind as Kept}
 use Rattle.cts_proto.specs.Meaning.{Meaning}
+use Rattle.cts_serve.specs.Acts.{Act, Outside, after_acts, logged_of, puts, syncs, text_of}
 use Rattle.cts_serve.specs.Command.{Outcome, IsOutcome}
 use Rattle.cts_serve.specs.Load.{site_asked, site_phases}
 use Rattle.cts_serve.specs.Load.Files.{log_limit}
 use Rattle.cts_serve.specs.Phases.{first_halt}
-use Rattle.cts_serve.specs.Start.{built_phase, short_kind}
+use Rattle.cts_serve.specs.Start.{short_kind}
 use Rattle.cts_serve.specs.declared.halt.status.Status.TheVariants.{LogRefused, ShelfEmpty}
 use Rattle.cts_serve.specs.declared.words.Command.{Command}
 use Rattle.cts_serve.specs.declared.words.Command.TheVariants.{Dump, Replay}
@@ -28,7 +32,7 @@ pub record IsShort (stock : List Meaning) (files : List ℕ → Option (List ℕ
   pub site : List ℕ
   pub script : List ℕ
   pub asked_is : asked ≡ Some (Replay definitions site script)
-  pub taken : first_halt (site_phases files definitions site ++ built_phase site (site_asked files definitions site) ∷ []) ≡ None
+  pub taken : first_halt (site_phases files definitions site) ≡ None
   pub kind : Kind
   pub short : short_kind stock (site_asked files definitions site) ≡ Some kind
 
@@ -51,3 +55,24 @@ pub record IsBadLog (files : List ℕ → Option (List ℕ)) (asked : Option Com
 -- the outcome has the status of a log that is refused exactly there
 abbrev pub RefusedExactly : Type 0
 RefusedExactly = (stock : List Meaning) (files : List ℕ → Option (List ℕ)) (asked : Option Command) (o : Outcome) → IsOutcome stock files asked o → (o.status ≡ LogRefused) ↔ IsBadLog files asked
+
+-- ---- what acts leave
+
+-- a sink has their texts, after what was put before
+abbrev pub TextsArePut : Type 0
+TextsArePut = (acts : List Act) (o : Outside) → (after_acts acts o).out.told ≡ appended o.out.told (text_of acts)
+
+-- each log has the bytes that they append to it, after its own
+abbrev pub BytesAreKept : Type 0
+BytesAreKept = (kind : Kept) (acts : List Act) (o : Outside)
+    → option_map (λ (logs : Logs). (log_of kind logs).bytes) (after_acts acts o).vault.told ≡ option_map (λ (logs : Logs). (log_of kind logs).bytes ++ logged_of kind acts) o.vault.told
+
+-- where both logs are synced last, all that was appended to each is sure to outlive a stop, whatever is put after that
+abbrev pub AllIsSynced : Type 0
+AllIsSynced = (kind : Kept) (acts : List Act) (line : List ℕ) (o : Outside)
+    → option_map (λ (logs : Logs). (log_of kind logs).synced) (after_acts (acts ++ (syncs ++ puts line)) o).vault.told
+    ≡ option_map (λ (logs : Logs). (log_of kind logs).bytes) (after_acts (acts ++ (syncs ++ puts line)) o).vault.told
+
+-- no count rises by acts that are done
+abbrev pub NoCountRises : Type 0
+NoCountRises = (acts : List Act) (o : Outside) → ((after_acts acts o).out.faults ≡ o.out.faults) × ((after_acts acts o).vault.faults ≡ o.vault.faults)

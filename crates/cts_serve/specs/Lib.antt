@@ -6,6 +6,7 @@ pub mod Endings
 pub mod Phases
 pub mod Load
 pub mod Putting
+pub mod Acts
 pub mod Transcript
 pub mod Story
 pub mod Start

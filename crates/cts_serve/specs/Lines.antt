@@ -18,8 +18,8 @@ read_fault_line name = codes "read fault: " ++ name ++ 10 ∷ []
 abbrev pub absent_line : List ℕ → List ℕ
 absent_line name = codes "absent: " ++ name ++ 10 ∷ []
 
-abbrev pub not_built_line : List ℕ → List ℕ
-not_built_line name = codes "not built: " ++ name ++ 10 ∷ []
+abbrev pub log_fault_line : List ℕ
+log_fault_line = codes "log fault\n"
 
 -- a file, a line of it and a cause
 abbrev pub refused_line : List ℕ → ℕ → List ℕ → List ℕ

@@ -1,6 +1,7 @@
 -- The files of a site and its script: the phases in which they are read, and what they say.
 use Rattle.std.specs.Prelude.{ℕ, List, [], ◌∷◌, Option, Result, Ok, Err, unwrap_or}
 use Rattle.std.specs.Result.{result_unwrap_or}
+use Rattle.md5.specs.Md5.{md5}
 use Rattle.cts_words.specs.declared.statement.Statement.{Statement}
 use Rattle.cts_words.specs.Statements.{said}
 use Rattle.cts_def.specs.Packets.{DefinitionsData}
@@ -58,6 +59,10 @@ no_events = []
 -- the definitions in the file of this name
 abbrev pub definitions_asked : (List ℕ → Option (List ℕ)) → List ℕ → DefinitionsData
 definitions_asked files name = read_in definitions_read no_definitions (files name)
+
+-- the digest of the bytes of that file
+abbrev pub digest_asked : (List ℕ → Option (List ℕ)) → List ℕ → List ℕ
+digest_asked files name = md5 (bytes_of (files name))
 
 -- the site in the file of this name, over these definitions
 abbrev pub site_asked_over : (List ℕ → Option (List ℕ)) → DefinitionsData → List ℕ → SiteData

@@ -4,7 +4,7 @@ use Rattle.std.specs.Option.{option_or}
 use Rattle.cts_outside.specs.Causes.{Rose}
 use Rattle.cts_outside.specs.Seen.{FilesSeen}
 use Rattle.cts_serve.specs.declared.halt.Halt.{Halt}
-use Rattle.cts_serve.specs.declared.halt.Halt.TheVariants.{Memory, ReadFault, Absent, WriteFault}
+use Rattle.cts_serve.specs.declared.halt.Halt.TheVariants.{Memory, ReadFault, Absent, WriteFault, LogFault}
 
 -- A phase: the file that it reads, if it reads one, and why the command halts at it, if it does.
 pub record Phase : Type 0 where
@@ -39,6 +39,7 @@ abbrev pub HaltsIn : List Phase → Halt → Type 0
 HaltsIn phases Memory = Unit {0}
 HaltsIn phases (ReadFault name) = IsRead name phases
 HaltsIn phases WriteFault = ⊥
+HaltsIn phases LogFault = ⊥
 HaltsIn phases halt = first_halt phases ≡ Some halt
 
 -- the same of one phase
@@ -46,6 +47,7 @@ abbrev pub HaltsAt : Phase → Halt → Type 0
 HaltsAt phase Memory = Unit {0}
 HaltsAt phase (ReadFault name) = phase.reads ≡ Some name
 HaltsAt phase WriteFault = ⊥
+HaltsAt phase LogFault = ⊥
 HaltsAt phase halt = phase.halts ≡ Some halt
 
 -- A phase gives this value, or halts.
@@ -58,11 +60,12 @@ abbrev pub Takes : {T : Type 0} → List Phase → T → Result T Halt → Type 
 Takes phases x (Ok y) = (first_halt phases ≡ None) × (y ≡ x)
 Takes phases x (Err halt) = HaltsIn phases halt
 
--- a fault of a file or of what is put
+-- a fault of a file, of what is put or of a log
 abbrev pub is_fault : Halt → Bool
 is_fault (ReadFault name) = true
 is_fault (Absent name) = true
 is_fault WriteFault = true
+is_fault LogFault = true
 is_fault halt = false
 
 -- These phases, in which no file is read, give a value of which this holds, or halt.
@@ -92,9 +95,10 @@ abbrev pub FileCounts : {T : Type 0} → Result T Halt → FilesSeen → FilesSe
 FileCounts (Ok x) old new = IsFound old new
 FileCounts (Err halt) old new = HaltCounts halt old new
 
--- the same where nothing is put, so that no put fails
+-- the same where nothing is put and no log gets anything, so that neither fails
 abbrev pub LoadHalts : Halt → FilesSeen → FilesSeen → Type 0
 LoadHalts WriteFault old new = ⊥
+LoadHalts LogFault old new = ⊥
 LoadHalts halt old new = HaltCounts halt old new
 
 abbrev pub LoadCounts : {T : Type 0} → Result T Halt → FilesSeen → FilesSeen → Type 0

@@ -13,11 +13,6 @@ use Rattle.cts_script.specs.Transcripts.{lines_behind}
 abbrev pub events_of : List (ℕ × Event) → List Event
 events_of events = map (λ e. e.1) events
 
--- all entries that events appended
-abbrev pub all_entries : List Did → List Entry
-all_entries [] = []
-all_entries (did ∷ dids) = did.entries ++ all_entries dids
-
 -- a change of a limits state, as it is printed
 abbrev pub line_event : Change → LimitsEvent
 line_event c = record { at = c.at; packet = c.packet; item = c.item; before = c.before; after = c.after }

@@ -1,22 +1,23 @@
 // The room of `check`: how much a site has.
 ghost use Rattle.std.specs.Prelude.{◌≡◌, IfSome, List};
+ghost use Rattle.cts_outside.specs.Seen.{VaultSeen};
 ghost use Rattle.cts_proto.specs.Meaning.{Meaning};
+ghost use Rattle.cts_serve.specs.Acts.{outside};
 ghost use Rattle.cts_serve.specs.Command.{Performs};
 ghost use Rattle.cts_serve.specs.Lines.{counts_line};
 ghost use Rattle.cts_serve.specs.Phases.{FileCounts};
-ghost use Rattle.cts_serve.specs.Putting.{PutsText, SinkCounts};
+ghost use Rattle.cts_serve.specs.Putting.{PutsText, SinkCounts, VaultCounts};
 ghost use Rattle.cts_serve.specs.declared.words.Command.TheVariants.{Check};
 
 use crate::file_name::FileName;
 use crate::halt::{Halt, lines};
 use crate::load::load_site;
-use crate::putting::{Unput, put_answer, put_text};
+use crate::putting::{Undone, put_answer, put_text};
 use cts_def::Site;
 use cts_outside::{Files, Sink};
 use std::alloc::Global;
 
-/// Reads definitions and a site, and puts how much they have. It is done only where this is put. It takes all that can be read,
-/// also what a replay cannot do so far.
+/// Reads definitions and a site, and puts how much they have. It is done only where this is put.
 pub fn check<'a, F: Files, O: Sink>(
     alloc: Global,
     definitions: &FileName<'a>,
@@ -27,12 +28,13 @@ pub fn check<'a, F: Files, O: Sink>(
     ensures stays { (F.seen files.new).told ≡ (F.seen files.old).told }
     ensures files { FileCounts result (F.seen files.old) (F.seen files.new) }
     ensures sink { SinkCounts result (O.seen out.old) (O.seen out.new) }
-    ensures performs { (stock : List Meaning) → IfSome (F.seen files.old).told (λ all. Performs stock all (Check definitions.now site.now) result (O.seen out.old) (O.seen out.new)) }
+    ensures vault { (vault : VaultSeen) → VaultCounts result vault vault }
+    ensures performs { (stock : List Meaning) (vault : VaultSeen) → IfSome (F.seen files.old).told (λ all. Performs stock all (Check definitions.now site.now) result (outside (O.seen out.old) vault) (outside (O.seen out.new) vault)) }
 {
     match load_site(alloc, files, definitions, site) {
-        Ok(site) => {
-            let put = put_counts(alloc, &site, out);
-            drop(site);
+        Ok(plan) => {
+            let put = put_counts(alloc, &plan.0, out);
+            drop(plan);
             put_answer(put)
         }
         Err(halt) => Err(halt),
@@ -40,7 +42,7 @@ pub fn check<'a, F: Files, O: Sink>(
 }
 
 // Puts how much a site has.
-fn put_counts<O: Sink>(alloc: Global, site: &Site, out: &mut O) -> Result<(), Unput>
+fn put_counts<O: Sink>(alloc: Global, site: &Site, out: &mut O) -> Result<(), Undone>
     ensures { PutsText (counts_line site.now) result (O.seen out.old) (O.seen out.new) }
 {
     let line = lines::counts(alloc, site)?;

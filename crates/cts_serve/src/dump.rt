@@ -1,17 +1,19 @@
 // The room of `dump`: the lines of a log file.
 ghost use Rattle.std.specs.Prelude.{◌≡◌, [], IfSome, List};
 ghost use Rattle.cts_log.specs.Reading.{HasRead, logged};
+ghost use Rattle.cts_outside.specs.Seen.{VaultSeen};
 ghost use Rattle.cts_proto.specs.Meaning.{Meaning};
+ghost use Rattle.cts_serve.specs.Acts.{outside};
 ghost use Rattle.cts_serve.specs.Command.{Performs};
 ghost use Rattle.cts_serve.specs.Dump.{PutsEntry, PutsLines, PutsLog};
 ghost use Rattle.cts_serve.specs.Phases.{FileCounts};
-ghost use Rattle.cts_serve.specs.Putting.{SinkCounts};
+ghost use Rattle.cts_serve.specs.Putting.{SinkCounts, VaultCounts};
 ghost use Rattle.cts_serve.specs.declared.words.Command.TheVariants.{Dump};
 
 use crate::file_name::FileName;
 use crate::halt::Halt;
 use crate::load::file::read_file;
-use crate::putting::{Unput, put_text};
+use crate::putting::{Undone, put_text};
 use cts_log::{LogEntry, LogFault, LogReader, dump_line};
 use cts_outside::{Files, Sink};
 use std::alloc::Global;
@@ -30,7 +32,8 @@ pub fn dump<'a, F: Files, O: Sink>(
     ensures stays { (F.seen files.new).told ≡ (F.seen files.old).told }
     ensures files { FileCounts result (F.seen files.old) (F.seen files.new) }
     ensures sink { SinkCounts result (O.seen out.old) (O.seen out.new) }
-    ensures performs { (stock : List Meaning) → IfSome (F.seen files.old).told (λ all. Performs stock all (Dump log.now) result (O.seen out.old) (O.seen out.new)) }
+    ensures vault { (vault : VaultSeen) → VaultCounts result vault vault }
+    ensures performs { (stock : List Meaning) (vault : VaultSeen) → IfSome (F.seen files.old).told (λ all. Performs stock all (Dump log.now) result (outside (O.seen out.old) vault) (outside (O.seen out.new) vault)) }
 {
     let large = Halt::LogRefused { place: LOG_LIMIT };
     match read_file(alloc, files, log, LOG_LIMIT as usize, large) {
@@ -45,7 +48,7 @@ pub fn dump<'a, F: Files, O: Sink>(
 
 // Puts the line of each whole entry of a log, in order, and says where the log ends otherwise than with one.
 fn put_log<'a, O: Sink>(alloc: Global, file: &[u8], out: &mut O) -> Result<(), Halt<'a>>
-    ensures { PutsLog file.now result (O.seen out.old) (O.seen out.new) }
+    ensures { (vault : VaultSeen) → PutsLog file.now result (outside (O.seen out.old) vault) (outside (O.seen out.new) vault) }
 {
     let mut reader = LogReader::new(file);
     if reader.kind().is_none() {
@@ -61,14 +64,15 @@ fn put_entries<'a, O: Sink>(
     out: &mut O,
 ) -> Result<(), Halt<'a>>
     requires { HasRead reader.old [] }
-    ensures { PutsLines reader.old.file result (O.seen out.old) (O.seen out.new) }
+    ensures { (vault : VaultSeen) → PutsLines reader.old.file result (outside (O.seen out.old) vault) (outside (O.seen out.new) vault) }
 {
     loop {
         match reader.next() {
             Ok(Some(entry)) => match put_entry(alloc, &entry, out) {
                 Ok(()) => {}
-                Err(Unput::WriteFault) => return Err(Halt::WriteFault),
-                Err(Unput::Memory) => return Err(Halt::Memory),
+                Err(Undone::WriteFault) => return Err(Halt::WriteFault),
+                Err(Undone::LogFault) => return Err(Halt::LogFault),
+                Err(Undone::Memory) => return Err(Halt::Memory),
             },
             Ok(None) => return Ok(()),
             Err(LogFault::BadHead) => return Err(Halt::LogRefused { place: 0 }),
@@ -78,7 +82,7 @@ fn put_entries<'a, O: Sink>(
 }
 
 // Puts the line of an entry.
-fn put_entry<O: Sink>(alloc: Global, entry: &LogEntry<'_>, out: &mut O) -> Result<(), Unput>
+fn put_entry<O: Sink>(alloc: Global, entry: &LogEntry<'_>, out: &mut O) -> Result<(), Undone>
     ensures { PutsEntry (logged entry.now) result (O.seen out.old) (O.seen out.new) }
 {
     let line = dump_line(alloc, entry)?;

@@ -1,6 +1,6 @@
 // Why a command halts.
 ghost use Rattle.std.specs.Prelude.{◌≡◌};
-ghost use Rattle.cts_serve.specs.Causes.{chain_halt, unput_halt};
+ghost use Rattle.cts_serve.specs.Causes.{chain_halt, undone_halt};
 ghost use Rattle.cts_serve.specs.declared.halt.Halt.TheVariants.{Memory as NoMemory};
 
 pub mod cause;
@@ -10,7 +10,7 @@ pub mod lines;
 pub mod status;
 
 use crate::file_name::FileName;
-use crate::putting::Unput;
+use crate::putting::Undone;
 use cause::Cause;
 use cts_base::Memory;
 use cts_chain::ChainFault;
@@ -32,6 +32,8 @@ pub enum Halt<'a> {
     },
     /// The output could not be written.
     WriteFault,
+    /// A log could not be written or synced.
+    LogFault,
     /// The line of the file is refused; line 0 where it is the file as a whole.
     Refused {
         name: FileName<'a>,
@@ -54,10 +56,6 @@ pub enum Halt<'a> {
     LogRefused {
         place: u64,
     },
-    /// The file asks for what is not built yet.
-    NotBuilt {
-        name: FileName<'a>,
-    },
 }
 
 impl<'a> From<Memory> for Halt<'a> {
@@ -68,13 +66,14 @@ impl<'a> From<Memory> for Halt<'a> {
     }
 }
 
-impl<'a> From<Unput> for Halt<'a> {
-    ghost from_gives = { λ why e. e ≡ unput_halt why };
+impl<'a> From<Undone> for Halt<'a> {
+    ghost from_gives = { λ why e. e ≡ undone_halt why };
 
-    fn from(why: Unput) -> Halt<'a> {
+    fn from(why: Undone) -> Halt<'a> {
         match why {
-            Unput::WriteFault => Halt::WriteFault,
-            Unput::Memory => Halt::Memory,
+            Undone::WriteFault => Halt::WriteFault,
+            Undone::LogFault => Halt::LogFault,
+            Undone::Memory => Halt::Memory,
         }
     }
 }

@@ -3,9 +3,11 @@
 
 mod check;
 mod command;
+mod digest;
 mod dump;
 mod file_name;
 mod halt;
+mod keeping;
 mod laws;
 mod load;
 mod putting;
@@ -15,4 +17,4 @@ mod words;
 
 pub use command::run;
 pub use halt::status::Status;
-pub use laws::outcomes;
+pub use laws::{acts, outcomes};

@@ -1,48 +1,52 @@
-// Texts that are put, and why one is not.
+// Texts that are put, and why something is not done outside.
 ghost use Rattle.std.specs.Prelude.{◌≡◌};
+ghost use Rattle.cts_serve.specs.Acts.{TakesNoMemory};
 ghost use Rattle.cts_serve.specs.Causes.{put_answer};
 ghost use Rattle.cts_serve.specs.Putting.{PutsText};
-ghost use Rattle.cts_serve.specs.declared.putting.Unput.TheVariants.{Memory as NoMemory};
+ghost use Rattle.cts_serve.specs.declared.putting.Undone.TheVariants.{Memory as NoMemory};
 
 use crate::halt::Halt;
 use cts_base::Memory;
 use cts_outside::Sink;
 
-/// Why a text was not put.
+/// Why something was not done outside.
 #[derive(Clone, Copy)]
-pub enum Unput {
-    /// A put failed within it.
+pub enum Undone {
+    /// A put of the output failed within it.
     WriteFault,
-    /// Memory ran out before it was put.
+    /// An append or a sync of a log failed within it.
+    LogFault,
+    /// Memory ran out before it.
     Memory,
 }
 
-impl From<Memory> for Unput {
+impl From<Memory> for Undone {
     ghost from_gives = { λ _ e. e ≡ NoMemory };
 
-    fn from(_: Memory) -> Unput {
-        Unput::Memory
+    fn from(_: Memory) -> Undone {
+        Undone::Memory
     }
 }
 
 /// Puts a text in one piece, if it has any bytes.
-pub fn put_text<O: Sink>(out: &mut O, text: &[u8]) -> Result<(), Unput>
-    ensures { PutsText text.now result (O.seen out.old) (O.seen out.new) }
+pub fn put_text<O: Sink>(out: &mut O, text: &[u8]) -> Result<(), Undone>
+    ensures puts { PutsText text.now result (O.seen out.old) (O.seen out.new) }
+    ensures memory { TakesNoMemory result }
 {
     if text.is_empty() {
         return Ok(());
     }
     match out.put(text) {
         Ok(()) => Ok(()),
-        Err(_) => Err(Unput::WriteFault),
+        Err(_) => Err(Undone::WriteFault),
     }
 }
 
-/// What a command answers where its last text was put, or not.
-pub fn put_answer<'a>(put: Result<(), Unput>) -> Result<(), Halt<'a>>
-    ensures { result ≡ put_answer put }
+/// What a command answers where its last act was done, or not.
+pub fn put_answer<'a>(done: Result<(), Undone>) -> Result<(), Halt<'a>>
+    ensures { result ≡ put_answer done }
 {
-    match put {
+    match done {
         Ok(()) => Ok(()),
         Err(why) => Err(Halt::from(why)),
     }

@@ -1,35 +1,39 @@
 // The room of `replay`: the events of a script, one after another, in the world of a site.
-ghost use Rattle.std.specs.Prelude.{◌≡◌, true, IfSome, OnErr, OnOk};
-ghost use Rattle.cts_chain.specs.Builds.{Taken, uses_in};
-ghost use Rattle.cts_core.specs.Built.{is_built_event};
+ghost use Rattle.std.specs.Prelude.{◌≡◌, ◌∷◌, ◌++◌, [], IfSome, OnErr, OnOk};
+ghost use Rattle.cts_chain.specs.Builds.{Taken};
+ghost use Rattle.cts_core.specs.LineChains.{line_uses};
 ghost use Rattle.cts_core.specs.States.{State, opening};
 ghost use Rattle.cts_def.specs.Sites.{SiteData};
+ghost use Rattle.cts_serve.specs.Acts.{DoesActs, TakesNoMemory, outside, puts, syncs};
 ghost use Rattle.cts_serve.specs.Command.{LeavesShelf, Performs, PerformsScript};
 ghost use Rattle.cts_serve.specs.Lines.{end_line};
 ghost use Rattle.cts_serve.specs.Phases.{FileCounts, Gives};
-ghost use Rattle.cts_serve.specs.Putting.{PutsText, SinkCounts};
-ghost use Rattle.cts_serve.specs.Replay.{DoesEvent, Replays, ReplaysBuilt, are_built_events, event_halt};
-ghost use Rattle.cts_serve.specs.Start.{world_phases};
+ghost use Rattle.cts_serve.specs.Putting.{PutsText, SinkCounts, VaultCounts};
+ghost use Rattle.cts_serve.specs.Replay.{DoesEvent, DoesEvents, EndsAfter, Replays, event_halt, log_acts};
+ghost use Rattle.cts_serve.specs.Start.{shelf_phase};
 ghost use Rattle.cts_serve.specs.Story.{Stands, site_told};
 ghost use Rattle.cts_serve.specs.declared.words.Command.TheVariants.{Replay};
 
+use crate::digest::Digest;
 use crate::file_name::FileName;
 use crate::halt::cause::Cause;
 use crate::halt::file_kind::FileKind;
 use crate::halt::{Halt, lines};
+use crate::keeping::{begin_logs, keep, sync_both};
 use crate::load::load_site;
 use crate::load::script::load_script;
-use crate::putting::{Unput, put_answer, put_text};
+use crate::putting::{Undone, put_answer, put_text};
 use crate::story::Story;
-use cts_core::{Framer, Supplier, WorldFault, is_built_event, is_built_site};
+use cts_core::{Framer, Supplier, WorldFault};
 use cts_def::Site;
-use cts_entry::Event;
-use cts_outside::{Files, Sink};
+use cts_entry::{Effect, Event};
+use cts_outside::{Files, Sink, Vault};
 use std::alloc::Global;
 
 /// Reads definitions and a site, takes the boxes of the site's chains from the shelf, reads the script, and does its events in
-/// order. The text of each is put when it is done, and then `END n`.
-pub fn replay<'a, C: Framer, B: Supplier<C>, F: Files, O: Sink>(
+/// order. Both logs get their heads before the first event, what each event gives them, and at the end the rest of the history;
+/// then they are synced. The text of each event is put when it is done, and `END n` when all are.
+pub fn replay<'a, C: Framer, B: Supplier<C>, F: Files, O: Sink, V: Vault>(
     alloc: Global,
     definitions: &FileName<'a>,
     site: &FileName<'a>,
@@ -37,17 +41,19 @@ pub fn replay<'a, C: Framer, B: Supplier<C>, F: Files, O: Sink>(
     shelf: &mut B,
     files: &mut F,
     out: &mut O,
+    vault: &mut V,
 ) -> Result<(), Halt<'a>>
     ensures stays { (F.seen files.new).told ≡ (F.seen files.old).told }
     ensures files { FileCounts result (F.seen files.old) (F.seen files.new) }
     ensures sink { SinkCounts result (O.seen out.old) (O.seen out.new) }
-    ensures performs { IfSome (F.seen files.old).told (λ all. Performs (B.stock shelf.old) all (Replay definitions.now site.now script.now) result (O.seen out.old) (O.seen out.new)) }
+    ensures vault { VaultCounts result (V.seen vault.old) (V.seen vault.new) }
+    ensures performs { IfSome (F.seen files.old).told (λ all. Performs (B.stock shelf.old) all (Replay definitions.now site.now script.now) result (outside (O.seen out.old) (V.seen vault.old)) (outside (O.seen out.new) (V.seen vault.new))) }
     ensures boxes { IfSome (F.seen files.old).told (λ all. LeavesShelf all definitions.now site.now result (B.stock shelf.old) (B.stock shelf.new)) }
 {
     match load_site(alloc, files, definitions, site) {
-        Ok(plan) => match begin::<C, B>(alloc, site, plan, shelf) {
+        Ok((plan, digest)) => match begin::<C, B>(alloc, plan, shelf) {
             Ok(mut story) => {
-                let done = replay_script(alloc, script, &mut story, files, out);
+                let done = replay_script(alloc, script, &digest, &mut story, files, out, vault);
                 drop(story);
                 done
             }
@@ -57,44 +63,42 @@ pub fn replay<'a, C: Framer, B: Supplier<C>, F: Files, O: Sink>(
     }
 }
 
-// Begins the story of a site, which was read from the file of this name.
+// Begins the story of a site.
 fn begin<'a, C: Framer, B: Supplier<C>>(
     alloc: Global,
-    name: &FileName<'a>,
     site: Site,
     shelf: &mut B,
 ) -> Result<Story<C>, Halt<'a>>
-    ensures gives { Gives (world_phases (B.stock shelf.old) name.now site) (Stands site opening) result }
-    ensures taken { OnOk result (Taken (B.stock shelf.old) (uses_in site.interfaces) (B.stock shelf.new)) }
+    ensures gives { Gives (shelf_phase (B.stock shelf.old) site ∷ []) (Stands site opening) result }
+    ensures taken { OnOk result (Taken (B.stock shelf.old) (line_uses site) (B.stock shelf.new)) }
     ensures kept { OnErr result (B.stock shelf.new ≡ B.stock shelf.old) }
 {
-    if is_built_site(&site) {
-        return match Story::begin(alloc, site, shelf) {
-            Ok(story) => Ok(story),
-            Err(why) => Err(Halt::from(why)),
-        };
+    match Story::begin(alloc, site, shelf) {
+        Ok(story) => Ok(story),
+        Err(why) => Err(Halt::from(why)),
     }
-    drop(site);
-    Err(Halt::NotBuilt { name: name.again() })
 }
 
 // Reads the script and does its events in a story in which nothing has happened.
-fn replay_script<'a, C: Framer, F: Files, O: Sink>(
+fn replay_script<'a, C: Framer, F: Files, O: Sink, V: Vault>(
     alloc: Global,
     script: &FileName<'a>,
+    digest: &Digest,
     story: &mut Story<C>,
     files: &mut F,
     out: &mut O,
+    vault: &mut V,
 ) -> Result<(), Halt<'a>>
     requires { Stands (site_told story.old) opening story.old }
     ensures stays { (F.seen files.new).told ≡ (F.seen files.old).told }
     ensures files { FileCounts result (F.seen files.old) (F.seen files.new) }
     ensures sink { SinkCounts result (O.seen out.old) (O.seen out.new) }
-    ensures performs { IfSome (F.seen files.old).told (λ all. PerformsScript all (site_told story.old) script.now result (O.seen out.old) (O.seen out.new)) }
+    ensures vault { VaultCounts result (V.seen vault.old) (V.seen vault.new) }
+    ensures performs { IfSome (F.seen files.old).told (λ all. PerformsScript all digest.now (site_told story.old) script.now result (outside (O.seen out.old) (V.seen vault.old)) (outside (O.seen out.new) (V.seen vault.new))) }
 {
     match load_script(alloc, files, script, story.site()) {
         Ok(events) => {
-            let done = do_script(alloc, script, &events, story, out);
+            let done = do_script(alloc, script, digest, &events, story, out, vault);
             drop(events);
             done
         }
@@ -102,74 +106,84 @@ fn replay_script<'a, C: Framer, F: Files, O: Sink>(
     }
 }
 
-// Does the events of a script, where all of them are built.
-fn do_script<'a, C: Framer, O: Sink>(
+// Begins the logs, and does the events of a script.
+fn do_script<'a, C: Framer, O: Sink, V: Vault>(
     alloc: Global,
     script: &FileName<'a>,
+    digest: &Digest,
     events: &[(u32, Event)],
     story: &mut Story<C>,
     out: &mut O,
+    vault: &mut V,
 ) -> Result<(), Halt<'a>>
     requires { Stands (site_told story.old) opening story.old }
-    ensures { ReplaysBuilt (site_told story.old) script.now events.now result (O.seen out.old) (O.seen out.new) }
+    ensures { Replays digest.now (site_told story.old) script.now events.now result (outside (O.seen out.old) (V.seen vault.old)) (outside (O.seen out.new) (V.seen vault.new)) }
 {
-    if are_built_events(events) {
-        return do_events(alloc, script, events, story, out);
+    match begin_logs(alloc, digest, vault) {
+        Ok(()) => do_events(alloc, script, events, story, out, vault),
+        Err(why) => Err(Halt::from(why)),
     }
-    Err(Halt::NotBuilt {
-        name: script.again(),
-    })
 }
 
-// Whether all events of a script can be replayed so far.
-fn are_built_events(events: &[(u32, Event)]) -> bool
-    ensures { result ≡ are_built_events events.now }
-{
-    events.iter().all(|event| is_built_event(&event.1))
-}
-
-// Does the events, puts the text of each, and then `END n`.
-fn do_events<'a, C: Framer, O: Sink>(
+// Does the events, and ends the replay.
+fn do_events<'a, C: Framer, O: Sink, V: Vault>(
     alloc: Global,
     script: &FileName<'a>,
     events: &[(u32, Event)],
     story: &mut Story<C>,
     out: &mut O,
+    vault: &mut V,
 ) -> Result<(), Halt<'a>>
-    requires events { are_built_events events.now ≡ true }
-    requires stands { Stands (site_told story.old) opening story.old }
-    ensures { Replays (site_told story.old) script.now events.now result (O.seen out.old) (O.seen out.new) }
+    requires { Stands (site_told story.old) opening story.old }
+    ensures { DoesEvents (site_told story.old) script.now events.now result (outside (O.seen out.old) (V.seen vault.old)) (outside (O.seen out.new) (V.seen vault.new)) }
 {
     let mut left = events;
     'events: while let Some((next, after)) = left.split_first() {
-        match do_event(alloc, script, next.0, &next.1, story, out) {
+        match do_event(alloc, script, next.0, &next.1, story, out, vault) {
             Ok(()) => left = after,
             Err(halt) => return Err(halt),
         }
     }
-    put_answer(put_end(alloc, story.count(), out))
+    end_replay(alloc, story, out, vault)
 }
 
-// Does the event of this line, and puts its text in one piece, if it has any.
-fn do_event<'a, C: Framer, O: Sink>(
+// Does the event of this line. What it gives the logs is appended, and then its text is put in one piece, if it has any.
+fn do_event<'a, C: Framer, O: Sink, V: Vault>(
     alloc: Global,
     script: &FileName<'a>,
     line: u32,
     event: &Event,
     story: &mut Story<C>,
     out: &mut O,
+    vault: &mut V,
 ) -> Result<(), Halt<'a>>
-    requires event { is_built_event event.now ≡ true }
-    requires stands { (site : SiteData) × (s : State) × Stands site s story.old }
-    ensures { (site : SiteData) (s : State) → Stands site s story.old → DoesEvent site s script.now line event.now result story.new (O.seen out.old) (O.seen out.new) }
+    requires { (site : SiteData) × (s : State) × Stands site s story.old }
+    ensures { (site : SiteData) (s : State) → Stands site s story.old → DoesEvent site s script.now line event.now result story.new (outside (O.seen out.old) (V.seen vault.old)) (outside (O.seen out.new) (V.seen vault.new)) }
 {
     match story.tell(alloc, event) {
-        Ok(text) => {
-            let put = put_text(out, text.as_slice());
+        Ok((text, effect)) => {
+            let done = do_told(text.as_slice(), &effect, out, vault);
             drop(text);
-            put_answer(put)
+            drop(effect);
+            put_answer(done)
         }
         Err(fault) => Err(event_halt(script, line, fault)),
+    }
+}
+
+// Does what an event told.
+fn do_told<O: Sink, V: Vault>(
+    text: &[u8],
+    effect: &Effect,
+    out: &mut O,
+    vault: &mut V,
+) -> Result<(), Undone>
+    ensures done { DoesActs (log_acts effect.now ++ puts text.now) result (outside (O.seen out.old) (V.seen vault.old)) (outside (O.seen out.new) (V.seen vault.new)) }
+    ensures memory { TakesNoMemory result }
+{
+    match keep(vault, effect) {
+        Ok(()) => put_text(out, text),
+        Err(why) => Err(why),
     }
 }
 
@@ -189,8 +203,48 @@ fn event_halt<'a>(script: &FileName<'a>, line: u32, fault: WorldFault) -> Halt<'
     }
 }
 
+// Ends a replay whose events are all done: the logs get the rest of the history, and then the number of entries is put.
+fn end_replay<'a, C: Framer, O: Sink, V: Vault>(
+    alloc: Global,
+    story: &mut Story<C>,
+    out: &mut O,
+    vault: &mut V,
+) -> Result<(), Halt<'a>>
+    requires { (site : SiteData) × (s : State) × Stands site s story.old }
+    ensures { (site : SiteData) (s : State) → Stands site s story.old → EndsAfter site s result (outside (O.seen out.old) (V.seen vault.old)) (outside (O.seen out.new) (V.seen vault.new)) }
+{
+    let entries = story.count();
+    match story.drain() {
+        Ok(rest) => {
+            let done = end_logs(alloc, &rest, entries, out, vault);
+            drop(rest);
+            put_answer(done)
+        }
+        Err(_) => Err(Halt::Memory),
+    }
+}
+
+// Appends the rest to the logs, syncs them, and puts the number of entries.
+fn end_logs<O: Sink, V: Vault>(
+    alloc: Global,
+    rest: &Effect,
+    entries: usize,
+    out: &mut O,
+    vault: &mut V,
+) -> Result<(), Undone>
+    ensures { DoesActs (log_acts rest.now ++ (syncs ++ puts (end_line entries))) result (outside (O.seen out.old) (V.seen vault.old)) (outside (O.seen out.new) (V.seen vault.new)) }
+{
+    match keep(vault, rest) {
+        Ok(()) => match sync_both(vault) {
+            Ok(()) => put_end(alloc, entries, out),
+            Err(why) => Err(why),
+        },
+        Err(why) => Err(why),
+    }
+}
+
 // Puts the number of entries.
-fn put_end<O: Sink>(alloc: Global, entries: usize, out: &mut O) -> Result<(), Unput>
+fn put_end<O: Sink>(alloc: Global, entries: usize, out: &mut O) -> Result<(), Undone>
     ensures { PutsText (end_line entries) result (O.seen out.old) (O.seen out.new) }
 {
     let line = lines::end(alloc, entries as u64)?;

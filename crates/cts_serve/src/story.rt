@@ -5,7 +5,7 @@ use cts_base::{Bytes, Memory};
 use cts_chain::ChainFault;
 use cts_core::{Framer, Supplier, World, WorldFault};
 use cts_def::Site;
-use cts_entry::Event;
+use cts_entry::{Effect, Event};
 use cts_watch::Follower;
 use std::alloc::Global;
 use std::marker::Model;
@@ -29,16 +29,16 @@ impl<C: Framer> Model for Story<C> {
 
 impl<C: Framer> Story<C> {
     ghost use Rattle.std.specs.Prelude.{◌≡◌, [], length, true, IfErr, IfOk, None, OnErr, OnOk};
-    ghost use Rattle.cts_chain.specs.Builds.{FaultIs, Taken, uses_in};
-    ghost use Rattle.cts_core.specs.Built.{is_built_event, is_built_site};
+    ghost use Rattle.cts_chain.specs.Builds.{FaultIs, Taken};
+    ghost use Rattle.cts_core.specs.LineChains.{line_uses};
     ghost use Rattle.cts_core.specs.Endings.{held_in};
     ghost use Rattle.cts_core.specs.States.{State, opening};
     ghost use Rattle.cts_def.specs.Sites.{SiteData};
     ghost use Rattle.cts_serve.specs.Start.{short_kind};
-    ghost use Rattle.cts_serve.specs.Story.{Stands, Tells, site_told};
+    ghost use Rattle.cts_serve.specs.Story.{Drains, Stands, Tells, site_told};
     ghost use Rattle.cts_watch.specs.Following.{Follows};
 
-    /// A story of a site, which has to be built, before anything has happened. The boxes of its chains are taken from the shelf.
+    /// A story of a site before anything has happened. The boxes of its chains are taken from the shelf.
     ///
     /// # Errors
     ///
@@ -49,11 +49,10 @@ impl<C: Framer> Story<C> {
         site: Site,
         shelf: &mut B,
     ) -> Result<Story<C>, ChainFault>
-        requires { is_built_site site ≡ true }
         ensures stands { IfOk result (λ story. Stands site opening story) }
         ensures enough { OnOk result (short_kind (B.stock shelf.old) site ≡ None) }
-        ensures taken { OnOk result (Taken (B.stock shelf.old) (uses_in site.interfaces) (B.stock shelf.new)) }
-        ensures fault { IfErr result (λ e. FaultIs (B.stock shelf.old) (uses_in site.interfaces) e) }
+        ensures taken { OnOk result (Taken (B.stock shelf.old) (line_uses site) (B.stock shelf.new)) }
+        ensures fault { IfErr result (λ e. FaultIs (B.stock shelf.old) (line_uses site) e) }
         ensures kept { OnErr result (B.stock shelf.new ≡ B.stock shelf.old) }
     {
         if let Some(fault) = World::<C>::shortage(&site, shelf) {
@@ -72,12 +71,11 @@ impl<C: Framer> Story<C> {
         follower: Follower,
         shelf: &mut B,
     ) -> Result<Story<C>, ChainFault>
-        requires built { is_built_site site ≡ true }
         requires follows { Follows site [] follower }
         requires stocked { short_kind (B.stock shelf.old) site ≡ None }
         ensures stands { IfOk result (λ story. Stands site opening story) }
-        ensures taken { OnOk result (Taken (B.stock shelf.old) (uses_in site.interfaces) (B.stock shelf.new)) }
-        ensures fault { IfErr result (λ e. FaultIs (B.stock shelf.old) (uses_in site.interfaces) e) }
+        ensures taken { OnOk result (Taken (B.stock shelf.old) (line_uses site) (B.stock shelf.new)) }
+        ensures fault { IfErr result (λ e. FaultIs (B.stock shelf.old) (line_uses site) e) }
         ensures kept { OnErr result (B.stock shelf.new ≡ B.stock shelf.old) }
     {
         match Arc::new(alloc, site) {
@@ -103,15 +101,14 @@ impl<C: Framer> Story<C> {
         self.world.hall().entries().len()
     }
 
-    /// Does an event, which has to be built, and tells its text: the lines of its entries, each with its limits events after it,
-    /// and then that of what the event gives besides.
+    /// Does an event, and tells its text: the lines of its entries, each with its limits events after it, and then that of what the
+    /// event gives besides. This is given too.
     ///
     /// # Errors
     ///
     /// As `step` of `cts_core`; `Memory` also where the text finds none.
-    pub fn tell(&mut self, alloc: Global, event: &Event) -> Result<Bytes, WorldFault>
-        requires event { is_built_event event.now ≡ true }
-        requires stands { (site : SiteData) × (s : State) × Stands site s self.old }
+    pub fn tell(&mut self, alloc: Global, event: &Event) -> Result<(Bytes, Effect), WorldFault>
+        requires { (site : SiteData) × (s : State) × Stands site s self.old }
         ensures { (site : SiteData) (s : State) → Stands site s self.old → Tells site s event.now result self.new }
     {
         let before = self.world.hall().entries().len();
@@ -119,13 +116,32 @@ impl<C: Framer> Story<C> {
             Ok(effect) => {
                 let hall = self.world.hall();
                 let told = event_text(alloc, hall, &mut self.follower, before, &effect);
-                drop(effect);
                 match told {
-                    Ok(text) => Ok(Bytes::of(text)),
-                    Err(Memory) => Err(WorldFault::Memory),
+                    Ok(text) => Ok((Bytes::of(text), effect)),
+                    Err(Memory) => {
+                        drop(effect);
+                        Err(WorldFault::Memory)
+                    }
                 }
             }
             Err(fault) => Err(fault),
         }
+    }
+
+    /// Gives the rest of the history to the logs: what they have not passed yet.
+    ///
+    /// # Errors
+    ///
+    /// `Memory` alone, since this is always enabled and appends nothing.
+    pub fn drain(&mut self) -> Result<Effect, WorldFault>
+        requires { (site : SiteData) × (s : State) × Stands site s self.old }
+        ensures { (site : SiteData) (s : State) → Stands site s self.old → Drains site s result }
+    {
+        let count = self.world.hall().entries().len() as u64;
+        let rest = count.saturating_sub(self.world.log_cursor());
+        let event = Event::DrainLog(rest);
+        let done = self.world.step(&event);
+        drop(event);
+        done
     }
 }

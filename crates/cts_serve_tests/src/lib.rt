@@ -12,13 +12,19 @@ mod counting;
 #[cfg(test)]
 mod dumps;
 #[cfg(test)]
+mod failing;
+#[cfg(test)]
 mod faults;
 #[cfg(test)]
 mod instrument;
 #[cfg(test)]
 mod limits;
 #[cfg(test)]
+mod logs;
+#[cfg(test)]
 mod refusals;
+#[cfg(test)]
+mod routers;
 #[cfg(test)]
 mod scripts;
 #[cfg(test)]

@@ -1,8 +1,8 @@
 // The greatest files, definitions and pieces that are taken.
 use crate::shelves::stocked;
-use crate::table::{SITE, ended_without_faults, hold_bytes, said};
+use crate::table::{SITE, ended_without_faults, hold_bytes, rows_told, said};
 use cts_outside::MemFiles;
-use cts_rows::{Answers, rows_end_so};
+use cts_rows::Answers;
 use std::alloc::Global;
 use std::test::Fail;
 
@@ -23,12 +23,12 @@ impl Answers for Piece {
 }
 
 const PIECES: &str = "\
-65536|ScriptRefused refused: c line 1: NotEnabled;
-65537|ScriptRefused refused: c line 1: PieceSize;";
+the greatest piece|65536|ScriptRefused refused: c line 1: NotEnabled;
+a byte more|65537|ScriptRefused refused: c line 1: PieceSize;";
 
 #[test]
 fn a_piece_has_65536_bytes_at_most(rt: HostRuntime) -> Result<(), Fail> {
-    rows_end_so::<Piece>(rt.alloc(), PIECES)
+    rows_told::<Piece>(rt.alloc(), PIECES)
 }
 
 /// How a replay ends whose definitions are one word of so many letters.
@@ -50,12 +50,12 @@ fn said_of_bytes(alloc: Global, definitions: Vec<u8>) -> Result<String, Fail> {
 }
 
 const WORDS: &str = "\
-67108864|ConfigRefused refused: d line 1: UnknownKeyword;
-67108865|ConfigRefused refused: d line 0: TooLarge;";
+the greatest file|67108864|ConfigRefused refused: d line 1: UnknownKeyword;
+a byte more|67108865|ConfigRefused refused: d line 0: TooLarge;";
 
 #[test]
 fn a_file_has_67108864_bytes_at_most(rt: HostRuntime) -> Result<(), Fail> {
-    rows_end_so::<Word>(rt.alloc(), WORDS)
+    rows_told::<Word>(rt.alloc(), WORDS)
 }
 
 // Appends a number between two texts.
@@ -93,12 +93,12 @@ impl Answers for Items {
 }
 
 const BEHIND_ITEMS: &str = "\
-|Absent absent: s;
-TELEMETRY T Q BIG_ENDIAN;APPEND_ITEM A 8 UINT|ConfigRefused refused: d line 65554: TooMany;";
+the most items||Absent absent: s;
+an item more|TELEMETRY T Q BIG_ENDIAN;APPEND_ITEM A 8 UINT|ConfigRefused refused: d line 65554: TooMany;";
 
 #[test]
 fn definitions_have_65536_items_at_most(rt: HostRuntime) -> Result<(), Fail> {
-    rows_end_so::<Items>(rt.alloc(), BEHIND_ITEMS)
+    rows_told::<Items>(rt.alloc(), BEHIND_ITEMS)
 }
 
 /// How a replay ends whose definitions are 4,096 commands and what is asked.
@@ -116,10 +116,10 @@ impl Answers for Commands {
 }
 
 const BEHIND_COMMANDS: &str = "\
-|Absent absent: s;
-COMMAND U C BIG_ENDIAN|ConfigRefused refused: d line 4097: TooMany;";
+the most commands||Absent absent: s;
+a command more|COMMAND U C BIG_ENDIAN|ConfigRefused refused: d line 4097: TooMany;";
 
 #[test]
 fn definitions_have_4096_commands_at_most(rt: HostRuntime) -> Result<(), Fail> {
-    rows_end_so::<Commands>(rt.alloc(), BEHIND_COMMANDS)
+    rows_told::<Commands>(rt.alloc(), BEHIND_COMMANDS)
 }

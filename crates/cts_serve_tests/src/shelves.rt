@@ -1,4 +1,5 @@
 // Shelves of boxes for commands, and what commands say of a shelf that lacks one.
+use crate::failing::Failing;
 use crate::table::command_ends_so;
 use cts_fixed::Fixed;
 use cts_preid::Preidentified;
@@ -48,42 +49,39 @@ pub fn stocked(alloc: Global) -> Result<Shelf, Fail> {
 // Words, definitions and the site have their refusals before the shelf is looked at, and the script after it: where the shelf is
 // short it is not touched. A check takes no box. All chains count together, and the first kind in their order is told.
 const SHORT: &str = "\
-replay d s c||INTERFACE I tcpip_client_interface.rb h 1 1 nil nil LENGTH 0 16 0 1|OPEN I|ShelfEmpty shelf empty: LENGTH needed 1 stocked 0;
-check d s||INTERFACE I tcpip_client_interface.rb h 1 1 nil nil LENGTH 0 16 0 1||Ok telemetry 0 commands 0 items 0 interfaces 1 routers 0;
-replay d s|||x|Usage usage: check DEFS SITE | replay DEFS SITE SCRIPT | rehearse N | dump LOG | serve DEFS SITE;
-replay d s c|x|INTERFACE I tcpip_client_interface.rb h 1 1 nil nil LENGTH 0 16 0 1|-|ConfigRefused refused: d line 1: UnknownKeyword;
-replay d s c||INTERFACE I tcpip_client_interface.rb h 1 1 nil nil LENGTH 0 16 0 1;x|-|ConfigRefused refused: s line 2: UnknownKeyword;
-replay d s c||INTERFACE I tcpip_client_interface.rb h 1 1 nil nil LENGTH 0 16 0 1;ROUTER R tcpip_server_interface.rb 2 2 nil nil BURST|-|NotBuilt not built: s;
-replay d s c||INTERFACE I tcpip_client_interface.rb h 1 1 nil nil LENGTH 0 16 0 1|-|ShelfEmpty shelf empty: LENGTH needed 1 stocked 0;
-replay d s c||INTERFACE I tcpip_client_interface.rb h 1 1 nil nil LENGTH 0 16 0 1|x|ShelfEmpty shelf empty: LENGTH needed 1 stocked 0;
-replay d s c||INTERFACE I tcpip_client_interface.rb h 1 1 nil nil LENGTH 0 16 0 1;INTERFACE J tcpip_client_interface.rb h 2 2 nil nil LENGTH 0 16 0 1|OPEN I|ShelfEmpty shelf empty: LENGTH needed 2 stocked 0;
-replay d s c|||OPEN I|ScriptRefused refused: c line 1: UnknownMaker;";
-
-// Each row has a command, its definitions, its site, its script and how it ends over a shelf without a box of LENGTH.
-fn row_ends_so(alloc: Global, row: &str) -> Result<(), Fail> {
-    let mut shelf = without_length(alloc)?;
-    command_ends_so(alloc, &mut shelf, row)
-}
+a replay that needs a box which is not there|replay d s c||INTERFACE I tcpip_client_interface.rb h 1 1 nil nil LENGTH 0 16 0 1|OPEN I|ShelfEmpty shelf empty: LENGTH needed 1 stocked 0;
+a check takes none|check d s||INTERFACE I tcpip_client_interface.rb h 1 1 nil nil LENGTH 0 16 0 1||Ok telemetry 0 commands 0 items 0 interfaces 1 routers 0;
+words come first|replay d s|||x|Usage usage: check DEFS SITE | replay DEFS SITE SCRIPT | rehearse N | dump LOG | serve DEFS SITE;
+definitions come first|replay d s c|x|INTERFACE I tcpip_client_interface.rb h 1 1 nil nil LENGTH 0 16 0 1|-|ConfigRefused refused: d line 1: UnknownKeyword;
+the site comes first|replay d s c||INTERFACE I tcpip_client_interface.rb h 1 1 nil nil LENGTH 0 16 0 1;x|-|ConfigRefused refused: s line 2: UnknownKeyword;
+both slots of a router count, and the first kind is told|replay d s c||INTERFACE I tcpip_client_interface.rb h 1 1 nil nil LENGTH 0 16 0 1;ROUTER R tcpip_server_interface.rb 2 2 nil nil BURST|-|ShelfEmpty shelf empty: BURST needed 2 stocked 1;
+the script comes after it, where it is not there|replay d s c||INTERFACE I tcpip_client_interface.rb h 1 1 nil nil LENGTH 0 16 0 1|-|ShelfEmpty shelf empty: LENGTH needed 1 stocked 0;
+the script comes after it, where it is refused|replay d s c||INTERFACE I tcpip_client_interface.rb h 1 1 nil nil LENGTH 0 16 0 1|x|ShelfEmpty shelf empty: LENGTH needed 1 stocked 0;
+all chains count together|replay d s c||INTERFACE I tcpip_client_interface.rb h 1 1 nil nil LENGTH 0 16 0 1;INTERFACE J tcpip_client_interface.rb h 2 2 nil nil LENGTH 0 16 0 1|OPEN I|ShelfEmpty shelf empty: LENGTH needed 2 stocked 0;
+a site that needs no box|replay d s c|||OPEN I|ScriptRefused refused: c line 1: UnknownMaker;";
 
 #[test]
 fn a_shelf_that_lacks_a_box_ends_the_replay(rt: HostRuntime) -> Result<(), Fail> {
+    let mut failing = Failing::new(rt.alloc());
     for row in SHORT.split('\n') {
-        row_ends_so(rt.alloc(), row)?;
+        let mut shelf = without_length(rt.alloc())?;
+        command_ends_so(rt.alloc(), &mut shelf, row, &mut failing)?;
     }
-    Ok(())
+    failing.told()
 }
 
 // The box that one replay took is gone: the next one finds none.
 const AGAIN: &str = "\
-replay d s c||INTERFACE I tcpip_client_interface.rb h 8080 8080 10.0 nil LENGTH 0 16 0 1|OPEN I|Ok 0 0.000000 I OPENED;END 1;
-replay d s c||INTERFACE I tcpip_client_interface.rb h 8080 8080 10.0 nil LENGTH 0 16 0 1|OPEN I|ShelfEmpty shelf empty: LENGTH needed 1 stocked 0;";
+the first replay has the box|replay d s c||INTERFACE I tcpip_client_interface.rb h 8080 8080 10.0 nil LENGTH 0 16 0 1|OPEN I|Ok 0 0.000000 I OPENED;END 1;
+the second one finds it gone|replay d s c||INTERFACE I tcpip_client_interface.rb h 8080 8080 10.0 nil LENGTH 0 16 0 1|OPEN I|ShelfEmpty shelf empty: LENGTH needed 1 stocked 0;";
 
 #[test]
 fn a_replay_takes_its_boxes_from_the_shelf(rt: HostRuntime) -> Result<(), Fail> {
     let mut shelf = without_length(rt.alloc())?;
     put_length(rt.alloc(), &mut shelf)?;
+    let mut failing = Failing::new(rt.alloc());
     for row in AGAIN.split('\n') {
-        command_ends_so(rt.alloc(), &mut shelf, row)?;
+        command_ends_so(rt.alloc(), &mut shelf, row, &mut failing)?;
     }
-    Ok(())
+    failing.told()
 }

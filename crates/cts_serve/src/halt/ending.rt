@@ -1,5 +1,5 @@
 // How a command ends: one table from why it halts to its status and its last line, and one put.
-ghost use Rattle.std.specs.Prelude.{◌≡◌, [], true, IfOk, OnErr};
+ghost use Rattle.std.specs.Prelude.{◌≡◌, true, IfOk, OnErr};
 ghost use Rattle.cts_serve.specs.Endings.{Ends, EndsHalted, halt_line, halt_status, line_text, refused_as, takes_memory};
 ghost use Rattle.cts_serve.specs.Lines.{usage_line};
 ghost use Rattle.cts_serve.specs.Putting.{Printed};
@@ -24,7 +24,7 @@ pub fn end<O: Sink>(alloc: Global, done: Result<(), Halt<'_>>, out: &mut O) -> S
 /// Ends where the words fit no command.
 pub fn end_misused<O: Sink>(out: &mut O) -> Status
     ensures status { result ≡ Status.Usage }
-    ensures printed { Printed (O.seen out.old) (O.seen out.new) [] usage_line }
+    ensures printed { Printed (O.seen out.old) (O.seen out.new) usage_line }
 {
     put_last(out, lines::usage_text());
     Status::Usage
@@ -57,8 +57,8 @@ fn status_of(halt: &Halt<'_>) -> Status
         Halt::Refused { kind, .. } => refused_as(*kind),
         Halt::ShelfEmpty { .. } => Status::ShelfEmpty,
         Halt::HistoryFull { .. } => Status::HistoryFull,
+        Halt::LogFault => Status::LogFault,
         Halt::LogRefused { .. } => Status::LogRefused,
-        Halt::NotBuilt { .. } => Status::NotBuilt,
     }
 }
 
@@ -100,6 +100,7 @@ fn last_line(alloc: Global, halt: &Halt<'_>) -> Result<LastLine, Memory>
     match halt {
         Halt::Memory => Ok(LastLine::Known(lines::memory_text())),
         Halt::WriteFault => Ok(LastLine::Known(b"")),
+        Halt::LogFault => Ok(LastLine::Known(lines::log_fault_text())),
         Halt::ReadFault { name } => Ok(LastLine::Made(lines::read_fault(alloc, name.text())?)),
         Halt::Absent { name } => Ok(LastLine::Made(lines::absent(alloc, name.text())?)),
         Halt::Refused {
@@ -117,13 +118,12 @@ fn last_line(alloc: Global, halt: &Halt<'_>) -> Result<LastLine, Memory>
             Ok(LastLine::Made(lines::history_full(alloc, *entries, *bytes)?))
         }
         Halt::LogRefused { place } => Ok(LastLine::Made(lines::log_refused(alloc, *place)?)),
-        Halt::NotBuilt { name } => Ok(LastLine::Made(lines::not_built(alloc, name.text())?)),
     }
 }
 
 // Puts a last line, if there is one.
 fn put_last<O: Sink>(out: &mut O, line: &[u8])
-    ensures { Printed (O.seen out.old) (O.seen out.new) [] line.now }
+    ensures { Printed (O.seen out.old) (O.seen out.new) line.now }
 {
     if !line.is_empty() {
         let _ = out.put(line);

@@ -1,6 +1,6 @@
 // The lines that a command prints for itself.
 ghost use Rattle.std.specs.Prelude.{◌≡◌, ◌≤◌, ◌++◌, ◌∷◌, [], IfOk};
-ghost use Rattle.cts_serve.specs.Lines.{usage_line, memory_line, read_fault_line, absent_line, not_built_line, refused_line, kind_name, shelf_line, full_line, log_line, end_line, numbers_line, counts_line};
+ghost use Rattle.cts_serve.specs.Lines.{usage_line, memory_line, read_fault_line, absent_line, log_fault_line, refused_line, kind_name, shelf_line, full_line, log_line, end_line, numbers_line, counts_line};
 ghost use Rattle.cts_def.specs.Packets.{items_in};
 
 use cts_base::Memory;
@@ -35,11 +35,11 @@ pub fn read_fault(alloc: Global, name: &str) -> Result<Vec<u8>, Memory>
     naming(alloc, b"read fault: ", name)
 }
 
-/// The line for a file that asks for what is not built yet.
-pub fn not_built(alloc: Global, name: &str) -> Result<Vec<u8>, Memory>
-    ensures { IfOk result (λ line. line.items ≡ not_built_line name.now) }
+/// The line for a packet log that could not be written or synced. It takes no memory.
+pub fn log_fault_text() -> &'static [u8]
+    ensures { result.now ≡ log_fault_line }
 {
-    naming(alloc, b"not built: ", name)
+    b"log fault\n"
 }
 
 /// The line for a line of a file that is refused for a cause.

@@ -24,10 +24,10 @@ pub enum Status {
     ScriptRefused,
     /// An event's entries would pass a limit of the history.
     HistoryFull,
+    /// A packet log could not be written or synced.
+    LogFault,
     /// A log is not a head with whole entries alone after it, or is too large.
     LogRefused,
-    /// A file asks for what is not built yet.
-    NotBuilt,
 }
 
 impl Status {
@@ -48,8 +48,8 @@ impl Status {
             Status::ShelfEmpty => 6,
             Status::ScriptRefused => 7,
             Status::HistoryFull => 8,
+            Status::LogFault => 9,
             Status::LogRefused => 10,
-            Status::NotBuilt => 13,
         }
     }
 }

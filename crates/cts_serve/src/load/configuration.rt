@@ -1,31 +1,51 @@
 // Configuration files: definitions, and the site over them.
 ghost use Rattle.std.specs.Prelude.{◌≡◌, IfSome};
-ghost use Rattle.cts_serve.specs.Load.{definitions_asked, definitions_phase, site_asked_over, site_phase};
+ghost use Rattle.cts_serve.specs.Load.{definitions_asked, definitions_phase, definitions_read, digest_asked, site_asked_over, site_phase};
+ghost use Rattle.cts_serve.specs.Load.Files.{ReadsAs};
 ghost use Rattle.cts_serve.specs.Phases.{LoadCounts, TakesAt};
+ghost use Rattle.cts_serve.specs.declared.halt.file_kind.FileKind.TheVariants.{Configuration};
 
+use crate::digest::Digest;
 use crate::file_name::FileName;
 use crate::halt::Halt;
 use crate::halt::cause::Cause;
 use crate::halt::file_kind::FileKind;
-use crate::load::statements::read_statements;
+use crate::load::statements::{read_digested, read_statements};
 use cts_def::{Definitions, Site};
 use cts_defread::{DefFault, read_definitions};
 use cts_outside::Files;
 use cts_plan::{SiteFault, read_site};
+use cts_words::Statement;
 use std::alloc::Global;
 
-/// Reads the definitions.
+/// Reads the definitions, and gives them with the digest of their file.
 pub fn load_definitions<'a, F: Files>(
     alloc: Global,
     files: &mut F,
     name: &FileName<'a>,
-) -> Result<Definitions, Halt<'a>>
+) -> Result<(Definitions, Digest), Halt<'a>>
     ensures stays { (F.seen files.new).told ≡ (F.seen files.old).told }
-    ensures content { IfSome (F.seen files.old).told (λ all. TakesAt (definitions_phase all name.now) (definitions_asked all name.now) result) }
+    ensures content { IfSome (F.seen files.old).told (λ all. TakesAt (definitions_phase all name.now) (definitions_asked all name.now, digest_asked all name.now) result) }
     ensures counts { LoadCounts result (F.seen files.old) (F.seen files.new) }
 {
-    let found = read_statements(alloc, files, name, FileKind::Configuration)?;
-    match read_definitions(alloc, &found) {
+    match read_digested(alloc, files, name, FileKind::Configuration) {
+        Ok((found, digest)) => match take_definitions(alloc, &found, name) {
+            Ok(definitions) => Ok((definitions, digest)),
+            Err(halt) => Err(halt),
+        },
+        Err(halt) => Err(halt),
+    }
+}
+
+// The definitions that statements say, or why the command halts at them.
+fn take_definitions<'a>(
+    alloc: Global,
+    found: &[Statement],
+    name: &FileName<'a>,
+) -> Result<Definitions, Halt<'a>>
+    ensures { ReadsAs Configuration name.now (definitions_read found.now) result }
+{
+    match read_definitions(alloc, found) {
         Ok(definitions) => Ok(definitions),
         Err(DefFault::Refused { line, cause }) => Err(Halt::Refused {
             name: name.again(),

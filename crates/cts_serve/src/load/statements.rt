@@ -1,14 +1,16 @@
 // The statements of a file.
-ghost use Rattle.std.specs.Prelude.{◌≡◌, IfSome};
+ghost use Rattle.std.specs.Prelude.{◌≡◌, ◌≤◌, length, IfOk, IfSome};
 ghost use Rattle.cts_serve.specs.Causes.{words_cause, words_halt};
-ghost use Rattle.cts_serve.specs.Load.Files.{GivesStatements};
+ghost use Rattle.cts_serve.specs.Load.Files.{GivesBytes, GivesDigested, GivesStatements, Says, file_limit, too_large};
 ghost use Rattle.cts_serve.specs.Phases.{LoadCounts, answer_seen};
 
+use crate::digest::Digest;
 use crate::file_name::FileName;
 use crate::halt::Halt;
 use crate::halt::cause::Cause;
 use crate::halt::file_kind::FileKind;
 use crate::load::file::read_file;
+use cts_base::Bytes;
 use cts_outside::Files;
 use cts_words::{Statement, WordFault, statements};
 use std::alloc::Global;
@@ -27,14 +29,67 @@ pub fn read_statements<'a, F: Files>(
     ensures content { IfSome (F.seen files.old).told (λ all. GivesStatements kind name.now (all name.now) (answer_seen (λ v. v.items) result)) }
     ensures counts { LoadCounts result (F.seen files.old) (F.seen files.new) }
 {
+    match read_text(alloc, files, name, kind) {
+        Ok(bytes) => statements_in(alloc, bytes.as_slice(), name, kind),
+        Err(halt) => Err(halt),
+    }
+}
+
+/// The statements of a file, and the digest of its bytes.
+pub fn read_digested<'a, F: Files>(
+    alloc: Global,
+    files: &mut F,
+    name: &FileName<'a>,
+    kind: FileKind,
+) -> Result<(Vec<Statement>, Digest), Halt<'a>>
+    ensures stays { (F.seen files.new).told ≡ (F.seen files.old).told }
+    ensures content { IfSome (F.seen files.old).told (λ all. GivesDigested kind name.now (all name.now) (answer_seen (λ v. (v.0.items, v.1)) result)) }
+    ensures counts { LoadCounts result (F.seen files.old) (F.seen files.new) }
+{
+    match read_text(alloc, files, name, kind) {
+        Ok(bytes) => {
+            let digest = Digest::of(bytes.as_slice());
+            match statements_in(alloc, bytes.as_slice(), name, kind) {
+                Ok(found) => Ok((found, digest)),
+                Err(halt) => Err(halt),
+            }
+        }
+        Err(halt) => Err(halt),
+    }
+}
+
+// The bytes of a file. One that is too large is refused as a whole.
+fn read_text<'a, F: Files>(
+    alloc: Global,
+    files: &mut F,
+    name: &FileName<'a>,
+    kind: FileKind,
+) -> Result<Bytes, Halt<'a>>
+    ensures stays { (F.seen files.new).told ≡ (F.seen files.old).told }
+    ensures content { IfSome (F.seen files.old).told (λ all. GivesBytes file_limit (too_large kind name.now) name.now (all name.now) result) }
+    ensures small { IfOk result (λ bytes. length bytes ≤ file_limit) }
+    ensures counts { LoadCounts result (F.seen files.old) (F.seen files.new) }
+{
     let large = Halt::Refused {
         name: name.again(),
         kind,
         line: 0,
         cause: Cause::TooLarge,
     };
-    let bytes = read_file(alloc, files, name, FILE_LIMIT, large)?;
-    match statements(alloc, bytes.as_slice()) {
+    read_file(alloc, files, name, FILE_LIMIT, large)
+}
+
+// The statements of a text, or why a command halts at it.
+fn statements_in<'a>(
+    alloc: Global,
+    text: &[u8],
+    name: &FileName<'a>,
+    kind: FileKind,
+) -> Result<Vec<Statement>, Halt<'a>>
+    requires { length text.now ≤ file_limit }
+    ensures { Says kind name.now text.now (answer_seen (λ v. v.items) result) }
+{
+    match statements(alloc, text) {
         Ok(found) => Ok(found),
         Err(fault) => Err(words_halt(name, kind, fault)),
     }

@@ -1,7 +1,13 @@
 use Rattle.cts_serve.proofs.command.perform.Goals as goal
 
 pub returns-in-Check-clause-performs : goal.returns-in-Check-clause-performs
-returns-in-Check-clause-performs g c = rw c.in-Check.is (c.check.ensures.performs (g.B.Stocked.stock c.args.shelf.now))
+returns-in-Check-clause-performs g c = rw c.in-Check.is (c.check.ensures.performs (g.B.Stocked.stock c.args.shelf.now) (g.V.Vault.seen c.args.vault.now))
+
+pub returns-in-Check-clause-vault : goal.returns-in-Check-clause-vault
+returns-in-Check-clause-vault g c = c.check.ensures.vault (g.V.Vault.seen c.args.vault.now)
 
 pub returns-in-Dump-clause-performs : goal.returns-in-Dump-clause-performs
-returns-in-Dump-clause-performs g c = rw c.in-Dump.is (c.dump.ensures.performs (g.B.Stocked.stock c.args.shelf.now))
+returns-in-Dump-clause-performs g c = rw c.in-Dump.is (c.dump.ensures.performs (g.B.Stocked.stock c.args.shelf.now) (g.V.Vault.seen c.args.vault.now))
+
+pub returns-in-Dump-clause-vault : goal.returns-in-Dump-clause-vault
+returns-in-Dump-clause-vault g c = c.dump.ensures.vault (g.V.Vault.seen c.args.vault.now)

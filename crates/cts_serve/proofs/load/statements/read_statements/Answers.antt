@@ -1,9 +1,8 @@
-use Rattle.std.proofs.Common.{ℕ, List, ap}
-use Rattle.std.proofs.lemmas.Result.{err_from_is_err_and}
-use Rattle.cts_serve.proofs.LoadLemmas.{bytes_fail, too_large_at}
+use Rattle.cts_serve.proofs.LoadLemmas.{bytes_fail, said_gives}
 use Rattle.cts_serve.proofs.load.statements.read_statements.Goals as goal
 
-pub returns-in_err-bytes-clause-content : goal.returns-in_err-bytes-clause-content
-returns-in_err-bytes-clause-content g c =
-    let p = err_from_is_err_and c.from_residual.result c.from_residual.ensures.1 in
-    rw (p.1, p.2) (bytes_fail _ c.args.kind c.args.name.now _ _ (ap (λ (n : List ℕ). too_large_at n c.args.kind) c.again.ensures) c.in_err-bytes.ensures.content)
+pub returns-in-Ok-clause-content : goal.returns-in-Ok-clause-content
+returns-in-Ok-clause-content g c = said_gives _ c.args.kind c.args.name.now c.in-Ok.bytes _ c.in-Ok.ensures.content (rw c.as_slice.ensures at c.statements_in.ensures)
+
+pub returns-in-Err-clause-content : goal.returns-in-Err-clause-content
+returns-in-Err-clause-content g c = bytes_fail _ c.args.kind c.args.name.now c.in-Err.halt c.in-Err.ensures.content

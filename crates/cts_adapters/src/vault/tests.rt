@@ -1,0 +1,62 @@
+// Real files, in the folder of the test.
+use crate::vault::{DiskVault, Opening};
+use cts_outside::{LogKind, PutFailed, Vault};
+use std::fs;
+use std::test::Fail;
+
+#[test]
+fn a_replaced_log_has_what_is_appended_alone(rt: HostRuntime) -> Result<(), Fail> {
+    fs::create_dir_all(&rt, "vault_test")?;
+    fs::write(&rt, "vault_test/tlm.bin", "an earlier log")?;
+    let mut vault = DiskVault::new(
+        &rt,
+        Opening::Replaced,
+        "vault_test/tlm.bin",
+        "vault_test/cmd.bin",
+    );
+    assert_eq!(rt; vault.sync(LogKind::Tlm), Ok(()));
+    assert_eq!(rt;
+        fs::read(&rt, "vault_test/tlm.bin")?.as_slice(),
+        b"an earlier log".as_slice()
+    );
+    assert_eq!(rt; vault.append(LogKind::Tlm, b"one"), Ok(()));
+    assert_eq!(rt; vault.append(LogKind::Tlm, b"two"), Ok(()));
+    assert_eq!(rt; vault.sync(LogKind::Tlm), Ok(()));
+    assert_eq!(rt;
+        fs::read(&rt, "vault_test/tlm.bin")?.as_slice(),
+        b"onetwo".as_slice()
+    );
+    assert!(rt;
+        fs::read(&rt, "vault_test/cmd.bin").is_err(),
+        "a log without an append"
+    );
+    assert_eq!(rt; vault.faults, 0);
+    fs::remove_dir_all(&rt, "vault_test")?;
+    Ok(())
+}
+
+#[test]
+fn a_new_log_is_in_no_old_file(rt: HostRuntime) -> Result<(), Fail> {
+    fs::create_dir_all(&rt, "new_vault_test")?;
+    fs::write(&rt, "new_vault_test/tlm.bin", "an earlier log")?;
+    let mut vault = DiskVault::new(
+        &rt,
+        Opening::New,
+        "new_vault_test/tlm.bin",
+        "new_vault_test/cmd.bin",
+    );
+    assert_eq!(rt; vault.append(LogKind::Tlm, b"one"), Err(PutFailed));
+    assert_eq!(rt; vault.append(LogKind::Cmd, b"two"), Ok(()));
+    assert_eq!(rt; vault.append(LogKind::Tlm, b"one"), Err(PutFailed));
+    assert_eq!(rt;
+        fs::read(&rt, "new_vault_test/tlm.bin")?.as_slice(),
+        b"an earlier log".as_slice()
+    );
+    assert_eq!(rt;
+        fs::read(&rt, "new_vault_test/cmd.bin")?.as_slice(),
+        b"two".as_slice()
+    );
+    assert_eq!(rt; vault.faults, 2);
+    fs::remove_dir_all(&rt, "new_vault_test")?;
+    Ok(())
+}
