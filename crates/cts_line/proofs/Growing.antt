@@ -1,0 +1,98 @@
+-- The history grows by a hold: entries of others, and then those that were added.
+use Rattle.std.proofs.Common.{◌≡◌, ℕ, suc, ◌+◌, ◌<◌, ◌≤◌, ◌&&◌, Bool, false, cond, List, [], ◌∷◌, ◌++◌, length, filter, refl, sym, ◌∙◌, ap, subst, arith, append_assoc, length-append, le-leb, lt-ltb, inl, inr}
+use Rattle.std.specs.Prelude.{◌⊎◌, nat_le}
+use Rattle.cts_entry.specs.declared.entry.Entry.{Entry}
+use Rattle.cts_entry.specs.Histories.{has_own}
+use Rattle.cts_outside.specs.Lines.{Connection}
+use Rattle.cts_told.specs.Lines.{Capacity, IsLook, is_within, looks}
+use Rattle.cts_told.specs.Makers.{of_maker}
+use Rattle.cts_told.specs.Routing.{Routing}
+use Rattle.cts_told.specs.Told.{Said}
+use Rattle.cts_told.proofs.Looking.{said_found, said_more}
+use Rattle.cts_told.proofs.Others.{strange_own}
+use Rattle.cts_line.specs.Talks.{AllWithin, Holds, IsAmong, IsLast}
+
+-- others had appended entries, none of them m's, when a hold began, and then these were added
+pub record Grows (m : ℕ) (found : List ℕ) (history : List Entry) (added : List Entry) (found' : List ℕ) (history' : List Entry) : Type 0 where
+  pub others : List Entry
+  pub strange : of_maker m others ≡ []
+  pub seen : history' ≡ (history ++ others) ++ added
+  pub found_is : found' ≡ found ++ length (history ++ others) ∷ []
+
+-- ---- places at which holds began
+
+-- members that are all between count in full
+pub looks_all : (mine : List ℕ) (o c : ℕ) → AllWithin o c mine → looks mine o c ≡ length mine
+looks_all [] o c all = refl
+looks_all (n ∷ ns) o c all =
+    ap (λ (b : Bool). length (cond b (n ∷ filter (is_within o c) ns) (filter (is_within o c) ns))) (ap (λ (b : Bool). b && nat_le n c) (lt-ltb o n all.0) ∙ le-leb n c all.1)
+    ∙ ap suc (looks_all ns o c all.2)
+
+pub within_more : (o end end' n : ℕ) (mine : List ℕ) → AllWithin o end mine → end ≤ end' → o < n → n ≤ end' → AllWithin o end' (mine ++ n ∷ [])
+within_more o end end' n [] all le lt here = (lt, here, tt)
+within_more o end end' n (x ∷ mine) all le lt here = (all.0, (let f : x ≤ end = all.1 in omega arith), within_more o end end' n mine all.2 le lt here)
+
+-- ---- what a hold leaves
+
+module _ (m : ℕ) (found : List ℕ) (history added : List Entry) (found' : List ℕ) (history' : List Entry) (grows : Grows m found history added found' history') where
+  pub others_long : length (history ++ grows.others) ≡ length history + length grows.others
+  others_long = length-append history grows.others
+
+  pub long_grown : length history' ≡ length (history ++ grows.others) + length added
+  long_grown = ap length grows.seen ∙ length-append (history ++ grows.others) added
+
+  pub past_grown : (g : Routing) (room : Capacity) (past : List Connection) (before : List Entry) → Said g room m found past before → length before ≤ length history → Said g room m found' past before
+  past_grown g room past before s le = subst (λ (f : List ℕ). Said g room m f past before) (sym grows.found_is)
+      (said_found g room m found (length (history ++ grows.others)) past before (let e = others_long in omega arith) s)
+
+  -- where nothing of a connection was added
+  pub said_grown : (g : Routing) (room : Capacity) (past : List Connection) → has_own m added ≡ false → Said g room m found past history → Said g room m found' past history'
+  said_grown g room past none s =
+      let mid = said_more g room m found' past history grows.others (strange_own m grows.others grows.strange) (past_grown g room past history s (omega arith)) in
+      subst (λ (l : List Entry). Said g room m found' past l) (sym grows.seen) (said_more g room m found' past (history ++ grows.others) added none mid)
+
+  abbrev pub holds_grown : (o : ℕ) → o < length history → Holds found o (length history) → Holds found' o (length history')
+  holds_grown o lt h = record {
+    earlier = h.earlier;
+    mine = h.mine ++ length (history ++ grows.others) ∷ [];
+    found_is = grows.found_is ∙ (ap (λ (l : List ℕ). l ++ length (history ++ grows.others) ∷ []) h.found_is ∙ append_assoc h.earlier h.mine (length (history ++ grows.others) ∷ []));
+    within =
+        (let n : ℕ = length (history ++ grows.others) in
+        let a = others_long in
+        let b = long_grown in
+        within_more o (length history) (length history') n h.mine h.within (omega arith) (omega arith) (omega arith));
+  }
+
+  pub among_grown : (place : ℕ) → IsAmong found place → IsAmong found' place
+  among_grown place a = (
+    a.0,
+    a.1 ++ length (history ++ grows.others) ∷ [],
+    grows.found_is ∙ (ap (λ (l : List ℕ). l ++ length (history ++ grows.others) ∷ []) a.2 ∙ append_assoc a.0 (place ∷ a.1) (length (history ++ grows.others) ∷ [])),
+  )
+
+  -- a hold followed the look
+  pub look_grown : (place : ℕ) (looked : List Entry) → (looked ≡ []) ⊎ IsAmong found place → (looked ≡ []) ⊎ IsLook found' place (length history')
+  look_grown place looked (inl none) = inl none
+  look_grown place looked (inr a) = inr (record {
+    earlier = a.0;
+    between = a.1;
+    close = length (history ++ grows.others);
+    later = [];
+    found_are = grows.found_is ∙ (ap (λ (l : List ℕ). l ++ length (history ++ grows.others) ∷ []) a.2 ∙ append_assoc a.0 (place ∷ a.1) (length (history ++ grows.others) ∷ []));
+    close_within = (let b = long_grown in omega arith);
+  })
+
+  pub among_or_none : (place : ℕ) (looked : List Entry) → (looked ≡ []) ⊎ IsAmong found place → (looked ≡ []) ⊎ IsAmong found' place
+  among_or_none place looked (inl none) = inl none
+  among_or_none place looked (inr a) = inr (among_grown place a)
+
+  -- and it was the next hold after the look
+  pub last_grown : (place o : ℕ) (h : Holds found o (length history)) → IsLast h.mine place → (close : ℕ) × (earlier : List ℕ) × (found' ≡ earlier ++ place ∷ close ∷ []) × (close ≤ length history')
+  last_grown place o h last =
+      let n : ℕ = length (history ++ grows.others) in (
+        n,
+        h.earlier ++ last.0,
+        grows.found_is ∙ (ap (λ (l : List ℕ). l ++ n ∷ []) h.found_is ∙ (append_assoc h.earlier h.mine (n ∷ []) ∙ (ap (λ (l : List ℕ). h.earlier ++ (l ++ n ∷ [])) last.1
+            ∙ (ap (λ (l : List ℕ). h.earlier ++ l) (append_assoc last.0 (place ∷ []) (n ∷ [])) ∙ sym (append_assoc h.earlier last.0 (place ∷ n ∷ [])))))),
+        (let b = long_grown in omega arith),
+      )

@@ -1,0 +1,12 @@
+pub mod Growing
+pub mod Bodies
+pub mod Closing
+pub mod Steps
+pub mod Putting
+pub mod Pieces
+pub mod Keeping
+pub mod Following
+pub mod Holdings
+pub mod Boarding
+pub mod Chaining
+pub mod Dialing

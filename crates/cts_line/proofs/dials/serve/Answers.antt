@@ -1,0 +1,67 @@
+use Rattle.std.proofs.Common.{sym, ◌∙◌}
+use Rattle.cts_table.specs.contracts.hall.HallStands.TheImpl.{ghosts as hall}
+use Rattle.cts_turn.specs.Passes.{basis_of, view}
+use Rattle.cts_connection.specs.Routings.{site_routing}
+use Rattle.cts_line.specs.Talks.{room_of}
+use Rattle.cts_line.proofs.Chaining.{suits_same}
+use Rattle.cts_line.proofs.Dialing.{count_closed, count_kept, faults_closed, faults_none, hangs_up, onward_then, opening_is, refusal, shut_closed, shut_kept, so_far}
+use Rattle.cts_line.proofs.dials.serve.Goals as goal
+
+pub returns-in-Some-clause-shut : goal.returns-in-Some-clause-shut
+returns-in-Some-clause-shut g c =
+    let r = refusal (basis_of hall.basis c.args.turn.now) c.args.by (view c.args.pass) (view c.open-pass.result.0) c.args.connection.now c.open-pass.new.connection c.open-pass.result.1 c.open-pass.ensures.hold c.in-Some.why (sym c.refused.ensures ∙ c.in-Some.is) in
+    shut_kept c.args.by (view c.args.pass).seen (view c.open-pass.result.0).seen r.keeps c.requires.shut
+
+pub returns-in-Some-clause-count : goal.returns-in-Some-clause-count
+returns-in-Some-clause-count g c =
+    let r = refusal (basis_of hall.basis c.args.turn.now) c.args.by (view c.args.pass) (view c.open-pass.result.0) c.args.connection.now c.open-pass.new.connection c.open-pass.result.1 c.open-pass.ensures.hold c.in-Some.why (sym c.refused.ensures ∙ c.in-Some.is) in
+    count_kept c.args.by (view c.args.pass).seen (view c.open-pass.result.0).seen c.args.connections.now r.keeps c.requires.count
+
+pub returns-in-Some-clause-faults : goal.returns-in-Some-clause-faults
+returns-in-Some-clause-faults g c =
+    let r = refusal (basis_of hall.basis c.args.turn.now) c.args.by (view c.args.pass) (view c.open-pass.result.0) c.args.connection.now c.open-pass.new.connection c.open-pass.result.1 c.open-pass.ensures.hold c.in-Some.why (sym c.refused.ensures ∙ c.in-Some.is) in
+    faults_none c.args.by (view c.args.pass).seen (view c.open-pass.result.0).seen _ _ r.keeps c.hang_up.ensures.faults
+
+pub returns-in-Some-clause-told : goal.returns-in-Some-clause-told
+returns-in-Some-clause-told g c =
+    let r = refusal (basis_of hall.basis c.args.turn.now) c.args.by (view c.args.pass) (view c.open-pass.result.0) c.args.connection.now c.open-pass.new.connection c.open-pass.result.1 c.open-pass.ensures.hold c.in-Some.why (sym c.refused.ensures ∙ c.in-Some.is) in
+    r.told _ _ c.hang_up.ensures.content c.requires.begins
+
+pub talk-pass-requires-clause-on : goal.talk-pass-requires-clause-on
+talk-pass-requires-clause-on g c =
+    (opening_is (basis_of hall.basis c.args.turn.now) c.args.by (view c.args.pass) (view c.open-pass.result.0) c.args.connection.now c.open-pass.new.connection c.open-pass.result.1 c.open-pass.ensures.hold (sym c.refused.ensures ∙ c.in_default.is)).opens.on
+
+pub talk-pass-requires-clause-suits : goal.talk-pass-requires-clause-suits
+talk-pass-requires-clause-suits g c =
+    let o = opening_is (basis_of hall.basis c.args.turn.now) c.args.by (view c.args.pass) (view c.open-pass.result.0) c.args.connection.now c.open-pass.new.connection c.open-pass.result.1 c.open-pass.ensures.hold (sym c.refused.ensures ∙ c.in_default.is) in
+    suits_same _ c.args.by c.args.connection.now.chain c.open-pass.new.connection.chain o.same c.requires.suits
+
+pub talk-pass-requires-clause-talks : goal.talk-pass-requires-clause-talks
+talk-pass-requires-clause-talks g c =
+    (opening_is (basis_of hall.basis c.args.turn.now) c.args.by (view c.args.pass) (view c.open-pass.result.0) c.args.connection.now c.open-pass.new.connection c.open-pass.result.1 c.open-pass.ensures.hold (sym c.refused.ensures ∙ c.in_default.is)).talks _ c.requires.begins
+
+pub returns-clause-onward : goal.returns-clause-onward
+returns-clause-onward g c =
+    let o = opening_is (basis_of hall.basis c.args.turn.now) c.args.by (view c.args.pass) (view c.open-pass.result.0) c.args.connection.now c.open-pass.new.connection c.open-pass.result.1 c.open-pass.ensures.hold (sym c.refused.ensures ∙ c.in_default.is) in
+    onward_then (view c.args.pass) (view c.open-pass.result.0) (view c.talk-pass.result.0) o.onward c.talk-pass.ensures.onward
+
+pub returns-clause-shut : goal.returns-clause-shut
+returns-clause-shut g c =
+    let o = opening_is (basis_of hall.basis c.args.turn.now) c.args.by (view c.args.pass) (view c.open-pass.result.0) c.args.connection.now c.open-pass.new.connection c.open-pass.result.1 c.open-pass.ensures.hold (sym c.refused.ensures ∙ c.in_default.is) in
+    shut_closed c.args.by (view c.args.pass).seen (view c.open-pass.result.0).seen (view c.talk-pass.result.0).seen c.talk-pass.result.1 o.opens c.talk-pass.ensures.keeps c.requires.shut
+
+pub returns-clause-count : goal.returns-clause-count
+returns-clause-count g c =
+    let o = opening_is (basis_of hall.basis c.args.turn.now) c.args.by (view c.args.pass) (view c.open-pass.result.0) c.args.connection.now c.open-pass.new.connection c.open-pass.result.1 c.open-pass.ensures.hold (sym c.refused.ensures ∙ c.in_default.is) in
+    count_closed c.args.by (view c.args.pass).seen (view c.open-pass.result.0).seen (view c.talk-pass.result.0).seen c.talk-pass.result.1 c.args.connections.now c.saturating_add.result o.opens c.talk-pass.ensures.keeps c.requires.count c.saturating_add.ensures
+
+pub returns-clause-faults : goal.returns-clause-faults
+returns-clause-faults g c =
+    let o = opening_is (basis_of hall.basis c.args.turn.now) c.args.by (view c.args.pass) (view c.open-pass.result.0) c.args.connection.now c.open-pass.new.connection c.open-pass.result.1 c.open-pass.ensures.hold (sym c.refused.ensures ∙ c.in_default.is) in
+    faults_closed c.args.by (view c.args.pass).seen (view c.open-pass.result.0).seen (view c.talk-pass.result.0).seen c.talk-pass.result.1 _ _ _ o.opens c.talk-pass.ensures.keeps c.talk-pass.ensures.cause c.hang_up-2.ensures.faults
+
+pub returns-clause-told : goal.returns-clause-told
+returns-clause-told g c =
+    let base = basis_of hall.basis c.args.turn.now in
+    let v = view c.talk-pass.result.0 in
+    so_far (site_routing base.site) (room_of base) c.args.by v.found v.seen _ _ (hangs_up (site_routing base.site) (room_of base) c.args.by v _ _ c.hang_up-2.ensures.content c.talk-pass.ensures.closed)

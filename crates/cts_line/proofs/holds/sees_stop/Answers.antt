@@ -1,0 +1,15 @@
+use Rattle.std.proofs.Common.{ap, ◌∙◌, refl}
+use Rattle.cts_turn.specs.Passes.{view}
+use Rattle.cts_entry.specs.Histories.{is_stopped}
+use Rattle.cts_line.proofs.Holdings.{a_held}
+use Rattle.cts_line.proofs.holds.sees_stop.Goals as goal
+
+pub returns-clause-hold : goal.returns-clause-hold
+returns-clause-hold g c =
+    let e = c.enter-held.ensures in (
+      c.enter-held.result.state,
+      c.enter-held.result.state,
+      e.basis,
+      a_held c.args.by (view c.args.pass) _ c.enter-held.result.state e.view e.seen e.own c.requires.by c.enter-held.result.state _ c.leave.ensures.view,
+      (refl, c.stopped-stop.ensures.value ∙ ap (λ s. is_stopped s.entries) c.state.ensures),
+    )

@@ -1,0 +1,29 @@
+use Rattle.std.proofs.Common.{subst, sym}
+use Rattle.cts_table.specs.contracts.hall.HallStands.TheImpl.{ghosts as hall}
+use Rattle.cts_turn.specs.Passes.{basis_of, view}
+use Rattle.cts_connection.specs.Routings.{site_routing}
+use Rattle.cts_line.specs.Ending.{RoseBy}
+use Rattle.cts_line.specs.Talks.{room_of}
+use Rattle.cts_line.proofs.Dialing.{last_causes, last_count, last_ended, last_faults_same, last_told}
+use Rattle.cts_line.proofs.worker.LineWorker.run.Goals as goal
+
+pub returns-clause-told : goal.returns-clause-told
+returns-clause-told g c =
+    let base = basis_of hall.basis c.args.turn.now in
+    last_told base c.args.by (view c.work-pass.result.0) (view c.end-pass.result) _ _ c.end-pass.ensures.hold (site_routing c.args.site.now) (room_of base) _ c.work-pass.ensures.told
+
+pub returns-clause-ended : goal.returns-clause-ended
+returns-clause-ended g c = last_ended (basis_of hall.basis c.args.turn.now) c.args.by (view c.work-pass.result.0) (view c.end-pass.result) _ _ c.end-pass.ensures.hold
+
+pub returns-clause-connections : goal.returns-clause-connections
+returns-clause-connections g c =
+    last_count (basis_of hall.basis c.args.turn.now) c.args.by (view c.work-pass.result.0) (view c.end-pass.result) _ _ c.end-pass.ensures.hold c.work-pass.new.connections c.work-pass.ensures.count c.end-pass.ensures.few
+
+pub returns-clause-cause : goal.returns-clause-cause
+returns-clause-cause g c =
+    last_causes (basis_of hall.basis c.args.turn.now) c.args.by (view c.work-pass.result.0) (view c.end-pass.result) _ _ c.end-pass.ensures.hold c.args.site.now _ _ _ _ c.work-pass.result.1 c.work-pass.ensures.cause
+
+pub returns-clause-faults : goal.returns-clause-faults
+returns-clause-faults g c =
+    let same = last_faults_same (basis_of hall.basis c.args.turn.now) c.args.by (view c.work-pass.result.0) (view c.end-pass.result) _ _ c.end-pass.ensures.hold in
+    subst (λ n. RoseBy n (g.D.Link.seen c.args.dialer.now).faults (g.D.Link.seen c.work-pass.new.dialer).faults) (sym same) c.work-pass.ensures.faults

@@ -1,0 +1,133 @@
+-- Why a line ends, and what it leaves.
+use Rattle.std.specs.Prelude.{◌≡◌, ℕ, ◌+◌, ◌-◌, ◌^◌, ◌≤◌, ◌==◌, ◌&&◌, ◌⊎◌, min, Bool, true, false, List, length, Option, Some, None, option_map, unwrap_or, slice_get, is_none, IfSome, if◌then◌else◌, []}
+use Rattle.std.specs.List.{filter, list_any}
+use Rattle.cts_def.specs.Sites.{InterfaceData, SiteData}
+use Rattle.cts_def.specs.declared.time.Time.{Time}
+use Rattle.cts_entry.specs.declared.entry.Entry.{Entry}
+use Rattle.cts_entry.specs.declared.why.Why.{Why}
+use Rattle.cts_entry.specs.declared.why.Why.TheVariants.{PeerEnded, ReadFault, WriteFault, BadFrame, Stopped as StoppedWhy, NoMemory as NoMemoryWhy, Full as FullWhy}
+use Rattle.cts_entry.specs.Histories.{entries_in, is_connected, is_stopped, opens}
+use Rattle.cts_entry.specs.Legal.{has_ended}
+use Rattle.cts_entry.specs.Workers.{is_interface}
+use Rattle.cts_outside.specs.Causes.{Rose}
+use Rattle.cts_outside.specs.Lines.{Line}
+use Rattle.cts_told.specs.Makers.{closes_for, faults_of, is_fault}
+use Rattle.cts_told.specs.Told.{HasFinished}
+use Rattle.cts_line.specs.declared.opening.Opening.{Opening}
+use Rattle.cts_line.specs.declared.opening.Opening.TheVariants.{Opened, Stopped as StoppedThere, Full as NoRoom, NoMemory as NoMemoryThere}
+use Rattle.cts_line.specs.declared.ending.LineWhy.{LineWhy}
+use Rattle.cts_line.specs.declared.ending.LineWhy.TheVariants.{Stopped, Finished, NoReconnect, DoorFailed, Full, NoMemory, Cancelled}
+
+-- ---- counts
+
+-- a count rose at least so often
+abbrev pub RoseBy : ℕ → ℕ → ℕ → Type 0
+RoseBy n before now = (before ≤ now) × (min (before + n) (2 ^ 64 - 1) ≤ now)
+
+-- so often for one step that may have failed
+abbrev pub RoseIf : Bool → ℕ → ℕ → Type 0
+RoseIf true before now = Rose before now
+RoseIf false before now = now ≡ before
+
+-- why a connection ends is that a read or a write failed
+abbrev pub fails : Option Why → Bool
+fails None = false
+fails (Some why) = is_fault why
+
+-- a count has risen at least once for each of these more connections of a maker that were closed since a read or a write failed
+abbrev pub FaultsRise : ℕ → List Entry → List Entry → ℕ → ℕ → Type 0
+FaultsRise m old new before now = (n : ℕ) × (faults_of m new ≡ faults_of m old + n) × RoseBy n before now
+
+-- how many connections of a maker were opened
+abbrev pub opened_in : ℕ → List Entry → ℕ
+opened_in m history = length (filter (opens m) history)
+
+-- one where a test holds
+abbrev pub one_if : Bool → ℕ
+one_if true = 1
+one_if false = 0
+
+-- a connection of a maker was closed for a reason that passes a test
+abbrev pub has_closed : ℕ → (Why → Bool) → List Entry → Bool
+has_closed m test history = list_any (λ e. e.by == m && closes_for test e.what) history
+
+-- What some holds of a line leave of what the history says of it: it has opened no connection and has not ended, and if it has closed its
+-- connection, then for this reason.
+pub record Keeps (m : ℕ) (old new : List Entry) (closed : Option Why) : Type 0 where
+  pub ended : has_ended m new ≡ has_ended m old
+  pub opened : opened_in m new ≡ opened_in m old
+  pub faults : faults_of m new ≡ faults_of m old + one_if (fails closed)
+  pub on : is_connected m new ≡ (is_connected m old && is_none closed)
+  pub said : IfSome closed (λ why. (test : Why → Bool) → test why ≡ true → has_closed m test new ≡ true)
+
+-- ---- why a line ends
+
+abbrev pub is_any : Why → Bool
+is_any why = true
+
+abbrev pub is_full : Why → Bool
+is_full PeerEnded = false
+is_full ReadFault = false
+is_full WriteFault = false
+is_full (BadFrame stage cause) = false
+is_full StoppedWhy = false
+is_full NoMemoryWhy = false
+is_full FullWhy = true
+
+-- whether a line connects again where its connection ended: an interface by the site, and a slot always
+abbrev pub reconnects : SiteData → ℕ → Bool
+reconnects site by = unwrap_or (option_map (λ (i : InterfaceData). i.reconnect) (slice_get site.interfaces by)) true
+
+-- why a line ends whose connection was not opened in the history
+abbrev pub refused : Opening → Option LineWhy
+refused Opened = None
+refused StoppedThere = Some Stopped
+refused NoRoom = Some Full
+refused NoMemoryThere = Some NoMemory
+
+abbrev pub unless_again : Bool → Option LineWhy
+unless_again true = None
+unless_again false = Some NoReconnect
+
+-- why a line ends once its connection was closed, if it ends
+abbrev pub after_closed : SiteData → ℕ → Why → Option LineWhy
+after_closed site by PeerEnded = unless_again (reconnects site by)
+after_closed site by ReadFault = unless_again (reconnects site by)
+after_closed site by WriteFault = unless_again (reconnects site by)
+after_closed site by (BadFrame stage cause) = unless_again (reconnects site by)
+after_closed site by StoppedWhy = None
+after_closed site by NoMemoryWhy = Some NoMemory
+after_closed site by FullWhy = Some Full
+
+-- why it ends since a dial failed, if it ends
+abbrev pub after_failed : SiteData → ℕ → Option LineWhy
+after_failed site by = if is_interface site by then unless_again (reconnects site by) else Some DoorFailed
+
+-- Why a line ends has its cause in the history and in what its dialer tells: the history of a site with so many entries at most, and the
+-- count of failed dials before and now. Want of memory has none.
+abbrev pub CausesEnd : SiteData → ℕ → ℕ → List Entry → Option Line → ℕ → ℕ → LineWhy → Type 0
+CausesEnd site most m history told before now Stopped = is_stopped history ≡ true
+CausesEnd site most m history told before now Finished = HasFinished told
+CausesEnd site most m history told before now NoReconnect = (reconnects site m ≡ false) × ((has_closed m is_any history ≡ true) ⊎ Rose before now)
+CausesEnd site most m history told before now DoorFailed = (is_interface site m ≡ false) × Rose before now
+CausesEnd site most m history told before now Full = (has_closed m is_full history ≡ true) ⊎ (most ≤ entries_in history)
+CausesEnd site most m history told before now NoMemory = Unit {0}
+CausesEnd site most m history told before now Cancelled = ⊥
+
+-- whether a line that ends for this reason stops the server
+abbrev pub stops_all : LineWhy → Bool
+stops_all Stopped = false
+stops_all Finished = false
+stops_all NoReconnect = false
+stops_all DoorFailed = true
+stops_all Full = true
+stops_all NoMemory = true
+stops_all Cancelled = true
+
+-- a dialer tells no connection so far
+abbrev pub IsUndialed : Option Line → Type 0
+IsUndialed None = Unit {0}
+IsUndialed (Some line) = (line.past ≡ []) × (line.now ≡ None)
+
+abbrev pub first_moment : Time
+first_moment = record { seconds = 0; micros = 0 }

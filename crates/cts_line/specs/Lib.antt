@@ -1,0 +1,5 @@
+pub mod Holding
+pub mod Doing
+pub mod Talks
+pub mod Putting
+pub mod Ending

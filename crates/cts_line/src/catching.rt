@@ -1,0 +1,68 @@
+// A look, and the puts of what it saw.
+ghost use Rattle.std.specs.Prelude.{◌≡◌, ◌≤◌, length, true, IfSome, None};
+ghost use Rattle.cts_entry.specs.Legal.{StopsAfter};
+ghost use Rattle.cts_turn.specs.Lists.{has};
+ghost use Rattle.cts_turn.specs.Passes.{IsPassOf, basis_of, view};
+ghost use Rattle.cts_connection.specs.Routings.{site_routing};
+ghost use Rattle.cts_line.specs.Ending.{Keeps, RoseIf, fails};
+ghost use Rattle.cts_line.specs.Holding.{Onward};
+ghost use Rattle.cts_line.specs.Talks.{Suits, TalksAt, Takes, Waits, after, room_of, stopped_by};
+
+use crate::holds::look;
+use crate::puts::put_all;
+use cts_connection::{Connection, Framer};
+use cts_entry::{Stands, Why};
+use cts_outside::Dialer;
+use cts_table::Hall;
+use cts_turn::{Pass, Turn};
+use std::alloc::Global;
+use std::sync::Wait;
+
+// Stopped, where nothing else ends the connection.
+fn stopped(end: Option<Why>, stop: bool) -> Option<Why>
+    ensures { result ≡ stopped_by end stop }
+{
+    match end {
+        None if stop => Some(Why::Stopped),
+        _ => end,
+    }
+}
+
+/// Looks at the history, and puts what was new there. Says why the connection has to be closed then, if it has to be.
+pub(crate) fn catch_up<R: Wait, C: Framer, D: Dialer>(
+    rt: &R,
+    alloc: Global,
+    turn: &Turn<Hall>,
+    pass: Pass<Hall>,
+    by: u32,
+    connection: &mut Connection<C>,
+    dialer: &mut D,
+) -> (Pass<Hall>, Option<Why>)
+    requires pass { IsPassOf turn.now pass }
+    requires by { has by (view pass).makers ≡ true }
+    requires linked { (D.seen dialer.old).linked ≡ true }
+    requires place { connection.old.cursor.place ≤ length (view pass).seen }
+    requires suits { Suits (basis_of ⟦<Hall as Stands>⟧.basis turn.now).site by connection.old.chain }
+    requires talks { TalksAt (site_routing (basis_of ⟦<Hall as Stands>⟧.basis turn.now).site) (room_of (basis_of ⟦<Hall as Stands>⟧.basis turn.now)) by Waits connection.old (view pass) (D.seen dialer.old).told }
+    ensures pass { IsPassOf turn.now result.0 }
+    ensures onward { Onward (view pass) (view result.0) }
+    ensures keeps { Keeps by (view pass).seen (view result.0).seen None }
+    ensures linked { (D.seen dialer.new).linked ≡ true }
+    ensures place { connection.new.cursor.place ≤ length (view result.0).seen }
+    ensures chain { connection.new.chain ≡ connection.old.chain }
+    ensures stops { IfSome result.1 (λ why. StopsAfter (view result.0).seen why) }
+    ensures cause { RoseIf (fails result.1) (D.seen dialer.old).faults (D.seen dialer.new).faults }
+    ensures dials { (D.seen dialer.new).failed_dials ≡ (D.seen dialer.old).failed_dials }
+    ensures talks { TalksAt (site_routing (basis_of ⟦<Hall as Stands>⟧.basis turn.now).site) (room_of (basis_of ⟦<Hall as Stands>⟧.basis turn.now)) by (after Takes result.1) connection.new (view result.0) (D.seen dialer.new).told }
+{
+    let (pass, sight) = look(rt, alloc, turn, pass, by, connection);
+    match sight {
+        Ok(sight) => {
+            let (unsent, end) = put_all(dialer, &sight.spellings);
+            connection.is_kept();
+            connection.pass(sight.place, unsent);
+            (pass, stopped(end, sight.stop))
+        }
+        Err(_) => (pass, Some(Why::NoMemory)),
+    }
+}

@@ -1,0 +1,254 @@
+// One connection of a line after another.
+ghost use Rattle.std.specs.Prelude.{◌≡◌, ◌≤◌, ◌<◌, length, true, false, IfSome};
+ghost use Rattle.cts_chain.specs.Shapes.{IsSameChain};
+ghost use Rattle.cts_frame.specs.Packets.{capped};
+ghost use Rattle.cts_turn.specs.Lists.{has};
+ghost use Rattle.cts_turn.specs.Passes.{IsPassOf, basis_of, view};
+ghost use Rattle.cts_connection.specs.LinePlaces.{is_line};
+ghost use Rattle.cts_connection.specs.Routings.{site_routing};
+ghost use Rattle.cts_entry.specs.Workers.{is_interface};
+ghost use Rattle.cts_told.specs.Told.{Settled, ToldBy};
+ghost use Rattle.cts_line.specs.Doing.{IsShut};
+ghost use Rattle.cts_line.specs.Ending.{CausesEnd, FaultsRise, after_closed, after_failed, opened_in, reconnects, refused};
+ghost use Rattle.cts_line.specs.Holding.{Onward};
+ghost use Rattle.cts_line.specs.Talks.{Begins, Suits, ToldSoFar, room_of};
+
+use crate::ending::LineWhy;
+use crate::holds;
+use crate::opening::Opening;
+use crate::rounds::talk;
+use cts_connection::{Connection, Framer};
+use cts_def::Site;
+use cts_entry::{Stands, Why};
+use cts_outside::{Clock, Dialed, Dialer, Gate, GateStage};
+use cts_table::Hall;
+use cts_turn::{Pass, Turn};
+use std::alloc::Global;
+use std::sync::Wait;
+
+fn is_interface(site: &Site, by: u32) -> bool
+    ensures { result ≡ is_interface site.now by }
+{
+    (by as usize) < site.interfaces.as_slice().len()
+}
+
+fn reconnects(site: &Site, by: u32) -> bool
+    ensures { result ≡ reconnects site.now by }
+{
+    match site.interfaces.as_slice().get(by as usize) {
+        Some(interface) => interface.reconnect,
+        None => true,
+    }
+}
+
+// Why a line ends whose connection was not opened in the history.
+fn refused(opening: Opening) -> Option<LineWhy>
+    ensures { result ≡ refused opening }
+{
+    match opening {
+        Opening::Opened => None,
+        Opening::Stopped => Some(LineWhy::Stopped),
+        Opening::Full => Some(LineWhy::Full),
+        Opening::NoMemory => Some(LineWhy::NoMemory),
+    }
+}
+
+// Why a line ends once its connection was closed, if it ends. Where a Stop stood, it sees this before it dials again.
+fn after_closed(site: &Site, by: u32, why: Why) -> Option<LineWhy>
+    ensures { result ≡ after_closed site.now by why }
+{
+    match why {
+        Why::Full => Some(LineWhy::Full),
+        Why::NoMemory => Some(LineWhy::NoMemory),
+        Why::Stopped => None,
+        _ if reconnects(site, by) => None,
+        _ => Some(LineWhy::NoReconnect),
+    }
+}
+
+// Why a line ends since a dial failed, if it ends.
+fn after_failed(site: &Site, by: u32) -> Option<LineWhy>
+    ensures { result ≡ after_failed site.now by }
+{
+    if !is_interface(site, by) {
+        return Some(LineWhy::DoorFailed);
+    }
+    if reconnects(site, by) {
+        return None;
+    }
+    Some(LineWhy::NoReconnect)
+}
+
+// Serves the connection that stands, and hangs up. Says why the line has to end then, if it has to.
+fn serve<R: Wait, C: Framer, D: Dialer, K: Clock, G: Gate>(
+    rt: &R,
+    alloc: Global,
+    site: &Site,
+    by: u32,
+    turn: &Turn<Hall>,
+    pass: Pass<Hall>,
+    connection: &mut Connection<C>,
+    dialer: &mut D,
+    clock: &K,
+    gate: &G,
+    buffer: &mut [u8],
+    connections: &mut u64,
+) -> (Pass<Hall>, Option<LineWhy>)
+    requires pass { IsPassOf turn.now pass }
+    requires by { has by (view pass).makers ≡ true }
+    requires site { site.now ≡ (basis_of ⟦<Hall as Stands>⟧.basis turn.now).site }
+    requires line { is_line (basis_of ⟦<Hall as Stands>⟧.basis turn.now).site by ≡ true }
+    requires room { 0 < length buffer.old }
+    requires suits { Suits (basis_of ⟦<Hall as Stands>⟧.basis turn.now).site by connection.old.chain }
+    requires shut { IsShut by (view pass).seen }
+    requires count { connections.old ≡ capped (opened_in by (view pass).seen) }
+    requires linked { (D.seen dialer.old).linked ≡ true }
+    requires begins { Begins (site_routing (basis_of ⟦<Hall as Stands>⟧.basis turn.now).site) (room_of (basis_of ⟦<Hall as Stands>⟧.basis turn.now)) by (view pass).found (view pass).seen (D.seen dialer.old).told }
+    ensures pass { IsPassOf turn.now result.0 }
+    ensures onward { Onward (view pass) (view result.0) }
+    ensures idle { (D.seen dialer.new).linked ≡ false }
+    ensures room { length buffer.new ≡ length buffer.old }
+    ensures same { IsSameChain connection.old.chain connection.new.chain }
+    ensures shut { IsShut by (view result.0).seen }
+    ensures count { connections.new ≡ capped (opened_in by (view result.0).seen) }
+    ensures faults { FaultsRise by (view pass).seen (view result.0).seen (D.seen dialer.old).faults (D.seen dialer.new).faults }
+    ensures dials { (D.seen dialer.new).failed_dials ≡ (D.seen dialer.old).failed_dials }
+    ensures told { ToldSoFar (site_routing (basis_of ⟦<Hall as Stands>⟧.basis turn.now).site) (room_of (basis_of ⟦<Hall as Stands>⟧.basis turn.now)) by (view result.0).found (view result.0).seen (D.seen dialer.new).told result.1 }
+    ensures cause { IfSome result.1 (λ why. CausesEnd (basis_of ⟦<Hall as Stands>⟧.basis turn.now).site (basis_of ⟦<Hall as Stands>⟧.basis turn.now).entries by (view result.0).seen (D.seen dialer.new).told (D.seen dialer.old).failed_dials (D.seen dialer.new).failed_dials why) }
+{
+    let (pass, opening) = holds::open(rt, turn, pass, by, clock, connection);
+    if let Some(why) = refused(opening) {
+        dialer.hang_up();
+        return (pass, Some(why));
+    }
+    *connections = connections.saturating_add(1);
+    gate.pass(rt, by, GateStage::Posted);
+    let (pass, why) = talk(
+        rt, alloc, turn, pass, by, connection, dialer, clock, gate, buffer,
+    );
+    dialer.hang_up();
+    (pass, after_closed(site, by, why))
+}
+
+// Dials, and serves the connection that is made. Says why the line has to end then, if it has to.
+fn attempt<R: Wait, C: Framer, D: Dialer, K: Clock, G: Gate>(
+    rt: &R,
+    alloc: Global,
+    site: &Site,
+    by: u32,
+    turn: &Turn<Hall>,
+    pass: Pass<Hall>,
+    connection: &mut Connection<C>,
+    dialer: &mut D,
+    clock: &K,
+    gate: &G,
+    buffer: &mut [u8],
+    connections: &mut u64,
+) -> (Pass<Hall>, Option<LineWhy>)
+    requires pass { IsPassOf turn.now pass }
+    requires by { has by (view pass).makers ≡ true }
+    requires site { site.now ≡ (basis_of ⟦<Hall as Stands>⟧.basis turn.now).site }
+    requires line { is_line (basis_of ⟦<Hall as Stands>⟧.basis turn.now).site by ≡ true }
+    requires room { 0 < length buffer.old }
+    requires suits { Suits (basis_of ⟦<Hall as Stands>⟧.basis turn.now).site by connection.old.chain }
+    requires shut { IsShut by (view pass).seen }
+    requires count { connections.old ≡ capped (opened_in by (view pass).seen) }
+    requires idle { (D.seen dialer.old).linked ≡ false }
+    requires settled { Settled (site_routing (basis_of ⟦<Hall as Stands>⟧.basis turn.now).site) (room_of (basis_of ⟦<Hall as Stands>⟧.basis turn.now)) by (view pass).found (view pass).seen (D.seen dialer.old).told }
+    ensures pass { IsPassOf turn.now result.0 }
+    ensures onward { Onward (view pass) (view result.0) }
+    ensures idle { (D.seen dialer.new).linked ≡ false }
+    ensures room { length buffer.new ≡ length buffer.old }
+    ensures same { IsSameChain connection.old.chain connection.new.chain }
+    ensures shut { IsShut by (view result.0).seen }
+    ensures count { connections.new ≡ capped (opened_in by (view result.0).seen) }
+    ensures faults { FaultsRise by (view pass).seen (view result.0).seen (D.seen dialer.old).faults (D.seen dialer.new).faults }
+    ensures dials { (D.seen dialer.old).failed_dials ≤ (D.seen dialer.new).failed_dials }
+    ensures told { ToldSoFar (site_routing (basis_of ⟦<Hall as Stands>⟧.basis turn.now).site) (room_of (basis_of ⟦<Hall as Stands>⟧.basis turn.now)) by (view result.0).found (view result.0).seen (D.seen dialer.new).told result.1 }
+    ensures cause { IfSome result.1 (λ why. CausesEnd (basis_of ⟦<Hall as Stands>⟧.basis turn.now).site (basis_of ⟦<Hall as Stands>⟧.basis turn.now).entries by (view result.0).seen (D.seen dialer.new).told (D.seen dialer.old).failed_dials (D.seen dialer.new).failed_dials why) }
+{
+    match dialer.dial() {
+        Dialed::Linked => serve(
+            rt,
+            alloc,
+            site,
+            by,
+            turn,
+            pass,
+            connection,
+            dialer,
+            clock,
+            gate,
+            buffer,
+            connections,
+        ),
+        Dialed::Later => (pass, None),
+        Dialed::Finished => (pass, Some(LineWhy::Finished)),
+        Dialed::Failed => (pass, after_failed(site, by)),
+    }
+}
+
+/// Makes one connection after another, until the line ends, and says why.
+pub(crate) fn connect<R: Wait, C: Framer, D: Dialer, K: Clock, G: Gate>(
+    rt: &R,
+    alloc: Global,
+    site: &Site,
+    by: u32,
+    turn: &Turn<Hall>,
+    mut pass: Pass<Hall>,
+    connection: &mut Connection<C>,
+    dialer: &mut D,
+    clock: &K,
+    gate: &G,
+    buffer: &mut [u8],
+    connections: &mut u64,
+) -> (Pass<Hall>, LineWhy)
+    requires pass { IsPassOf turn.now pass }
+    requires by { has by (view pass).makers ≡ true }
+    requires site { site.now ≡ (basis_of ⟦<Hall as Stands>⟧.basis turn.now).site }
+    requires line { is_line (basis_of ⟦<Hall as Stands>⟧.basis turn.now).site by ≡ true }
+    requires room { 0 < length buffer.old }
+    requires suits { Suits (basis_of ⟦<Hall as Stands>⟧.basis turn.now).site by connection.old.chain }
+    requires shut { IsShut by (view pass).seen }
+    requires count { connections.old ≡ capped (opened_in by (view pass).seen) }
+    requires idle { (D.seen dialer.old).linked ≡ false }
+    requires settled { Settled (site_routing (basis_of ⟦<Hall as Stands>⟧.basis turn.now).site) (room_of (basis_of ⟦<Hall as Stands>⟧.basis turn.now)) by (view pass).found (view pass).seen (D.seen dialer.old).told }
+    ensures pass { IsPassOf turn.now result.0 }
+    ensures onward { Onward (view pass) (view result.0) }
+    ensures idle { (D.seen dialer.new).linked ≡ false }
+    ensures room { length buffer.new ≡ length buffer.old }
+    ensures same { IsSameChain connection.old.chain connection.new.chain }
+    ensures shut { IsShut by (view result.0).seen }
+    ensures count { connections.new ≡ capped (opened_in by (view result.0).seen) }
+    ensures faults { FaultsRise by (view pass).seen (view result.0).seen (D.seen dialer.old).faults (D.seen dialer.new).faults }
+    ensures dials { (D.seen dialer.old).failed_dials ≤ (D.seen dialer.new).failed_dials }
+    ensures told { ToldBy (site_routing (basis_of ⟦<Hall as Stands>⟧.basis turn.now).site) (room_of (basis_of ⟦<Hall as Stands>⟧.basis turn.now)) by (view result.0).found (view result.0).seen (D.seen dialer.new).told }
+    ensures cause { CausesEnd (basis_of ⟦<Hall as Stands>⟧.basis turn.now).site (basis_of ⟦<Hall as Stands>⟧.basis turn.now).entries by (view result.0).seen (D.seen dialer.new).told (D.seen dialer.old).failed_dials (D.seen dialer.new).failed_dials result.1 }
+{
+    'dials: for _ in rt.forever() {
+        let (next, stop) = holds::sees_stop(rt, turn, pass, by);
+        pass = next;
+        if stop {
+            return (pass, LineWhy::Stopped);
+        }
+        let (next, end) = attempt(
+            rt,
+            alloc,
+            site,
+            by,
+            turn,
+            pass,
+            connection,
+            dialer,
+            clock,
+            gate,
+            buffer,
+            connections,
+        );
+        pass = next;
+        if let Some(why) = end {
+            return (pass, why);
+        }
+    }
+    unreachable!()
+}

@@ -1,0 +1,192 @@
+// The worker of a line.
+ghost use Rattle.std.specs.Prelude.{◌≡◌, ◌≤◌, List, [], length, true, false, IfOk};
+ghost use Rattle.cts_chain.specs.Builds.{IsFresh};
+ghost use Rattle.cts_entry.specs.declared.entry.Entry.{Entry};
+ghost use Rattle.cts_entry.specs.Histories.{is_stopped};
+ghost use Rattle.cts_frame.specs.Chains.{uses_at};
+ghost use Rattle.cts_frame.specs.Packets.{capped};
+ghost use Rattle.cts_turn.specs.Lists.{has, StartsWith};
+ghost use Rattle.cts_turn.specs.Passes.{IsPassOf, basis_of, view};
+ghost use Rattle.cts_connection.specs.LinePlaces.{is_line};
+ghost use Rattle.cts_connection.specs.Routings.{site_routing};
+ghost use Rattle.cts_told.specs.Makers.{LastEnded, faults_of, of_maker};
+ghost use Rattle.cts_told.specs.Told.{ToldBy};
+ghost use Rattle.cts_line.specs.declared.ending.LineWhy.TheVariants.{Cancelled};
+ghost use Rattle.cts_line.specs.Doing.{IsShut, last_entries};
+ghost use Rattle.cts_line.specs.Ending.{CausesEnd, FaultsRise, IsUndialed, RoseBy, first_moment, opened_in, stops_all};
+ghost use Rattle.cts_line.specs.Holding.{Onward};
+ghost use Rattle.cts_line.specs.Talks.{room_of};
+
+use crate::dials::connect;
+use crate::ending::{LineEnd, LineWhy};
+use crate::holds;
+use cts_base::Memory;
+use cts_connection::{Connection, Framer};
+use cts_def::{Site, Time};
+use cts_entry::Stands;
+use cts_outside::{Clock, Dialer, Gate, GateStage};
+use cts_table::Hall;
+use cts_turn::{Pass, Turn};
+use std::alloc::Global;
+use std::sync::Wait;
+
+/// How many bytes are taken at a time.
+const MOST_TAKEN: usize = 65536;
+
+/// The worker of a line, which is an interface or a slot of a router.
+#[derive(Clone, Copy, Debug)]
+pub struct LineWorker;
+
+impl LineWorker {
+    /// Makes one connection after another, and posts what comes from each and puts what the history has for its peer, until a Stop stands, there
+    /// will be no connection any more, or the line has to end. What the history says of its connections is what its dialer tells of this call. Its
+    /// last entry is Ended. It takes the turn for each change of the history and for each look at it, and waits for no other reason but in the
+    /// dialer's calls.
+    pub fn run<R: Wait, C: Framer, D: Dialer, K: Clock, G: Gate>(
+        rt: &R,
+        alloc: Global,
+        site: &Site,
+        by: u32,
+        turn: &Turn<Hall>,
+        pass: Pass<Hall>,
+        dialer: &mut D,
+        chain: C,
+        clock: &K,
+        gate: &G,
+    ) -> LineEnd
+        requires pass { IsPassOf turn.now pass }
+        requires by { has by (view pass).makers ≡ true }
+        requires new { of_maker by (view pass).seen ≡ [] }
+        requires site { site.now ≡ (basis_of ⟦<Hall as Stands>⟧.basis turn.now).site }
+        requires line { is_line site.now by ≡ true }
+        requires chain { IsFresh (uses_at site.now by) (C.shape chain) }
+        requires idle { (D.seen dialer.old).linked ≡ false }
+        requires undialed { IsUndialed (D.seen dialer.old).told }
+        ensures pass { IsPassOf turn.now result.pass }
+        ensures onward { Onward (view pass) (view result.pass) }
+        ensures told { ToldBy (site_routing site.now) (room_of (basis_of ⟦<Hall as Stands>⟧.basis turn.now)) by (view result.pass).found (view result.pass).seen (D.seen dialer.new).told }
+        ensures ended { LastEnded by (view result.pass).seen }
+        ensures connections { result.connections ≡ opened_in by (view result.pass).seen }
+        ensures cause { CausesEnd site.now (basis_of ⟦<Hall as Stands>⟧.basis turn.now).entries by (view result.pass).seen (D.seen dialer.new).told (D.seen dialer.old).failed_dials (D.seen dialer.new).failed_dials result.why }
+        ensures stops { stops_all result.why ≡ true → is_stopped (view result.pass).seen ≡ true }
+        ensures faults { RoseBy (faults_of by (view result.pass).seen) (D.seen dialer.old).faults (D.seen dialer.new).faults }
+        ensures idle { (D.seen dialer.new).linked ≡ false }
+    {
+        gate.pass(rt, by, GateStage::Started);
+        let mut connections = 0;
+        let (pass, why) = work(
+            rt,
+            alloc,
+            site,
+            by,
+            turn,
+            pass,
+            dialer,
+            chain,
+            clock,
+            gate,
+            &mut connections,
+        );
+        let pass = holds::end(rt, turn, pass, by, holds::time_of(clock), stops_all(why));
+        gate.pass(rt, by, GateStage::Posted);
+        LineEnd {
+            pass,
+            connections,
+            why,
+        }
+    }
+
+    /// Ends a line that was not started: appends a Stop, where none stands, and its Ended, both at the first moment.
+    pub fn cancel<R: Wait>(rt: &R, by: u32, turn: &Turn<Hall>, pass: Pass<Hall>) -> LineEnd
+        requires pass { IsPassOf turn.now pass }
+        requires by { has by (view pass).makers ≡ true }
+        requires new { of_maker by (view pass).seen ≡ [] }
+        requires line { is_line (basis_of ⟦<Hall as Stands>⟧.basis turn.now).site by ≡ true }
+        ensures pass { IsPassOf turn.now result.pass }
+        ensures onward { Onward (view pass) (view result.pass) }
+        ensures own { (stood : List Entry) × StartsWith stood (view pass).seen × StartsWith (view result.pass).seen stood × (of_maker by (view result.pass).seen ≡ last_entries true by first_moment stood) }
+        ensures stops { is_stopped (view result.pass).seen ≡ true }
+        ensures connections { result.connections ≡ 0 }
+        ensures why { result.why ≡ Cancelled }
+    {
+        let time = Time {
+            seconds: 0,
+            micros: 0,
+        };
+        let pass = holds::end(rt, turn, pass, by, time, true);
+        LineEnd {
+            pass,
+            connections: 0,
+            why: LineWhy::Cancelled,
+        }
+    }
+}
+
+fn stops_all(why: LineWhy) -> bool
+    ensures { result ≡ stops_all why }
+{
+    match why {
+        LineWhy::Stopped | LineWhy::Finished | LineWhy::NoReconnect => false,
+        LineWhy::DoorFailed | LineWhy::Full | LineWhy::NoMemory | LineWhy::Cancelled => true,
+    }
+}
+
+fn buffer_of(alloc: Global) -> Result<Vec<u8>, Memory>
+    ensures { IfOk result (λ b. length b.items ≡ 65536) }
+{
+    let mut buffer = Vec::new(alloc);
+    buffer.resize(MOST_TAKEN, 0)?;
+    Ok(buffer)
+}
+
+// Makes the connections of a line, if there is memory for what is taken from them.
+fn work<R: Wait, C: Framer, D: Dialer, K: Clock, G: Gate>(
+    rt: &R,
+    alloc: Global,
+    site: &Site,
+    by: u32,
+    turn: &Turn<Hall>,
+    pass: Pass<Hall>,
+    dialer: &mut D,
+    chain: C,
+    clock: &K,
+    gate: &G,
+    connections: &mut u64,
+) -> (Pass<Hall>, LineWhy)
+    requires pass { IsPassOf turn.now pass }
+    requires by { has by (view pass).makers ≡ true }
+    requires new { of_maker by (view pass).seen ≡ [] }
+    requires site { site.now ≡ (basis_of ⟦<Hall as Stands>⟧.basis turn.now).site }
+    requires line { is_line site.now by ≡ true }
+    requires chain { IsFresh (uses_at site.now by) (C.shape chain) }
+    requires idle { (D.seen dialer.old).linked ≡ false }
+    requires undialed { IsUndialed (D.seen dialer.old).told }
+    requires none { connections.old ≡ 0 }
+    ensures pass { IsPassOf turn.now result.0 }
+    ensures onward { Onward (view pass) (view result.0) }
+    ensures idle { (D.seen dialer.new).linked ≡ false }
+    ensures shut { IsShut by (view result.0).seen }
+    ensures count { connections.new ≡ capped (opened_in by (view result.0).seen) }
+    ensures faults { RoseBy (faults_of by (view result.0).seen) (D.seen dialer.old).faults (D.seen dialer.new).faults }
+    ensures told { ToldBy (site_routing site.now) (room_of (basis_of ⟦<Hall as Stands>⟧.basis turn.now)) by (view result.0).found (view result.0).seen (D.seen dialer.new).told }
+    ensures cause { CausesEnd site.now (basis_of ⟦<Hall as Stands>⟧.basis turn.now).entries by (view result.0).seen (D.seen dialer.new).told (D.seen dialer.old).failed_dials (D.seen dialer.new).failed_dials result.1 }
+{
+    let Ok(mut buffer) = buffer_of(alloc) else {
+        return (pass, LineWhy::NoMemory);
+    };
+    let mut connection = Connection::of(chain);
+    connect(
+        rt,
+        alloc,
+        site,
+        by,
+        turn,
+        pass,
+        &mut connection,
+        dialer,
+        clock,
+        gate,
+        &mut buffer,
+        connections,
+    )
+}
