@@ -5,7 +5,6 @@
 #[cfg(test)]
 mod colors;
 #[cfg(test)]
-#[cfg(test)]
 mod effects;
 #[cfg(test)]
 mod history;
@@ -15,6 +14,8 @@ mod ident;
 mod lines;
 #[cfg(test)]
 mod read;
+#[cfg(test)]
+mod routers;
 #[cfg(test)]
 mod scripts;
 #[cfg(test)]

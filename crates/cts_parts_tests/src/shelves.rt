@@ -33,11 +33,18 @@ const KINDS: [Kind; 5] = [
     Kind::Preidentified,
 ];
 
-/// A shelf with one box of each kind.
-pub fn stocked(alloc: Global) -> Result<Shelf, Fail> {
+/// A shelf with so many boxes of each kind.
+pub fn stocked(alloc: Global, count: u32) -> Result<Shelf, Fail> {
     let mut shelf = Shelf::new(alloc);
-    for kind in KINDS {
-        stock(alloc, &mut shelf, kind)?;
+    for _ in 0..count {
+        stock_each(alloc, &mut shelf)?;
     }
     Ok(shelf)
+}
+
+fn stock_each(alloc: Global, shelf: &mut Shelf) -> Result<(), Fail> {
+    for kind in KINDS {
+        stock(alloc, shelf, kind)?;
+    }
+    Ok(())
 }

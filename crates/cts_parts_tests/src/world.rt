@@ -2,12 +2,12 @@
 use crate::read::{SITE, site_of};
 use crate::shelves::stocked;
 use cts_base::Bytes;
-use cts_chain::{Chain, ChainFault};
-use cts_core::{Framer, Supplier, World, is_built_event, is_built_site};
+use cts_chain::Chain;
+use cts_core::{Framer, Supplier, World};
 use cts_def::{Site, Time};
 use cts_entry::{Entry, Event, Why};
 use cts_proto::Shelf;
-use cts_rows::{Answers, as_text, bytes_of, cut, debug_of, readable_of, rows_end_so, same};
+use cts_rows::{Answers, as_text, bytes_of, cut, debug_of, readable_of, rows_end_so};
 use cts_script::entry_lines;
 use std::alloc::Global;
 use std::sync::Arc;
@@ -67,9 +67,6 @@ fn sending(alloc: Global, text: &str) -> Result<Event, Fail> {
 
 /// What the world answers to an event, in words.
 fn answer<C: Framer>(alloc: Global, world: &mut World<C>, event: &Event) -> Result<String, Fail> {
-    if !is_built_event(event) {
-        return Err(Fail::new("not built"));
-    }
     readable_of(alloc, &world.step(event))
 }
 
@@ -98,7 +95,11 @@ fn told<C: Framer>(alloc: Global, mut world: World<C>, events: &str) -> Result<S
 }
 
 /// Appends the lines of a world's history, each with `;` in the place of its line end.
-fn tell_lines<C: Framer>(alloc: Global, world: &World<C>, out: &mut String) -> Result<(), Fail> {
+pub fn tell_lines<C: Framer>(
+    alloc: Global,
+    world: &World<C>,
+    out: &mut String,
+) -> Result<(), Fail> {
     let hall = world.hall();
     for (n, entry) in hall.entries().iter().enumerate() {
         tell_line(alloc, hall.site(), n as u64, entry, out)?;
@@ -128,7 +129,7 @@ struct Events;
 
 impl Answers for Events {
     fn answer(alloc: Global, asked: &str) -> Result<String, Fail> {
-        told_of::<Chain, Shelf>(alloc, ("", SITE), asked, &mut stocked(alloc)?)
+        told_of::<Chain, Shelf>(alloc, ("", SITE), asked, &mut stocked(alloc, 1)?)
     }
 }
 
@@ -144,14 +145,12 @@ fn told_of<C: Framer, B: Supplier<C>>(
     told(alloc, world, events)
 }
 
-fn world_of<C: Framer, B: Supplier<C>>(
+/// A world of this site with the limits of a server.
+pub fn world_of<C: Framer, B: Supplier<C>>(
     alloc: Global,
     site: Site,
     shelf: &mut B,
 ) -> Result<World<C>, Fail> {
-    if !is_built_site(&site) {
-        return Err(Fail::new("not built"));
-    }
     Ok(World::new(alloc, Arc::new(alloc, site)?, shelf)?)
 }
 
@@ -172,7 +171,7 @@ struct Full;
 impl Answers for Full {
     fn answer(alloc: Global, asked: &str) -> Result<String, Fail> {
         let site = site_of(alloc, "", SITE)?;
-        told_within::<Chain, Shelf>(alloc, site, (1, 10), asked, &mut stocked(alloc)?)
+        told_within::<Chain, Shelf>(alloc, site, (1, 10), asked, &mut stocked(alloc, 1)?)
     }
 }
 
@@ -194,9 +193,6 @@ fn limited<C: Framer, B: Supplier<C>>(
     limits: (u8, u8),
     shelf: &mut B,
 ) -> Result<World<C>, Fail> {
-    if !is_built_site(&site) {
-        return Err(Fail::new("not built"));
-    }
     let (entries, bytes) = (u64::from(limits.0), u64::from(limits.1));
     let site = Arc::new(alloc, site)?;
     Ok(World::with_limits(alloc, site, shelf, entries, bytes)?)
@@ -222,7 +218,7 @@ impl Answers for Sent {
     fn answer(alloc: Global, asked: &str) -> Result<String, Fail> {
         let site = "INTERFACE I tcpip_client_interface.rb h 1 1 10.0 nil LENGTH 0 16 0 1;TARGET T";
         let site = site_of(alloc, COMMANDS, site)?;
-        told_within::<Chain, Shelf>(alloc, site, (3, 8), asked, &mut stocked(alloc)?)
+        told_within::<Chain, Shelf>(alloc, site, (3, 8), asked, &mut stocked(alloc, 1)?)
     }
 }
 
@@ -249,7 +245,7 @@ impl Answers for Chains {
         )?;
         let definitions = "TELEMETRY T A BIG_ENDIAN;APPEND_ID_ITEM K 8 UINT 1";
         let texts = (definitions, site.as_str());
-        told_of::<Chain, Shelf>(alloc, texts, events, &mut stocked(alloc)?)
+        told_of::<Chain, Shelf>(alloc, texts, events, &mut stocked(alloc, 1)?)
     }
 }
 
@@ -260,26 +256,34 @@ fn packets_bring_their_own_time_and_names_and_chains_end_with_all_losses(
     rows_end_so::<Chains>(rt.alloc(), CHAINS)
 }
 
-/// Two interfaces whose chains need a box of TERMINATED each.
-const TWO: &str =
-    "INTERFACE I tcpip_client_interface.rb h 1 1 10.0 nil TERMINATED 0x0a 0x0a;INTERFACE J tcpip_client_interface.rb h 2 2 10.0 nil TERMINATED 0x0a 0x0a";
+/// What all chains of a site need, one for each interface and two for each router, where the shelf has a box of each kind: the first kind
+/// that is short, if one is.
+const SHORT: &str = "\
+INTERFACE I tcpip_client_interface.rb h 1 1 10.0 nil TERMINATED 0x0a 0x0a;INTERFACE J tcpip_client_interface.rb h 2 2 10.0 nil TERMINATED 0x0a 0x0a|Some(ShelfEmpty { kind: Terminated, needed: 2, stocked: 1 })
+ROUTER R tcpip_server_interface.rb 3 3 nil nil TERMINATED 0x0a 0x0a|Some(ShelfEmpty { kind: Terminated, needed: 2, stocked: 1 })
+INTERFACE I tcpip_client_interface.rb h 1 1 10.0 nil BURST;ROUTER R tcpip_server_interface.rb 3 3 nil nil LENGTH 0 8 0 1;ROUTER Q tcpip_server_interface.rb 4 4 nil nil BURST|Some(ShelfEmpty { kind: Burst, needed: 3, stocked: 1 })
+INTERFACE I tcpip_client_interface.rb h 1 1 10.0 nil BURST|None";
 
-/// The first kind that is short over all interfaces, if one is.
+struct Short;
+
+impl Answers for Short {
+    fn answer(alloc: Global, asked: &str) -> Result<String, Fail> {
+        short_of::<Chain, Shelf>(alloc, asked, &mut stocked(alloc, 1)?)
+    }
+}
+
+/// The first kind that is short over all lines of a site, if one is.
 fn short_of<C: Framer, B: Supplier<C>>(
     alloc: Global,
+    text: &str,
     shelf: &mut B,
-) -> Result<Option<ChainFault>, Fail> {
-    let site = site_of(alloc, "", TWO)?;
-    if !is_built_site(&site) {
-        return Err(Fail::new("not built"));
-    }
-    Ok(World::new(alloc, Arc::new(alloc, site)?, shelf).err())
+) -> Result<String, Fail> {
+    let site = site_of(alloc, "", text)?;
+    let fault = World::new(alloc, Arc::new(alloc, site)?, shelf).err();
+    debug_of(alloc, &fault)
 }
 
 #[test]
-fn a_kind_of_which_all_interfaces_need_more_boxes_is_told(rt: HostRuntime) -> Result<(), Fail> {
-    let fault = short_of::<Chain, Shelf>(rt.alloc(), &mut stocked(rt.alloc())?)?;
-    let found = debug_of(rt.alloc(), &fault)?;
-    let wanted = "Some(ShelfEmpty { kind: Terminated, needed: 2, stocked: 1 })";
-    same(found.as_str(), wanted, TWO)
+fn a_kind_of_which_all_lines_need_more_boxes_is_told(rt: HostRuntime) -> Result<(), Fail> {
+    rows_end_so::<Short>(rt.alloc(), SHORT)
 }
