@@ -12,6 +12,7 @@ use Rattle.cts_def.specs.declared.time.Time.{Time}
 use Rattle.cts_entry.specs.declared.entry.Entry.{Entry}
 use Rattle.cts_entry.specs.declared.what.What.TheVariants.{Stop, Ended}
 use Rattle.cts_entry.specs.declared.why.Why.{Why}
+use Rattle.cts_entry.specs.declared.why.Why.TheVariants.{PeerEnded, ReadFault, WriteFault, BadFrame, Stopped as StoppedWhy, NoMemory as NoMemoryWhy, Full as FullWhy}
 use Rattle.cts_entry.specs.Histories.{connects_maker, entries_in, has_own, is_connected, is_stopped, latest, opens, or_earlier}
 use Rattle.cts_entry.specs.Legal.{has_ended, is_ended}
 use Rattle.cts_entry.proofs.Appending.{connected-append, entries-append, stopped-append}
@@ -29,7 +30,7 @@ use Rattle.cts_told.proofs.Looking.{settles_told, stop_kept, unopened_more}
 use Rattle.cts_told.proofs.Others.{of_maker_append, of_maker_one, strange_own}
 use Rattle.cts_turn.specs.declared.rule.View.{View}
 use Rattle.cts_line.specs.Doing.{IsShut, OpensIn, entry_of, last_entries, stop_if}
-use Rattle.cts_line.specs.Ending.{CausesEnd, FaultsRise, IsUndialed, Keeps, RoseBy, RoseIf, fails, has_closed, is_any, is_full, one_if, opened_in, refused}
+use Rattle.cts_line.specs.Ending.{after_closed, reconnects, unless_again, CausesEnd, FaultsRise, IsUndialed, Keeps, RoseBy, RoseIf, fails, has_closed, is_any, is_full, one_if, opened_in, refused}
 use Rattle.cts_line.specs.Holding.{Held, InHold, Onward}
 use Rattle.cts_line.specs.Talks.{Begins, IsClosed, Talks, TalksAt, ToldSoFar, Waits, Went, room_of}
 use Rattle.cts_line.specs.declared.ending.LineWhy.{LineWhy}
@@ -412,3 +413,24 @@ module _ {G : Type 0} (base : Basis) (m : ℕ) (old new : View Entry G) (stops :
   -- the count of connections is exact, since a hall keeps no more entries
   pub last_count : (n : ℕ) → n ≡ capped (opened_in m old.seen) → length new.seen ≤ 8000065 → n ≡ opened_in m new.seen
   last_count n is few = let same = last_opened_same in let le = filter_few (opens m) new.seen in omega (arith, is, few, same, le)
+
+-- ---- a line that does not connect again
+
+pub again_of : (site : SiteData) (m : ℕ) (why : Why) → after_closed site m why ≡ None → reconnects site m ≡ true
+again_of site m why none = by_why why none
+  where
+    by_again : (b : Bool) → unless_again b ≡ None → b ≡ true
+    by_again true e = refl
+    by_again false e = absurd (cc e)
+
+    by_why : (why : Why) → after_closed site m why ≡ None → reconnects site m ≡ true
+    by_why PeerEnded e = by_again (reconnects site m) e
+    by_why ReadFault e = by_again (reconnects site m) e
+    by_why WriteFault e = by_again (reconnects site m) e
+    by_why (BadFrame stage cause) e = by_again (reconnects site m) e
+    by_why StoppedWhy e = by_again (reconnects site m) e
+    by_why NoMemoryWhy e = absurd (cc e)
+    by_why FullWhy e = absurd (cc e)
+
+pub never_both : (b : Bool) {A : Type 0} → b ≡ true → b ≡ false → A
+never_both b on off = absurd (let f : true ≡ false = sym on ∙ off in cc)

@@ -95,7 +95,7 @@ after_closed site by PeerEnded = unless_again (reconnects site by)
 after_closed site by ReadFault = unless_again (reconnects site by)
 after_closed site by WriteFault = unless_again (reconnects site by)
 after_closed site by (BadFrame stage cause) = unless_again (reconnects site by)
-after_closed site by StoppedWhy = None
+after_closed site by StoppedWhy = unless_again (reconnects site by)
 after_closed site by NoMemoryWhy = Some NoMemory
 after_closed site by FullWhy = Some Full
 

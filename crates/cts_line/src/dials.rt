@@ -1,5 +1,5 @@
 // One connection of a line after another.
-ghost use Rattle.std.specs.Prelude.{◌≡◌, ◌≤◌, ◌<◌, length, true, false, IfSome};
+ghost use Rattle.std.specs.Prelude.{◌≡◌, ◌≤◌, ◌<◌, ◌+◌, None, length, true, false, IfSome};
 ghost use Rattle.cts_chain.specs.Shapes.{IsSameChain};
 ghost use Rattle.cts_frame.specs.Packets.{capped};
 ghost use Rattle.cts_turn.specs.Lists.{has};
@@ -53,14 +53,13 @@ fn refused(opening: Opening) -> Option<LineWhy>
     }
 }
 
-// Why a line ends once its connection was closed, if it ends. Where a Stop stood, it sees this before it dials again.
+// Why a line ends once its connection was closed, if it ends. One that connects again sees a Stop before it dials.
 fn after_closed(site: &Site, by: u32, why: Why) -> Option<LineWhy>
     ensures { result ≡ after_closed site.now by why }
 {
     match why {
         Why::Full => Some(LineWhy::Full),
         Why::NoMemory => Some(LineWhy::NoMemory),
-        Why::Stopped => None,
         _ if reconnects(site, by) => None,
         _ => Some(LineWhy::NoReconnect),
     }
@@ -113,6 +112,8 @@ fn serve<R: Wait, C: Framer, D: Dialer, K: Clock, G: Gate>(
     ensures count { connections.new ≡ capped (opened_in by (view result.0).seen) }
     ensures faults { FaultsRise by (view pass).seen (view result.0).seen (D.seen dialer.old).faults (D.seen dialer.new).faults }
     ensures dials { (D.seen dialer.new).failed_dials ≡ (D.seen dialer.old).failed_dials }
+    ensures again { result.1 ≡ None → reconnects site.now by ≡ true }
+    ensures few { opened_in by (view result.0).seen ≤ opened_in by (view pass).seen + 1 }
     ensures told { ToldSoFar (site_routing (basis_of ⟦<Hall as Stands>⟧.basis turn.now).site) (room_of (basis_of ⟦<Hall as Stands>⟧.basis turn.now)) by (view result.0).found (view result.0).seen (D.seen dialer.new).told result.1 }
     ensures cause { IfSome result.1 (λ why. CausesEnd (basis_of ⟦<Hall as Stands>⟧.basis turn.now).site (basis_of ⟦<Hall as Stands>⟧.basis turn.now).entries by (view result.0).seen (D.seen dialer.new).told (D.seen dialer.old).failed_dials (D.seen dialer.new).failed_dials why) }
 {
@@ -164,6 +165,8 @@ fn attempt<R: Wait, C: Framer, D: Dialer, K: Clock, G: Gate>(
     ensures count { connections.new ≡ capped (opened_in by (view result.0).seen) }
     ensures faults { FaultsRise by (view pass).seen (view result.0).seen (D.seen dialer.old).faults (D.seen dialer.new).faults }
     ensures dials { (D.seen dialer.old).failed_dials ≤ (D.seen dialer.new).failed_dials }
+    ensures again { reconnects site.now by ≡ false → result.1 ≡ None → opened_in by (view result.0).seen ≡ opened_in by (view pass).seen }
+    ensures few { opened_in by (view result.0).seen ≤ opened_in by (view pass).seen + 1 }
     ensures told { ToldSoFar (site_routing (basis_of ⟦<Hall as Stands>⟧.basis turn.now).site) (room_of (basis_of ⟦<Hall as Stands>⟧.basis turn.now)) by (view result.0).found (view result.0).seen (D.seen dialer.new).told result.1 }
     ensures cause { IfSome result.1 (λ why. CausesEnd (basis_of ⟦<Hall as Stands>⟧.basis turn.now).site (basis_of ⟦<Hall as Stands>⟧.basis turn.now).entries by (view result.0).seen (D.seen dialer.new).told (D.seen dialer.old).failed_dials (D.seen dialer.new).failed_dials why) }
 {
@@ -222,6 +225,7 @@ pub(crate) fn connect<R: Wait, C: Framer, D: Dialer, K: Clock, G: Gate>(
     ensures count { connections.new ≡ capped (opened_in by (view result.0).seen) }
     ensures faults { FaultsRise by (view pass).seen (view result.0).seen (D.seen dialer.old).faults (D.seen dialer.new).faults }
     ensures dials { (D.seen dialer.old).failed_dials ≤ (D.seen dialer.new).failed_dials }
+    ensures once { reconnects site.now by ≡ false → opened_in by (view result.0).seen ≤ opened_in by (view pass).seen + 1 }
     ensures told { ToldBy (site_routing (basis_of ⟦<Hall as Stands>⟧.basis turn.now).site) (room_of (basis_of ⟦<Hall as Stands>⟧.basis turn.now)) by (view result.0).found (view result.0).seen (D.seen dialer.new).told }
     ensures cause { CausesEnd (basis_of ⟦<Hall as Stands>⟧.basis turn.now).site (basis_of ⟦<Hall as Stands>⟧.basis turn.now).entries by (view result.0).seen (D.seen dialer.new).told (D.seen dialer.old).failed_dials (D.seen dialer.new).failed_dials result.1 }
 {

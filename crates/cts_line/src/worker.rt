@@ -13,7 +13,7 @@ ghost use Rattle.cts_told.specs.Makers.{LastEnded, faults_of, of_maker};
 ghost use Rattle.cts_told.specs.Told.{ToldBy};
 ghost use Rattle.cts_line.specs.declared.ending.LineWhy.TheVariants.{Cancelled};
 ghost use Rattle.cts_line.specs.Doing.{IsShut, last_entries};
-ghost use Rattle.cts_line.specs.Ending.{CausesEnd, FaultsRise, IsUndialed, RoseBy, first_moment, opened_in, stops_all};
+ghost use Rattle.cts_line.specs.Ending.{CausesEnd, FaultsRise, IsUndialed, RoseBy, first_moment, opened_in, reconnects, stops_all};
 ghost use Rattle.cts_line.specs.Holding.{Onward};
 ghost use Rattle.cts_line.specs.Talks.{room_of};
 
@@ -67,6 +67,7 @@ impl LineWorker {
         ensures told { ToldBy (site_routing site.now) (room_of (basis_of ⟦<Hall as Stands>⟧.basis turn.now)) by (view result.pass).found (view result.pass).seen (D.seen dialer.new).told }
         ensures ended { LastEnded by (view result.pass).seen }
         ensures connections { result.connections ≡ opened_in by (view result.pass).seen }
+        ensures once { reconnects site.now by ≡ false → result.connections ≤ 1 }
         ensures cause { CausesEnd site.now (basis_of ⟦<Hall as Stands>⟧.basis turn.now).entries by (view result.pass).seen (D.seen dialer.new).told (D.seen dialer.old).failed_dials (D.seen dialer.new).failed_dials result.why }
         ensures stops { stops_all result.why ≡ true → is_stopped (view result.pass).seen ≡ true }
         ensures faults { RoseBy (faults_of by (view result.pass).seen) (D.seen dialer.old).faults (D.seen dialer.new).faults }
@@ -168,6 +169,7 @@ fn work<R: Wait, C: Framer, D: Dialer, K: Clock, G: Gate>(
     ensures shut { IsShut by (view result.0).seen }
     ensures count { connections.new ≡ capped (opened_in by (view result.0).seen) }
     ensures faults { RoseBy (faults_of by (view result.0).seen) (D.seen dialer.old).faults (D.seen dialer.new).faults }
+    ensures once { reconnects site.now by ≡ false → opened_in by (view result.0).seen ≤ 1 }
     ensures told { ToldBy (site_routing site.now) (room_of (basis_of ⟦<Hall as Stands>⟧.basis turn.now)) by (view result.0).found (view result.0).seen (D.seen dialer.new).told }
     ensures cause { CausesEnd site.now (basis_of ⟦<Hall as Stands>⟧.basis turn.now).entries by (view result.0).seen (D.seen dialer.new).told (D.seen dialer.old).failed_dials (D.seen dialer.new).failed_dials result.1 }
 {

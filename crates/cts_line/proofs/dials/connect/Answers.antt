@@ -84,5 +84,20 @@ dials-preserved g c =
       count = e.count;
       faults = faults_then c.args.by u.seen w.seen x.seen _ _ _ (faults_then c.args.by u.seen v.seen w.seen _ _ _ i.faults (faults_none c.args.by v.seen w.seen _ _ looked refl)) e.faults;
       dials = (let a = i.dials in let b = e.dials in omega (arith, a, b));
+      once = λ off. e.again off c.in_default.is ∙ (looked.opened ∙ i.once off);
       settled = so_far_none (site_routing base.site) (room_of base) c.args.by x.found x.seen _ _ c.in_default.is e.told;
     }
+
+pub returns-then-stop-clause-once : goal.returns-then-stop-clause-once
+returns-then-stop-clause-once g c =
+    let v = view c.dials.pass in
+    let w = view c.sees_stop-next.result.0 in
+    let k = stop_keeps (basis_of hall.basis c.args.turn.now) c.args.by v w c.sees_stop-next.result.1 c.sees_stop-next.ensures.hold in
+    λ off. (let a = k.opened in let b = c.dials.invariant.once off in omega (arith, a, b))
+
+pub returns-in-Some-end-clause-once : goal.returns-in-Some-end-clause-once
+returns-in-Some-end-clause-once g c =
+    let v = view c.dials.pass in
+    let w = view c.sees_stop-next.result.0 in
+    let k = stop_keeps (basis_of hall.basis c.args.turn.now) c.args.by v w c.sees_stop-next.result.1 c.sees_stop-next.ensures.hold in
+    λ off. (let a = k.opened in let b = c.dials.invariant.once off in let f = c.attempt-next.ensures.few in omega (arith, a, b, f))

@@ -6,7 +6,7 @@ use Rattle.cts_turn.specs.Passes.{IsPassOf, basis_of, view}
 use Rattle.cts_connection.specs.Routings.{site_routing}
 use Rattle.cts_told.specs.Told.{Settled}
 use Rattle.cts_line.specs.Doing.{IsShut}
-use Rattle.cts_line.specs.Ending.{FaultsRise, opened_in}
+use Rattle.cts_line.specs.Ending.{FaultsRise, opened_in, reconnects}
 use Rattle.cts_line.specs.Holding.{Onward}
 use Rattle.cts_line.specs.Talks.{Suits, room_of}
 use Rattle.cts_table.specs.contracts.hall.HallStands.TheImpl.{ghosts as hall}
@@ -26,5 +26,6 @@ invariant-dials g l = record {
   count : l.connections ≡ capped (opened_in l.by (view l.pass).seen);
   faults : FaultsRise l.by (view l.initial.pass).seen (view l.pass).seen (g.D.Link.seen l.initial.dialer).faults (g.D.Link.seen l.dialer).faults;
   dials : (g.D.Link.seen l.initial.dialer).failed_dials ≤ (g.D.Link.seen l.dialer).failed_dials;
+  once : reconnects l.site l.by ≡ false → opened_in l.by (view l.pass).seen ≡ opened_in l.by (view l.initial.pass).seen;
   settled : Settled (site_routing (basis_of hall.basis l.turn).site) (room_of (basis_of hall.basis l.turn)) l.by (view l.pass).found (view l.pass).seen (g.D.Link.seen l.dialer).told;
 }

@@ -1,10 +1,10 @@
-use Rattle.std.proofs.Common.{sym, ◌∙◌}
+use Rattle.std.proofs.Common.{arith, sym, ◌∙◌}
 use Rattle.cts_table.specs.contracts.hall.HallStands.TheImpl.{ghosts as hall}
 use Rattle.cts_turn.specs.Passes.{basis_of, view}
 use Rattle.cts_connection.specs.Routings.{site_routing}
 use Rattle.cts_line.specs.Talks.{room_of}
 use Rattle.cts_line.proofs.Chaining.{suits_same}
-use Rattle.cts_line.proofs.Dialing.{count_closed, count_kept, faults_closed, faults_none, hangs_up, onward_then, opening_is, refusal, shut_closed, shut_kept, so_far}
+use Rattle.cts_line.proofs.Dialing.{again_of, count_closed, count_kept, faults_closed, faults_none, hangs_up, onward_then, opening_is, refusal, shut_closed, shut_kept, so_far}
 use Rattle.cts_line.proofs.dials.serve.Goals as goal
 
 pub returns-in-Some-clause-shut : goal.returns-in-Some-clause-shut
@@ -65,3 +65,19 @@ returns-clause-told g c =
     let base = basis_of hall.basis c.args.turn.now in
     let v = view c.talk-pass.result.0 in
     so_far (site_routing base.site) (room_of base) c.args.by v.found v.seen _ _ (hangs_up (site_routing base.site) (room_of base) c.args.by v _ _ c.hang_up-2.ensures.content c.talk-pass.ensures.closed)
+
+pub returns-in-Some-clause-few : goal.returns-in-Some-clause-few
+returns-in-Some-clause-few g c =
+    let r = refusal (basis_of hall.basis c.args.turn.now) c.args.by (view c.args.pass) (view c.open-pass.result.0) c.args.connection.now c.open-pass.new.connection c.open-pass.result.1 c.open-pass.ensures.hold c.in-Some.why (sym c.refused.ensures ∙ c.in-Some.is) in
+    let k = r.keeps.opened in
+    omega (arith, k)
+
+pub returns-clause-again : goal.returns-clause-again
+returns-clause-again g c = λ none. again_of c.args.site.now c.args.by c.talk-pass.result.1 (sym c.after_closed.ensures ∙ none)
+
+pub returns-clause-few : goal.returns-clause-few
+returns-clause-few g c =
+    let o = opening_is (basis_of hall.basis c.args.turn.now) c.args.by (view c.args.pass) (view c.open-pass.result.0) c.args.connection.now c.open-pass.new.connection c.open-pass.result.1 c.open-pass.ensures.hold (sym c.refused.ensures ∙ c.in_default.is) in
+    let k = o.opens.opened in
+    let l = c.talk-pass.ensures.keeps.opened in
+    omega (arith, k, l)

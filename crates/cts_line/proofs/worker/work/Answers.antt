@@ -1,4 +1,4 @@
-use Rattle.std.proofs.Common.{refl, subst, sym}
+use Rattle.std.proofs.Common.{arith, refl, subst, sym}
 use Rattle.cts_table.specs.contracts.hall.HallStands.TheImpl.{ghosts as hall}
 use Rattle.cts_turn.specs.Passes.{basis_of, view}
 use Rattle.cts_connection.specs.Routings.{site_routing}
@@ -43,3 +43,11 @@ returns-clause-told g c =
     let base = basis_of hall.basis c.args.turn.now in
     let v = view c.connect.result.0 in
     subst (λ site. ToldBy (site_routing site) (room_of base) c.args.by v.found v.seen (g.D.Link.seen c.connect.new.dialer).told) (sym c.requires.site) c.connect.ensures.told
+
+pub returns-in_default-clause-once : goal.returns-in_default-clause-once
+returns-in_default-clause-once g c = let n = (untouched c.args.by (view c.args.pass).seen c.requires.new).opened in λ off. omega (arith, n)
+
+pub returns-clause-once : goal.returns-clause-once
+returns-clause-once g c =
+    let n = (untouched c.args.by (view c.args.pass).seen c.requires.new).opened in
+    λ off. (let f = c.connect.ensures.once off in omega (arith, n, f))

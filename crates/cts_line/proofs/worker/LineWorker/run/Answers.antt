@@ -1,10 +1,10 @@
-use Rattle.std.proofs.Common.{subst, sym}
+use Rattle.std.proofs.Common.{arith, subst, sym}
 use Rattle.cts_table.specs.contracts.hall.HallStands.TheImpl.{ghosts as hall}
 use Rattle.cts_turn.specs.Passes.{basis_of, view}
 use Rattle.cts_connection.specs.Routings.{site_routing}
 use Rattle.cts_line.specs.Ending.{RoseBy}
 use Rattle.cts_line.specs.Talks.{room_of}
-use Rattle.cts_line.proofs.Dialing.{last_causes, last_count, last_ended, last_faults_same, last_told}
+use Rattle.cts_line.proofs.Dialing.{last_causes, last_count, last_ended, last_faults_same, last_opened_same, last_told}
 use Rattle.cts_line.proofs.worker.LineWorker.run.Goals as goal
 
 pub returns-clause-told : goal.returns-clause-told
@@ -27,3 +27,12 @@ pub returns-clause-faults : goal.returns-clause-faults
 returns-clause-faults g c =
     let same = last_faults_same (basis_of hall.basis c.args.turn.now) c.args.by (view c.work-pass.result.0) (view c.end-pass.result) _ _ c.end-pass.ensures.hold in
     subst (λ n. RoseBy n (g.D.Link.seen c.args.dialer.now).faults (g.D.Link.seen c.work-pass.new.dialer).faults) (sym same) c.work-pass.ensures.faults
+
+pub returns-clause-once : goal.returns-clause-once
+returns-clause-once g c =
+    let base = basis_of hall.basis c.args.turn.now in
+    let v = view c.work-pass.result.0 in
+    let w = view c.end-pass.result in
+    let count = last_count base c.args.by v w _ _ c.end-pass.ensures.hold c.work-pass.new.connections c.work-pass.ensures.count c.end-pass.ensures.few in
+    let same = last_opened_same base c.args.by v w _ _ c.end-pass.ensures.hold in
+    λ off. (let f = c.work-pass.ensures.once off in omega (arith, count, same, f))
