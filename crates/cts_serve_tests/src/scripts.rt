@@ -162,7 +162,7 @@ DRAIN LOG 1
 refused: c line 1: NotEnabled
 @ of each entry once
 OPEN I
-drain log 1
+drain LOG 1
 BYTES I 0004AABB
 DRAIN LOG 1
 DRAIN LOG 0
