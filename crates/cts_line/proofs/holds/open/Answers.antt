@@ -1,13 +1,19 @@
 use Rattle.std.proofs.Common.{subst, sym}
 use Rattle.cts_turn.specs.Passes.{view}
-use Rattle.cts_line.specs.Doing.{IsShut, OpensIn}
-use Rattle.cts_line.proofs.Holdings.{a_held, kept_shut}
+use Rattle.cts_line.specs.Doing.{Adds, IsShut, OpensIn}
+use Rattle.cts_line.proofs.Holdings.{a_held, kept_shut, new_by}
 use Rattle.cts_line.proofs.holds.open.Goals as goal
 
 pub open-opening-requires-clause-shut : goal.open-opening-requires-clause-shut
 open-opening-requires-clause-shut g c =
     let e = c.enter-held.ensures in
     subst (λ s. IsShut c.args.by s.entries) (sym c.state_mut.ensures.value) (kept_shut c.args.by (view c.args.pass) _ c.enter-held.result.state e.view e.seen e.own c.requires.by c.requires.shut)
+
+pub leave-requires-clause-new : goal.leave-requires-clause-new
+leave-requires-clause-new g c =
+    let e = c.enter-held.ensures in
+    new_by c.args.by (view c.args.pass) _ c.enter-held.result.state e.view e.seen e.own c.requires.by c.open-opening.new.hall
+    (subst (λ s. Adds c.args.by s c.open-opening.new.hall) c.state_mut.ensures.value c.open-opening.ensures.adds)
 
 pub returns-clause-hold : goal.returns-clause-hold
 returns-clause-hold g c =
