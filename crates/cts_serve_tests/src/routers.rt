@@ -117,3 +117,76 @@ END 5
 fn slots_are_given_what_comes_after_them(rt: HostRuntime) -> Result<(), Fail> {
     replays_go_so(rt.alloc(), INSTRUMENT_DEFINITIONS, ROUTED_SITE, SLOTS)
 }
+
+// A packet and a command, each of two bytes, of which the first is the length and the second the number.
+const SMALL: &str = "\
+TELEMETRY T A BIG_ENDIAN;APPEND_ITEM L 8 UINT;APPEND_ID_ITEM K 8 UINT 1;\
+COMMAND T C BIG_ENDIAN;APPEND_PARAMETER L 8 UINT 0 9 2;APPEND_ID_PARAMETER K 8 UINT 1 1 1";
+
+/// As many routers as a site may have; the last one has no route.
+const FOUR_ROUTERS: &str = "\
+INTERFACE I tcpip_client_interface.rb h 1 1 nil nil LENGTH 0 8 0 1;TARGET T;\
+ROUTER R tcpip_server_interface.rb 2 2 nil nil LENGTH 0 8 0 1;ROUTE I;\
+ROUTER S tcpip_server_interface.rb 3 3 nil nil LENGTH 0 8 0 1;ROUTE I;\
+ROUTER U tcpip_server_interface.rb 4 4 nil nil LENGTH 0 8 0 1;ROUTE I;\
+ROUTER V tcpip_server_interface.rb 5 5 nil nil LENGTH 0 8 0 1";
+
+const ALL_OPEN: &str = "
+@ all slots of four routers
+OPEN R/0
+OPEN R/1
+OPEN S/0
+OPEN S/1
+OPEN U/0
+OPEN U/1
+OPEN V/0
+OPEN V/1
+OPEN I
+BYTES I 0201
+DRAIN R/0 9
+DRAIN S/1 6
+DRAIN V/1 2
+BYTES U/0 020102
+BYTES S/0 02010200
+BYTES V/0 0202
+WRITE I 2
+CLOSE V/1 PEER
+> Ok
+0 0.000000 R/0 OPENED
+1 0.000000 R/1 OPENED
+2 0.000000 S/0 OPENED
+3 0.000000 S/1 OPENED
+4 0.000000 U/0 OPENED
+5 0.000000 U/1 OPENED
+6 0.000000 V/0 OPENED
+7 0.000000 V/1 OPENED
+8 0.000000 I OPENED
+9 0.000000 I PACKET T A 0201
+ROUTED R/0 0201
+ROUTED S/1 0201
+ROUTED V/1 -
+10 0.000000 U/0 COMMAND T C 0201
+11 0.000000 S/0 COMMAND T C 0201
+12 0.000000 S/0 UNROUTED UNKNOWN 0200
+13 0.000000 V/0 UNROUTED UNKNOWN 0202
+WRITTEN I 02010201
+14 0.000000 V/1 CLOSED PEER held 0 0 0 0 skipped 0 empty 0 unposted 0 unsent 0
+END 15
+@ a slot whose frame is bad
+OPEN I
+OPEN S/1
+BYTES S/1 020100
+OPEN S/1
+> Ok
+0 0.000000 I OPENED
+1 0.000000 S/1 OPENED
+2 0.000000 S/1 COMMAND T C 0201
+3 0.000000 S/1 CLOSED BAD 1 SHORT 0 held 1 0 0 0 skipped 0 empty 0 unposted 0 unsent 0
+4 0.000000 S/1 OPENED
+END 5
+";
+
+#[test]
+fn all_slots_may_be_open(rt: HostRuntime) -> Result<(), Fail> {
+    replays_go_so(rt.alloc(), SMALL, FOUR_ROUTERS, ALL_OPEN)
+}
