@@ -18,9 +18,11 @@ use Rattle.cts_outside.specs.Causes.{Rose, Steady}
 use Rattle.cts_outside.specs.Seen.{FilesSeen, SinkSeen, VaultSeen}
 use Rattle.cts_proto.specs.Meaning.{Meaning}
 use Rattle.cts_proto.specs.Stock.{stocked}
+use Rattle.cts_rehearsal.specs.Generated.{generated}
 use Rattle.cts_serve.specs.Acts.{Act, AreDone, DoesAll, EndsWith, LogFails, Outside, PutFails, outside, puts}
 use Rattle.cts_serve.specs.Causes.{chain_halt, put_answer}
 use Rattle.cts_serve.specs.Command.{Answers, CommandLeaves, Completes, DoesFor, DoesOf, IsDone, IsDueOf, LeavesShelf, Outcome, Performs, PerformsOf, PerformsScript, ShelfAfter, ShelfAt, ShelfBy, first_phases, misused, outcome_of, phases}
+use Rattle.cts_serve.specs.Demo.{definitions_name, demo_files, demo_site, site_name}
 use Rattle.cts_serve.specs.Dump.{IsDump, PutsLog, dump_answer, log_phase}
 use Rattle.cts_serve.specs.Endings.{Ends, EndsHalted, halt_line, halt_status, refused_as}
 use Rattle.cts_serve.specs.Lines.{counts_line, log_fault_line, memory_line, read_fault_line, usage_line}
@@ -28,6 +30,7 @@ use Rattle.cts_serve.specs.Load.{bytes_of, digest_asked, events_asked, script_ph
 use Rattle.cts_serve.specs.Load.Files.{GivesBytes, log_limit, within}
 use Rattle.cts_serve.specs.Phases.{FileCounts, HaltsAt, HaltsIn, IsFound, Phase, Takes, TakesAt, file_halt, first_halt, is_fault}
 use Rattle.cts_serve.specs.Putting.{Printed, PutsText, SinkCounts, VaultCounts}
+use Rattle.cts_serve.specs.Rehearsal.{IsRehearsal, Rehearses, rehearsal_acts, rehearsal_answer}
 use Rattle.cts_serve.specs.Replay.{IsReplay, Replays, replay_acts, replay_answer}
 use Rattle.cts_serve.specs.Start.{shelf_phase, short_halt, short_kind}
 use Rattle.cts_serve.specs.Transcript.{events_of}
@@ -40,7 +43,7 @@ use Rattle.cts_serve.specs.declared.halt.status.Status.{Status}
 use Rattle.cts_serve.specs.declared.halt.status.Status.TheVariants as is
 use Rattle.cts_serve.specs.declared.putting.Undone.{Undone}
 use Rattle.cts_serve.specs.declared.words.Command.{Command}
-use Rattle.cts_serve.specs.declared.words.Command.TheVariants.{Check, Replay, Dump}
+use Rattle.cts_serve.specs.declared.words.Command.TheVariants.{Check, Replay, Rehearse, Dump}
 use Rattle.cts_serve.proofs.ActLemmas.{all_of, put_done, sink_of, vault_of}
 use Rattle.cts_serve.proofs.DumpLemmas.{some_dump}
 use Rattle.cts_serve.proofs.EndingLemmas.{ends_with, fails_still}
@@ -324,11 +327,69 @@ module _ (stock : List Meaning) (definitions site script : List ℕ) where
       (performs_past (shelf_phase stock (site_asked all definitions site) ∷ []) (script_phase all (site_asked all definitions site) script ∷ []) (IsDone all (Replay definitions site script)) answer old new w'
       (performs_as (script_phase all (site_asked all definitions site) script ∷ []) (IsReplay (digest_asked all definitions) (site_asked all definitions site) script (events_asked all (site_asked all definitions site) script)) (IsDone all (Replay definitions site script)) answer old new (λ acts due r. r) k''))
 
+-- ---- a rehearsal
+
+some_rehearsal : (site : SiteData) (n : ℕ) → Some_due (IsRehearsal site n)
+some_rehearsal site n =
+    let run = has_run (site_environment site) (site_sound (basis_of site)) opening (generated n) in
+    (rehearsal_acts site run.0 run.1, rehearsal_answer run.0 run.1, record { dids = run.0; ending = run.1; runs = run.2; acts_are = refl; due_is = refl })
+
+rehearsal_of_no_file : (dids : List Did) (ending : Ending) → OfNoFile (rehearsal_answer dids ending)
+rehearsal_of_no_file dids Finished = tt
+rehearsal_of_no_file dids NotEnabled = tt
+rehearsal_of_no_file dids HistoryFull = tt
+
+module _ (stock : List Meaning) (n : ℕ) (files : List ℕ → Option (List ℕ)) where
+  abbrev begins : List Phase
+  begins = site_phases demo_files definitions_name site_name
+
+  some_rehearsed : Some_due (IsDone files (Rehearse n))
+  some_rehearsed = some_rehearsal demo_site n
+
+  pub rehearse_unloaded : (h : Halt) (o : Outside) → TakesSite demo_files definitions_name site_name (Err h) → Performs stock files (Rehearse n) (Err h) o o
+  rehearse_unloaded h o k = halts_here (phases stock files (Rehearse n)) (IsDone files (Rehearse n)) some_rehearsed h o (front begins (shelf_phase stock demo_site ∷ []) h k)
+
+  pub rehearse_unmade : (x : SiteData × List ℕ) (h : Halt) (o : Outside) → TakesSite demo_files definitions_name site_name (Ok x) → HaltsIn (shelf_phase stock x.0 ∷ []) h → Performs stock files (Rehearse n) (Err h) o o
+  rehearse_unmade x h o s k =
+      halts_here (phases stock files (Rehearse n)) (IsDone files (Rehearse n)) some_rehearsed h o
+      (past begins (shelf_phase stock demo_site ∷ []) h s.0 (subst (λ (y : SiteData × List ℕ). HaltsIn (shelf_phase stock y.0 ∷ []) h) s.1 k))
+
+  pub rehearse_performs : (x : SiteData × List ℕ) (y : SiteData) (answer : Result (Unit {0}) Halt) (old new : Outside) → y ≡ x.0 → TakesSite demo_files definitions_name site_name (Ok x) → first_halt (shelf_phase stock x.0 ∷ []) ≡ None
+      → Rehearses y n answer old new → Performs stock files (Rehearse n) answer old new
+  rehearse_performs x y answer old new on s w k0 =
+      let k = subst (λ (t : SiteData × List ℕ). Rehearses t.0 n answer old new) s.1 (subst (λ (t : SiteData). Rehearses t n answer old new) on k0) in
+      let none : first_halt (first_phases stock demo_files definitions_name site_name) ≡ None =
+      first_past begins (shelf_phase stock demo_site ∷ []) s.0 ∙ subst (λ (t : SiteData × List ℕ). first_halt (shelf_phase stock t.0 ∷ []) ≡ None) s.1 w in
+      let acts = rehearsal_acts demo_site k.dids k.ending in
+      let due = rehearsal_answer k.dids k.ending in
+      record {
+        acts = acts;
+        due = due;
+        is = goes_so (phases stock files (Rehearse n)) (IsDone files (Rehearse n)) acts due none (record { dids = k.dids; ending = k.ending; runs = k.runs; acts_are = refl; due_is = refl });
+        does = does_of (phases stock files (Rehearse n)) acts due answer old new (rehearsal_of_no_file k.dids k.ending) k.does;
+      }
+
+-- what holds of all files holds of those that are told
+pub of_told : (told : Option (List ℕ → Option (List ℕ))) (P : (List ℕ → Option (List ℕ)) → Type 0) → ((all : List ℕ → Option (List ℕ)) → P all) → IfSome told P
+of_told None P f = tt
+of_told (Some all) P f = f all
+
+pub rehearse_counts : (site : SiteData) (n : ℕ) (answer : Result (Unit {0}) Halt) (old new : Outside) (files : FilesSeen) → Rehearses site n answer old new → FileCounts answer files files
+rehearse_counts site n answer old new files k =
+    counts_of (rehearsal_acts site k.dids k.ending) (rehearsal_answer k.dids k.ending) answer old new files files (rehearsal_of_no_file k.dids k.ending) k.does (refl, refl)
+
+pub rehearse_faults : (site : SiteData) (n : ℕ) (answer : Result (Unit {0}) Halt) (old new : Outside) → Rehearses site n answer old new → SinkCounts answer old.out new.out
+rehearse_faults site n answer old new k = sink_of (rehearsal_acts site k.dids k.ending) (rehearsal_answer k.dids k.ending) answer old new k.does
+
+pub rehearse_logs : (site : SiteData) (n : ℕ) (answer : Result (Unit {0}) Halt) (old new : Outside) → Rehearses site n answer old new → VaultCounts answer old.vault new.vault
+rehearse_logs site n answer old new k = vault_of (rehearsal_acts site k.dids k.ending) (rehearsal_answer k.dids k.ending) answer old new k.does
+
 -- ---- there is an outcome, whatever the files hold
 
 pub some_outcome : (stock : List Meaning) (files : List ℕ → Option (List ℕ)) (command : Command) → Some_due (IsDueOf (phases stock files command) (IsDone files command))
 some_outcome stock files (Check definitions site) = some_due (phases stock files (Check definitions site)) (IsDone files (Check definitions site)) (some_check files definitions site)
 some_outcome stock files (Replay definitions site script) = some_due (phases stock files (Replay definitions site script)) (IsDone files (Replay definitions site script)) (some_done stock definitions site script files)
+some_outcome stock files (Rehearse n) = some_due (phases stock files (Rehearse n)) (IsDone files (Rehearse n)) (some_rehearsed stock n files)
 some_outcome stock files (Dump log) = some_due (phases stock files (Dump log)) (IsDone files (Dump log)) (some_dumped files log)
 
 -- ---- the status of what was done, and what is put with its last line
@@ -515,4 +576,5 @@ command_shelf (Some all) command asked answer status old new out out' e k h = su
     by_command : (c : Command) → CommandLeaves all c answer old new → ShelfAfter all (Some c) status old new
     by_command (Check definitions site) k = k
     by_command (Dump log) k = k
+    by_command (Rehearse n) k = shelf_status demo_site (first_halt (first_phases old demo_files definitions_name site_name)) answer status old new out out' k h
     by_command (Replay definitions site script) k = shelf_status (site_asked all definitions site) (first_halt (first_phases old all definitions site)) answer status old new out out' k h

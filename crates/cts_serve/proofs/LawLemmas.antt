@@ -16,6 +16,7 @@ use Rattle.cts_log.proofs.ReadOnce.{logs_are_read_once, no_head_no_read}
 use Rattle.cts_log.specs.Logged.{Logged}
 use Rattle.cts_log.specs.Reading.{IsLogRead}
 use Rattle.cts_proto.specs.Meaning.{Meaning}
+use Rattle.cts_rehearsal.specs.Generated.{generated}
 use Rattle.cts_words.specs.declared.fault.WordFault.{WordFault}
 use Rattle.cts_words.specs.declared.fault.WordFault.TheVariants as words
 use Rattle.cts_words.specs.declared.statement.Statement.{Statement}
@@ -23,12 +24,14 @@ use Rattle.cts_words.specs.Statements.{said}
 use Rattle.cts_serve.specs.Acts.{Act, Outside, puts}
 use Rattle.cts_serve.specs.Causes.{words_halt}
 use Rattle.cts_serve.specs.Command.{Answers, Completes, IsDone, IsDueOf, IsOutcome, Outcome, misused, outcome_of, phases}
+use Rattle.cts_serve.specs.Demo.{definitions_name, demo_files, demo_site, site_name}
 use Rattle.cts_serve.specs.Dump.{AreLines, IsDump, dump_answer, log_phase}
 use Rattle.cts_serve.specs.Endings.{halt_status}
-use Rattle.cts_serve.specs.Laws.{HasOneOutcome, HasOutcome, IsBadLog, IsShort, IsWholeLog, RefusedExactly, ShortExactly}
+use Rattle.cts_serve.specs.Laws.{HasOneOutcome, HasOutcome, IsBadLog, IsShort, IsShortOf, IsWholeLog, RefusedExactly, ShortExactly}
 use Rattle.cts_serve.specs.Load.{bytes_of, definitions_asked, definitions_phase, definitions_read, digest_asked, events_asked, script_phase, script_read, site_asked, site_phase, site_phases, site_read}
 use Rattle.cts_serve.specs.Load.Files.{file_limit, judge, judge_said, log_limit, verdict, within}
 use Rattle.cts_serve.specs.Phases.{Phase, file_halt, first_halt}
+use Rattle.cts_serve.specs.Rehearsal.{IsRehearsal, rehearsal_acts, rehearsal_answer}
 use Rattle.cts_serve.specs.Replay.{IsReplay, replay_acts, replay_answer}
 use Rattle.cts_serve.specs.Start.{shelf_phase, short_halt, short_kind}
 use Rattle.cts_serve.specs.Transcript.{events_of}
@@ -41,7 +44,7 @@ use Rattle.cts_serve.specs.declared.halt.file_kind.FileKind.TheVariants.{Configu
 use Rattle.cts_serve.specs.declared.halt.status.Status.{Status}
 use Rattle.cts_serve.specs.declared.halt.status.Status.TheVariants as is
 use Rattle.cts_serve.specs.declared.words.Command.{Command}
-use Rattle.cts_serve.specs.declared.words.Command.TheVariants.{Check, Replay, Dump}
+use Rattle.cts_serve.specs.declared.words.Command.TheVariants.{Check, Replay, Rehearse, Dump}
 use Rattle.cts_serve.proofs.CommandLemmas.{some_outcome}
 use Rattle.cts_serve.proofs.PhaseLemmas.{first_front, first_past, none_alone}
 
@@ -72,9 +75,18 @@ one_replay digest site script events acts other due answer h k =
       h.due_is ∙ (ap (λ (ds : List Did). replay_answer script events ds h.ending) same.0 ∙ (ap (λ (e : Ending). replay_answer script events k.dids e) same.1 ∙ sym k.due_is)),
     )
 
+-- and so have those of a rehearsal
+one_rehearsal : (site : SiteData) (n : ℕ) (acts other : List Act) (due answer : Result (Unit {0}) Halt) → IsRehearsal site n acts due → IsRehearsal site n other answer → Same acts other due answer
+one_rehearsal site n acts other due answer h k =
+    let same = has_one_run (site_environment site) (site_sound (basis_of site)) opening (generated n) h.dids k.dids h.ending k.ending h.runs k.runs in (
+      h.acts_are ∙ (ap (λ (ds : List Did). rehearsal_acts site ds h.ending) same.0 ∙ (ap (λ (e : Ending). rehearsal_acts site k.dids e) same.1 ∙ sym k.acts_are)),
+      h.due_is ∙ (ap (λ (ds : List Did). rehearsal_answer ds h.ending) same.0 ∙ (ap (λ (e : Ending). rehearsal_answer k.dids e) same.1 ∙ sym k.due_is)),
+    )
+
 one_done : (files : List ℕ → Option (List ℕ)) (command : Command) (acts other : List Act) (due answer : Result (Unit {0}) Halt) → IsDone files command acts due → IsDone files command other answer → Same acts other due answer
 one_done files (Check definitions site) acts other due answer h k = (h.0 ∙ sym k.0, h.1 ∙ sym k.1)
 one_done files (Replay definitions site script) acts other due answer h k = one_replay (digest_asked files definitions) (site_asked files definitions site) script (events_asked files (site_asked files definitions site) script) acts other due answer h k
+one_done files (Rehearse n) acts other due answer h k = one_rehearsal demo_site n acts other due answer h k
 one_done files (Dump log) acts other due answer h k = one_dump (bytes_of (files log)) acts other due answer h k
 
 one_by : (h : Option Halt) (files : List ℕ → Option (List ℕ)) (command : Command) (acts other : List Act) (due answer : Result (Unit {0}) Halt)
@@ -194,6 +206,14 @@ module _ (s : Status) (other : IsOther s) where
   of_replay : (digest : List ℕ) (site : SiteData) (script : List ℕ) (events : List (ℕ × Event)) (acts : List Act) (due : Result (Unit {0}) Halt) → IsReplay digest site script events acts due → Has due → ⊥
   of_replay digest site script events acts due r h = of_run script events r.dids r.ending (subst Has r.due_is h)
 
+  of_rehearsed : (dids : List Did) (ending : Ending) → Has (rehearsal_answer dids ending) → ⊥
+  of_rehearsed dids Finished h = other.ok h
+  of_rehearsed dids NotEnabled h = other.script_refused h
+  of_rehearsed dids HistoryFull h = other.history_full h
+
+  of_rehearsal : (site : SiteData) (n : ℕ) (acts : List Act) (due : Result (Unit {0}) Halt) → IsRehearsal site n acts due → Has due → ⊥
+  of_rehearsal site n acts due r h = of_rehearsed r.dids r.ending (subst Has r.due_is h)
+
   -- phases whose reasons all have another status
   of_phases : (first : Option Halt) (done : Type 0) (acts : List Act) (due : Result (Unit {0}) Halt) → Other first → (done → Has due → ⊥) → MatchOption first done (λ x. (acts ≡ []) × (due ≡ Err x)) → Has due → ⊥
   of_phases None done acts due k d m h = d m h
@@ -211,7 +231,9 @@ outcome_status acts due h o e f = ap (λ (t : Outcome). t.status) e ∙ ap (λ (
 
 -- ---- a shelf that is short
 
-module _ (stock : List Meaning) (files : List ℕ → Option (List ℕ)) (definitions site script : List ℕ) where
+-- phases in which a site is read and its world is made, and those after them, which never end so
+module _ (stock : List Meaning) (files : List ℕ → Option (List ℕ)) (definitions site : List ℕ) (after : List Phase) (done : List Act → Result (Unit {0}) Halt → Type 0)
+    (never : (acts : List Act) (due : Result (Unit {0}) Halt) → IsDueOf after done acts due → (outcome_of [] due).status ≡ is.ShelfEmpty → ⊥) where
   abbrev x : SiteData
   x = site_asked files definitions site
 
@@ -219,52 +241,50 @@ module _ (stock : List Meaning) (files : List ℕ → Option (List ℕ)) (defini
   before = site_phases files definitions site
 
   abbrev rest : List Phase
-  rest = shelf_phase stock x ∷ script_phase files x script ∷ []
-
-  abbrev Done : List Act → Result (Unit {0}) Halt → Type 0
-  Done acts due = IsDone files (Replay definitions site script) acts due
+  rest = shelf_phase stock x ∷ after
 
   abbrev Due : List Phase → List Act → Result (Unit {0}) Halt → Type 0
-  Due ps acts due = IsDueOf ps (IsDone files (Replay definitions site script)) acts due
+  Due ps acts due = IsDueOf ps done acts due
 
   -- after the phases before the shelf
   past_before : (acts : List Act) (due : Result (Unit {0}) Halt) → first_halt before ≡ None → Due (before ++ rest) acts due → Due rest acts due
-  past_before acts due e m = subst (λ (o : Option Halt). MatchOption o (Done acts due) (λ h. (acts ≡ []) × (due ≡ Err h))) (first_past before rest e) m
+  past_before acts due e m = subst (λ (o : Option Halt). MatchOption o (done acts due) (λ h. (acts ≡ []) × (due ≡ Err h))) (first_past before rest e) m
 
-  by_kind : (kind : Option Kind) (acts : List Act) (due : Result (Unit {0}) Halt) → short_kind stock x ≡ kind → first_halt before ≡ None → Due rest acts due → (outcome_of [] due).status ≡ is.ShelfEmpty → IsShort stock files (Some (Replay definitions site script))
-  by_kind (Some kind) acts due k e m h = record { definitions = definitions; site = site; script = script; asked_is = refl; taken = e; kind = kind; short = k }
+  by_kind : (kind : Option Kind) (acts : List Act) (due : Result (Unit {0}) Halt) → short_kind stock x ≡ kind → first_halt before ≡ None → Due rest acts due → (outcome_of [] due).status ≡ is.ShelfEmpty → IsShortOf stock files definitions site
+  by_kind (Some kind) acts due k e m h = record { taken = e; kind = kind; short = k }
   by_kind None acts due k e m h =
       let none : (shelf_phase stock x).halts ≡ None = ap (option_map (short_halt stock x)) k in
-      let m' = subst (λ (o : Option Halt). MatchOption o (Done acts due) (λ h. (acts ≡ []) × (due ≡ Err h))) (first_past (shelf_phase stock x ∷ []) (script_phase files x script ∷ []) (none_alone (shelf_phase stock x) none)) m in
-      absurd (of_phases is.ShelfEmpty shelf_is_other (first_halt (script_phase files x script ∷ [])) (Done acts due) acts due (of_script is.ShelfEmpty shelf_is_other files definitions site x script)
-      (λ d s. of_replay is.ShelfEmpty shelf_is_other (digest_asked files definitions) x script (events_asked files x script) acts due d s) m' h)
+      let m' = subst (λ (o : Option Halt). MatchOption o (done acts due) (λ h. (acts ≡ []) × (due ≡ Err h))) (first_past (shelf_phase stock x ∷ []) after (none_alone (shelf_phase stock x) none)) m in
+      absurd (never acts due m' h)
 
-  by_first : (first : Option Halt) (acts : List Act) (due : Result (Unit {0}) Halt) → first_halt before ≡ first → Other is.ShelfEmpty shelf_is_other first → Due (before ++ rest) acts due → (outcome_of [] due).status ≡ is.ShelfEmpty → IsShort stock files (Some (Replay definitions site script))
+  by_first : (first : Option Halt) (acts : List Act) (due : Result (Unit {0}) Halt) → first_halt before ≡ first → Other is.ShelfEmpty shelf_is_other first → Due (before ++ rest) acts due → (outcome_of [] due).status ≡ is.ShelfEmpty → IsShortOf stock files definitions site
   by_first None acts due e o m h = by_kind (short_kind stock x) acts due refl e (past_before acts due e m) h
   by_first (Some f) acts due e o m h = absurd (o (front_status acts due f e m h))
     where
       front_status : (acts : List Act) (due : Result (Unit {0}) Halt) (f : Halt) → first_halt before ≡ Some f → Due (before ++ rest) acts due → (outcome_of [] due).status ≡ is.ShelfEmpty → halt_status f ≡ is.ShelfEmpty
       front_status acts due f e m h =
-          let m' = subst (λ (o : Option Halt). MatchOption o (Done acts due) (λ y. (acts ≡ []) × (due ≡ Err y))) (first_front before rest f e) m in
+          let m' = subst (λ (o : Option Halt). MatchOption o (done acts due) (λ y. (acts ≡ []) × (due ≡ Err y))) (first_front before rest f e) m in
           sym (ap (λ (d : Result (Unit {0}) Halt). (outcome_of [] d).status) m'.1) ∙ h
 
-  short_where : (o : Outcome) → IsOutcome stock files (Some (Replay definitions site script)) o → o.status ≡ is.ShelfEmpty → IsShort stock files (Some (Replay definitions site script))
-  short_where o h e = by_first (first_halt before) h.acts h.due refl (of_site is.ShelfEmpty shelf_is_other files definitions site) h.is (has_status is.ShelfEmpty shelf_is_other h.acts h.due o h.outcome e)
+  short_where : (acts : List Act) (due : Result (Unit {0}) Halt) → Due (before ++ rest) acts due → (outcome_of [] due).status ≡ is.ShelfEmpty → IsShortOf stock files definitions site
+  short_where acts due m h = by_first (first_halt before) acts due refl (of_site is.ShelfEmpty shelf_is_other files definitions site) m h
 
-  short_told : (o : Outcome) (kind : Kind) → IsOutcome stock files (Some (Replay definitions site script)) o → first_halt before ≡ None → short_kind stock x ≡ Some kind → o.status ≡ is.ShelfEmpty
-  short_told o kind h e k =
-      let short : first_halt rest ≡ Some (short_halt stock x kind) = ap (λ (t : Option Kind). option_or (option_map (short_halt stock x) t) (first_halt (script_phase files x script ∷ []))) k in
-      let m = subst (λ (t : Option Halt). MatchOption t (Done h.acts h.due) (λ y. (h.acts ≡ []) × (h.due ≡ Err y))) (first_past before rest e ∙ short) h.is in
-      outcome_status h.acts h.due (short_halt stock x kind) o h.outcome m.1
+  short_told : (acts : List Act) (due : Result (Unit {0}) Halt) (o : Outcome) → o ≡ outcome_of acts due → Due (before ++ rest) acts due → IsShortOf stock files definitions site → o.status ≡ is.ShelfEmpty
+  short_told acts due o e m s =
+      let short : first_halt rest ≡ Some (short_halt stock x s.kind) = ap (λ (t : Option Kind). option_or (option_map (short_halt stock x) t) (first_halt after)) s.short in
+      let m' = subst (λ (t : Option Halt). MatchOption t (done acts due) (λ y. (acts ≡ []) × (due ≡ Err y))) (first_past before rest s.taken ∙ short) m in
+      outcome_status acts due (short_halt stock x s.kind) o e m'.1
 
-same_replay : (a b c d e f : List ℕ) → Some (Replay a b c) ≡ Some (Replay d e f) → (a ≡ d) × (b ≡ e) × (c ≡ f)
-same_replay a b c d e f same = (cc same, cc same, cc same)
+-- after the shelf a replay reads its script, and a rehearsal nothing
+replay_never : (files : List ℕ → Option (List ℕ)) (definitions site script : List ℕ) (acts : List Act) (due : Result (Unit {0}) Halt)
+    → IsDueOf (script_phase files (site_asked files definitions site) script ∷ []) (IsDone files (Replay definitions site script)) acts due → (outcome_of [] due).status ≡ is.ShelfEmpty → ⊥
+replay_never files definitions site script acts due m h =
+    let y = site_asked files definitions site in
+    of_phases is.ShelfEmpty shelf_is_other (first_halt (script_phase files y script ∷ [])) (IsDone files (Replay definitions site script) acts due) acts due (of_script is.ShelfEmpty shelf_is_other files definitions site y script)
+    (λ d s. of_replay is.ShelfEmpty shelf_is_other (digest_asked files definitions) y script (events_asked files y script) acts due d s) m h
 
-no_replay_checked : (a b c d e : List ℕ) → Some (Check a b) ≡ Some (Replay c d e) → ⊥
-no_replay_checked a b c d e same = absurd (cc same)
-
-no_replay_dumped : (a c d e : List ℕ) → Some (Dump a) ≡ Some (Replay c d e) → ⊥
-no_replay_dumped a c d e same = absurd (cc same)
+rehearsal_never : (files : List ℕ → Option (List ℕ)) (n : ℕ) (acts : List Act) (due : Result (Unit {0}) Halt) → IsDueOf [] (IsDone files (Rehearse n)) acts due → (outcome_of [] due).status ≡ is.ShelfEmpty → ⊥
+rehearsal_never files n acts due m h = of_rehearsal is.ShelfEmpty shelf_is_other demo_site n acts due m h
 
 -- a dump asks no shelf
 dumped_status : (file : List ℕ) (acts : List Act) (due : Result (Unit {0}) Halt) → IsDump file acts due → (outcome_of [] due).status ≢ is.ShelfEmpty
@@ -289,23 +309,26 @@ no_shelf_dumped files log acts due m =
     of_log (Some bytes) = by_size bytes (nat_lt log_limit (length bytes)) refl
 
 pub short_exactly : ShortExactly
-short_exactly stock files None o h = (λ e. absurd (cc (sym (ap (λ (t : Outcome). t.status) h) ∙ e)), λ s. absurd (cc (s.asked_is)))
+short_exactly stock files None o h = (λ e. absurd (cc (sym (ap (λ (t : Outcome). t.status) h) ∙ e)), λ s. absurd s)
 short_exactly stock files (Some (Check definitions site)) o h = (
   λ e. absurd (of_check is.ShelfEmpty shelf_is_other files definitions site h.acts h.due h.is (has_status is.ShelfEmpty shelf_is_other h.acts h.due o h.outcome e)),
-  λ s. absurd (no_replay_checked definitions site s.definitions s.site s.script s.asked_is),
+  λ s. absurd s,
 )
 short_exactly stock files (Some (Dump log)) o h = (
   λ e. absurd (no_shelf_dumped files log h.acts h.due h.is (has_status is.ShelfEmpty shelf_is_other h.acts h.due o h.outcome e)),
-  λ s. absurd (no_replay_dumped log s.definitions s.site s.script s.asked_is),
+  λ s. absurd s,
 )
-short_exactly stock files (Some (Replay definitions site script)) o h = (
-  λ e. short_where stock files definitions site script o h e,
-  λ s.
-      let same = same_replay definitions site script s.definitions s.site s.script s.asked_is in
-      let taken : first_halt (before stock files definitions site script) ≡ None = rw (same.0, same.1) s.taken in
-      let short : short_kind stock (site_asked files definitions site) ≡ Some s.kind = rw (same.0, same.1) s.short in
-      short_told stock files definitions site script o s.kind h taken short,
-)
+short_exactly stock files (Some (Replay definitions site script)) o h =
+    let done = IsDone files (Replay definitions site script) in
+    let after = script_phase files (site_asked files definitions site) script ∷ [] in (
+      λ e. short_where stock files definitions site after done (replay_never files definitions site script) h.acts h.due h.is (has_status is.ShelfEmpty shelf_is_other h.acts h.due o h.outcome e),
+      λ s. short_told stock files definitions site after done (replay_never files definitions site script) h.acts h.due o h.outcome h.is s,
+    )
+short_exactly stock files (Some (Rehearse n)) o h =
+    let done = IsDone files (Rehearse n) in (
+      λ e. short_where stock demo_files definitions_name site_name [] done (rehearsal_never files n) h.acts h.due h.is (has_status is.ShelfEmpty shelf_is_other h.acts h.due o h.outcome e),
+      λ s. short_told stock demo_files definitions_name site_name [] done (rehearsal_never files n) h.acts h.due o h.outcome h.is s,
+    )
 
 -- ---- a log that is refused
 
@@ -399,6 +422,20 @@ replay_not_log stock files definitions site script acts due m =
     (other_or s other (shelf_phase stock y).halts _ (no_log_short stock y (short_kind stock y)) (of_script s other files definitions site y script))))
     (λ d e. of_replay s other (digest_asked files definitions) y script (events_asked files y script) acts due d e) m
 
+no_log_rehearsed : (n : ℕ) (d : List ℕ) → Some (Rehearse n) ≡ Some (Dump d) → ⊥
+no_log_rehearsed n d same = absurd (cc same)
+
+rehearsal_not_log : (stock : List Meaning) (files : List ℕ → Option (List ℕ)) (n : ℕ) (acts : List Act) (due : Result (Unit {0}) Halt)
+    → IsDueOf (phases stock files (Rehearse n)) (IsDone files (Rehearse n)) acts due → (outcome_of [] due).status ≢ is.LogRefused
+rehearsal_not_log stock files n acts due m =
+    let s = is.LogRefused in
+    let other = log_is_other in
+    of_phases s other (first_halt (phases stock files (Rehearse n))) (IsDone files (Rehearse n) acts due) acts due
+    (other_or s other (definitions_phase demo_files definitions_name).halts _ (of_file s other Configuration definitions_name definitions_read (demo_files definitions_name))
+    (other_or s other (site_phase demo_files (definitions_asked demo_files definitions_name) site_name).halts _ (of_file s other Configuration site_name (site_read (definitions_asked demo_files definitions_name)) (demo_files site_name))
+    (other_or s other (shelf_phase stock demo_site).halts _ (no_log_short stock demo_site (short_kind stock demo_site)) tt)))
+    (λ d e. of_rehearsal s other demo_site n acts due d e) m
+
 pub refused_exactly : RefusedExactly
 refused_exactly stock files None o h = (λ e. absurd (cc (sym (ap (λ (t : Outcome). t.status) h) ∙ e)), λ b. absurd (cc (b.asked_is)))
 refused_exactly stock files (Some (Check definitions site)) o h = (
@@ -408,6 +445,10 @@ refused_exactly stock files (Some (Check definitions site)) o h = (
 refused_exactly stock files (Some (Replay definitions site script)) o h = (
   λ e. absurd (replay_not_log stock files definitions site script h.acts h.due h.is (has_status is.LogRefused log_is_other h.acts h.due o h.outcome e)),
   λ b. absurd (no_log_replayed definitions site script b.log b.asked_is),
+)
+refused_exactly stock files (Some (Rehearse n)) o h = (
+  λ e. absurd (rehearsal_not_log stock files n h.acts h.due h.is (has_status is.LogRefused log_is_other h.acts h.due o h.outcome e)),
+  λ b. absurd (no_log_rehearsed n b.log b.asked_is),
 )
 refused_exactly stock files (Some (Dump log)) o h = (
   λ e. bad_log files log h.acts h.due (files log) refl h.is (has_status is.LogRefused log_is_other h.acts h.due o h.outcome e),

@@ -4,6 +4,7 @@ pub mod LoadLemmas
 pub mod EndingLemmas
 pub mod StoryLemmas
 pub mod ReplayLemmas
+pub mod RehearsalLemmas
 pub mod MomentLemmas
 pub mod LogLemmas
 pub mod DumpLemmas

@@ -1,5 +1,5 @@
 -- At which of its phases a command halts.
-use Rattle.std.proofs.Common.{◌≡◌, ℕ, false, List, [], ◌∷◌, ◌++◌, Option, Some, None, Result, Ok, Err, refl, ◌∙◌, ap, subst, inl, inr}
+use Rattle.std.proofs.Common.{◌≡◌, ℕ, false, List, [], ◌∷◌, ◌++◌, Option, Some, None, Result, Ok, Err, refl, ◌∙◌, ap, subst, arith, inl, inr}
 use Rattle.std.specs.Option.{option_or}
 use Rattle.cts_outside.specs.Causes.{Rose}
 use Rattle.cts_outside.specs.Seen.{FilesSeen, SinkSeen, VaultSeen}
@@ -155,6 +155,18 @@ load_logs (halt.Refused name kind line cause) files files' vault k = refl
 load_logs (halt.ShelfEmpty kind needed stocked) files files' vault k = refl
 load_logs (halt.HistoryFull entries bytes) files files' vault k = refl
 load_logs (halt.LogRefused place) files files' vault k = refl
+
+-- files that never fail and have every name
+pub sure_counts : (h : Halt) (told : Option (List ℕ → Option (List ℕ))) (files : FilesSeen) → LoadHalts h (record { told = told; faults = 0; absences = 0 }) (record { told = told; faults = 0; absences = 0 }) → HaltCounts h files files
+sure_counts halt.Memory told files k = (refl, refl)
+sure_counts (halt.ReadFault name) told files k = absurd (omega (arith, k.0.1))
+sure_counts (halt.Absent name) told files k = absurd (omega (arith, k.1.1))
+sure_counts halt.WriteFault told files k = absurd k
+sure_counts halt.LogFault told files k = absurd k
+sure_counts (halt.Refused name kind line cause) told files k = (refl, refl)
+sure_counts (halt.ShelfEmpty kind needed stocked) told files k = (refl, refl)
+sure_counts (halt.HistoryFull entries bytes) told files k = (refl, refl)
+sure_counts (halt.LogRefused place) told files k = (refl, refl)
 
 -- what is no fault of the outside leaves all counts
 pub load_stays : (h : Halt) (files mid : FilesSeen) → is_fault h ≡ false → IsFound files mid → LoadHalts h files mid

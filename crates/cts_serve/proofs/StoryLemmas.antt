@@ -1,5 +1,5 @@
 -- What a story tells of an event, from what the world and the follower say.
-use Rattle.std.proofs.Common.{◌≡◌, ℕ, ◌-◌, ◌≤◌, nat_le, true, ◌++◌, List, length, take, drop, None, Result, Ok, Err, sym, ◌∙◌, ap, subst, arith, length-append, length-drop}
+use Rattle.std.proofs.Common.{◌≡◌, ℕ, ◌-◌, ◌≤◌, nat_le, true, ◌++◌, List, [], ◌∷◌, length, take, drop, filter, None, Result, Ok, Err, refl, sym, ◌∙◌, ap, subst, arith, length-append, length-drop}
 use Rattle.std.proofs.Math.Seq.{drop-append_seam, take-append_seam, take-length}
 use Rattle.std.proofs.lemmas.Bool.Decides.{nat_tests}
 use Rattle.cts_core.specs.Endings.{HasPassed, LogPasses, WorldData, held_in, lasting}
@@ -16,14 +16,35 @@ use Rattle.cts_entry.specs.declared.event.Effect.TheVariants.{Logged}
 use Rattle.cts_entry.specs.declared.event.Event.{Event}
 use Rattle.cts_entry.specs.declared.event.Event.TheVariants.{DrainLog}
 use Rattle.cts_script.specs.Effects.{effect_line}
-use Rattle.cts_serve.specs.Story.{Drains, Stands, StoryData, Tells}
+use Rattle.cts_serve.specs.Story.{Drains, Goes, Moves, Stands, StoryData, Tells}
 use Rattle.cts_serve.specs.Transcript.{event_text, lines_of}
 use Rattle.cts_table.specs.declared.basis.Basis.{Basis}
+use Rattle.cts_watch.specs.Events.{is_from}
 use Rattle.cts_watch.specs.Following.{FollowerData, Follows}
+use Rattle.cts_watch.specs.declared.types.LimitsEvent.{LimitsEvent as Change}
 
 -- the site of the basis that a story stands on is its site
 pub site_is : (site : SiteData) (s : State) (story : StoryData) → Stands site s story → (held_in story.world).basis.site ≡ site
 site_is site s story h = ap (λ (b : Basis). b.site) h.represents.basis
+
+-- all limits events are at entry 0 or later
+pub all_from : (changes : List Change) → filter (is_from 0) changes ≡ changes
+all_from [] = refl
+all_from (c ∷ changes) =
+    let below : nat_le 0 c.at ≡ true = grind (arith, nat_tests) in
+    rw below (ap (λ (t : List Change). c ∷ t) (all_from changes))
+
+-- a story whose history is followed goes on
+pub goes_of : (site : SiteData) (s : State) (story : StoryData) → Stands site s story → Goes site s story
+goes_of site s story h = record { represents = h.represents; going = h.going; passed = h.passed }
+
+-- an event was done without its text, or not
+pub moved : (site : SiteData) (s : State) (event : Event) (old : StoryData) (world : WorldData) (result : Result Effect WorldFault)
+    → Steps (basis_of site) s event (held_in old.world) result (held_in world) → LogPasses s event result world → world.ended ≡ lasting result → Moves site s event result (record { world = world; follower = old.follower })
+moved site s event old world (Ok effect) k p e = (k.0, k.1, k.2, record { represents = k.3; going = e; passed = p })
+moved site s event old world (Err fault.NotEnabled) k p e = k.0
+moved site s event old world (Err (fault.Full entries bytes)) k p e = (k.0, k.1, k.2)
+moved site s event old world (Err fault.Memory) k p e = tt
 
 -- nothing was done
 pub refused_tells : (site : SiteData) (s : State) (event : Event) (old : StoryData) (world : WorldData) (why : WorldFault)

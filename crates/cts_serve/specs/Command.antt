@@ -6,12 +6,14 @@ use Rattle.cts_outside.specs.Causes.{Rose}
 use Rattle.cts_outside.specs.Seen.{FilesSeen, SinkSeen, VaultSeen}
 use Rattle.cts_def.specs.Sites.{SiteData}
 use Rattle.cts_proto.specs.Meaning.{Meaning}
+use Rattle.cts_serve.specs.Demo.{definitions_name, demo_files, demo_site, site_name}
 use Rattle.cts_serve.specs.Dump.{IsDump, log_phase}
 use Rattle.cts_serve.specs.Endings.{halt_line, halt_status}
 use Rattle.cts_serve.specs.Acts.{Act, AreDone, DoesAll, EndsWith, LogFails, Outside, PutFails, puts}
 use Rattle.cts_serve.specs.Lines.{log_fault_line, memory_line, read_fault_line, counts_line, usage_line}
 use Rattle.cts_serve.specs.Load.{bytes_of, digest_asked, events_asked, script_phase, site_asked, site_phases}
 use Rattle.cts_serve.specs.Phases.{IsRead, Phase, first_halt}
+use Rattle.cts_serve.specs.Rehearsal.{IsRehearsal}
 use Rattle.cts_serve.specs.Replay.{IsReplay}
 use Rattle.cts_serve.specs.Start.{shelf_phase}
 use Rattle.cts_serve.specs.declared.halt.Halt.{Halt}
@@ -19,14 +21,19 @@ use Rattle.cts_serve.specs.declared.halt.Halt.TheVariants as halt
 use Rattle.cts_serve.specs.declared.halt.status.Status.{Status}
 use Rattle.cts_serve.specs.declared.halt.status.Status.TheVariants.{Ok as Fine, Memory, Usage, ReadFault, Absent, WriteFault, LogFault}
 use Rattle.cts_serve.specs.declared.words.Command.{Command}
-use Rattle.cts_serve.specs.declared.words.Command.TheVariants.{Check, Replay, Dump}
+use Rattle.cts_serve.specs.declared.words.Command.TheVariants.{Check, Replay, Rehearse, Dump}
 
 -- ---- the phases of each command, in order, and what is done where it halts at none of them
+
+-- those up to the making of a world, in which its site is read and its boxes are taken
+abbrev pub first_phases : List Meaning → (List ℕ → Option (List ℕ)) → List ℕ → List ℕ → List Phase
+first_phases stock files definitions site = site_phases files definitions site ++ shelf_phase stock (site_asked files definitions site) ∷ []
 
 abbrev pub phases : List Meaning → (List ℕ → Option (List ℕ)) → Command → List Phase
 phases stock files (Check definitions site) = site_phases files definitions site
 phases stock files (Replay definitions site script) =
     site_phases files definitions site ++ shelf_phase stock (site_asked files definitions site) ∷ script_phase files (site_asked files definitions site) script ∷ []
+phases stock files (Rehearse number) = first_phases stock demo_files definitions_name site_name
 phases stock files (Dump log) = log_phase files log ∷ []
 
 -- what a command does outside before its last line, and how it ends
@@ -34,6 +41,7 @@ abbrev pub IsDone : (List ℕ → Option (List ℕ)) → Command → List Act �
 IsDone files (Check definitions site) acts due = (acts ≡ puts (counts_line (site_asked files definitions site))) × (due ≡ Ok tt)
 IsDone files (Replay definitions site script) acts due =
     IsReplay (digest_asked files definitions) (site_asked files definitions site) script (events_asked files (site_asked files definitions site) script) acts due
+IsDone files (Rehearse number) acts due = IsRehearsal demo_site number acts due
 IsDone files (Dump log) acts due = IsDump (bytes_of (files log)) acts due
 
 -- ---- what a command does
@@ -137,10 +145,6 @@ pub record IsCaused (status : Status) (files files' : FilesSeen) (out out' : Sin
 
 -- ---- the shelf
 
--- the phases of a replay up to the making of its world
-abbrev pub first_phases : List Meaning → (List ℕ → Option (List ℕ)) → List ℕ → List ℕ → List Phase
-first_phases stock files definitions site = site_phases files definitions site ++ shelf_phase stock (site_asked files definitions site) ∷ []
-
 -- What is left of a shelf where these phases have that reason to halt, or none. With a reason it is as it was. Without one the boxes of all
 -- chains of the site are gone, and no others; where memory ran out or a read failed that may have come before.
 abbrev pub ShelfBy : SiteData → Option Halt → Result (Unit {0}) Halt → List Meaning → List Meaning → Type 0
@@ -159,17 +163,25 @@ ShelfAt site None status old new = Taken old (line_uses site) new
 abbrev pub LeavesShelf : (List ℕ → Option (List ℕ)) → List ℕ → List ℕ → Result (Unit {0}) Halt → List Meaning → List Meaning → Type 0
 LeavesShelf files definitions site answer old new = ShelfBy (site_asked files definitions site) (first_halt (first_phases old files definitions site)) answer old new
 
--- only a replay takes boxes
+-- only a replay and a rehearsal take boxes
 abbrev pub CommandLeaves : (List ℕ → Option (List ℕ)) → Command → Result (Unit {0}) Halt → List Meaning → List Meaning → Type 0
 CommandLeaves files (Check definitions site) answer old new = new ≡ old
 CommandLeaves files (Replay definitions site script) answer old new = LeavesShelf files definitions site answer old new
+CommandLeaves files (Rehearse number) answer old new = LeavesShelf demo_files definitions_name site_name answer old new
 CommandLeaves files (Dump log) answer old new = new ≡ old
 
 abbrev pub ShelfAfter : (List ℕ → Option (List ℕ)) → Option Command → Status → List Meaning → List Meaning → Type 0
 ShelfAfter files (Some (Replay definitions site script)) status old new = ShelfAt (site_asked files definitions site) (first_halt (first_phases old files definitions site)) status old new
+ShelfAfter files (Some (Rehearse number)) status old new = ShelfAt demo_site (first_halt (first_phases old demo_files definitions_name site_name)) status old new
 ShelfAfter files asked status old new = new ≡ old
 
 -- a command makes a world
 abbrev pub makes_world : Option Command → Bool
 makes_world (Some (Replay definitions site script)) = true
+makes_world (Some (Rehearse number)) = true
 makes_world asked = false
+
+-- a command keeps packet logs
+abbrev pub keeps_logs : Option Command → Bool
+keeps_logs (Some (Replay definitions site script)) = true
+keeps_logs asked = false

@@ -10,13 +10,14 @@ use Rattle.cts_outside.specs.declared.vault.LogKind.{LogKind as Kept}
 use Rattle.cts_proto.specs.Meaning.{Meaning}
 use Rattle.cts_serve.specs.Acts.{Act, Outside, after_acts, logged_of, puts, syncs, text_of}
 use Rattle.cts_serve.specs.Command.{Outcome, IsOutcome}
+use Rattle.cts_serve.specs.Demo.{definitions_name, demo_files, site_name}
 use Rattle.cts_serve.specs.Load.{site_asked, site_phases}
 use Rattle.cts_serve.specs.Load.Files.{log_limit}
 use Rattle.cts_serve.specs.Phases.{first_halt}
 use Rattle.cts_serve.specs.Start.{short_kind}
 use Rattle.cts_serve.specs.declared.halt.status.Status.TheVariants.{LogRefused, ShelfEmpty}
 use Rattle.cts_serve.specs.declared.words.Command.{Command}
-use Rattle.cts_serve.specs.declared.words.Command.TheVariants.{Dump, Replay}
+use Rattle.cts_serve.specs.declared.words.Command.TheVariants.{Dump, Rehearse, Replay}
 
 -- a command has one outcome, for a shelf with these boxes and files with this content
 abbrev pub HasOneOutcome : Type 0
@@ -26,15 +27,17 @@ HasOneOutcome = (stock : List Meaning) (files : List ℕ → Option (List ℕ)) 
 abbrev pub HasOutcome : Type 0
 HasOutcome = (stock : List Meaning) (files : List ℕ → Option (List ℕ)) (asked : Option Command) → (o : Outcome) × IsOutcome stock files asked o
 
--- A replay is asked for whose definitions and site are taken, and the chains of this site need more boxes of a kind than there are.
-pub record IsShort (stock : List Meaning) (files : List ℕ → Option (List ℕ)) (asked : Option Command) : Type 0 where
-  pub definitions : List ℕ
-  pub site : List ℕ
-  pub script : List ℕ
-  pub asked_is : asked ≡ Some (Replay definitions site script)
+-- Definitions and a site are taken, and the chains of this site need more boxes of a kind than there are.
+pub record IsShortOf (stock : List Meaning) (files : List ℕ → Option (List ℕ)) (definitions site : List ℕ) : Type 0 where
   pub taken : first_halt (site_phases files definitions site) ≡ None
   pub kind : Kind
   pub short : short_kind stock (site_asked files definitions site) ≡ Some kind
+
+-- A replay of such a site is asked for, or a rehearsal, and the demo's site is such.
+abbrev pub IsShort : List Meaning → (List ℕ → Option (List ℕ)) → Option Command → Type 0
+IsShort stock files (Some (Replay definitions site script)) = IsShortOf stock files definitions site
+IsShort stock files (Some (Rehearse number)) = IsShortOf stock demo_files definitions_name site_name
+IsShort stock files asked = ⊥
 
 -- the outcome has the status of a shelf that is short exactly there
 abbrev pub ShortExactly : Type 0

@@ -10,7 +10,9 @@ pub mod Acts
 pub mod Transcript
 pub mod Story
 pub mod Start
+pub mod Demo
 pub mod Replay
+pub mod Rehearsal
 pub mod Dump
 pub mod Command
 pub mod Laws

@@ -30,6 +30,19 @@ pub record Stands (site : SiteData) (s : State) (story : StoryData) : Type 0 whe
   pub passed : HasPassed story.world s
   pub follows : Follows site s.history story.follower
 
+-- The same of the world alone: what follows its history may stay behind.
+pub record Goes (site : SiteData) (s : State) (story : StoryData) : Type 0 where
+  pub represents : Represents site (held_in story.world) s
+  pub going : GoesOn story.world
+  pub passed : HasPassed story.world s
+
+-- What an event gives that is done without its text, or why it is not done.
+abbrev pub Moves : SiteData → State → Event → Result Effect WorldFault → StoryData → Type 0
+Moves site s event (Ok effect) story = (did : Did) × Does (site_environment site) s event did × (effect ≡ did.effect) × Goes site (after s event did) story
+Moves site s event (Err RefusedEvent) story = Refuses (site_environment site) s event NotEnabled
+Moves site s event (Err (Full entries bytes)) story = Refuses (site_environment site) s event HistoryFull × (entries ≡ entries_in s.history) × (bytes ≡ bytes_in s.history)
+Moves site s event (Err Memory) story = Unit {0}
+
 -- What a story tells of an event: the text of what it did, and what it gave besides. Where it is not enabled, or the history is full, nothing is done.
 abbrev pub Tells : SiteData → State → Event → Result (List ℕ × Effect) WorldFault → StoryData → Type 0
 Tells site s event (Ok told) story =

@@ -2,7 +2,7 @@
 ghost use Rattle.std.specs.Prelude.{◌≡◌, ◌≤◌, ◌↔◌, ◌⊎◌, false, map, IfSome, None, Some};
 ghost use Rattle.cts_outside.specs.Causes.{Rose, Steady};
 ghost use Rattle.cts_serve.specs.Acts.{outside};
-ghost use Rattle.cts_serve.specs.Command.{Answers, CommandLeaves, Completes, Performs, ShelfAfter, makes_world};
+ghost use Rattle.cts_serve.specs.Command.{Answers, CommandLeaves, Completes, Performs, ShelfAfter, keeps_logs, makes_world};
 ghost use Rattle.cts_serve.specs.Laws.{IsBadLog, IsShort};
 ghost use Rattle.cts_serve.specs.Lines.{usage_line};
 ghost use Rattle.cts_serve.specs.Phases.{FileCounts};
@@ -14,6 +14,7 @@ use crate::dump::dump;
 use crate::halt::Halt;
 use crate::halt::ending::{end, end_misused};
 use crate::halt::status::Status;
+use crate::rehearse::rehearse;
 use crate::replay::replay;
 use crate::words::{Command, read_words};
 use cts_core::{Framer, Supplier};
@@ -24,9 +25,10 @@ use std::alloc::Global;
 /// the packet logs, and answers how it ended.
 ///
 /// The words are those after the program's name: `check DEFS SITE` reads definitions and a site, and
-/// puts how much they have; `replay DEFS SITE SCRIPT` does the events of a script, and writes both packet logs to the vault; `dump LOG` puts the
-/// entries of a log file. Other words are `Usage`. The boxes of the protocols of all chains of a replayed site are taken from the shelf,
-/// before its script is read. The program's chains and shelf are `Chain` of `cts_chain` and `Shelf` of
+/// puts how much they have; `replay DEFS SITE SCRIPT` does the events of a script, and writes both packet logs to the vault;
+/// `rehearse N` does the events that are made from a number from 1 to 1,000,000 in the world of the demo's site, and puts eight lines
+/// of what they were; `dump LOG` puts the entries of a log file. Other words are `Usage`. The boxes of the protocols of all chains of a site whose world is made are taken from the shelf,
+/// before a script is read. The program's chains and shelf are `Chain` of `cts_chain` and `Shelf` of
 /// `cts_proto`; it is written over any, since a function that is lent boxes may not make a world of them.
 pub fn run<C: Framer, B: Supplier<C>, F: Files, O: Sink, V: Vault>(
     alloc: Global,
@@ -59,10 +61,10 @@ pub fn run<C: Framer, B: Supplier<C>, F: Files, O: Sink, V: Vault>(
     // And there no other status comes, where no count rose, but want of memory.
     ensures shelf { Steady (F.seen files.old).faults (F.seen files.new).faults → Steady (O.seen out.old).faults (O.seen out.new).faults → Steady (V.seen vault.old).faults (V.seen vault.new).faults
         → IfSome (F.seen files.old).told (λ all. IsShort (B.stock shelf.old) all (asked (map (λ w. w.now) words.now)) → (result ≡ Status.ShelfEmpty) ⊎ (result ≡ Status.Memory)) }
-    // A command that makes no world leaves the shelf and the vault.
+    // A command that makes no world leaves the shelf, and one that keeps no logs the vault.
     ensures untouched { makes_world (asked (map (λ w. w.now) words.now)) ≡ false → B.stock shelf.new ≡ B.stock shelf.old }
-    ensures idle { makes_world (asked (map (λ w. w.now) words.now)) ≡ false → V.seen vault.new ≡ V.seen vault.old }
-    // A replay that halts before its world is made leaves it too; and else exactly the boxes of all chains of its site are gone.
+    ensures idle { keeps_logs (asked (map (λ w. w.now) words.now)) ≡ false → V.seen vault.new ≡ V.seen vault.old }
+    // A replay or rehearsal that halts before its world is made leaves it too; and else exactly the boxes of all chains of its site are gone.
     ensures boxes { IfSome (F.seen files.old).told (λ all. ShelfAfter all (asked (map (λ w. w.now) words.now)) result (B.stock shelf.old) (B.stock shelf.new)) }
     // Only where a dump is asked for of a file that is too large, or is no head with whole entries alone after it.
     ensures refused { result ≡ Status.LogRefused → IfSome (F.seen files.old).told (λ all. IsBadLog all (asked (map (λ w. w.now) words.now))) }
@@ -99,7 +101,7 @@ fn perform<'a, C: Framer, B: Supplier<C>, F: Files, O: Sink, V: Vault>(
     ensures vault { VaultCounts result (V.seen vault.old) (V.seen vault.new) }
     ensures performs { IfSome (F.seen files.old).told (λ all. Performs (B.stock shelf.old) all command.now result (outside (O.seen out.old) (V.seen vault.old)) (outside (O.seen out.new) (V.seen vault.new))) }
     ensures untouched { makes_world (Some command.now) ≡ false → B.stock shelf.new ≡ B.stock shelf.old }
-    ensures idle { makes_world (Some command.now) ≡ false → V.seen vault.new ≡ V.seen vault.old }
+    ensures idle { keeps_logs (Some command.now) ≡ false → V.seen vault.new ≡ V.seen vault.old }
     ensures boxes { IfSome (F.seen files.old).told (λ all. CommandLeaves all command.now result (B.stock shelf.old) (B.stock shelf.new)) }
 {
     match command {
@@ -109,6 +111,7 @@ fn perform<'a, C: Framer, B: Supplier<C>, F: Files, O: Sink, V: Vault>(
             site,
             script,
         } => replay::<C, B, F, O, V>(alloc, definitions, site, script, shelf, files, out, vault),
+        Command::Rehearse { number } => rehearse::<C, B, O>(alloc, *number, shelf, out),
         Command::Dump { log } => dump(alloc, log, files, out),
     }
 }

@@ -3,6 +3,7 @@
 
 mod check;
 mod command;
+mod demo;
 mod digest;
 mod dump;
 mod file_name;
@@ -11,6 +12,7 @@ mod keeping;
 mod laws;
 mod load;
 mod putting;
+mod rehearse;
 mod replay;
 mod story;
 mod words;

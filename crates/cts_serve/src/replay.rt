@@ -63,8 +63,8 @@ pub fn replay<'a, C: Framer, B: Supplier<C>, F: Files, O: Sink, V: Vault>(
     }
 }
 
-// Begins the story of a site.
-fn begin<'a, C: Framer, B: Supplier<C>>(
+/// Begins the story of a site.
+pub fn begin<'a, C: Framer, B: Supplier<C>>(
     alloc: Global,
     site: Site,
     shelf: &mut B,
@@ -187,8 +187,8 @@ fn do_told<O: Sink, V: Vault>(
     }
 }
 
-// Why a replay halts at the event of this line.
-fn event_halt<'a>(script: &FileName<'a>, line: u32, fault: WorldFault) -> Halt<'a>
+/// Why a replay halts at the event of this line.
+pub fn event_halt<'a>(script: &FileName<'a>, line: u32, fault: WorldFault) -> Halt<'a>
     ensures { result ≡ event_halt script.now line fault }
 {
     match fault {

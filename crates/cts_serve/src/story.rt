@@ -5,12 +5,12 @@ use cts_base::{Bytes, Memory};
 use cts_chain::ChainFault;
 use cts_core::{Framer, Supplier, World, WorldFault};
 use cts_def::Site;
-use cts_entry::{Effect, Event};
+use cts_entry::{Effect, Entry, Event};
 use cts_watch::Follower;
 use std::alloc::Global;
 use std::marker::Model;
 use std::sync::Arc;
-use text::event_text;
+use text::{changes_from, event_text};
 
 /// The world of a site, and what follows its history.
 #[derive(Drop)]
@@ -35,7 +35,8 @@ impl<C: Framer> Story<C> {
     ghost use Rattle.cts_core.specs.States.{State, opening};
     ghost use Rattle.cts_def.specs.Sites.{SiteData};
     ghost use Rattle.cts_serve.specs.Start.{short_kind};
-    ghost use Rattle.cts_serve.specs.Story.{Drains, Stands, Tells, site_told};
+    ghost use Rattle.cts_serve.specs.Story.{Drains, Goes, Moves, Stands, Tells, site_told};
+    ghost use Rattle.cts_watch.specs.Events.{events};
     ghost use Rattle.cts_watch.specs.Following.{Follows};
 
     /// A story of a site before anything has happened. The boxes of its chains are taken from the shelf.
@@ -128,14 +129,44 @@ impl<C: Framer> Story<C> {
         }
     }
 
+    /// Does an event without its text, and gives what it gives besides. What follows the history stays behind, so that no text can be
+    /// told after it.
+    ///
+    /// # Errors
+    ///
+    /// As `step` of `cts_core`.
+    pub fn step(&mut self, event: &Event) -> Result<Effect, WorldFault>
+        requires { (site : SiteData) × (s : State) × Goes site s self.old }
+        ensures { (site : SiteData) (s : State) → Goes site s self.old → Moves site s event.now result self.new }
+    {
+        self.world.step(event)
+    }
+
+    /// Its history.
+    pub fn history(&self) -> &[Entry]
+        ensures { result.now ≡ (held_in self.now.world).history }
+    {
+        self.world.hall().entries()
+    }
+
+    /// How many limits events the entries of its history have.
+    pub fn limits_events(&self, alloc: Global) -> Result<usize, Memory>
+        ensures { IfOk result (λ n. n ≡ length (events (site_told self.now) (held_in self.now.world).history)) }
+    {
+        let hall = self.world.hall();
+        let mut follower = Follower::begin(alloc, hall.site())?;
+        let changes = changes_from(alloc, hall, &mut follower, 0)?;
+        Ok(changes.as_slice().len())
+    }
+
     /// Gives the rest of the history to the logs: what they have not passed yet.
     ///
     /// # Errors
     ///
     /// `Memory` alone, since this is always enabled and appends nothing.
     pub fn drain(&mut self) -> Result<Effect, WorldFault>
-        requires { (site : SiteData) × (s : State) × Stands site s self.old }
-        ensures { (site : SiteData) (s : State) → Stands site s self.old → Drains site s result }
+        requires { (site : SiteData) × (s : State) × Goes site s self.old }
+        ensures { (site : SiteData) (s : State) → Goes site s self.old → Drains site s result }
     {
         let count = self.world.hall().entries().len() as u64;
         let rest = count.saturating_sub(self.world.log_cursor());

@@ -24,6 +24,8 @@ mod logs;
 #[cfg(test)]
 mod refusals;
 #[cfg(test)]
+mod rehearsals;
+#[cfg(test)]
 mod routers;
 #[cfg(test)]
 mod scripts;

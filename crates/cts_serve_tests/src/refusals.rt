@@ -14,7 +14,12 @@ a check with a script|check d s c
 a replay without a script|replay d s
 a replay with a word more|replay d s c c
 a command in capital letters|CHECK d s
-a command that is not built|rehearse 5
+a rehearsal without a number|rehearse
+a rehearsal of none|rehearse 0
+a rehearsal of too many|rehearse 1000001
+a rehearsal with a leading zero|rehearse 01
+a rehearsal with a sign|rehearse +5
+a rehearsal with a word more|rehearse 5 5
 a dump without a log|dump
 a dump with a word more|dump x y
 a dump in capital letters|DUMP x

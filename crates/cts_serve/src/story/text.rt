@@ -35,8 +35,8 @@ pub fn event_text(
     Ok(text)
 }
 
-// The changes of limits states at the entries from this number on.
-fn changes_from(
+/// The changes of limits states at the entries from this number on.
+pub fn changes_from(
     alloc: Global,
     hall: &Hall,
     follower: &mut Follower,

@@ -1,3 +1,4 @@
+use Rattle.cts_serve.proofs.CommandLemmas.{of_told}
 use Rattle.cts_serve.proofs.command.perform.Goals as goal
 
 pub returns-in-Check-clause-performs : goal.returns-in-Check-clause-performs
@@ -11,3 +12,6 @@ returns-in-Dump-clause-performs g c = rw c.in-Dump.is (c.dump.ensures.performs (
 
 pub returns-in-Dump-clause-vault : goal.returns-in-Dump-clause-vault
 returns-in-Dump-clause-vault g c = c.dump.ensures.vault (g.V.Vault.seen c.args.vault.now)
+
+pub returns-in-Rehearse-clause-performs : goal.returns-in-Rehearse-clause-performs
+returns-in-Rehearse-clause-performs g c = rw c.in-Rehearse.is (of_told _ _ (λ all. c.rehearse.ensures.performs all (g.V.Vault.seen c.args.vault.now)))
