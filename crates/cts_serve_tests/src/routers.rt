@@ -190,3 +190,24 @@ END 5
 fn all_slots_may_be_open(rt: HostRuntime) -> Result<(), Fail> {
     replays_go_so(rt.alloc(), SMALL, FOUR_ROUTERS, ALL_OPEN)
 }
+
+/// An interface that reads what a slot of that router was given.
+const READING_SITE: &str =
+    "INTERFACE P tcpip_client_interface.rb h 1 1 nil nil PREIDENTIFIED;TARGET INST";
+
+const READ_BACK: &str = "
+@ both packets, with their own time and names
+OPEN P
+BYTES P 000000640003d09004494e53540248530000000401800001000000640003d09004494e53540248530000000401900001
+> Ok
+0 0.000000 P OPENED
+1 100.250000 P PACKET INST HS 01800001
+EVENT INST HS TEMP1 STALE GREEN
+2 100.250000 P PACKET INST HS 01900001
+END 3
+";
+
+#[test]
+fn what_a_slot_was_given_is_read_back(rt: HostRuntime) -> Result<(), Fail> {
+    replays_go_so(rt.alloc(), INSTRUMENT_DEFINITIONS, READING_SITE, READ_BACK)
+}
