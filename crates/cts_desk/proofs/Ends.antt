@@ -1,0 +1,87 @@
+-- The clients of a desk's door, one after another, and the end of the desk.
+use Rattle.std.proofs.Common.{◌≡◌, ℕ, Bool, true, false, List, [], ◌∷◌, ◌++◌, sym, refl, ap, ◌∙◌, append_assoc, Option}
+use Rattle.std.specs.Prelude.{◌&&◌, ◌||◌, not}
+use Rattle.cts_def.specs.declared.time.Time.{Time}
+use Rattle.cts_entry.specs.declared.entry.Entry.{Entry}
+use Rattle.cts_entry.specs.declared.what.What.TheVariants.{Ended}
+use Rattle.cts_entry.specs.Histories.{is_stopped}
+use Rattle.cts_entry.proofs.Appending.{stopped-append}
+use Rattle.cts_outside.specs.Lines.{Connection, Line, told_after, after_dial}
+use Rattle.cts_outside.specs.declared.link.Dialed.TheVariants.{Linked, Later, Finished, Failed}
+use Rattle.cts_table.specs.declared.basis.Basis.{Basis}
+use Rattle.cts_told.specs.Makers.{LastEnded, of_maker}
+use Rattle.cts_turn.specs.declared.rule.View.{View}
+use Rattle.cts_turn.specs.Lists.{StartsWith}
+use Rattle.cts_desk.specs.declared.ending.DeskWhy.{DeskWhy}
+use Rattle.cts_desk.specs.declared.ending.DeskWhy.TheVariants.{Stopped, Finished as FinishedWhy, DoorFailed, Cancelled}
+use Rattle.cts_desk.specs.Ending.{CausesEnd, entry_of, last_entries, may_cut, stop_if, stopped_if}
+use Rattle.cts_desk.specs.Holds.{EndedHold, Hold, Onward}
+use Rattle.cts_desk.specs.Serving.{Begins, Resting}
+use Rattle.cts_desk.proofs.Connections.{dials_failed, dials_finished, dials_later, dials_linked, settled_at}
+use Rattle.cts_desk.proofs.Histories.{last_own, of_append, stops_stay}
+use Rattle.cts_desk.proofs.Steps.{resting_looked}
+
+-- ---- dials
+
+module _ (b : Basis) (by : ℕ) (was : List Connection) (fronts : List ℕ) where
+  -- between two connections none was cut for a Stop, so that one may stand or not
+  pub resting_at : (stop : Bool) (v : View Entry Basis) (told : Option Line) → Resting b by was false fronts v told → Resting b by was stop fronts v told
+  resting_at stop v told s = record { exchanges = s.exchanges; going = s.going; settled = settled_at false stop was s.exchanges told (λ e. absurd (let f : false ≡ true = e in cc)) s.settled }
+
+  pub linked_begins : (v : View Entry Basis) (old new : Option Line) → new ≡ told_after (after_dial Linked) old → Resting b by was false fronts v old → Begins b by was fronts v new
+  linked_begins v old new e s = record { exchanges = s.exchanges; going = s.going; settled = dials_linked was s.exchanges old new e s.settled }
+
+  pub later_rests : (stop : Bool) (v w : View Entry Basis) (old new : Option Line) → new ≡ told_after (after_dial Later) old → Hold by v w [] → Resting b by was false fronts v old → Resting b by was stop fronts w new
+  later_rests stop v w old new e hold s =
+      let r : Resting b by was false fronts v new = record { exchanges = s.exchanges; going = s.going; settled = dials_later was s.exchanges old new e s.settled } in
+      resting_at stop w new (resting_looked b by was false fronts v w new hold r)
+
+  pub finished_rests : (stop : Bool) (v : View Entry Basis) (old new : Option Line) → new ≡ told_after (after_dial Finished) old → Resting b by was false fronts v old → Resting b by was stop fronts v new
+  finished_rests stop v old new e s =
+      let r : Resting b by was false fronts v new = record { exchanges = s.exchanges; going = s.going; settled = dials_finished was s.exchanges old new e s.settled } in
+      resting_at stop v new r
+
+  pub failed_rests : (stop : Bool) (v : View Entry Basis) (old new : Option Line) → new ≡ told_after (after_dial Failed) old → Resting b by was false fronts v old → Resting b by was stop fronts v new
+  failed_rests stop v old new e s =
+      let r : Resting b by was false fronts v new = record { exchanges = s.exchanges; going = s.going; settled = dials_failed was s.exchanges old new e s.settled } in
+      resting_at stop v new r
+
+-- a connection was cut for a Stop exactly where the desk ends for it
+pub cut_for : (stop : Bool) (end : Option DeskWhy) (seen : List Entry) → end ≡ stopped_if stop → (stop ≡ true → is_stopped seen ≡ true) → stop ≡ may_cut end seen
+cut_for true end seen is stands = sym (ap (λ o. may_cut o seen) is ∙ stands refl)
+cut_for false end seen is stands = sym (ap (λ o. may_cut o seen) is)
+
+-- ---- the last entries
+
+-- a Stop that was seen stands
+pub causes_stay : {G : Type 0} (old new : View Entry G) (told : Option Line) (before now : ℕ) (why : DeskWhy) → Onward old new → CausesEnd old.seen told before now why → CausesEnd new.seen told before now why
+causes_stay old new told before now Stopped on h = ap is_stopped on.seen.1 ∙ stops_stay old.seen on.seen.0 h
+causes_stay old new told before now FinishedWhy on h = h
+causes_stay old new told before now DoorFailed on h = h
+causes_stay old new told before now Cancelled on h = h
+
+module _ {G : Type 0} (by : ℕ) (time : Time) (stops : Bool) (old new : View Entry G) (ended : EndedHold by time stops old new) where
+  pub ended_seen : new.seen ≡ (old.seen ++ ended.hold.others) ++ last_entries stops by time (old.seen ++ ended.hold.others)
+  ended_seen = ended.hold.seen ∙ sym (append_assoc old.seen ended.hold.others ended.added) ∙ ap (λ l. (old.seen ++ ended.hold.others) ++ l) ended.words
+
+  ended_own : of_maker by new.seen ≡ of_maker by (old.seen ++ ended.hold.others) ++ last_entries stops by time (old.seen ++ ended.hold.others)
+  ended_own = let b = old.seen ++ ended.hold.others in
+      ap (of_maker by) ended_seen ∙ of_append by b (last_entries stops by time b) ∙ ap (λ l. of_maker by b ++ l) (last_own by time stops b)
+
+  pub ended_last : LastEnded by new.seen
+  ended_last = let b = old.seen ++ ended.hold.others in
+      let stop = stop_if (stops && not (is_stopped b)) by time in
+      (of_maker by b ++ stop, entry_of by time Ended, ended_own ∙ sym (append_assoc (of_maker by b) stop (entry_of by time Ended ∷ [])), refl)
+
+  always : (x : Bool) → (x || is_stopped (stop_if (true && not x) by time ++ entry_of by time Ended ∷ [])) ≡ true
+  always true = refl
+  always false = refl
+
+  pub ended_stops : stops ≡ true → is_stopped new.seen ≡ true
+  ended_stops is = let b = old.seen ++ ended.hold.others in
+      ap is_stopped ended_seen ∙ stopped-append b (last_entries stops by time b) ∙ ap (λ s. is_stopped b || is_stopped (last_entries s by time b)) is ∙ always (is_stopped b)
+
+  -- these are all its entries, where there was none before
+  pub ended_only : of_maker by old.seen ≡ [] → (stood : List Entry) × StartsWith stood old.seen × StartsWith new.seen stood × (of_maker by new.seen ≡ last_entries stops by time stood)
+  ended_only none = let b = old.seen ++ ended.hold.others in
+      (b, (ended.hold.others, refl), (last_entries stops by time b, ended_seen), ended_own ∙ ap (λ l. l ++ last_entries stops by time b) (of_append by old.seen ended.hold.others ∙ ap (λ l. l ++ of_maker by ended.hold.others) none ∙ ended.hold.strange))

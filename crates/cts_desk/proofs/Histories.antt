@@ -1,0 +1,219 @@
+-- The history grows: what stands of a desk's exchanges.
+use Rattle.std.proofs.Common.{◌≡◌, ℕ, ◌+◌, ◌==◌, Bool, true, false, cond, List, [], ◌∷◌, ◌++◌, length, sym, refl, ap, ◌∙◌, subst, arith, length-append, append-nil, append_assoc, Option, eq-eqb, ⊎_elim}
+use Rattle.std.specs.Prelude.{◌&&◌, ◌||◌, not}
+use Rattle.std.specs.List.{All, list_any}
+use Rattle.std.proofs.lemmas.List.{nil_from_length, map-append}
+use Rattle.std.proofs.lemmas.List.Elements.{filter-append}
+use Rattle.std.proofs.lemmas.List.Elements.{All-head, All-tail, All-nil, All-cons}
+use Rattle.std.proofs.lemmas.Bool.Decides.{eqb_tells}
+use Rattle.std.proofs.lemmas.List.Folds.{list_any-append}
+use Rattle.cts_entry.specs.declared.entry.Entry.{Entry}
+use Rattle.cts_def.specs.declared.time.Time.{Time}
+use Rattle.cts_entry.specs.declared.what.What.TheVariants.{Stop, Ended}
+use Rattle.cts_entry.specs.Histories.{is_stopped}
+use Rattle.cts_entry.proofs.Appending.{stopped-append}
+use Rattle.cts_entry.specs.Legal.{has_ended, is_ended}
+use Rattle.cts_table.specs.declared.basis.Basis.{Basis}
+use Rattle.cts_turn.specs.declared.rule.View.{View}
+use Rattle.cts_turn.specs.Lists.{has, StartsWith, AllBy}
+use Rattle.cts_turn.specs.Passes.{left}
+use Rattle.cts_turn.specs.Rule.{entered}
+use Rattle.cts_desk.specs.Exchanges.{Exchange, Exchanges, IsAnswered, Among}
+use Rattle.cts_told.specs.Makers.{of_maker}
+use Rattle.cts_desk.specs.Ending.{entry_of, last_entries, stop_if}
+use Rattle.cts_desk.specs.Holds.{Hold, AskedHold, IsReady, Onward}
+use Rattle.cts_desk.specs.Serving.{Going}
+
+pub of_append : (m : ℕ) (xs ys : List Entry) → of_maker m (xs ++ ys) ≡ of_maker m xs ++ of_maker m ys
+of_append m xs ys = filter-append (λ e. e.by == m) xs ys
+
+-- what a pass has seen of its own maker's entries is all of them
+pub nothing_own : (m : ℕ) (whole seen rest : List Entry) → whole ≡ seen ++ rest → of_maker m whole ≡ of_maker m seen → of_maker m rest ≡ []
+nothing_own m whole seen rest e own =
+    let a : length (of_maker m whole) ≡ length (of_maker m seen) = ap length own in
+    let b : length (of_maker m whole) ≡ length (of_maker m seen) + length (of_maker m rest) = ap (λ l. length (of_maker m l)) e ∙ ap length (of_append m seen rest) ∙ length-append (of_maker m seen) (of_maker m rest) in
+    nil_from_length (of_maker m rest) (omega arith)
+
+-- a hold, from what the turn tells of it
+abbrev pub a_hold : {G : Type 0} (m : ℕ) (old held new : View Entry G) (whole added : List Entry) → held ≡ entered old whole → StartsWith whole old.seen
+    → ((k : ℕ) → has k old.makers ≡ true → of_maker k whole ≡ of_maker k old.seen) → has m old.makers ≡ true → new ≡ left held (whole ++ added) → Hold m old new added
+a_hold m old held new whole added enters begins own mine leaves = record {
+  others = begins.0;
+  strange = nothing_own m whole old.seen begins.0 begins.1 (own m mine);
+  seen = ap (λ v. v.seen) leaves ∙ ap (λ l. l ++ added) begins.1 ∙ append_assoc old.seen begins.0 added;
+  found = ap (λ v. v.found) leaves ∙ ap (λ v. v.found) enters ∙ ap (λ l. old.found ++ length l ∷ []) begins.1;
+  makers = ap (λ v. v.makers) leaves ∙ ap (λ v. v.makers) enters;
+}
+
+pub all_by : (m : ℕ) (makers : List ℕ) (es : List Entry) → has m makers ≡ true → All (λ (e : Entry). e.by ≡ m) es → AllBy (λ e. e.by) makers es
+all_by m makers [] mine all = tt
+all_by m makers (e ∷ es) mine all =
+    let P : Entry → Type 0 = λ x. x.by ≡ m in
+    (subst (λ n. has n makers ≡ true) (sym (All-head P e es all)) mine, all_by m makers es mine (All-tail P e es all))
+
+pub onward_hold : {G : Type 0} (m : ℕ) (old new : View Entry G) (added : List Entry) → Hold m old new added → Onward old new
+onward_hold m old new added hold = record { makers = hold.makers; seen = (hold.others ++ added, hold.seen); found = (length (old.seen ++ hold.others) ∷ [], hold.found) }
+
+pub onward_both : {G : Type 0} (a b c : View Entry G) → Onward a b → Onward b c → Onward a c
+onward_both a b c f g = record {
+  makers = g.makers ∙ f.makers;
+  seen = (f.seen.0 ++ g.seen.0, g.seen.1 ∙ ap (λ l. l ++ g.seen.0) f.seen.1 ∙ append_assoc a.seen f.seen.0 g.seen.0);
+  found = (f.found.0 ++ g.found.0, g.found.1 ∙ ap (λ l. l ++ g.found.0) f.found.1 ∙ append_assoc a.found f.found.0 g.found.0);
+}
+
+-- ---- who has ended
+
+-- entries of others end nobody else
+pub others_last : (by : ℕ) (es : List Entry) → of_maker by es ≡ [] → has_ended by es ≡ false
+others_last by [] none = refl
+others_last by (e ∷ es) none =
+    let P : Bool → Type 0 = λ b. cond b (e ∷ of_maker by es) (of_maker by es) ≡ [] in
+    ⊎_elim
+    (λ t. absurd (let f : e ∷ of_maker by es ≡ [] = subst P t.0 none in cc))
+    (λ t. ap (λ b. (b && is_ended e.what) || has_ended by es) t.0 ∙ others_last by es (subst P t.0 none))
+    (eqb_tells e.by by)
+
+or_false : (a b : Bool) → (a || b) ≡ false → (a ≡ false) × (b ≡ false)
+or_false true b e = absurd cc
+or_false false b e = (refl, e)
+
+and_false : (a : Bool) → (a && false) ≡ false
+and_false true = refl
+and_false false = refl
+
+pub none_last : (by : ℕ) (es : List Entry) → list_any (λ (e : Entry). is_ended e.what) es ≡ false → has_ended by es ≡ false
+none_last by [] none = refl
+none_last by (e ∷ es) none =
+    let both = or_false (is_ended e.what) (list_any (λ (x : Entry). is_ended x.what) es) none in
+    ap (λ b. b || has_ended by es) (ap (λ b. (e.by == by) && b) both.0 ∙ and_false (e.by == by)) ∙ none_last by es both.1
+
+pub ended_append : (by : ℕ) (xs ys : List Entry) → has_ended by (xs ++ ys) ≡ (has_ended by xs || has_ended by ys)
+ended_append by xs ys = list_any-append (λ (e : Entry). (e.by == by) && is_ended e.what) xs ys
+
+-- who had not ended has not in all entries, where its own are those that were seen
+pub active_whole : (by : ℕ) (whole seen : List Entry) → StartsWith whole seen → of_maker by whole ≡ of_maker by seen → has_ended by seen ≡ false → has_ended by whole ≡ false
+active_whole by whole seen begins own active =
+    ap (has_ended by) begins.1 ∙ ended_append by seen begins.0 ∙ ap (λ b. b || has_ended by begins.0) active ∙ others_last by begins.0 (nothing_own by whole seen begins.0 begins.1 own)
+
+pub active_hold : (m : ℕ) (old new : View Entry Basis) (added : List Entry) → Hold m old new added → list_any (λ (e : Entry). is_ended e.what) added ≡ false → has_ended m old.seen ≡ false → has_ended m new.seen ≡ false
+active_hold m old new added hold lasts active =
+    ap (has_ended m) hold.seen ∙ ended_append m old.seen (hold.others ++ added) ∙ ap (λ b. b || has_ended m (hold.others ++ added)) active
+    ∙ ended_append m hold.others added ∙ ap (λ b. b || has_ended m added) (others_last m hold.others hold.strange) ∙ none_last m added lasts
+
+pub ready_hold : (b : Basis) (m : ℕ) (old new : View Entry Basis) (added : List Entry) → Hold m old new added → list_any (λ (e : Entry). is_ended e.what) added ≡ false → IsReady b m old → IsReady b m new
+ready_hold b m old new added hold lasts ready = record {
+  makers = ap (has m) hold.makers ∙ ready.makers;
+  desk = ready.desk;
+  active = active_hold m old new added hold lasts ready.active;
+}
+
+-- ---- the exchanges
+
+-- more entries after them, and which of those are the desk's
+pub exchanges_more : (b : Basis) (by : ℕ) (before : List Entry) (xs : List Exchange) (last rest new : List Entry) → Exchanges b by before xs last rest → Exchanges b by before xs (last ++ of_maker by new) (rest ++ new)
+exchanges_more b by before [] last rest new s = of_append by rest new ∙ ap (λ l. l ++ of_maker by new) s
+exchanges_more b by before (x ∷ xs) last rest new s = (
+  s.0,
+  s.1,
+  s.2 ++ new,
+  ap (λ l. l ++ new) s.3 ∙ append_assoc s.0 (s.1 ++ s.2) new ∙ ap (λ l. s.0 ++ l) (append_assoc s.1 s.2 new),
+  s.4,
+  s.5,
+  s.6,
+  exchanges_more b by (before ++ (s.0 ++ s.1)) xs last s.2 new s.7,
+)
+
+-- one more exchange at the end
+pub exchanges_snoc : (b : Basis) (by : ℕ) (before : List Entry) (xs : List Exchange) (rest gap added : List Entry) (x : Exchange)
+    → Exchanges b by before xs [] rest → of_maker by gap ≡ [] → x.front ≡ length (before ++ (rest ++ gap)) → IsAnswered b by (before ++ (rest ++ gap)) x added
+    → Exchanges b by before (xs ++ x ∷ []) [] (rest ++ (gap ++ added))
+exchanges_snoc b by before [] rest gap added x s none at answered = (
+  rest ++ gap,
+  added,
+  [],
+  sym (append_assoc rest gap added) ∙ ap (λ l. (rest ++ gap) ++ l) (sym (append-nil added)),
+  of_append by rest gap ∙ ap (λ l. l ++ of_maker by gap) s ∙ none,
+  at,
+  answered,
+  refl,
+)
+exchanges_snoc b by before (y ∷ xs) rest gap added x s none at answered =
+    let to : before ++ (rest ++ gap) ≡ (before ++ (s.0 ++ s.1)) ++ (s.2 ++ gap) =
+    ap (λ l. before ++ (l ++ gap)) s.3 ∙ ap (λ l. before ++ l) (append_assoc s.0 (s.1 ++ s.2) gap ∙ ap (λ l. s.0 ++ l) (append_assoc s.1 s.2 gap) ∙ sym (append_assoc s.0 s.1 (s.2 ++ gap))) ∙ sym (append_assoc before (s.0 ++ s.1) (s.2 ++ gap)) in (
+      s.0,
+      s.1,
+      s.2 ++ (gap ++ added),
+      ap (λ l. l ++ (gap ++ added)) s.3 ∙ append_assoc s.0 (s.1 ++ s.2) (gap ++ added) ∙ ap (λ l. s.0 ++ l) (append_assoc s.1 s.2 (gap ++ added)),
+      s.4,
+      s.5,
+      s.6,
+      exchanges_snoc b by (before ++ (s.0 ++ s.1)) xs s.2 gap added x s.7 none (at ∙ ap length to) (subst (λ l. IsAnswered b by l x added) to answered),
+    )
+
+pub among_more : (xs ys more : List ℕ) → Among xs ys → Among xs (ys ++ more)
+among_more [] ys more a = tt
+among_more (x ∷ xs) ys more a = (a.0, a.1 ++ more, ap (λ l. l ++ more) a.2 ∙ append_assoc a.0 (x ∷ a.1) more, among_more xs a.1 more a.3)
+
+pub among_snoc : (xs ys : List ℕ) (x : ℕ) → Among xs ys → Among (xs ++ x ∷ []) (ys ++ x ∷ [])
+among_snoc [] ys x a = (ys, [], refl, tt)
+among_snoc (y ∷ xs) ys x a = (a.0, a.1 ++ x ∷ [], ap (λ l. l ++ x ∷ []) a.2 ∙ append_assoc a.0 (y ∷ a.1) (x ∷ []), among_snoc xs a.1 x a.3)
+
+-- ---- a desk's history so far
+
+pub going_look : (b : Basis) (m : ℕ) (fronts : List ℕ) (old new : View Entry Basis) (xs : List Exchange) → Hold m old new [] → Going b m fronts old xs → Going b m fronts new xs
+going_look b m fronts old new xs hold g = record {
+  fronts_are = g.fronts_are;
+  among = subst (Among fronts) (sym hold.found) (among_more fronts old.found (length (old.seen ++ hold.others) ∷ []) g.among);
+  stand = subst (λ l. Exchanges b m [] xs [] l) (sym (hold.seen ∙ ap (λ l. old.seen ++ l) (append-nil hold.others)))
+      (subst (λ l. Exchanges b m [] xs l (old.seen ++ hold.others)) hold.strange (exchanges_more b m [] xs [] old.seen hold.others g.stand));
+}
+
+pub going_ask : (b : Basis) (m : ℕ) (body : List ℕ) (front : ℕ) (text : Option (List ℕ)) (fronts : List ℕ) (old new : View Entry Basis) (xs : List Exchange)
+    → AskedHold b m body front text old new → Going b m fronts old xs → Going b m (fronts ++ front ∷ []) new (xs ++ record { body = body; front = front; text = text } ∷ [])
+going_ask b m body front text fronts old new xs asked g =
+    let x : Exchange = record { body = body; front = front; text = text } in record {
+      fronts_are = ap (λ l. l ++ front ∷ []) g.fronts_are ∙ sym (map-append (λ (y : Exchange). y.front) xs (x ∷ []));
+      among = subst (Among (fronts ++ front ∷ [])) (ap (λ n. old.found ++ n ∷ []) asked.front_is ∙ sym asked.hold.found) (among_snoc fronts old.found front g.among);
+      stand = subst (λ l. Exchanges b m [] (xs ++ x ∷ []) [] l) (sym asked.hold.seen)
+          (exchanges_snoc b m [] xs old.seen asked.hold.others asked.added x g.stand asked.hold.strange asked.front_is asked.answered);
+    }
+
+-- ---- the last entries
+
+own_one : (by : ℕ) (es : List Entry) (e : Entry) → e.by ≡ by → of_maker by (e ∷ es) ≡ e ∷ of_maker by es
+own_one by es e is = ap (λ b. cond b (e ∷ of_maker by es) (of_maker by es)) (eq-eqb e.by by is)
+
+words_own : (c : Bool) (by : ℕ) (time : Time) → of_maker by (stop_if c by time ++ entry_of by time Ended ∷ []) ≡ stop_if c by time ++ entry_of by time Ended ∷ []
+words_own true by time = own_one by (entry_of by time Ended ∷ []) (entry_of by time Stop) refl ∙ ap (λ l. entry_of by time Stop ∷ l) (own_one by [] (entry_of by time Ended) refl)
+words_own false by time = own_one by [] (entry_of by time Ended) refl
+
+pub last_own : (by : ℕ) (time : Time) (stops : Bool) (before : List Entry) → of_maker by (last_entries stops by time before) ≡ last_entries stops by time before
+last_own by time stops before = words_own (stops && not (is_stopped before)) by time
+
+-- each of them is the desk's
+words_by : (c : Bool) (by : ℕ) (time : Time) → All (λ (e : Entry). e.by ≡ by) (stop_if c by time ++ entry_of by time Ended ∷ [])
+words_by true by time =
+    let P : Entry → Type 0 = λ e. e.by ≡ by in
+    All-cons P (entry_of by time Stop) (entry_of by time Ended ∷ []) refl (All-cons P (entry_of by time Ended) [] refl (All-nil P))
+words_by false by time =
+    let P : Entry → Type 0 = λ e. e.by ≡ by in
+    All-cons P (entry_of by time Ended) [] refl (All-nil P)
+
+pub last_by : (by : ℕ) (time : Time) (stops : Bool) (before : List Entry) → All (λ (e : Entry). e.by ≡ by) (last_entries stops by time before)
+last_by by time stops before = words_by (stops && not (is_stopped before)) by time
+
+stop_lasts : (b : Bool) (by : ℕ) (time : Time) → list_any (λ (e : Entry). is_ended e.what) (stop_if b by time) ≡ false
+stop_lasts true by time = refl
+stop_lasts false by time = refl
+
+-- a Stop ends nobody
+pub active_stop : (by : ℕ) (time : Time) (b : Bool) (es : List Entry) → has_ended by es ≡ false → has_ended by (es ++ stop_if b by time) ≡ false
+active_stop by time b es active = ended_append by es (stop_if b by time) ∙ ap (λ x. x || has_ended by (stop_if b by time)) active ∙ none_last by (stop_if b by time) (stop_lasts b by time)
+
+pub stops_stay : (seen more : List Entry) → is_stopped seen ≡ true → is_stopped (seen ++ more) ≡ true
+stops_stay seen more is = stopped-append seen more ∙ ap (λ b. b || is_stopped more) is
+
+-- the exchanges stand before the last entries
+pub exchanges_end : (b : Basis) (by : ℕ) (xs : List Exchange) (seen others last : List Entry) → Exchanges b by [] xs [] seen → of_maker by others ≡ [] → of_maker by last ≡ last → Exchanges b by [] xs last (seen ++ (others ++ last))
+exchanges_end b by xs seen others last s none own =
+    subst (λ l. Exchanges b by [] xs l (seen ++ (others ++ last))) (of_append by others last ∙ ap (λ l. l ++ of_maker by last) none ∙ own) (exchanges_more b by [] xs [] seen (others ++ last) s)

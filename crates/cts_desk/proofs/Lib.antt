@@ -1,0 +1,9 @@
+pub mod Putting
+pub mod Histories
+pub mod Connections
+pub mod Stages
+pub mod Steps
+pub mod Replying
+pub mod Unlinked
+pub mod Ends
+pub mod Streaming

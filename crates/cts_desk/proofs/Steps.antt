@@ -1,0 +1,177 @@
+-- What each function of the desk leaves, beside the history.
+use Rattle.std.proofs.Common.{◌≡◌, ℕ, ◌≤◌, Bool, true, false, List, [], ◌∷◌, ◌++◌, length, take, sym, refl, ap, ◌∙◌, subst, append-nil, append_assoc, Option, Some, None, Result}
+use Rattle.std.specs.Prelude.{not, unwrap_or}
+use Rattle.std.specs.List.{concat}
+use Rattle.cts_def.specs.declared.time.Time.{Time}
+use Rattle.cts_outside.specs.Lines.{Connection, Line, told_after, at_now, with_put, with_failed_put, hung_up, fresh, LinkPuts}
+use Rattle.cts_entry.specs.declared.entry.Entry.{Entry}
+use Rattle.cts_entry.specs.Histories.{is_stopped}
+use Rattle.cts_http.specs.Readings.{Reading, Stands, Steps, Answers, steps_by}
+use Rattle.cts_http.specs.Texts.{refusal_text}
+use Rattle.cts_http.specs.declared.step.HttpStep.TheVariants.{Request, More, Refuse}
+use Rattle.cts_table.specs.declared.basis.Basis.{Basis}
+use Rattle.cts_turn.specs.declared.rule.View.{View}
+use Rattle.cts_desk.specs.Exchanges.{Exchange, Exchanges, Among, bodies_of, fronts_of}
+use Rattle.cts_told.specs.Makers.{of_maker}
+use Rattle.cts_http.specs.Streams.{response_with}
+use Rattle.cts_desk.specs.Streams.{NoMemory, behind, last_front}
+use Rattle.cts_desk.specs.Told.{Ends, past_of, IsIdle}
+use Rattle.cts_desk.specs.Ending.{last_entries}
+use Rattle.cts_desk.specs.Holds.{Hold, AskedHold, EndedHold}
+use Rattle.cts_desk.specs.Serving.{Going, Stage, Reads, Waits, Asks, Over, Halted, StageSo, TalksBy, Talks, Serving, Resting, Dials, Begins, goes_on, halts_or}
+use Rattle.cts_desk.proofs.Histories.{going_look, going_ask, among_more, last_own, stops_stay, exchanges_end}
+use Rattle.cts_desk.proofs.Connections.{hangs_up, settled_at, settled_first}
+use Rattle.cts_desk.proofs.Stages.{talks_at, talks_map, talks_put, answered_whole, answered_last, answered_part, unasked_whole, unasked_part, refused_whole, refused_part, halted}
+
+module _ (b : Basis) (by : ℕ) (was : List Connection) (r : Reading) where
+  -- no room was found for a front
+  pub serving_unasked : {T E : Type 0} (body fronts : List ℕ) (v : View Entry Basis) (old new : Option Line) (result : Result T E) → r.refused ≡ None
+      → LinkPuts old new (behind NoMemory (last_front fronts)) result → Serving b by was (Asks body) fronts v r old → Serving b by was Over fronts v r new
+  serving_unasked body fronts v old new result none puts s = record {
+    earlier = s.earlier;
+    mine = s.mine;
+    going = s.going;
+    talks = talks_put was s.earlier (StageSo (Asks body) r s.earlier s.mine) (StageSo Over r s.earlier s.mine) (behind NoMemory (last_front (fronts_of (s.earlier ++ s.mine)))) old new result
+        (subst (λ l. LinkPuts old new (behind NoMemory (last_front l)) result) s.going.fronts_are puts)
+        (λ c so. unasked_whole r s.earlier s.mine body c none so)
+        (λ c n le so. unasked_part r s.earlier s.mine body c n none le so) s.talks;
+  }
+
+  module _ (body fronts : List ℕ) (front : ℕ) (text : Option (List ℕ)) (v v' : View Entry Basis) (old new : Option Line) (none : r.refused ≡ None) (asked : AskedHold b by body front text v v') (s : Serving b by was (Asks body) fronts v r old) where
+    next_going : Going b by (fronts ++ front ∷ []) v' (s.earlier ++ (s.mine ++ record { body = body; front = front; text = text } ∷ []))
+    next_going = subst (Going b by (fronts ++ front ∷ []) v') (append_assoc s.earlier s.mine (record { body = body; front = front; text = text } ∷ []))
+        (going_ask b by body front text fronts v v' (s.earlier ++ s.mine) asked s.going)
+
+    pub serving_whole : new ≡ told_after (at_now (with_put (response_with front text))) old → Serving b by was Reads (fronts ++ front ∷ []) v' r new
+    serving_whole puts = let y : Exchange = record { body = body; front = front; text = text } in record {
+      earlier = s.earlier;
+      mine = s.mine ++ y ∷ [];
+      going = next_going;
+      talks = talks_at was s.earlier (StageSo (Asks body) r s.earlier s.mine) (StageSo Reads r s.earlier (s.mine ++ y ∷ [])) (with_put (response_with front text)) old new puts (λ c so. answered_whole r s.earlier s.mine y c so) s.talks;
+    }
+
+    pub serving_last : r.closed ≡ true → new ≡ told_after (at_now (with_put (response_with front text))) old → Serving b by was Over (fronts ++ front ∷ []) v' r new
+    serving_last closed puts = let y : Exchange = record { body = body; front = front; text = text } in record {
+      earlier = s.earlier;
+      mine = s.mine ++ y ∷ [];
+      going = next_going;
+      talks = talks_at was s.earlier (StageSo (Asks body) r s.earlier s.mine) (StageSo Over r s.earlier (s.mine ++ y ∷ [])) (with_put (response_with front text)) old new puts (λ c so. answered_last r s.earlier s.mine y c none closed so) s.talks;
+    }
+
+    pub serving_put : (last : Bool) → r.closed ≡ last → new ≡ told_after (at_now (with_put (response_with front text))) old → Serving b by was (goes_on (not last) Reads) (fronts ++ front ∷ []) v' r new
+    serving_put true closed puts = serving_last closed puts
+    serving_put false closed puts = serving_whole puts
+
+    pub serving_part : (n : ℕ) × (n ≤ length (response_with front text)) × (new ≡ told_after (at_now (with_failed_put (take n (response_with front text)))) old) → Serving b by was Over (fronts ++ front ∷ []) v' r new
+    serving_part puts = let y : Exchange = record { body = body; front = front; text = text } in record {
+      earlier = s.earlier;
+      mine = s.mine ++ y ∷ [];
+      going = next_going;
+      talks = talks_at was s.earlier (StageSo (Asks body) r s.earlier s.mine) (StageSo Over r s.earlier (s.mine ++ y ∷ [])) (with_failed_put (take puts.0 (response_with front text))) old new puts.2 (λ c so. answered_part r s.earlier s.mine y c puts.0 none puts.1 so) s.talks;
+    }
+
+  module _ (r' : Reading) (fronts : List ℕ) (v : View Entry Basis) (told : Option Line) (s : Serving b by was Reads fronts v r told) where
+    -- the bytes are refused
+    pub serving_refused : {T E : Type 0} (status : ℕ) (new : Option Line) (result : Result T E) → ((bs : List ℕ) (bodies : List (List ℕ)) → Stands r bs bodies → Answers bs bodies (Refuse status) r')
+        → LinkPuts told new (refusal_text status) result → Serving b by was Over fronts v r' new
+    serving_refused status new result answers puts = record {
+      earlier = s.earlier;
+      mine = s.mine;
+      going = s.going;
+      talks = talks_put was s.earlier (StageSo Reads r s.earlier s.mine) (StageSo Over r' s.earlier s.mine) (refusal_text status) told new result puts
+          (λ c so. refused_whole r r' s.earlier s.mine status c (answers (concat c.pieces) (bodies_of s.mine) so.0).0 so.1)
+          (λ c n le so. refused_part r r' s.earlier s.mine status c n le (answers (concat c.pieces) (bodies_of s.mine) so.0).0 so.1) s.talks;
+    }
+
+    -- more bytes are waited for
+    pub serving_more : ((bs : List ℕ) (bodies : List (List ℕ)) → Stands r bs bodies → Answers bs bodies More r') → Serving b by was Waits fronts v r' told
+    serving_more answers = record {
+      earlier = s.earlier;
+      mine = s.mine;
+      going = s.going;
+      talks = talks_map was s.earlier (StageSo Reads r s.earlier s.mine) (StageSo Waits r' s.earlier s.mine) told
+          (λ c so. let a = answers (concat c.pieces) (bodies_of s.mine) so.0 in (a.1, so.1, a.0)) s.talks;
+    }
+
+    -- a request was given
+    pub serving_asks : (body : List ℕ) (last : Bool) → Some body ≡ r'.given → ((bs : List ℕ) (bodies : List (List ℕ)) → Stands r bs bodies → Answers bs bodies (Request last) r') → Serving b by was (Asks body) fronts v r' told
+    serving_asks body last given answers = record {
+      earlier = s.earlier;
+      mine = s.mine;
+      going = s.going;
+      talks = talks_map was s.earlier (StageSo Reads r s.earlier s.mine) (StageSo (Asks body) r' s.earlier s.mine) told
+          (λ c so.
+          let a = answers (concat c.pieces) (bodies_of s.mine) so.0 in
+          let same : a.0 ≡ body = ap (λ (o : Option (List ℕ)). unwrap_or o []) (sym a.1 ∙ sym given) in
+          (subst (λ l. Stands r' (concat c.pieces) (bodies_of s.mine ++ l ∷ [])) same a.3, so.1)) s.talks;
+    }
+
+  -- a piece was taken, or none
+  pub serving_taken : (r' : Reading) (goes : Bool) (fronts : List ℕ) (v : View Entry Basis) (old new : Option Line)
+      → ((earlier mine : List Exchange) → fronts ≡ fronts_of (earlier ++ mine) → Talks was Waits r earlier mine old → Talks was (goes_on goes Reads) r' earlier mine new)
+      → Serving b by was Waits fronts v r old → Serving b by was (goes_on goes Reads) fronts v r' new
+  serving_taken r' goes fronts v old new takes s = record { earlier = s.earlier; mine = s.mine; going = s.going; talks = takes s.earlier s.mine s.going.fronts_are s.talks }
+
+  -- a look
+  pub serving_looked : (stage : Stage) (fronts : List ℕ) (v v' : View Entry Basis) (told : Option Line) → Hold by v v' [] → Serving b by was stage fronts v r told → Serving b by was stage fronts v' r told
+  serving_looked stage fronts v v' told hold s = record { earlier = s.earlier; mine = s.mine; going = going_look b by fronts v v' (s.earlier ++ s.mine) hold s.going; talks = s.talks }
+
+  pub serving_halted : (fronts : List ℕ) (v : View Entry Basis) (told : Option Line) → Serving b by was Waits fronts v r told → Serving b by was Halted fronts v r told
+  serving_halted fronts v told s = record {
+    earlier = s.earlier;
+    mine = s.mine;
+    going = s.going;
+    talks = talks_map was s.earlier (StageSo Waits r s.earlier s.mine) (StageSo Halted r s.earlier s.mine) told (λ c so. halted r s.earlier s.mine c so) s.talks;
+  }
+
+  begins_line : (xs : List Exchange) (told : Option Line) → Stands r [] [] → Dials was xs told → TalksBy was xs (StageSo Reads r xs []) told
+  begins_line xs None stands d = tt
+  begins_line xs (Some line) stands d = record { connection = fresh; stands = d.0; gone = d.1; past = d.2; serves = d.3; so = (stands, (refl, refl)) }
+
+  -- a connection begins
+  pub serving_begins : (fronts : List ℕ) (v : View Entry Basis) (told : Option Line) → Stands r [] [] → Begins b by was fronts v told → Serving b by was Reads fronts v r told
+  serving_begins fronts v told stands s = record {
+    earlier = s.exchanges;
+    mine = [];
+    going = subst (Going b by fronts v) (sym (append-nil s.exchanges)) s.going;
+    talks = begins_line s.exchanges told stands s.settled;
+  }
+
+  -- and ends
+  pub serving_ends : (stop : Bool) (fronts : List ℕ) (v : View Entry Basis) (old new : Option Line) → new ≡ told_after hung_up old → Serving b by was (halts_or stop) fronts v r old → Resting b by was stop fronts v new
+  serving_ends stop fronts v old new hung s = record { exchanges = s.earlier ++ s.mine; going = s.going; settled = hangs_up was stop r s.earlier s.mine old new hung s.talks }
+
+given_by : (o : Option ℕ) (old new : Reading) (last : Bool) → steps_by o (Request last) old new → (body : List ℕ) × (Some body ≡ new.given) × (new.refused ≡ None) × (new.closed ≡ last)
+given_by None old new last s = (s.0, sym (ap (λ r. r.given) s.2), ap (λ r. r.refused) s.2, ap (λ r. r.closed) s.2)
+given_by (Some status) old new last s = absurd (let e : Request last ≡ Refuse status = s.0 in cc)
+
+-- what a given request leaves of the reader
+pub given_of : (old new : Reading) (last : Bool) → Steps old (Request last) new → (body : List ℕ) × (Some body ≡ new.given) × (new.refused ≡ None) × (new.closed ≡ last)
+given_of old new last s = given_by old.refused old new last s
+
+-- ---- between connections
+
+pub resting_first : (b : Basis) (by : ℕ) (v : View Entry Basis) (told : Option Line) → of_maker by v.seen ≡ [] → IsIdle told → Resting b by (past_of told) false [] v told
+resting_first b by v told none idle = record { exchanges = []; going = record { fronts_are = refl; among = tt; stand = none }; settled = settled_first told idle }
+
+pub resting_looked : (b : Basis) (by : ℕ) (was : List Connection) (stop : Bool) (fronts : List ℕ) (v v' : View Entry Basis) (told : Option Line) → Hold by v v' [] → Resting b by was stop fronts v told → Resting b by was stop fronts v' told
+resting_looked b by was stop fronts v v' told hold s = record { exchanges = s.exchanges; going = going_look b by fronts v v' s.exchanges hold s.going; settled = s.settled }
+
+-- the last entries
+pub resting_ends : (b : Basis) (by : ℕ) (was : List Connection) (stop stops : Bool) (time : Time) (fronts : List ℕ) (v v' : View Entry Basis) (told : Option Line) → EndedHold by time stops v v'
+    → (stop ≡ true → is_stopped v.seen ≡ true) → Resting b by was stop fronts v told → Ends b by stops fronts v' was told
+resting_ends b by was stop stops time fronts v v' told ended stands s =
+    let before : List Entry = v.seen ++ ended.hold.others in
+    let last : List Entry = last_entries stops by time before in
+    let seen : v'.seen ≡ v.seen ++ (ended.hold.others ++ last) = ended.hold.seen ∙ ap (λ l. v.seen ++ (ended.hold.others ++ l)) ended.words in record {
+      time = time;
+      before = before;
+      seen = seen ∙ sym (append_assoc v.seen ended.hold.others last);
+      told_so = record {
+        exchanges = s.exchanges;
+        fronts_are = s.going.fronts_are;
+        among = subst (Among fronts) (sym ended.hold.found) (among_more fronts v.found (length (v.seen ++ ended.hold.others) ∷ []) s.going.among);
+        stand = subst (Exchanges b by [] s.exchanges last) (sym seen) (exchanges_end b by s.exchanges v.seen ended.hold.others last s.going.stand ended.hold.strange (last_own by time stops before));
+        settled = settled_at stop (is_stopped v'.seen) was s.exchanges told (λ e. ap is_stopped ended.hold.seen ∙ stops_stay v.seen (ended.hold.others ++ ended.added) (stands e)) s.settled;
+      };
+    }

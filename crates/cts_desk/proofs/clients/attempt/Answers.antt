@@ -1,0 +1,34 @@
+use Rattle.std.proofs.Common.{Bool, subst, sym}
+use Rattle.cts_turn.specs.Passes.{view}
+use Rattle.cts_desk.specs.Ending.{may_cut}
+use Rattle.cts_desk.specs.Grounds.{ground}
+use Rattle.cts_desk.specs.Serving.{Resting}
+use Rattle.cts_desk.proofs.Ends.{cut_for, failed_rests, finished_rests, later_rests, linked_begins}
+use Rattle.cts_entry.specs.Histories.{is_stopped}
+use Rattle.cts_desk.proofs.clients.attempt.Goals as goal
+
+pub returns-in-Linked-clause-serves : goal.returns-in-Linked-clause-serves
+returns-in-Linked-clause-serves g c = λ was s.
+    let b = ground c.args.turn.now in
+    let w = view c.serve-talk.result.0.pass in
+    let begins = linked_begins b c.args.by was c.args.talk.fronts.items (view c.args.talk.pass) (g.R.Link.seen c.args.door.now).told (g.R.Link.seen c.dial.new.self).told c.in-Linked.ensures.content s in
+    subst (λ (x : Bool). Resting b c.args.by was x c.serve-talk.result.0.fronts.items w (g.R.Link.seen c.serve-talk.new.door).told)
+    (cut_for c.serve-talk.result.1 c.stop_if.result w.seen c.stop_if.ensures c.serve-talk.ensures.stop) (c.serve-talk.ensures.serves was begins)
+
+pub returns-in-Later-clause-serves : goal.returns-in-Later-clause-serves
+returns-in-Later-clause-serves g c = λ was s.
+    let b = ground c.args.turn.now in
+    let w = view c.looks-talk.result.0.pass in
+    let stop = may_cut c.stop_if-in-Later.result w.seen in
+    subst (λ f. Resting b c.args.by was stop f.items w (g.R.Link.seen c.dial.new.self).told) (sym c.looks-talk.ensures.fronts)
+    (later_rests b c.args.by was c.args.talk.fronts.items stop (view c.args.talk.pass) w _ (g.R.Link.seen c.dial.new.self).told c.in-Later.ensures.content c.looks-talk.ensures.hold s)
+
+pub returns-in-Finished-clause-serves : goal.returns-in-Finished-clause-serves
+returns-in-Finished-clause-serves g c = λ was s.
+    let v = view c.args.talk.pass in
+    finished_rests (ground c.args.turn.now) c.args.by was c.args.talk.fronts.items (is_stopped v.seen) v _ (g.R.Link.seen c.dial.new.self).told c.in-Finished.ensures.content s
+
+pub returns-in-Failed-clause-serves : goal.returns-in-Failed-clause-serves
+returns-in-Failed-clause-serves g c = λ was s.
+    let v = view c.args.talk.pass in
+    failed_rests (ground c.args.turn.now) c.args.by was c.args.talk.fronts.items (is_stopped v.seen) v _ (g.R.Link.seen c.dial.new.self).told c.in-Failed.ensures.content s

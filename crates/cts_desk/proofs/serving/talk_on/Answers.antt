@@ -1,0 +1,53 @@
+use Rattle.std.proofs.Common.{subst, sym, Bool, [], ◌∙◌, rules}
+use Rattle.cts_turn.specs.Passes.{view}
+use Rattle.cts_desk.specs.Grounds.{ground}
+use Rattle.cts_desk.specs.Serving.{Serving, Reads, Waits, goes_on}
+use Rattle.cts_desk.proofs.Histories.{onward_both, onward_hold}
+use Rattle.cts_desk.proofs.Steps.{serving_looked, serving_halted, serving_taken}
+use Rattle.cts_desk.proofs.serving.talk_on.Goals as goal
+
+pub returns-then-stop-clause-serves : goal.returns-then-stop-clause-serves
+returns-then-stop-clause-serves g c = λ was s.
+    let b = ground c.args.turn.now in
+    let r = c.answer_all-next.new.reader in
+    let told = (g.R.Link.seen c.answer_all-next.new.door).told in
+    let a = subst (λ (x : Bool). Serving b c.args.by was (goes_on x Waits) c.answer_all-next.result.0.fronts.items (view c.answer_all-next.result.0.pass) r told) c.if-not-goes.false
+    (c.answer_all-next.ensures.serves was (c.rounds.invariant.serves was s)) in
+    let l = serving_looked b c.args.by was r Waits c.answer_all-next.result.0.fronts.items (view c.answer_all-next.result.0.pass) (view c.looks-next.result.0.pass) told c.looks-next.ensures.hold a in
+    serving_halted b c.args.by was r c.looks-next.result.0.fronts.items (view c.looks-next.result.0.pass) told
+    (subst (λ f. Serving b c.args.by was Waits f.items (view c.looks-next.result.0.pass) r told) (sym c.looks-next.ensures.fronts) l)
+
+pub returns-then-not-more-clause-serves : goal.returns-then-not-more-clause-serves
+returns-then-not-more-clause-serves g c = λ was s.
+    let b = ground c.args.turn.now in
+    let r = c.answer_all-next.new.reader in
+    let told = (g.R.Link.seen c.answer_all-next.new.door).told in
+    let a = subst (λ (x : Bool). Serving b c.args.by was (goes_on x Waits) c.answer_all-next.result.0.fronts.items (view c.answer_all-next.result.0.pass) r told) c.if-not-goes.false
+    (c.answer_all-next.ensures.serves was (c.rounds.invariant.serves was s)) in
+    let l = serving_looked b c.args.by was r Waits c.answer_all-next.result.0.fronts.items (view c.answer_all-next.result.0.pass) (view c.looks-next.result.0.pass) told c.looks-next.ensures.hold a in
+    let k = subst (λ f. Serving b c.args.by was Waits f.items (view c.looks-next.result.0.pass) r told) (sym c.looks-next.ensures.fronts) l in
+    subst (λ (x : Bool). Serving b c.args.by was (goes_on x Reads) c.looks-next.result.0.fronts.items (view c.looks-next.result.0.pass) c.take_piece-more.new.reader (g.R.Link.seen c.take_piece-more.new.door).told) c.if-not-more.true
+    (serving_taken b c.args.by was r c.take_piece-more.new.reader c.take_piece-more.result c.looks-next.result.0.fronts.items (view c.looks-next.result.0.pass) told (g.R.Link.seen c.take_piece-more.new.door).told
+    (λ earlier mine e t. c.take_piece-more.ensures.takes was earlier mine (c.as_slice.ensures.value ∙ e) t) k)
+
+pub rounds-preserved : goal.rounds-preserved
+rounds-preserved g c = record {
+  pass = c.looks-next.ensures.pass;
+  ready = c.looks-next.ensures.ready;
+  onward = onward_both _ _ _ (onward_both _ _ _ c.rounds.invariant.onward c.answer_all-next.ensures.onward) (onward_hold c.args.by _ _ [] c.looks-next.ensures.hold);
+  linked = c.take_piece-more.ensures.linked;
+  dials = c.take_piece-more.ensures.dials ∙ c.answer_all-next.ensures.dials ∙ c.rounds.invariant.dials;
+  open_still = c.take_piece-more.ensures.open;
+  room = search rules;
+  serves = λ was s.
+      let b = ground c.args.turn.now in
+      let r = c.answer_all-next.new.reader in
+      let told = (g.R.Link.seen c.answer_all-next.new.door).told in
+      let a = subst (λ (x : Bool). Serving b c.args.by was (goes_on x Waits) c.answer_all-next.result.0.fronts.items (view c.answer_all-next.result.0.pass) r told) c.if-not-goes.false
+      (c.answer_all-next.ensures.serves was (c.rounds.invariant.serves was s)) in
+      let l = serving_looked b c.args.by was r Waits c.answer_all-next.result.0.fronts.items (view c.answer_all-next.result.0.pass) (view c.looks-next.result.0.pass) told c.looks-next.ensures.hold a in
+      let k = subst (λ f. Serving b c.args.by was Waits f.items (view c.looks-next.result.0.pass) r told) (sym c.looks-next.ensures.fronts) l in
+      subst (λ (x : Bool). Serving b c.args.by was (goes_on x Reads) c.looks-next.result.0.fronts.items (view c.looks-next.result.0.pass) c.take_piece-more.new.reader (g.R.Link.seen c.take_piece-more.new.door).told) c.if-not-more.false
+      (serving_taken b c.args.by was r c.take_piece-more.new.reader c.take_piece-more.result c.looks-next.result.0.fronts.items (view c.looks-next.result.0.pass) told (g.R.Link.seen c.take_piece-more.new.door).told
+      (λ earlier mine e t. c.take_piece-more.ensures.takes was earlier mine (c.as_slice.ensures.value ∙ e) t) k);
+}

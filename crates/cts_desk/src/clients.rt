@@ -1,0 +1,95 @@
+// The clients of a desk's door, one after another.
+ghost use Rattle.std.specs.Prelude.{◌≡◌, false, List, None, Some};
+ghost use Rattle.cts_entry.specs.Histories.{is_stopped};
+ghost use Rattle.cts_outside.specs.Lines.{Connection};
+ghost use Rattle.cts_turn.specs.Passes.{IsPassOf, view};
+ghost use Rattle.cts_desk.specs.Ending.{CausesEnd, CausesEndIf, may_cut, stopped_if};
+ghost use Rattle.cts_desk.specs.Grounds.{ground};
+ghost use Rattle.cts_desk.specs.Holds.{IsReady, Onward};
+ghost use Rattle.cts_desk.specs.Serving.{Resting};
+
+use crate::Talk;
+use crate::ending::DeskWhy;
+use crate::serving::{looks, serve};
+use cts_outside::{Clock, Dialed, Dialer, Gate};
+use cts_table::Hall;
+use cts_turn::Turn;
+use std::alloc::Global;
+use std::sync::Wait;
+
+// Serves the next client, if one is there. Says why the desk ends, if it does.
+fn attempt<W: Wait, R: Dialer, K: Clock, G: Gate>(
+    rt: &W,
+    alloc: Global,
+    by: u32,
+    turn: &Turn<Hall>,
+    talk: Talk,
+    door: &mut R,
+    clock: &K,
+    gate: &G,
+) -> (Talk, Option<DeskWhy>)
+    requires pass { IsPassOf turn.now talk.pass }
+    requires ready { IsReady (ground turn.now) by (view talk.pass) }
+    requires idle { (R.seen door.old).linked ≡ false }
+    ensures pass { IsPassOf turn.now result.0.pass }
+    ensures ready { IsReady (ground turn.now) by (view result.0.pass) }
+    ensures onward { Onward (view talk.pass) (view result.0.pass) }
+    ensures idle { (R.seen door.new).linked ≡ false }
+    ensures cause { CausesEndIf (view result.0.pass).seen (R.seen door.new).told (R.seen door.old).failed_dials (R.seen door.new).failed_dials result.1 }
+    ensures serves { (was : List Connection)
+        → Resting (ground turn.now) by was false talk.fronts.items (view talk.pass) (R.seen door.old).told
+        → Resting (ground turn.now) by was (may_cut result.1 (view result.0.pass).seen) result.0.fronts.items (view result.0.pass) (R.seen door.new).told }
+{
+    match door.dial() {
+        Dialed::Linked => {
+            let (talk, stop) = serve(rt, alloc, by, turn, talk, door, clock, gate);
+            (talk, stop_if(stop))
+        }
+        Dialed::Later => {
+            let (talk, stop) = looks(rt, turn, talk, by);
+            (talk, stop_if(stop))
+        }
+        Dialed::Finished => (talk, Some(DeskWhy::Finished)),
+        Dialed::Failed => (talk, Some(DeskWhy::DoorFailed)),
+    }
+}
+
+// A desk that has seen a Stop ends for it.
+fn stop_if(stop: bool) -> Option<DeskWhy>
+    ensures { result ≡ stopped_if stop }
+{
+    if stop { Some(DeskWhy::Stopped) } else { None }
+}
+
+/// Serves one client after another, until the desk ends, and says why.
+pub(crate) fn clients<W: Wait, R: Dialer, K: Clock, G: Gate>(
+    rt: &W,
+    alloc: Global,
+    by: u32,
+    turn: &Turn<Hall>,
+    mut talk: Talk,
+    door: &mut R,
+    clock: &K,
+    gate: &G,
+) -> (Talk, DeskWhy)
+    requires pass { IsPassOf turn.now talk.pass }
+    requires ready { IsReady (ground turn.now) by (view talk.pass) }
+    requires idle { (R.seen door.old).linked ≡ false }
+    ensures pass { IsPassOf turn.now result.0.pass }
+    ensures ready { IsReady (ground turn.now) by (view result.0.pass) }
+    ensures onward { Onward (view talk.pass) (view result.0.pass) }
+    ensures idle { (R.seen door.new).linked ≡ false }
+    ensures cause { CausesEnd (view result.0.pass).seen (R.seen door.new).told (R.seen door.old).failed_dials (R.seen door.new).failed_dials result.1 }
+    ensures serves { (was : List Connection)
+        → Resting (ground turn.now) by was false talk.fronts.items (view talk.pass) (R.seen door.old).told
+        → Resting (ground turn.now) by was (is_stopped (view result.0.pass).seen) result.0.fronts.items (view result.0.pass) (R.seen door.new).told }
+{
+    'clients: for _ in rt.forever() {
+        let (next, end) = attempt(rt, alloc, by, turn, talk, door, clock, gate);
+        talk = next;
+        if let Some(why) = end {
+            return (talk, why);
+        }
+    }
+    unreachable!()
+}

@@ -1,0 +1,18 @@
+//! The worker of a desk: the clients of its door, whose requests are answered at points of the one history.
+#![tactic(auto)]
+
+mod answering;
+mod clients;
+mod ending;
+mod holds;
+mod laws;
+mod puts;
+mod serving;
+mod taking;
+mod talk;
+mod worker;
+
+pub use ending::{DeskEnd, DeskWhy};
+pub use laws::{out_of_memory_is_told, streams_are_put};
+pub use talk::Talk;
+pub use worker::DeskWorker;

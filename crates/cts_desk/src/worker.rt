@@ -1,0 +1,115 @@
+// The worker of a desk.
+ghost use Rattle.std.specs.Prelude.{◌≡◌, [], false, true};
+ghost use Rattle.cts_entry.specs.Histories.{is_stopped};
+ghost use Rattle.cts_entry.specs.Workers.{is_desk};
+ghost use Rattle.cts_told.specs.Makers.{LastEnded, of_maker};
+ghost use Rattle.cts_turn.specs.Lists.{StartsWith, has};
+ghost use Rattle.cts_turn.specs.Passes.{IsPassOf, view};
+ghost use Rattle.cts_desk.specs.declared.ending.DeskWhy.TheVariants.{Cancelled};
+ghost use Rattle.cts_desk.specs.Ending.{CausesEnd, first_moment, last_entries, stops_all};
+ghost use Rattle.cts_desk.specs.Grounds.{ground};
+ghost use Rattle.cts_desk.specs.Holds.{Onward};
+ghost use Rattle.cts_desk.specs.Told.{Ends, IsIdle, past_of};
+
+use crate::Talk;
+use crate::answering::time_of;
+use crate::clients::clients;
+use crate::ending::{DeskEnd, DeskWhy};
+use crate::holds::end;
+use cts_base::List;
+use cts_def::Time;
+use cts_outside::{Clock, Dialer, Gate, GateStage};
+use cts_table::Hall;
+use cts_turn::{Pass, Turn};
+use std::alloc::Global;
+use std::sync::Wait;
+
+/// The worker of a desk, which answers the requests of one client after another.
+#[derive(Clone, Copy, Debug)]
+pub struct DeskWorker;
+
+impl DeskWorker {
+    /// Serves one client of its door after another, until a Stop stands, there will be no client any more, or a dial fails. Each request is answered in
+    /// one hold of the turn, and its response is the reply at the point of the history at which that hold began, or want of memory. What was put on
+    /// each connection are the responses to what was taken from it, in order. Its last entry is Ended. It waits for the turn, and for no other reason
+    /// but in the door's calls.
+    pub fn run<W: Wait, R: Dialer, K: Clock, G: Gate>(
+        rt: &W,
+        alloc: Global,
+        by: u32,
+        turn: &Turn<Hall>,
+        pass: Pass<Hall>,
+        door: &mut R,
+        clock: &K,
+        gate: &G,
+    ) -> DeskEnd
+        requires pass { IsPassOf turn.now pass }
+        requires by { has by (view pass).makers ≡ true }
+        requires new { of_maker by (view pass).seen ≡ [] }
+        requires desk { is_desk (ground turn.now).site by ≡ true }
+        requires idle { (R.seen door.old).linked ≡ false }
+        requires still { IsIdle (R.seen door.old).told }
+        ensures pass { IsPassOf turn.now result.pass }
+        ensures onward { Onward (view pass) (view result.pass) }
+        ensures ends { Ends (ground turn.now) by (stops_all result.why) result.fronts (view result.pass) (past_of (R.seen door.old).told) (R.seen door.new).told }
+        ensures ended { LastEnded by (view result.pass).seen }
+        ensures cause { CausesEnd (view result.pass).seen (R.seen door.new).told (R.seen door.old).failed_dials (R.seen door.new).failed_dials result.why }
+        ensures stops { stops_all result.why ≡ true → is_stopped (view result.pass).seen ≡ true }
+        ensures idle { (R.seen door.new).linked ≡ false }
+    {
+        gate.pass(rt, by, GateStage::Started);
+        let talk = Talk {
+            pass,
+            fronts: Vec::new(alloc),
+        };
+        let (talk, why) = clients(rt, alloc, by, turn, talk, door, clock, gate);
+        let Talk { pass, fronts } = talk;
+        let pass = end(rt, turn, pass, by, time_of(clock), stops_all(why));
+        gate.pass(rt, by, GateStage::Posted);
+        DeskEnd {
+            pass,
+            fronts: List::of(fronts),
+            why,
+        }
+    }
+
+    /// Ends a desk that was not started: appends a Stop, where none stands, and its Ended, both at the first moment.
+    pub fn cancel<W: Wait>(
+        rt: &W,
+        alloc: Global,
+        by: u32,
+        turn: &Turn<Hall>,
+        pass: Pass<Hall>,
+    ) -> DeskEnd
+        requires pass { IsPassOf turn.now pass }
+        requires by { has by (view pass).makers ≡ true }
+        requires new { of_maker by (view pass).seen ≡ [] }
+        requires desk { is_desk (ground turn.now).site by ≡ true }
+        ensures pass { IsPassOf turn.now result.pass }
+        ensures onward { Onward (view pass) (view result.pass) }
+        ensures own { (stood : _) × StartsWith stood (view pass).seen × StartsWith (view result.pass).seen stood × (of_maker by (view result.pass).seen ≡ last_entries true by first_moment stood) }
+        ensures stops { is_stopped (view result.pass).seen ≡ true }
+        ensures fronts { result.fronts ≡ [] }
+        ensures why { result.why ≡ Cancelled }
+    {
+        let time = Time {
+            seconds: 0,
+            micros: 0,
+        };
+        let pass = end(rt, turn, pass, by, time, true);
+        DeskEnd {
+            pass,
+            fronts: List::of(Vec::new(alloc)),
+            why: DeskWhy::Cancelled,
+        }
+    }
+}
+
+fn stops_all(why: DeskWhy) -> bool
+    ensures { result ≡ stops_all why }
+{
+    match why {
+        DeskWhy::Stopped | DeskWhy::Finished => false,
+        DeskWhy::DoorFailed | DeskWhy::Cancelled => true,
+    }
+}
