@@ -127,9 +127,9 @@ COMMAND T C BIG_ENDIAN;APPEND_PARAMETER L 8 UINT 0 9 2;APPEND_ID_PARAMETER K 8 U
 const FOUR_ROUTERS: &str = "\
 INTERFACE I tcpip_client_interface.rb h 1 1 nil nil LENGTH 0 8 0 1;TARGET T;\
 ROUTER R tcpip_server_interface.rb 2 2 nil nil LENGTH 0 8 0 1;ROUTE I;\
-ROUTER S tcpip_server_interface.rb 3 3 nil nil LENGTH 0 8 0 1;ROUTE I;\
-ROUTER U tcpip_server_interface.rb 4 4 nil nil LENGTH 0 8 0 1;ROUTE I;\
-ROUTER V tcpip_server_interface.rb 5 5 nil nil LENGTH 0 8 0 1";
+ROUTER S tcpip_server_interface.rb 3 3 nil nil TERMINATED 0x0A 0x0A;ROUTE I;\
+ROUTER U tcpip_server_interface.rb 4 4 nil nil BURST;ROUTE I;\
+ROUTER V tcpip_server_interface.rb 5 5 nil nil TERMINATED 0x0A 0x0A";
 
 const ALL_OPEN: &str = "
 @ all slots of four routers
@@ -146,9 +146,9 @@ BYTES I 0201
 DRAIN R/0 9
 DRAIN S/1 6
 DRAIN V/1 2
-BYTES U/0 020102
-BYTES S/0 02010200
-BYTES V/0 0202
+BYTES U/0 0201
+BYTES S/0 02010A02000A
+BYTES V/0 02020A
 WRITE I 2
 CLOSE V/1 PEER
 > Ok
@@ -163,7 +163,7 @@ CLOSE V/1 PEER
 8 0.000000 I OPENED
 9 0.000000 I PACKET T A 0201
 ROUTED R/0 0201
-ROUTED S/1 0201
+ROUTED S/1 02010a
 ROUTED V/1 -
 10 0.000000 U/0 COMMAND T C 0201
 11 0.000000 S/0 COMMAND T C 0201
@@ -174,15 +174,15 @@ WRITTEN I 02010201
 END 15
 @ a slot whose frame is bad
 OPEN I
-OPEN S/1
-BYTES S/1 020100
-OPEN S/1
+OPEN R/1
+BYTES R/1 020100
+OPEN R/1
 > Ok
 0 0.000000 I OPENED
-1 0.000000 S/1 OPENED
-2 0.000000 S/1 COMMAND T C 0201
-3 0.000000 S/1 CLOSED BAD 1 SHORT 0 held 1 0 0 0 skipped 0 empty 0 unposted 0 unsent 0
-4 0.000000 S/1 OPENED
+1 0.000000 R/1 OPENED
+2 0.000000 R/1 COMMAND T C 0201
+3 0.000000 R/1 CLOSED BAD 1 SHORT 0 held 1 0 0 0 skipped 0 empty 0 unposted 0 unsent 0
+4 0.000000 R/1 OPENED
 END 5
 ";
 
