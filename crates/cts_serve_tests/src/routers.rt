@@ -129,7 +129,7 @@ INTERFACE I tcpip_client_interface.rb h 1 1 nil nil LENGTH 0 8 0 1;TARGET T;\
 ROUTER R tcpip_server_interface.rb 2 2 nil nil LENGTH 0 8 0 1;ROUTE I;\
 ROUTER S tcpip_server_interface.rb 3 3 nil nil TERMINATED 0x0A 0x0A;ROUTE I;\
 ROUTER U tcpip_server_interface.rb 4 4 nil nil BURST;ROUTE I;\
-ROUTER V tcpip_server_interface.rb 5 5 nil nil TERMINATED 0x0A 0x0A";
+ROUTER V tcpip_server_interface.rb 5 5 nil nil PREIDENTIFIED";
 
 const ALL_OPEN: &str = "
 @ all slots of four routers
@@ -148,7 +148,7 @@ DRAIN S/1 6
 DRAIN V/1 2
 BYTES U/0 0201
 BYTES S/0 02010A02000A
-BYTES V/0 02020A
+BYTES V/0 000000000000000001540141000000020202
 WRITE I 2
 CLOSE V/1 PEER
 > Ok
