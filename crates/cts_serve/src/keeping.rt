@@ -11,7 +11,11 @@ use cts_outside::{LogKind, Vault};
 use std::alloc::Global;
 
 /// Appends the heads of both logs, which have the digest of the definitions.
-pub(crate) fn begin_logs<V: Vault>(alloc: Global, digest: &Digest, vault: &mut V) -> Result<(), Undone>
+pub(crate) fn begin_logs<V: Vault>(
+    alloc: Global,
+    digest: &Digest,
+    vault: &mut V,
+) -> Result<(), Undone>
     ensures { (out : SinkSeen) → DoesActs (head_acts digest.now) result (outside out (V.seen vault.old)) (outside out (V.seen vault.new)) }
 {
     let tlm = head(alloc, Log::Tlm, digest.bytes())?;

@@ -69,7 +69,12 @@ fn kind_name(kind: Kind) -> &'static str
 }
 
 /// The line for a shelf that holds so many boxes of a kind, of which more are needed.
-pub(crate) fn shelf_empty(alloc: Global, kind: Kind, needed: u32, stocked: u32) -> Result<Vec<u8>, Memory>
+pub(crate) fn shelf_empty(
+    alloc: Global,
+    kind: Kind,
+    needed: u32,
+    stocked: u32,
+) -> Result<Vec<u8>, Memory>
     ensures { IfOk result (λ line. line.items ≡ shelf_line kind needed stocked) }
 {
     let name = kind_name(kind);
