@@ -2,7 +2,7 @@
 use cts_base::Bytes;
 use cts_core::takes_room;
 use cts_def::{Ident, Time};
-use cts_entry::{Entry, Event, What, commands_for, is_command_for, place_behind};
+use cts_entry::{Entry, Event, What, commands_for, is_command_for, place_after};
 use cts_rows::{Answers, debug_of, number, part, rows_end_so, same};
 use cts_told::said_of;
 use std::alloc::Global;
@@ -80,7 +80,7 @@ impl Answers for Places {
 }
 
 fn place(history: &[Entry], commands: u64) -> (usize, Option<usize>) {
-    (commands_for(history, 0), place_behind(history, 0, commands))
+    (commands_for(history, 0), place_after(history, 0, commands))
 }
 
 #[test]
