@@ -45,7 +45,7 @@ ruled g slot desk entries bytes = record { is_interface = g.is_interface; is_slo
 
 module _ (g : Routing) (slot desk : ℕ → Bool) (entries bytes : ℕ) where
   -- what a maker's packet says may be said, and ends nothing
-  abbrev Sayable : List Entry → ℕ → What → Type 0
+  abbrev pub Sayable : List Entry → ℕ → What → Type 0
   Sayable before by what = Allows (ruled g slot desk entries bytes) before by what × (is_ended what ≡ false)
 
   sayable_if : (b : Bool) (before : List Entry) (by interface command : ℕ) (said : List ℕ) → IsOn slot before by → g.interface_of command ≡ Some interface → is_connected interface before ≡ b
@@ -66,7 +66,7 @@ module _ (g : Routing) (slot desk : ℕ → Bool) (entries bytes : ℕ) where
   sayable_either true before by ident said kind line on = ((kind, on), refl)
   sayable_either false before by ident said kind line on = sayable_routed before by ident said ((let l = line in grind arith), on)
 
-  sayable : (before : List Entry) (by : ℕ) (o : Output) → (slot by || g.is_interface by) ≡ true → is_connected by before ≡ true → Sayable before by (said_of g before by o)
+  pub sayable : (before : List Entry) (by : ℕ) (o : Output) → (slot by || g.is_interface by) ≡ true → is_connected by before ≡ true → Sayable before by (said_of g before by o)
   sayable before by o line on = sayable_either (g.is_interface by) before by (g.ident by o) o.bytes refl line on
 
   -- one entry more leaves a maker that has not ended

@@ -16,7 +16,7 @@ use Rattle.cts_def.specs.declared.item_kind.Preset.TheVariants.{Whole, Raw}
 use Rattle.cts_def.specs.declared.limits.Limits.{Limits}
 use Rattle.cts_def.specs.declared.span.Span.{Span}
 use Rattle.cts_def.specs.declared.state_def.StateDef.{StateDef}
-use Rattle.cts_def.specs.Formats.{is_format}
+use Rattle.cts_def.specs.Readings.{is_format}
 use Rattle.cts_def.specs.Items.{ItemData, is_same, has_room, has_color, is_too_large, is_to_the_end, are_in_order, sets_in}
 use Rattle.cts_def.specs.Most.{most_items, most_items_in_all, most_packets, most_segments, most_sets, most_states}
 use Rattle.cts_def.specs.Packets.{received_count, unknown}
