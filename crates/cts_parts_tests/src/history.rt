@@ -107,7 +107,10 @@ impl Answers for Places {
         let history = Listed {
             entries: history(alloc)?,
         };
-        debug_of(alloc, &place(&history, number(asked, 0)?, number(asked, 1)?))
+        debug_of(
+            alloc,
+            &place(&history, number(asked, 0)?, number(asked, 1)?),
+        )
     }
 }
 
