@@ -1,5 +1,5 @@
 //! What the program stands on outside of it: the files of the system, standard output and the files of the packet logs, each
-//! behind its trait of `cts_outside`. They tell nothing of content, since no proof sees what a system keeps; what they count is
+//! after its trait of `cts_outside`. They tell nothing of content, since no proof sees what a system keeps; what they count is
 //! exact.
 #![tactic(auto)]
 

@@ -88,24 +88,24 @@ module _ (h : Point) (name : ItemName) (new : NewLimits) where
   abbrev set_of : ItemAt → LimitsUsed → List ℕ → What
   set_of at now set = SetLimits new.enabled at.packet at.item (or_else now.persistence new.persistence) set new.limits
 
-  abbrev behind_order : ItemAt → LimitsUsed → List ℕ → Said What
-  behind_order at now set = check (h.is_known set || nat_lt h.sets most_sets) (not_done (codes "Too many sets")) (gives (set_of at now set))
+  abbrev after_order : ItemAt → LimitsUsed → List ℕ → Said What
+  after_order at now set = check (h.is_known set || nat_lt h.sets most_sets) (not_done (codes "Too many sets")) (gives (set_of at now set))
 
-  abbrev behind_set : ItemAt → LimitsUsed → List ℕ → Said What
-  behind_set at now set = check (are_in_order new.limits) (not_done (codes "Limits order")) (behind_order at now set)
+  abbrev beyond_set : ItemAt → LimitsUsed → List ℕ → Said What
+  beyond_set at now set = check (are_in_order new.limits) (not_done (codes "Limits order")) (after_order at now set)
 
-  abbrev behind_limits : ItemAt → LimitsUsed → Said What
-  behind_limits at now = next (new_set new.set) (behind_set at now)
+  abbrev beyond_limits : ItemAt → LimitsUsed → Said What
+  beyond_limits at now = next (new_set new.set) (beyond_set at now)
 
-  abbrev behind_item : ItemAt → Said What
-  behind_item at = next (limits_at h at h.set) (behind_limits at)
+  abbrev beyond_item : ItemAt → Said What
+  beyond_item at = next (limits_at h at h.set) (beyond_limits at)
 
   limits_may : SaidMay h (set_limits_answer h name new)
   limits_may =
-      next_may h (item_at h.site.definitions.telemetry name) behind_item (λ (at : ItemAt).
-      next_may h (limits_at h at h.set) (behind_limits at) (λ (now : LimitsUsed).
-      next_may h (new_set new.set) (behind_set at now) (λ (set : List ℕ).
-      check_may h (are_in_order new.limits) (not_done (codes "Limits order")) (behind_order at now set) tt
+      next_may h (item_at h.site.definitions.telemetry name) beyond_item (λ (at : ItemAt).
+      next_may h (limits_at h at h.set) (beyond_limits at) (λ (now : LimitsUsed).
+      next_may h (new_set new.set) (beyond_set at now) (λ (set : List ℕ).
+      check_may h (are_in_order new.limits) (not_done (codes "Limits order")) (after_order at now set) tt
       (check_may h (h.is_known set || nat_lt h.sets most_sets) (not_done (codes "Too many sets")) (gives (set_of at now set)) tt tt))))
 
 enable_may : (h : Point) (on : Bool) (name : ItemName) → SaidMay h (enable_answer h on name)
@@ -125,8 +125,8 @@ module _ (h : Point) (k : Checks) (r : Request) where
   abbrev sends_to : ℕ × PacketData → ℕ → Said Done
   sends_to c i = gives (record { result = command_row c.1 r; posting = posts_command i r })
 
-  abbrev behind : ℕ × PacketData → Said Done
-  behind c = next (routed h.site (h.route c.0)) (sends_to c)
+  abbrev after : ℕ × PacketData → Said Done
+  after c = next (routed h.site (h.route c.0)) (sends_to c)
 
   routed_may : (c : ℕ × PacketData) (way : Result ℕ NoRoute) → h.route c.0 ≡ way → (built h.site.definitions r).command ≡ c.0 → DoneMay h (next (routed h.site way) (sends_to c))
   routed_may c (Ok i) goes same = subst (λ (n : ℕ). h.route n ≡ Ok i) (sym same) goes
@@ -134,17 +134,17 @@ module _ (h : Point) (k : Checks) (r : Request) where
   routed_may c (Err (NotConnected i)) goes same = tt
 
   at_may : (n : ℕ) (p : Option PacketData) → position (is_named r.target r.command) commands ≡ Some n
-      → DoneMay h (next (given_or (not_done (codes "Unknown command")) (option_map (λ (a : PacketData). (n, a)) p)) behind)
+      → DoneMay h (next (given_or (not_done (codes "Unknown command")) (option_map (λ (a : PacketData). (n, a)) p)) after)
   at_may n None is = tt
   at_may n (Some p) is = routed_may (n, p) (h.route n) refl (ap (λ (o : Option ℕ). unwrap_or o 0) is)
 
   named_may : (place : Option ℕ) → position (is_named r.target r.command) commands ≡ place
-      → DoneMay h (next (given_or (not_done (codes "Unknown command")) (numbered commands place)) behind)
+      → DoneMay h (next (given_or (not_done (codes "Unknown command")) (numbered commands place)) after)
   named_may None is = tt
   named_may (Some n) is = at_may n (slice_get commands n) is
 
   checked_may : (o : Option Refused)
-      → DoneMay h (next (or_refused o (given_or (not_done (codes "Unknown command")) (numbered commands (position (is_named r.target r.command) commands)))) behind)
+      → DoneMay h (next (or_refused o (given_or (not_done (codes "Unknown command")) (numbered commands (position (is_named r.target r.command) commands)))) after)
   checked_may None = named_may (position (is_named r.target r.command) commands) refl
   checked_may (Some e) = tt
 

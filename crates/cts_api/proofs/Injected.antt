@@ -18,8 +18,8 @@ module _ (h : Point) (name : PacketName) (members : List (List ℕ × Given)) wh
   abbrev done : ℕ × PacketData → Done
   done p = record { result = null; posting = posts_injected p.0 p.1 members }
 
-  abbrev behind : ℕ × PacketData → Said Done
-  behind p = or_injection_refused (injection_refusal p.1.items members) (gives (done p))
+  abbrev after : ℕ × PacketData → Said Done
+  after p = or_injection_refused (injection_refusal p.1.items members) (gives (done p))
 
   pub is_injected : (p : ℕ × PacketData) (bytes : List ℕ) (d : Data) → packet_at h.site.definitions.telemetry name ≡ gives p → injection_refusal p.1.items members ≡ None
       → ((here : List ℕ) → h.current p.0 ≡ Some here → AreBytes here) → Injects (filter_map (with_item p.1.items) members) (stood (h.current p.0) p.1.length) bytes → d ≡ null
@@ -27,7 +27,7 @@ module _ (h : Point) (name : PacketName) (members : List (List ℕ × Given)) wh
   is_injected p bytes d there none here put n =
       let is = injections_are_written (filter_map (with_item p.1.items) members) (stood (h.current p.0) p.1.length) bytes (stood_bytes (h.current p.0) p.1.length here) put in (
         done p,
-        ap (λ (s : Said (ℕ × PacketData)). next s behind) there ∙ ap (λ (o : Option Refused). or_injection_refused o (gives (done p))) none,
+        ap (λ (s : Said (ℕ × PacketData)). next s after) there ∙ ap (λ (o : Option Refused). or_injection_refused o (gives (done p))) none,
         n,
         ap (λ (b : List ℕ). Injected p.0 b ∷ []) is,
       )

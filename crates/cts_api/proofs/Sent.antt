@@ -65,15 +65,15 @@ module _ (h : Point) (k : Checks) (r : Request) where
   abbrev sends_to : ℕ × PacketData → ℕ → Said Done
   sends_to c i = gives (record { result = command_row c.1 r; posting = posts_command i r })
 
-  abbrev behind : ℕ × PacketData → Said Done
-  behind c = next (routed h.site (h.route c.0)) (sends_to c)
+  abbrev after : ℕ × PacketData → Said Done
+  after c = next (routed h.site (h.route c.0)) (sends_to c)
 
   pub request_fails : (e : Refusal) → IsChecked h.site.definitions k r (Err e) → IsRefused e (request_answer h k r)
-  request_fails e c = refused_next e (sound_request h.site k r) behind (check_fails e c)
+  request_fails e c = refused_next e (sound_request h.site k r) after (check_fails e c)
 
   pub route_fails : (b : Built) (e : Refusal) → refusal h.site.definitions r k ≡ None → IsBuilt h.site.definitions r b → IsRefused e (routed h.site (h.route b.command)) → IsRefused e (request_answer h k r)
   route_fails b e none made way =
-      subst (IsRefused e) (sym (ap (λ s. next s behind) (is_chosen b none made))) (refused_next e (routed h.site (h.route b.command)) (sends_to (b.command, made.command.it)) way)
+      subst (IsRefused e) (sym (ap (λ s. next s after) (is_chosen b none made))) (refused_next e (routed h.site (h.route b.command)) (sends_to (b.command, made.command.it)) way)
 
   some_so : (p q : PacketData) → Some p ≡ Some q → p ≡ q
   some_so p q e = ap (λ (o : Option PacketData). unwrap_or o p) e
@@ -89,7 +89,7 @@ module _ (h : Point) (k : Checks) (r : Request) where
       let it : p ≡ made.command.it = some_so p made.command.it (sym there ∙ made.command.number) in
       let c : ℕ × PacketData = (b.command, made.command.it) in (
         record { result = command_row made.command.it r; posting = posts_command i r },
-        ap (λ s. next s behind) (is_chosen b none made) ∙ ap (λ s. next s (sends_to c)) way,
+        ap (λ s. next s after) (is_chosen b none made) ∙ ap (λ s. next s (sends_to c)) way,
         row ∙ ap (λ (x : PacketData). command_row x r) it,
         ap (λ (c : Built). Command i c.command c.bytes ∷ []) (commands_are_built h.site.definitions r b made),
       )

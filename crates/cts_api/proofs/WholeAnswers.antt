@@ -231,13 +231,13 @@ row_of_command_whole c r = items_whole (text c.target ∷ text c.name ∷ object
 command_whole : (h : Point) (k : Checks) (r : Option Request) → IsDoneWhole (command_answer h k r)
 command_whole h k None = tt
 command_whole h k (Some r) =
-    then_whole (sound_request h.site k r) (λ (c : ℕ × PacketData). behind c) (λ (c : ℕ × PacketData).
+    then_whole (sound_request h.site k r) (λ (c : ℕ × PacketData). after c) (λ (c : ℕ × PacketData).
     then_whole (routed h.site (h.route c.0)) (λ (i : ℕ). sent_by c i) (λ (i : ℕ). row_of_command_whole c.1 r)) where
       sent_by : ℕ × PacketData → ℕ → Said Done
       sent_by c i = gives (record { result = command_row c.1 r; posting = posts_command i r })
 
-      behind : ℕ × PacketData → Said Done
-      behind c = next (routed h.site (h.route c.0)) (λ (i : ℕ). sent_by c i)
+      after : ℕ × PacketData → Said Done
+      after c = next (routed h.site (h.route c.0)) (λ (i : ℕ). sent_by c i)
 
 injection_whole : (e : Refused) → IsDoneWhole (injection_said e)
 injection_whole why.UnknownTarget = tt
@@ -254,12 +254,12 @@ injection_whole why.Memory = tt
 
 inject_whole : (h : Point) (name : PacketName) (members : List (List ℕ × Given)) → IsDoneWhole (inject_answer h name members)
 inject_whole h name members =
-    then_whole (packet_at h.site.definitions.telemetry name) (λ (p : ℕ × PacketData). behind p (injection_refusal p.1.items members))
+    then_whole (packet_at h.site.definitions.telemetry name) (λ (p : ℕ × PacketData). after p (injection_refusal p.1.items members))
     (λ (p : ℕ × PacketData). by_refusal p (injection_refusal p.1.items members)) where
-      behind : ℕ × PacketData → Option Refused → Said Done
-      behind p e = or_injection_refused e (gives (record { result = null; posting = posts_injected p.0 p.1 members }))
+      after : ℕ × PacketData → Option Refused → Said Done
+      after p e = or_injection_refused e (gives (record { result = null; posting = posts_injected p.0 p.1 members }))
 
-      by_refusal : (p : ℕ × PacketData) (e : Option Refused) → IsDoneWhole (behind p e)
+      by_refusal : (p : ℕ × PacketData) (e : Option Refused) → IsDoneWhole (after p e)
       by_refusal p None = refl
       by_refusal p (Some e) = injection_whole e
 

@@ -1,4 +1,4 @@
-//! Laws of the methods: what the params of those are that change something, and that those that only ask leave nothing behind.
+//! Laws of the methods: what the params of those are that change something, and that those that only ask leave nothing after.
 //!
 //! They are said of the definitions that the contracts of `cts_api` cite, so they are laws of what desks reply.
 #![tactic(auto)]

@@ -233,7 +233,7 @@ impl Answers for Full {
 }
 
 #[test]
-fn a_full_history_refuses_behind_all_checks(rt: HostRuntime) -> Result<(), Fail> {
+fn a_full_history_refuses_after_all_checks(rt: HostRuntime) -> Result<(), Fail> {
     rows_end_so::<Full>(rt.alloc(), FULL)
 }
 

@@ -74,8 +74,8 @@ decimal-last_digits (suc k) n few h =
     ∙ ap (λ t. t ++ ((48 + n % 10) ∷ [])) (decimal-last_digits k (n / 10) (omega arith) (omega arith))))
 
 -- the digits after the 1, as the code cuts them out
-pub digits-behind_one : (n : ℕ) (text : List ℕ) → text ≡ decimal (10 ^ 12 + n) → n < 10 ^ 12 → (length text ≡ 13) × (take (length text - 1) (drop 1 text) ≡ last_digits 12 n)
-digits-behind_one n text is small =
+pub digits-after_one : (n : ℕ) (text : List ℕ) → text ≡ decimal (10 ^ 12 + n) → n < 10 ^ 12 → (length text ≡ 13) × (take (length text - 1) (drop 1 text) ≡ last_digits 12 n)
+digits-after_one n text is small =
     let e : text ≡ 49 ∷ last_digits 12 n = is ∙ decimal-last_digits 12 n (omega arith) small in
     (ap length e ∙ ap suc (length-last_digits 12 n), take_rest text 1 ∙ ap (drop 1) e)
 

@@ -116,9 +116,9 @@ fn told_of_interface(alloc: Global, interface: &Interface) -> Result<String, Fai
 fn told_over(alloc: Global, shelf: &mut Shelf, interface: &Interface) -> Result<String, Fail> {
     let before = built(alloc, shelf, interface)?;
     stock(alloc, shelf, Kind::Length)?;
-    let behind = built(alloc, shelf, interface)?;
+    let after = built(alloc, shelf, interface)?;
     let left = takes_burst(shelf);
-    Ok(format!(in alloc; "{before}; {behind}; {left}")?)
+    Ok(format!(in alloc; "{before}; {after}; {left}")?)
 }
 
 /// Whether a box of BURST was left, which is taken.

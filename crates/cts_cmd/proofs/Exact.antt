@@ -11,11 +11,11 @@ use Rattle.cts_cmd.specs.declared.text_fault.TextFault.TheVariants.{Refused, Mem
 use Rattle.cts_cmd.specs.Words.{is_over, is_white, IsAfterWhite, IsWordFirst}
 use Rattle.cts_cmd.specs.Laws.{IsReadInOneWay}
 use Rattle.cts_cmd.specs.Texts.{AreParams, AreParamsFirst, Fails, FailsAt, FailsInParams, FailsInTail, IsCommandText, IsHead, IsOrMemory, IsRead, IsTail, IsWith}
-use Rattle.cts_cmd.proofs.Firsts.{behind_unique, word_unique}
+use Rattle.cts_cmd.proofs.Firsts.{after_unique, word_unique}
 use Rattle.cts_cmd.proofs.Unique.{not_both, params_fail_unique, params_or_fail, params_unique, word_not_over}
 
 no_word : (text w rest here : List ℕ) → IsWordFirst is_white text w rest → IsAfterWhite text here → here ≡ [] → ⊥
-no_word text w rest here s behind end = word_not_over is_white text w rest here s behind (ap (is_over is_white) end)
+no_word text w rest here s after end = word_not_over is_white text w rest here s after (ap (is_over is_white) end)
 
 with_unique : (text xs ys : List ℕ) → IsWith text xs → IsWith text ys → xs ≡ ys
 with_unique text xs ys s t = (word_unique is_white text s.0 t.0 xs ys s.1 t.1).1
@@ -60,7 +60,7 @@ tail_or_fails : (ps : List (List ℕ × Given)) (c : TextCause) (text here : Lis
 tail_or_fails ps c text here s f = tail_or_fails_so ps c text here s (tail_cause c text here f)
 
 tail_fails_so : (c d : TextCause) (text here there : List ℕ) → TailCause c text here → TailCause d text there → (c ≡ d) × (here ≡ there)
-tail_fails_so c d text here there (inl f) (inl g) = (f.0 ∙ sym g.0, behind_unique text here there f.3 g.3)
+tail_fails_so c d text here there (inl f) (inl g) = (f.0 ∙ sym g.0, after_unique text here there f.3 g.3)
 tail_fails_so c d text here there (inl f) (inr g) = absurd (other_word text f.1 f.2 g.0 f.4 f.5 g.1)
 tail_fails_so c d text here there (inr f) (inl g) = absurd (other_word text g.1 g.2 f.0 g.4 g.5 f.1)
 tail_fails_so c d text here there (inr f) (inr g) =
@@ -110,9 +110,9 @@ cause NoValue text here f = inr (inr f)
 cause OpenQuote text here f = inr (inr f)
 
 no_second : (text target command rest other gap here : List ℕ) → IsHead text target command rest → IsWordFirst is_white text other gap → IsAfterWhite gap here → here ≡ [] → ⊥
-no_second text target command rest other gap here s t behind end =
+no_second text target command rest other gap here s t after end =
     let same = word_unique is_white text target other s.gap gap s.first t in
-    no_word gap command rest here (subst (λ g. IsWordFirst is_white g command rest) same.1 s.second) behind end
+    no_word gap command rest here (subst (λ g. IsWordFirst is_white g command rest) same.1 s.second) after end
 
 request_or_fails_so : (text : List ℕ) (r : Request) (c : TextCause) (here : List ℕ) → IsCommandText text r → Cause c text here → ⊥
 request_or_fails_so text r c here s (inl f) = no_word text r.target s.head.gap here s.head.first f.1 f.2

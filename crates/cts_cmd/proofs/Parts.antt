@@ -15,7 +15,7 @@ use Rattle.cts_def.specs.Spans.{is_signed}
 use Rattle.cts_def.specs.Starts.{place_data}
 use Rattle.cts_cmd.specs.Builds.{AreBytes, Writes, WritesBytes, place_of}
 use Rattle.cts_cmd.specs.Injects.{WritesFrom, base, from_base}
-use Rattle.cts_cmd.proofs.Behind.{base_within, kind_behind, size_behind}
+use Rattle.cts_cmd.proofs.Behind.{base_within, kind_after, size_after}
 use Rattle.cts_cmd.proofs.Written.{writes_number}
 
 -- what stands from a byte on is written anew
@@ -30,7 +30,7 @@ pub number_from : (i : ItemData) (z : ℤ) (at : ℕ) (p : Place) (signed : Bool
 number_from i z at p signed old part is le there same fits value others bytes =
     let long = length-drop at old in
     let within : reach p ≤ length (drop at old) = omega (arith, fits, long) in
-    let sign : signed ≡ is_signed (from_base i).kind = same ∙ ap is_signed (sym (kind_behind i (is_negative i.offset) refl)) in
+    let sign : signed ≡ is_signed (from_base i).kind = same ∙ ap is_signed (sym (kind_after i (is_negative i.offset) refl)) in
     let kept = subst (λ (x : List ℕ). KeepsOtherBits p x part) (take_rest old at) others in
     let w : Writes (from_base i) (Whole z) (drop at old) part = writes_number (from_base i) z p signed (drop at old) part there sign within value kept (part_bytes at (length old - at) old part bytes le) in
     subst (λ (n : ℕ). (x : List ℕ) × Writes (from_base i) (Whole z) (drop n old) x × (put_mid at (length old - at) old part ≡ take n old ++ x)) is (part, w, put_rest at old part)
@@ -39,7 +39,7 @@ pub text_from : (i : ItemData) (bytes : List ℕ) (at begin : ℕ) (old part : L
     → (let rest = take (length old - at) (drop at old) in part ≡ take begin rest ++ (bytes ++ drop (begin + length bytes) rest)) → ((k : ℕ) → get_or (put_mid at (length old - at) old part) k 0 < 256)
     → WritesFrom i (Raw bytes) old (put_mid at (length old - at) old part)
 text_from i bytes at begin old part is le first own put fit =
-    let end : is_to_the_end (from_base i) ≡ false = ap (λ (z : ℤ). int_eq z (pos 0)) (size_behind i (is_negative i.offset) refl) ∙ own in
+    let end : is_to_the_end (from_base i) ≡ false = ap (λ (z : ℤ). int_eq z (pos 0)) (size_after i (is_negative i.offset) refl) ∙ own in
     let there : part ≡ take begin (drop at old) ++ (bytes ++ drop (begin + length bytes) (drop at old)) = subst (λ (x : List ℕ). part ≡ take begin x ++ (bytes ++ drop (begin + length bytes) x)) (take_rest old at) put in
     let w : WritesBytes (from_base i) bytes (drop at old) part = rw (end, sym first) there in
     subst (λ (n : ℕ). (x : List ℕ) × Writes (from_base i) (Raw bytes) (drop n old) x × (put_mid at (length old - at) old part ≡ take n old ++ x)) is
@@ -54,7 +54,7 @@ tail_bytes at old part le all k =
 pub end_from : (i : ItemData) (bytes old new : List ℕ) → is_to_the_end i ≡ true → new ≡ old ++ bytes → AreBytes new → WritesFrom i (Raw bytes) old new
 end_from i bytes old new to is all =
     let at = base (length old) i in
-    let end : is_to_the_end (from_base i) ≡ true = ap (λ (z : ℤ). int_eq z (pos 0)) (size_behind i (is_negative i.offset) refl) ∙ to in
+    let end : is_to_the_end (from_base i) ≡ true = ap (λ (z : ℤ). int_eq z (pos 0)) (size_after i (is_negative i.offset) refl) ∙ to in
     let part = drop at old ++ bytes in
     let parts : new ≡ take at old ++ part = is ∙ ap (λ (x : List ℕ). x ++ bytes) (sym (take-append-drop at old)) ∙ append_assoc (take at old) (drop at old) bytes in
     let w : WritesBytes (from_base i) bytes (drop at old) part = rw end refl in

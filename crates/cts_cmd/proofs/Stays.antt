@@ -34,8 +34,8 @@ put_front : (at m : ℕ) (bytes old : List ℕ) → m < at → m < length old �
 put_front at m bytes old below lt =
     get_or_append_left (take at old) (bytes ++ drop (at + length bytes) old) 0 m (front_long at m old below lt (cases_lt at (length old))) ∙ get_or-take at old m 0 below
 
-put_behind : (at m : ℕ) (bytes old : List ℕ) → at + length bytes ≤ m → m < length old → get_or (put at bytes old) m 0 ≡ get_or old m 0
-put_behind at m bytes old above lt =
+put_after : (at m : ℕ) (bytes old : List ℕ) → at + length bytes ≤ m → m < length old → get_or (put at bytes old) m 0 ≡ get_or old m 0
+put_after at m bytes old above lt =
     let front : length (take at old) ≡ at = length-take-le at old (omega (arith, above, lt)) in
     let place : at + length bytes + (m - at - length bytes) ≡ m = omega (arith, above) in
     get_or-append_right (take at old) (bytes ++ drop (at + length bytes) old) at m 0 front (omega (arith, above))
@@ -62,7 +62,7 @@ put_bit : (at k : ℕ) (bytes old : List ℕ) → k < 8 * length old → ((8 * a
     → get_or (bits_of (put at bytes old)) k 0 ≡ get_or (bits_of old) k 0
 put_bit at k bytes old lt none (inl below) side = same_bit old (put at bytes old) k (put_front at (k / 8) bytes old (omega (arith, below)) (omega (arith, lt)))
 put_bit at k bytes old lt none (inr from) (inl to) = absurd (none from to)
-put_bit at k bytes old lt none (inr from) (inr above) = same_bit old (put at bytes old) k (put_behind at (k / 8) bytes old (omega (arith, above)) (omega (arith, lt)))
+put_bit at k bytes old lt none (inr from) (inr above) = same_bit old (put at bytes old) k (put_after at (k / 8) bytes old (omega (arith, above)) (omega (arith, lt)))
 
 -- ---- one item
 

@@ -13,8 +13,8 @@ use Rattle.cts_cmd.specs.declared.text_fault.TextCause.TheVariants.{NoTarget, No
 use Rattle.cts_cmd.specs.Words.{is_over, is_white, is_comma, is_quote, is_white_or_comma, begins_with_quote, IsAfterWhite, IsWordFirst}
 use Rattle.cts_cmd.specs.Texts.{given_by, AreParams, Fails, FailsFirst, FailsInParams, FailsInTail, FailsValue, IsHead, IsParamFirst, IsTail, IsValueFirst, IsWith}
 use Rattle.cts_cmd.specs.Laws.{IsFault, IsRequest}
-use Rattle.cts_cmd.proofs.Runs.{behind_run, none_passes, over_behind, parts_at, passes_before, word_run}
-use Rattle.cts_cmd.proofs.Firsts.{behind_itself, behind_unique, comma_there, nothing_there, word_begins, word_here}
+use Rattle.cts_cmd.proofs.Runs.{after_run, none_passes, over_after, parts_at, passes_before, word_run}
+use Rattle.cts_cmd.proofs.Firsts.{after_itself, after_unique, comma_there, nothing_there, word_begins, word_here}
 use Rattle.cts_cmd.proofs.Params.{next_within}
 use Rattle.cts_cmd.proofs.Failing.{fails_within, params_fail, tail_fails, value_fails}
 
@@ -23,8 +23,8 @@ use Rattle.cts_cmd.proofs.Failing.{fails_within, params_fail, tail_fails, value_
 abbrev HasBehind : List ℕ → Type 0
 HasBehind text = (here : List ℕ) × IsAfterWhite text here
 
-behind_here : (text : List ℕ) → HasBehind text
-behind_here text = (drop (position_or_len (λ c. not (is_white c)) text) text, behind_run text)
+after_here : (text : List ℕ) → HasBehind text
+after_here text = (drop (position_or_len (λ c. not (is_white c)) text) text, after_run text)
 
 abbrev HasWord : (ℕ → Bool) → List ℕ → Type 0
 HasWord p text = (word : List ℕ) × (rest : List ℕ) × IsWordFirst p text word rest
@@ -33,12 +33,12 @@ abbrev IsOverThere : (ℕ → Bool) → List ℕ → Type 0
 IsOverThere p text = (here : List ℕ) × IsAfterWhite text here × (is_over p here ≡ true)
 
 word_so : (p : ℕ → Bool) (text here : List ℕ) (n : ℕ) → IsAfterWhite text here → n ≡ position_or_len p here → HasWord p text ⊎ IsOverThere p text
-word_so p text here zero b is = inr (here, b, subst (λ m. is_over p (drop m here) ≡ true) (sym is) (over_behind p here))
+word_so p text here zero b is = inr (here, b, subst (λ m. is_over p (drop m here) ≡ true) (sym is) (over_after p here))
 word_so p text here (suc n) b is =
     inl (take (suc n) here, drop (suc n) here, word_run p text here (suc n) b is (omega arith) (subst (λ m. m ≤ length here) (sym is) (prefix_len-le-length (λ x. not (p x)) here)))
 
 word_or_over : (p : ℕ → Bool) (text : List ℕ) → HasWord p text ⊎ IsOverThere p text
-word_or_over p text = let b = behind_here text in word_so p text b.0 (position_or_len p b.0) b.1 refl
+word_or_over p text = let b = after_here text in word_so p text b.0 (position_or_len p b.0) b.1 refl
 
 -- ---- values
 
@@ -55,7 +55,7 @@ quoted_so text tail q b quote (inl lt) =
     let word = take n tail in
     let rest = drop (n + 1) tail in
     let there : IsAfterWhite text (q ∷ (word ++ q ∷ rest)) = subst (λ (t : List ℕ). IsAfterWhite text (q ∷ t)) (parts_at q tail lt) b in
-    inl (Text word, rest, inl (word, record { quote = q; behind = there; begin = quote; bytes = passes_before (λ c. c == q) tail }, refl))
+    inl (Text word, rest, inl (word, record { quote = q; after = there; begin = quote; bytes = passes_before (λ c. c == q) tail }, refl))
 quoted_so text tail q b quote (inr ge) =
     inr (OpenQuote, q ∷ tail, (b, record { quote = q; word = tail; parts = refl; begin = quote; bytes = none_passes (λ c. c == q) tail ge }))
 
@@ -63,7 +63,7 @@ bare_so : (text here : List ℕ) → IsAfterWhite text here → begins_with_quot
 bare_so text here b bare (inl w) =
     inl (given_by w.0, w.1, inr (w.0, word_here is_white_or_comma text here w.0 w.1 b w.2, word_begins is_white_or_comma text here w.0 w.1 b w.2 ∙ bare, refl))
 bare_so text here b bare (inr o) =
-    let same = behind_unique here o.0 here o.1 (behind_itself text here b) in
+    let same = after_unique here o.0 here o.1 (after_itself text here b) in
     inr (NoValue, here, (b, comma_there here b.black (subst (λ h. is_over is_white_or_comma h ≡ true) same o.2)))
 
 value_at : (text here : List ℕ) → IsAfterWhite text here → HasValue text ⊎ HasNoValue text
@@ -75,7 +75,7 @@ value_at text (c ∷ tail) b =
     ]
 
 value_or_not : (text : List ℕ) → HasValue text ⊎ HasNoValue text
-value_or_not text = let b = behind_here text in value_at text b.0 b.1
+value_or_not text = let b = after_here text in value_at text b.0 b.1
 
 -- ---- parameters
 
@@ -102,27 +102,27 @@ HasParams text = (params : List (List ℕ × Given)) × AreParams params text
 abbrev HasBadParams : List ℕ → Type 0
 HasBadParams text = (cause : TextCause) × (here : List ℕ) × FailsInParams cause text here
 
-joined : (text behind next : List ℕ) (p : List ℕ × Given) (ps : List (List ℕ × Given)) → IsParamFirst text p behind → IsAfterWhite behind (44 ∷ next) → AreParams ps next → HasParams text
-joined text behind next p [] is comma more = absurd more
-joined text behind next p (q ∷ ps) is comma more = (p ∷ (q ∷ ps), (behind, next, is, comma, more))
+joined : (text after next : List ℕ) (p : List ℕ × Given) (ps : List (List ℕ × Given)) → IsParamFirst text p after → IsAfterWhite after (44 ∷ next) → AreParams ps next → HasParams text
+joined text after next p [] is comma more = absurd more
+joined text after next p (q ∷ ps) is comma more = (p ∷ (q ∷ ps), (after, next, is, comma, more))
 
-more_so : (text behind next : List ℕ) (p : List ℕ × Given) → IsParamFirst text p behind → IsAfterWhite behind (44 ∷ next) → HasParams next ⊎ HasBadParams next → HasParams text ⊎ HasBadParams text
-more_so text behind next p is comma (inl s) = inl (joined text behind next p s.0 is comma s.1)
-more_so text behind next p is comma (inr f) = inr (f.0, f.1, (p ∷ f.2.0, f.2.1, (behind, next, is, comma, f.2.2), f.2.3))
+more_so : (text after next : List ℕ) (p : List ℕ × Given) → IsParamFirst text p after → IsAfterWhite after (44 ∷ next) → HasParams next ⊎ HasBadParams next → HasParams text ⊎ HasBadParams text
+more_so text after next p is comma (inl s) = inl (joined text after next p s.0 is comma s.1)
+more_so text after next p is comma (inr f) = inr (f.0, f.1, (p ∷ f.2.0, f.2.1, (after, next, is, comma, f.2.2), f.2.3))
 
-next_so : (text behind here : List ℕ) (p : List ℕ × Given) → IsParamFirst text p behind → IsAfterWhite behind here
+next_so : (text after here : List ℕ) (p : List ℕ × Given) → IsParamFirst text p after → IsAfterWhite after here
     → ((next : List ℕ) → length next < length text → HasParams next ⊎ HasBadParams next) → HasParams text ⊎ HasBadParams text
-next_so text behind [] p is b again = inl (p ∷ [], (behind, is, b))
-next_so text behind (c ∷ next) p is b again =
+next_so text after [] p is b again = inl (p ∷ [], (after, is, b))
+next_so text after (c ∷ next) p is b again =
     elim (cases_Bool (is_comma c)) [
       | inl comma ↦
-          let there : IsAfterWhite behind (44 ∷ next) = subst (λ (x : ℕ). IsAfterWhite behind (x ∷ next)) (eqb-true c 44 comma) b in
-          more_so text behind next p is there (again next (next_within text p behind next is there))
-      | inr other ↦ inr (NoComma, c ∷ next, ([], text, refl, (p, behind, is, b, other)))
+          let there : IsAfterWhite after (44 ∷ next) = subst (λ (x : ℕ). IsAfterWhite after (x ∷ next)) (eqb-true c 44 comma) b in
+          more_so text after next p is there (again next (next_within text p after next is there))
+      | inr other ↦ inr (NoComma, c ∷ next, ([], text, refl, (p, after, is, b, other)))
     ]
 
 params_so : (text : List ℕ) → ((next : List ℕ) → length next < length text → HasParams next ⊎ HasBadParams next) → HasParam text ⊎ HasNoParam text → HasParams text ⊎ HasBadParams text
-params_so text again (inl s) = let b = behind_here s.1 in next_so text s.1 b.0 s.0 s.2 b.1 again
+params_so text again (inl s) = let b = after_here s.1 in next_so text s.1 b.0 s.0 s.2 b.1 again
 params_so text again (inr f) = inr (f.0, f.1, ([], text, refl, f.2))
 
 params_below : (n : ℕ) (text : List ℕ) → length text < n → HasParams text ⊎ HasBadParams text
@@ -152,7 +152,7 @@ tail_so : (text : List ℕ) → HasWord is_white text ⊎ IsOverThere is_white t
 tail_so text (inl w) =
     elim (cases_Bool (spells w.0 (codes "WITH"))) [
       | inl is ↦ with_so text w.1 (w.0, w.2, is) (params_or_not w.1)
-      | inr other ↦ let b = behind_here text in inr (NoWith, b.0, (w.0, w.1, b.1, w.2, other))
+      | inr other ↦ let b = after_here text in inr (NoWith, b.0, (w.0, w.1, b.1, w.2, other))
     ]
 tail_so text (inr o) = inl ([], subst (IsAfterWhite text) (nothing_there o.0 o.1.black o.2) o.1)
 

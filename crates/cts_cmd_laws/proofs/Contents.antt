@@ -13,7 +13,7 @@ use Rattle.cts_cmd.specs.declared.request.Given.TheVariants as given
 use Rattle.cts_cmd.specs.Builds.{AreBytes, lies_within}
 use Rattle.cts_cmd.specs.Contents.{bytes_given, content, content_given, content_of, content_preset, given_for, number_given, sized, written_bytes, written_number}
 use Rattle.cts_cmd.specs.Injects.{from_base}
-use Rattle.cts_cmd.proofs.Behind.{same_start, text_behind}
+use Rattle.cts_cmd.proofs.Behind.{same_start, text_after}
 use Rattle.cts_cmd.proofs.Injected.{within_of}
 use Rattle.cts_cmd_laws.specs.Sound.{IsItem, IsPreset}
 use Rattle.cts_cmd_laws.proofs.Bytes.{AreSomeBytes, bytes_both, bytes_none, bytes_take, bytes_zeros, text_is_bytes}
@@ -95,7 +95,7 @@ has_its_room len i (Whole z) start within s = tt
 has_its_room len i (Raw bytes) start within s = λ own.
     let needed = within_of len i within in
     let same : bytes_needed (span_of (from_base i)) ≡ bytes_needed (span_of i) = ap (λ (j : ItemData). bytes_needed (span_of j)) (same_start i start) in
-    let room = text_behind i 0 len s.0 own (omega (arith, needed, same)) in
+    let room = text_after i 0 len s.0 own (omega (arith, needed, same)) in
     let there : unsigned_abs (from_base i).offset ≡ unsigned_abs i.offset = ap (λ (j : ItemData). unsigned_abs j.offset) (same_start i start) in
     let count = s.2 own in
     omega (arith, room, there, count)

@@ -22,7 +22,7 @@ use Rattle.cts_cmd.specs.Builds.{AreBytes, IsBuilt, IsNamedAt, WritesAll, lies_w
 use Rattle.cts_cmd.specs.Checks.{has_target, item_named, refusal, refusal_among, refusal_at}
 use Rattle.cts_cmd.specs.Contents.{content, content_given}
 use Rattle.cts_cmd.specs.Injects.{Injects, WritesFrom, base, from_base, injection_refusal, stood, with_item}
-use Rattle.cts_cmd.proofs.Behind.{base_within, kind_behind, placed_behind, room_behind, same_start, size_behind, start_behind}
+use Rattle.cts_cmd.proofs.Behind.{base_within, kind_after, placed_after, room_after, same_start, size_after, start_after}
 use Rattle.cts_cmd.proofs.Injected.{all_found, all_more, within_of}
 use Rattle.cts_cmd.proofs.Written.{all_within, command_starts, found_nowhere}
 use Rattle.cts_cmd_laws.specs.Existing.{HasCommand, LeavesBytes, StandAsBytes}
@@ -97,13 +97,13 @@ requests_have_their_command d r k sound fine = has_by d.commands d r k (position
 -- ---- injected values
 
 placed_by : (end : Bool) (i : ItemData) → is_negative i.offset ≡ end → is_misplaced (span_of i) ≡ false → is_misplaced (span_of (from_base i)) ≡ false
-placed_by true i end placed = let h = placed_behind (span_of i) end placed in rw end h
+placed_by true i end placed = let h = placed_after (span_of i) end placed in rw end h
 placed_by false i end placed = ap (λ (j : ItemData). is_misplaced (span_of j)) (same_start i end) ∙ placed
 
-can_behind : (end : Bool) (i : ItemData) (held : Preset) → is_negative i.offset ≡ end → CanHold i held → CanHold (from_base i) held
-can_behind true i (Whole z) end can = rw end can
-can_behind false i (Whole z) end can = rw end can
-can_behind end i (Raw bytes) e can = can
+can_after : (end : Bool) (i : ItemData) (held : Preset) → is_negative i.offset ≡ end → CanHold i held → CanHold (from_base i) held
+can_after true i (Whole z) end can = rw end can
+can_after false i (Whole z) end can = rw end can
+can_after end i (Raw bytes) e can = can
 
 -- Bytes in which the field holds it, where its offset counts from a byte of its own.
 record FromWritten (i : ItemData) (held : Preset) (old : List ℕ) : Type 0 where
@@ -117,10 +117,10 @@ from_written i held old can placed room all =
     let end = is_negative i.offset in
     let at = base (length old) i in
     let le = base_within (length old) i end refl in
-    let fits = room_behind i (length old) end refl placed room in
+    let fits = room_after i (length old) end refl placed room in
     let rest = length-drop at old in
     let front = length-take-le at old le in
-    let one = item_written (from_base i) held (drop at old) (can_behind end i held refl can) (start_behind i end refl) (placed_by end i refl placed) (omega (arith, fits, rest)) (bytes_drop at old all) in
+    let one = item_written (from_base i) held (drop at old) (can_after end i held refl can) (start_after i end refl) (placed_by end i refl placed) (omega (arith, fits, rest)) (bytes_drop at old all) in
     let both = length-append (take at old) one.new in
     let long = one.long in
     record {
@@ -134,7 +134,7 @@ member_written : (i : ItemData) (g : Given) (old : List ℕ) → IsItem i → li
 member_written i g old it within all =
     let end = is_negative i.offset in
     let some : is_number i.kind ≡ true → 1 ≤ unsigned_abs i.size = λ number.
-    subst (λ (z : ℤ). 1 ≤ unsigned_abs z) (size_behind i end refl) (has_place (from_base i) (ap is_number (kind_behind i end refl) ∙ number) (start_behind i end refl) (placed_by end i refl it.sound.placed)).some in
+    subst (λ (z : ℤ). 1 ≤ unsigned_abs z) (size_after i end refl) (has_place (from_base i) (ap is_number (kind_after i end refl) ∙ number) (start_after i end refl) (placed_by end i refl it.sound.placed)).some in
     from_written i (content_given i g) old (can_hold i (content_given i g) (given_suits i g some)) it.sound.placed (within_of (length old) i within) all
 
 found_by : (P : ItemData → Type 0) (q : ItemData → Bool) (x : ItemData) (xs : List ItemData) (it : ItemData) (test : Bool) → q x ≡ test → (find q xs ≡ Some it → P it) → P x → find q (x ∷ xs) ≡ Some it → P it

@@ -360,7 +360,7 @@ format: None, required: false, overflow: Error }] }, length: 2097152, variable: 
 commands: List { items: [] }, set_names: List { items: [Name { text: 'DEFAULT' }] } })";
 
 #[test]
-fn packets_end_behind_their_items(rt: HostRuntime) -> Result<(), Fail> {
+fn packets_end_after_their_items(rt: HostRuntime) -> Result<(), Fail> {
     rows_end_so::<Defined>(rt.alloc(), PACKETS)
 }
 

@@ -27,7 +27,7 @@ use Rattle.cts_table.specs.declared.fault.HallFault.{HallFault}
 use Rattle.cts_table.specs.declared.fault.HallFault.TheVariants.{Full as Crowded, Memory as Wanting}
 use Rattle.cts_table.proofs.Active.{connected_active}
 use Rattle.cts_told.specs.Routing.{Routing, posted_entries, routed_as, said_of, sent_on, time_in}
-use Rattle.cts_told.proofs.Walks.{behind, connected_kept, none_if, packets_connect, said, said_kept}
+use Rattle.cts_told.proofs.Walks.{after, connected_kept, none_if, packets_connect, said, said_kept}
 use Rattle.cts_connection.specs.Laws.{LinesMayPost}
 use Rattle.cts_connection.specs.LinePlaces.{is_line}
 use Rattle.cts_connection.specs.Postings.{CanAddAll, CanClose, CanOpen, Grown, Posts, added_all, closed_of, end_of, opened_entry}
@@ -45,7 +45,7 @@ ruled g slot desk entries bytes = record { is_interface = g.is_interface; is_slo
 
 module _ (g : Routing) (slot desk : ℕ → Bool) (entries bytes : ℕ) where
   -- what a maker's packet says may be said, and ends nothing
-  abbrev Sayable : List Entry → ℕ → What → Type 0
+  abbrev pub Sayable : List Entry → ℕ → What → Type 0
   Sayable before by what = Allows (ruled g slot desk entries bytes) before by what × (is_ended what ≡ false)
 
   sayable_if : (b : Bool) (before : List Entry) (by interface command : ℕ) (said : List ℕ) → IsOn slot before by → g.interface_of command ≡ Some interface → is_connected interface before ≡ b
@@ -66,7 +66,7 @@ module _ (g : Routing) (slot desk : ℕ → Bool) (entries bytes : ℕ) where
   sayable_either true before by ident said kind line on = ((kind, on), refl)
   sayable_either false before by ident said kind line on = sayable_routed before by ident said ((let l = line in grind arith), on)
 
-  sayable : (before : List Entry) (by : ℕ) (o : Output) → (slot by || g.is_interface by) ≡ true → is_connected by before ≡ true → Sayable before by (said_of g before by o)
+  pub sayable : (before : List Entry) (by : ℕ) (o : Output) → (slot by || g.is_interface by) ≡ true → is_connected by before ≡ true → Sayable before by (said_of g before by o)
   sayable before by o line on = sayable_either (g.is_interface by) before by (g.ident by o) o.bytes refl line on
 
   -- one entry more leaves a maker that has not ended
@@ -82,7 +82,7 @@ module _ (g : Routing) (slot desk : ℕ → Bool) (entries bytes : ℕ) where
       let same : said_of g (history ++ sofar) m o ≡ said_of g history m o = said_kept g (history ++ sofar) history m o (λ i. connected_kept i history sofar (none i)) in
       let says = subst (Sayable (history ++ sofar) m) same (sayable (history ++ sofar) m o line (connected_kept m history sofar (none m) ∙ on)) in
       let place : (history ++ sofar) ++ e ∷ [] ≡ history ++ (sofar ++ e ∷ []) = append_assoc history sofar (e ∷ []) in
-      let more = packets_allowed history now m outs (sofar ++ e ∷ []) (λ k. behind k sofar e (none k) (none_if (m == k) (connects e.what) (said g history m o).connects)) line on
+      let more = packets_allowed history now m outs (sofar ++ e ∷ []) (λ k. after k sofar e (none k) (none_if (m == k) (connects e.what) (said g history m o).connects)) line on
       (subst (λ (l : List Entry). has_ended m l ≡ false) place (still_active m (history ++ sofar) e last says.1)) in
       (record { active = last; says = says.0 }, subst (λ (l : List Entry). AllAllowed (ruled g slot desk entries bytes) l (posted_entries g history now m outs)) (sym place) more)
 

@@ -220,7 +220,7 @@ impl<C: Framer> Connection<C> {
     pub fn next(&self, hall: &Hall, by: u32, count: u64) -> Option<usize>
         ensures { HoldsNext hall.now.basis.site by (entries_ahead self.now hall.now.entries) count result }
     {
-        next_of(hall.site(), by, behind(hall.entries(), self.place), count)
+        next_of(hall, by, self.place, count)
     }
 
     /// The spellings of what is for the line's peer among the entries that it has not passed, in order; none where its chain refuses one.

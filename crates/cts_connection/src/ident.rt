@@ -9,7 +9,7 @@ use cts_ident::{identify, identify_command, named};
 
 /// Which definition an output of a line's chain is: by the names that it brings along, and else by its id fields. A packet by an
 /// interface, a command by a slot.
-pub fn ident_by(site: &Site, by: u32, bytes: &[u8], names: Option<(&[u8], &[u8])>) -> Ident
+pub(crate) fn ident_by(site: &Site, by: u32, bytes: &[u8], names: Option<(&[u8], &[u8])>) -> Ident
     requires { is_line site.now by ≡ true }
     ensures { (o : Output) → o.bytes ≡ bytes.now
         → option_map {U = List ℕ × List ℕ} (λ n. (n.0.now, n.1.now)) names.entry ≡ option_map {U = List ℕ × List ℕ} (λ h. (h.target, h.packet)) o.heading

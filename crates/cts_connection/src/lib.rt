@@ -18,7 +18,6 @@ mod writing;
 pub use connection::Connection;
 pub use end::End;
 pub use framer::Framer;
-pub use ident::ident_by;
 pub use laws::{lines, lines_may_post};
 pub use naming::{command_label, packet_label};
 pub use place::{is_interface, is_line, is_slot, line_place};

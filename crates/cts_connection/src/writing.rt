@@ -1,5 +1,5 @@
 // What the history has for the peer of a line, and its spellings, one after the other.
-ghost use Rattle.std.specs.Prelude.{◌≡◌, ◌≤◌, ◌<◌, ◌==◌, ◌∷◌, [], List, cond, length, map, true, IfOk, MatchOption};
+ghost use Rattle.std.specs.Prelude.{◌≡◌, ◌≤◌, ◌<◌, ◌==◌, ◌∷◌, [], List, cond, drop, length, map, true, IfOk, MatchOption};
 ghost use Rattle.std.specs.List.{list_any};
 ghost use Rattle.cts_chain.specs.Shapes.{IsChain, writers};
 ghost use Rattle.cts_chain.specs.Writing.{chain_spelling};
@@ -17,8 +17,9 @@ use crate::naming::{command_label, packet_label};
 use crate::place::is_interface;
 use cts_base::{Bytes, Memory};
 use cts_def::{FIRST_SLOT, Label, Site};
-use cts_entry::{Entry, What, is_command_for, place_behind};
+use cts_entry::{Entry, Stands, What, is_command_for, place_after};
 use cts_proto::EncodeFault;
+use cts_table::Hall;
 use std::alloc::Global;
 
 /// How many of these entries are for the peer of a line.
@@ -40,21 +41,23 @@ fn one_if(test: bool) -> usize
     if test { 1 } else { 0 }
 }
 
-/// How many of these entries hold the next so many of those through which a line goes: an interface goes from one of its commands to the
-/// next, a slot through all entries. None where there are fewer.
-pub(crate) fn next_of(site: &Site, by: u32, entries: &[Entry], count: u64) -> Option<usize>
-    ensures { HoldsNext site.now by entries.now count result }
+/// How many of the entries from a place on hold the next so many of those through which a line goes: an interface goes from one of its
+/// commands to the next, a slot through all entries. None where there are fewer.
+pub(crate) fn next_of(hall: &Hall, by: u32, place: usize, count: u64) -> Option<usize>
+    ensures { HoldsNext hall.now.basis.site by (drop place hall.now.entries) count result }
 {
-    if is_interface(site, by) {
-        return place_behind(entries, by, count);
+    if is_interface(hall.site(), by) {
+        let next = place_after(hall, place as u64, by, count)?;
+        return Some(next as usize);
     }
-    first_of(entries, count)
+    first_of(hall.count().saturating_sub(place as u64), count)
 }
 
-fn first_of(entries: &[Entry], count: u64) -> Option<usize>
-    ensures { MatchOption result (length entries.now < count) (λ n. (n ≡ count) × (n ≤ length entries.now)) }
+// The first so many of the entries ahead.
+fn first_of(ahead: u64, count: u64) -> Option<usize>
+    ensures { MatchOption result (ahead < count) (λ n. (n ≡ count) × (n ≤ ahead)) }
 {
-    if (entries.len() as u64) < count {
+    if ahead < count {
         return None;
     }
     Some(count as usize)

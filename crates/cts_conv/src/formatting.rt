@@ -96,11 +96,11 @@ fn put_undoubled(out: &mut Vec<u8>, text: &[u8]) -> Result<(), Memory>
     ensures { OnOk result (out.new.items ≡ out.old.items ++ undoubled text.now) }
 {
     let mut rest = text;
-    while let Some((c, behind)) = rest.split_first() {
+    while let Some((c, later)) = rest.split_first() {
         out.push(*c)?;
-        rest = match behind {
+        rest = match later {
             [_, after @ ..] if *c == b'%' => after,
-            _ => behind,
+            _ => later,
         };
     }
     Ok(())

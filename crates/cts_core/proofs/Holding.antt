@@ -174,7 +174,7 @@ packets_last : (w : Held) (by : ℕ) (entries : List Entry) (why : Option Why) �
 packets_last w by entries why sound can =
     let is = stands_at w by sound can.line can.connected in
     let env = environment_of w.basis in
-    let follows = packets_follow env w.history w.time by can.packets [] (λ k. refl) is.line is.on (subst Lasting (sym (append-nil w.history)) sound.lasting) in
+    let follows = packets_follow env w.history w.time by can.packets is.line is.on sound.lasting in
     subst Lasting (sym can.entries_are) follows.1
 
 settled_sound : (w new : Held) (by : ℕ) (why : Option Why) → IsSoundHeld w → is_line w.basis.site by ≡ true → Settles by w why new → IsSoundHeld new

@@ -38,7 +38,7 @@ use Rattle.cts_core.proofs.Replying.{reply_quiet}
 use Rattle.cts_connection.specs.Connections.{HeldConnection, HeldCursor, IsRenewed, connection_at, no_chain, shut, waiting}
 use Rattle.cts_connection.specs.Routings.{site_routing, writers_at}
 use Rattle.cts_connection.specs.Takings.{TakesPiece, blamed, entries_of}
-use Rattle.cts_core.specs.Kept.{is_within}
+use Rattle.cts_table.specs.States.{is_within}
 use Rattle.cts_table.specs.declared.basis.Basis.{Basis}
 use Rattle.cts_core.specs.Takings.{Begins, IsClosed, IsOpened, Posts, Settles, Takes, lost}
 use Rattle.cts_core.specs.Worlds.{Held, IsSoundHeld, IsUnmoved, HadRoom, RepresentsWithin, Steps, IsConnection, changed, connection_of, first_held, with_connection}

@@ -22,7 +22,7 @@ use Rattle.cts_table.specs.declared.basis.Basis.{Basis}
 use Rattle.cts_table.specs.declared.fault.NoRoute.{NoRoute}
 use Rattle.serde_json.specs.Data.{Data, Items}
 use Rattle.cts_core.specs.Environments.{basis_of}
-use Rattle.cts_core.specs.Kept.{is_within}
+use Rattle.cts_table.specs.States.{is_within}
 use Rattle.cts_core.specs.Runs.{Did, after}
 use Rattle.cts_core.specs.States.{State}
 

@@ -14,7 +14,7 @@ use Rattle.cts_frame.specs.Framing.{Output}
 use Rattle.cts_frame.specs.Packets.{Fault}
 use Rattle.cts_table.specs.declared.fault.HallFault.{HallFault}
 use Rattle.cts_table.specs.declared.fault.HallFault.TheVariants.{Full as Crowded, Memory as Wanting}
-use Rattle.cts_core.specs.Kept.{is_within}
+use Rattle.cts_table.specs.States.{is_within}
 use Rattle.cts_core.specs.Worlds.{Held, changed, connection_of, with_connection}
 use Rattle.cts_core.specs.declared.fault.WorldFault.{WorldFault}
 use Rattle.cts_core.specs.declared.fault.WorldFault.TheVariants.{NotEnabled, Full, Memory}

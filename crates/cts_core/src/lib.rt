@@ -12,7 +12,7 @@ mod supplier;
 mod world;
 
 pub use cts_connection::Framer;
-pub use enabling::{is_piece, may_close, takes_room};
+pub use enabling::takes_room;
 pub use fault::WorldFault;
 pub use supplier::Supplier;
 pub use world::World;

@@ -37,7 +37,7 @@ use Rattle.cts_table.specs.declared.fault.NoRoute.{NoRoute}
 use Rattle.cts_table.specs.declared.fault.NoRoute.TheVariants.{NoInterface, NotConnected}
 use Rattle.serde_json.specs.Data.{Data}
 use Rattle.cts_core.specs.Environments.{basis_of, site_environment}
-use Rattle.cts_core.specs.Kept.{is_within}
+use Rattle.cts_table.specs.States.{is_within}
 use Rattle.cts_core.specs.Runs.{Did, Does, Runs, after}
 use Rattle.cts_core.specs.Sendings.{AsksFor, AsksForNone, IsJudged, IsJudgedEvent, IsJudgedOrder, IsRefused, command_entry}
 use Rattle.cts_core.specs.States.{State}

@@ -32,8 +32,7 @@ closing_follows env before now m unsent cuts (Some fault) on last = one_follows 
 piece_follows : (env : Environment) (s : State) (m : ℕ) (piece : List ℕ) (entries : List Entry) → is_line env m ≡ true → is_connected m s.history ≡ true → Lasting s.history → Receives env s m piece entries → Follows env s.history entries
 piece_follows env s m piece entries line on last r =
     let packets = posted_entries env.routing s.history s.time m r.packets in
-    let last' : Lasting (s.history ++ []) = subst Lasting (sym (append-nil s.history)) last in
-    let posted = subst (λ (l : List Entry). Follows env l packets) (append-nil s.history) (packets_follow env s.history s.time m r.packets [] (λ k. refl) line on last') in
+    let posted = packets_follow env s.history s.time m r.packets line on last in
     let still : is_connected m (s.history ++ packets) ≡ true = connected_kept m s.history packets (packets_connect m env.routing s.history s.time m r.packets) ∙ on in
     let ends = closing_follows env (s.history ++ packets) s.time m (unsent env s m) r.cuts (fault_of r.cuts) still (lasting_append s.history packets last posted.1) in
     subst (Follows env s.history) (sym r.entries_are) (

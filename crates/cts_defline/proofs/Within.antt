@@ -2,12 +2,12 @@
 use Rattle.std.proofs.Common.{◌≡◌, ℕ, zero, suc, ◌+◌, ◌<◌, false, List, [], ◌∷◌, length, drop, refl, arith, add-one}
 use Rattle.cts_defline.specs.Forms.{begins_with, is_within}
 
-behind_place : (text word : List ℕ) (at : ℕ) → at < length word → begins_with text (drop at word) ≡ false
+after_place : (text word : List ℕ) (at : ℕ) → at < length word → begins_with text (drop at word) ≡ false
     → is_within text (drop (suc at) word) ≡ is_within text (drop at word)
-behind_place text [] at h none = absurd (omega arith)
-behind_place text (c ∷ word) zero h none = rw none refl
-behind_place text (c ∷ word) (suc at) h none = behind_place text word at (omega arith) none
+after_place text [] at h none = absurd (omega arith)
+after_place text (c ∷ word) zero h none = rw none refl
+after_place text (c ∷ word) (suc at) h none = after_place text word at (omega arith) none
 
-pub within_behind : (text word : List ℕ) (at : ℕ) → at < length word → begins_with text (drop at word) ≡ false
+pub within_after : (text word : List ℕ) (at : ℕ) → at < length word → begins_with text (drop at word) ≡ false
     → is_within text (drop (at + 1) word) ≡ is_within text (drop at word)
-within_behind text word at h none = rw add-one (behind_place text word at h none)
+within_after text word at h none = rw add-one (after_place text word at h none)

@@ -15,7 +15,7 @@ use Rattle.cts_defline.specs.declared.cause.DefCause.TheVariants.{ArrayItem}
 use Rattle.cts_defline.specs.Refusals.{word_cause, keyword_cause}
 use Rattle.cts_defread.specs.Causes.{opened}
 use Rattle.cts_defread.specs.Definitions.{refusal, at_end, lines_of, cause_of_line}
-use Rattle.cts_defread.specs.Laws.{RefusesTheFirst, TakesTheOthers, StatementsSayLines, head_of, said_of, said_in, end_behind, OneForEachHead, OneForEachItem, ItemsHaveTheirOffsets}
+use Rattle.cts_defread.specs.Laws.{RefusesTheFirst, TakesTheOthers, StatementsSayLines, head_of, said_of, said_in, end_after, OneForEachHead, OneForEachItem, ItemsHaveTheirOffsets}
 use Rattle.cts_defread.specs.Standing.{packet_in, item_in, item_at, end_from, items_from, offset_or, packet_of, standing, set_names_of, definitions_at}
 use Rattle.cts_words.specs.Blocks.{blocks}
 use Rattle.cts_words.specs.Refusals.{or_else}
@@ -41,10 +41,10 @@ one_for_each_item head body = said_from head.order 0 (blocks item_in body) ∙ a
 
 -- ---- offsets
 
-end_from_greatest : (end : ℕ) (items : List ItemData) → end_from end items ≡ max end (end_behind items)
+end_from_greatest : (end : ℕ) (items : List ItemData) → end_from end items ≡ max end (end_after items)
 end_from_greatest end [] = omega arith
 end_from_greatest end (i ∷ items) =
-    let rest : end_from (max end (end_of (span_of i))) items ≡ max (max end (end_of (span_of i))) (end_behind items) = end_from_greatest (max end (end_of (span_of i))) items in
+    let rest : end_from (max end (end_of (span_of i))) items ≡ max (max end (end_of (span_of i))) (end_after items) = end_from_greatest (max end (end_of (span_of i))) items in
     omega arith
 
 offset_at : (order : Order) (end : ℕ) (bs : List (ItemLine × List Line)) (front rest : List ItemData) (i : ItemData) (before after : List ItemLine) (l : ItemLine)
@@ -65,13 +65,13 @@ offset_at order end (b ∷ bs) (f ∷ front) rest i (k ∷ before) after l items
     offset_at order (max end (end_of (span_of (item_at order end b.0 b.1)))) bs front rest i before after l others heads_left (omega arith)
     ∙ ap (λ (j : ItemData). offset_or (end_from (max end (end_of (span_of j))) front) l.offset) item
 
-pub end_behind_first : (items : List ItemData) → end_from 0 items ≡ end_behind items
-end_behind_first items = let e = end_from_greatest 0 items in omega arith
+pub end_after_first : (items : List ItemData) → end_from 0 items ≡ end_after items
+end_after_first items = let e = end_from_greatest 0 items in omega arith
 
 pub items_have_their_offsets : ItemsHaveTheirOffsets
 items_have_their_offsets head body front rest i before after l items lines same =
     offset_at head.order 0 (blocks item_in body) front rest i before after l items (heads item_in body ∙ lines) same
-    ∙ ap (λ (n : ℕ). offset_or n l.offset) (end_behind_first front)
+    ∙ ap (λ (n : ℕ). offset_or n l.offset) (end_after_first front)
 
 -- ---- the first refusal
 

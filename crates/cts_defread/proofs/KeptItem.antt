@@ -28,7 +28,7 @@ use Rattle.cts_defline.specs.Refusals.{open_kind}
 use Rattle.cts_defline.specs.Rules.{suits}
 use Rattle.cts_defread.specs.declared.draft.Draft.{Draft}
 use Rattle.cts_defread.specs.declared.drafted.Drafted.{Drafted}
-use Rattle.cts_defread.specs.Causes.{drafted_items, open_items, open_end, order_in, span_in, is_open_ended, opened, is_command_in, of_place, is_behind_open_end, is_id_from_end, is_from_end_in_command, is_behind_rest_in_command, is_unfit_id, is_unfit_preset, fits, has_item, count_items}
+use Rattle.cts_defread.specs.Causes.{drafted_items, open_items, open_end, order_in, span_in, is_open_ended, opened, is_command_in, of_place, is_after_open_end, is_id_from_end, is_from_end_in_command, is_after_rest_in_command, is_unfit_id, is_unfit_preset, fits, has_item, count_items}
 use Rattle.cts_defread.specs.Drafts.{IsKept, names_of, item_names, state_names}
 use Rattle.cts_defread.specs.Sound.{AreSound, keeps_its_kind}
 use Rattle.cts_defread.specs.Standing.{item_at, end_from, offset_or, preset_or, are_same_kind}
@@ -113,17 +113,17 @@ record IsPlaced (ps : List Drafted) (head : ItemLine) : Type 0 where
   pub place : is_misplaced (span_in ps head) ≡ false
   pub id : is_id_from_end ps head ≡ false
   pub command : is_from_end_in_command ps head ≡ false
-  pub behind : is_behind_rest_in_command ps head ≡ false
+  pub later : is_after_rest_in_command ps head ≡ false
 
 is_placed : (ps : List Drafted) (sets : List (List ℕ)) (head : ItemLine) → Clean ps sets (line.Item head) → IsPlaced ps head
 is_placed ps sets head h =
     let six = six_first (of_place is_too_far ps head) (of_place is_refused_number ps head) (of_place is_bad_from_end ps head) (of_place is_split_text ps head) (of_place is_text_past_end ps head) (of_place ends_too_far ps head)
-    (is_behind_open_end ps head || (is_id_from_end ps head || (is_from_end_in_command ps head || (is_behind_rest_in_command ps head || false)))) h.placed in
-    let a = or_parts (is_behind_open_end ps head) (is_id_from_end ps head || (is_from_end_in_command ps head || (is_behind_rest_in_command ps head || false))) six.1 in
-    let b = or_parts (is_id_from_end ps head) (is_from_end_in_command ps head || (is_behind_rest_in_command ps head || false)) a.1 in
-    let c = or_parts (is_from_end_in_command ps head) (is_behind_rest_in_command ps head || false) b.1 in
-    let d = or_parts (is_behind_rest_in_command ps head) false c.1 in
-    record { place = six.0; id = b.0; command = c.0; behind = d.0 }
+    (is_after_open_end ps head || (is_id_from_end ps head || (is_from_end_in_command ps head || (is_after_rest_in_command ps head || false)))) h.placed in
+    let a = or_parts (is_after_open_end ps head) (is_id_from_end ps head || (is_from_end_in_command ps head || (is_after_rest_in_command ps head || false))) six.1 in
+    let b = or_parts (is_id_from_end ps head) (is_from_end_in_command ps head || (is_after_rest_in_command ps head || false)) a.1 in
+    let c = or_parts (is_from_end_in_command ps head) (is_after_rest_in_command ps head || false) b.1 in
+    let d = or_parts (is_after_rest_in_command ps head) false c.1 in
+    record { place = six.0; id = b.0; command = c.0; later = d.0 }
 
 place_false : (ps front : List Drafted) (d : Drafted) (sets : List (List ℕ)) (head : ItemLine) → ps ≡ front ++ d ∷ [] → Clean ps sets (line.Item head) → is_misplaced (span_of (new_item head d)) ≡ false
 place_false ps front d sets head e h = ap is_misplaced (sym (lies ps front d head e)) ∙ (is_placed ps sets head h).place
@@ -158,14 +158,14 @@ is_further ps d sets head last h command =
     let is_one : is_command_in (last_of ps) ≡ true = ap is_command_in last ∙ command in
     let near : is_negative (span_in ps head).offset || is_negative head.size ≡ false =
     not_both (is_command_in (last_of ps)) (is_negative (span_in ps head).offset || is_negative head.size) (is_placed ps sets head h).command is_one in
-    let rest : list_any is_to_the_end (open_items ps) ≡ false = not_both (is_command_in (last_of ps)) (list_any is_to_the_end (open_items ps)) (is_placed ps sets head h).behind is_one in
+    let rest : list_any is_to_the_end (open_items ps) ≡ false = not_both (is_command_in (last_of ps)) (list_any is_to_the_end (open_items ps)) (is_placed ps sets head h).later is_one in
     let sides = or_parts (is_negative (span_in ps head).offset) (is_negative head.size) near in
     let offset : is_negative (span_of (new_item head d)).offset ≡ false = ap (λ (s : Span). is_negative s.offset) (sym (lies_last ps d head last)) ∙ sides.0 in
     record {
       from_start =
           and_from (not (is_negative (span_of (new_item head d)).offset)) (not (is_negative head.size)) (not_from_false (is_negative (span_of (new_item head d)).offset) offset)
           (not_from_false (is_negative head.size) sides.1);
-      behind = ap (λ (o : Option Drafted). list_any is_to_the_end (drafted_items o)) (sym last) ∙ rest;
+      later = ap (λ (o : Option Drafted). list_any is_to_the_end (drafted_items o)) (sym last) ∙ rest;
     }
 
 item_sound : (old new front : List Drafted) (d : Drafted) (sets : List (List ℕ)) (head : ItemLine) → old ≡ front ++ d ∷ [] → new ≡ on_last (add_item head) old → Clean old sets (line.Item head) → suits (open_kind (opened old)) (line.Item head) ≡ true → AreSound old sets → AreSound new sets
@@ -210,13 +210,13 @@ pub item_kept : (old new : Draft) (front : List Drafted) (d : Drafted) (item : I
 item_kept old new front d item head h clean suited same popped made placed names states count end ended filled =
     let i : ItemData = new_item head d in
     let is_one : item ≡ i = same_item old.packets.items front d item head old.end popped h.ends made in
-    let behind : new.packets.items ≡ front ++ add_item head d ∷ [] = placed ∙ ap (on_last (add_item head)) popped ∙ on_last_snoc (add_item head) front d in
+    let later : new.packets.items ≡ front ++ add_item head d ∷ [] = placed ∙ ap (on_last (add_item head)) popped ∙ on_last_snoc (add_item head) front d in
     let before : open_items old.packets.items ≡ d.packet.items = ap drafted_items (open_of old.packets.items front d popped) in
-    let after : open_items new.packets.items ≡ d.packet.items ++ i ∷ [] = ap drafted_items (open_of new.packets.items front (add_item head d) behind) in
+    let after : open_items new.packets.items ≡ d.packet.items ++ i ∷ [] = ap drafted_items (open_of new.packets.items front (add_item head d) later) in
     let telemetry : names_of Telemetry new.packets.items ≡ names_of Telemetry old.packets.items = ap (names_of Telemetry) placed ∙ names_on_last Telemetry (add_item head) old.packets.items (λ p. refl) in
     let commands : names_of Command new.packets.items ≡ names_of Command old.packets.items = ap (names_of Command) placed ∙ names_on_last Command (add_item head) old.packets.items (λ p. refl) in
     let total : count_items new.packets.items ≡ count_items old.packets.items + 1 =
-    omega (arith, ap count_items behind, count_more front (add_item head d), length-append d.packet.items (i ∷ []), ap count_items popped, count_more front d) in
+    omega (arith, ap count_items later, count_more front (add_item head d), length-append d.packet.items (i ∷ []), ap count_items popped, count_more front d) in
     let room : end_of (span_of i) ≤ last_place = (placed_so (span_of i) (place_false old.packets.items front d old.set_names.items head popped clean)).end in
     let few : count_items old.packets.items < 65536 = leb-false 65536 (count_items old.packets.items) (right_false (nat_le 4096 (length (open_items old.packets.items))) (nat_le 65536 (count_items old.packets.items)) clean.few) in
     let new_end : new.end ≡ max old.end (end_of (span_of i)) = end ∙ ap (λ (j : ItemData). max old.end (end_of (span_of j))) is_one in

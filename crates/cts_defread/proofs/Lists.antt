@@ -32,7 +32,7 @@ length_on_last f (x ∷ y ∷ xs) = ap suc (length_on_last f (y ∷ xs))
 pub last_on_last : {X : Type 0} (f : X → X) (xs : List X) → last_of (on_last f xs) ≡ option_map f (last_of xs)
 last_on_last f [] = refl
 last_on_last f (x ∷ []) = refl
-last_on_last f (x ∷ y ∷ xs) = last_behind x (on_last f (y ∷ xs)) (not_empty f y xs) ∙ last_on_last f (y ∷ xs) where
+last_on_last f (x ∷ y ∷ xs) = last_after x (on_last f (y ∷ xs)) (not_empty f y xs) ∙ last_on_last f (y ∷ xs) where
   not_empty : {X : Type 0} (f : X → X) (y : X) (xs : List X) → is_some (last_of (on_last f (y ∷ xs))) ≡ true
   not_empty f y [] = refl
   not_empty f y (z ∷ xs) = still_some y (on_last f (z ∷ xs)) (not_empty f z xs) where
@@ -40,9 +40,9 @@ last_on_last f (x ∷ y ∷ xs) = last_behind x (on_last f (y ∷ xs)) (not_empt
     still_some y [] e = absurd cc
     still_some y (z ∷ ys) e = e
 
-  last_behind : {X : Type 0} (x : X) (ys : List X) → is_some (last_of ys) ≡ true → last_of (x ∷ ys) ≡ last_of ys
-  last_behind x [] e = absurd cc
-  last_behind x (y ∷ ys) e = refl
+  last_after : {X : Type 0} (x : X) (ys : List X) → is_some (last_of ys) ≡ true → last_of (x ∷ ys) ≡ last_of ys
+  last_after x [] e = absurd cc
+  last_after x (y ∷ ys) e = refl
 
 pub all_on_last : {X : Type 0} (p : X → Bool) (f : X → X) (xs : List X) → ((x : X) → last_of xs ≡ Some x → p x ≡ true → p (f x) ≡ true) → list_all p xs ≡ true → list_all p (on_last f xs) ≡ true
 all_on_last p f [] h all = refl

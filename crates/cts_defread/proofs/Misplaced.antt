@@ -30,9 +30,9 @@ six_and_more false false false false false false false false true j = refl
 six_and_more false false false false false false false false false true = refl
 six_and_more false false false false false false false false false false = refl
 
-pub all_ten : (a b c d e f g h i j by_itself behind id parameter last : Bool) → by_itself ≡ a || (b || (c || (d || (e || (f || false))))) → behind ≡ g → id ≡ h → parameter ≡ i → last ≡ j
-    → by_itself || behind || id || parameter || last ≡ a || (b || (c || (d || (e || (f || (g || (h || (i || (j || false)))))))))
-all_ten a b c d e f g h i j by_itself behind id parameter last p q r s t = rw (p, q, r, s, t) (six_and_more a b c d e f g h i j)
+pub all_ten : (a b c d e f g h i j by_itself later id parameter last : Bool) → by_itself ≡ a || (b || (c || (d || (e || (f || false))))) → later ≡ g → id ≡ h → parameter ≡ i → last ≡ j
+    → by_itself || later || id || parameter || last ≡ a || (b || (c || (d || (e || (f || (g || (h || (i || (j || false)))))))))
+all_ten a b c d e f g h i j by_itself later id parameter last p q r s t = rw (p, q, r, s, t) (six_and_more a b c d e f g h i j)
 
 pub six_first : (a b c d e f rest : Bool) → a || (b || (c || (d || (e || (f || rest))))) ≡ false → (a || (b || (c || (d || (e || (f || false))))) ≡ false) × (rest ≡ false)
 six_first true b c d e f rest h = absurd cc

@@ -139,7 +139,7 @@ own_default kind id (Some preset) e = e
 -- what a command asks of a further item
 pub record IsFurther (d : Drafted) (head : ItemLine) : Type 0 where
   pub from_start : is_from_start (new_item head d) ≡ true
-  pub behind : list_any is_to_the_end d.packet.items ≡ false
+  pub later : list_any is_to_the_end d.packet.items ≡ false
 
 item_keeps : (sets : List (List ℕ)) (kind : PacketKind) (d : Drafted) (head : ItemLine) → is_of_kind kind (line.Item head) ≡ true → is_text_id (line.Item head) ≡ false
     → (are_same_kind Command kind ≡ true → IsFurther d head) → keeps_kind sets kind d.packet ≡ true → keeps_kind sets kind (add_item head d).packet ≡ true
@@ -160,7 +160,7 @@ item_keeps sets Command d head suited whole further e =
     (and_from (is_from_start (new_item head d) && true && true && true) (has_range_of_its_kind (new_item head d)) (ap (λ (b : Bool). b && true && true && true) h.from_start) range) default in
     and_from (list_all is_parameter (d.packet.items ++ new_item head d ∷ [])) (are_before_the_end (d.packet.items ++ new_item head d ∷ []))
     (all_more is_parameter d.packet.items (new_item head d) ∙ and_from (list_all is_parameter d.packet.items) (is_parameter (new_item head d)) parts.0 one)
-    (before_more d.packet.items (new_item head d) h.behind)
+    (before_more d.packet.items (new_item head d) h.later)
 
 pub kinds_item : (sets : List (List ℕ)) (ps : List Drafted) (head : ItemLine) → suits (open_kind (opened_in (last_of ps))) (line.Item head) ≡ true → is_text_id (line.Item head) ≡ false
     → ((d : Drafted) → last_of ps ≡ Some d → are_same_kind Command d.kind ≡ true → IsFurther d head) → list_all (keeps_its_kind sets) ps ≡ true → list_all (keeps_its_kind sets) (on_last (add_item head) ps) ≡ true

@@ -14,7 +14,7 @@ use Rattle.cts_def.specs.declared.conversion.Segment.{Segment}
 use Rattle.cts_def.specs.declared.limits.Limits.{Limits}
 use Rattle.cts_def.specs.declared.limits_setup.LimitsSetup.{LimitsSetup}
 use Rattle.cts_def.specs.declared.state_def.StateDef.{StateDef}
-use Rattle.cts_def.specs.Formats.{is_format}
+use Rattle.cts_def.specs.Readings.{is_format}
 use Rattle.cts_def.specs.Items.{ItemData, IsSoundItem, HasSoundLimits, may_have_limits, IsSoundConversion, begins_with_default, are_in_order, has_coefficients, is_polynomial_of, is_sound_state, is_too_large, has_color, is_same, sets_in}
 use Rattle.cts_def.specs.Spans.{is_number}
 use Rattle.cts_defline.specs.declared.details.Detail.{Detail}

@@ -57,15 +57,15 @@ both_same true xs = refl
 both_same false xs = append-nil xs
 
 -- x is like y, or it is not
-more_behind : (x y : List ℕ) (fs : List (List ℕ)) (b : Bool) → is_same x y ≡ b → y ∷ filter (is_other y) (add_set x fs) ≡ add_set x (y ∷ filter (is_other y) fs)
-more_behind x y fs true e =
+more_after : (x y : List ℕ) (fs : List (List ℕ)) (b : Bool) → is_same x y ≡ b → y ∷ filter (is_other y) (add_set x fs) ≡ add_set x (y ∷ filter (is_other y) fs)
+more_after x y fs true e =
     let here : is_same y x ≡ true = turned y x ∙ e in
     ap (λ zs. y ∷ zs)
     (filter_cond (is_other y) (list_any (is_same x) fs) fs x
     ∙ ap (λ (c : Bool). cond (list_any (is_same x) fs) (filter (is_other y) fs) (filter (is_other y) fs ++ cond (not c) (x ∷ []) [])) here
     ∙ both_same (list_any (is_same x) fs) (filter (is_other y) fs))
     ∙ sym (ap (λ (c : Bool). cond (c || list_any (is_same x) (filter (is_other y) fs)) (y ∷ filter (is_other y) fs) (y ∷ filter (is_other y) fs ++ x ∷ [])) e)
-more_behind x y fs false e =
+more_after x y fs false e =
     let here : is_same y x ≡ false = turned y x ∙ e in
     ap (λ zs. y ∷ zs)
     (filter_cond (is_other y) (list_any (is_same x) fs) fs x
@@ -77,7 +77,7 @@ more_behind x y fs false e =
 
 firsts_more : (xs : List (List ℕ)) (x : List ℕ) → firsts (xs ++ x ∷ []) ≡ add_set x (firsts xs)
 firsts_more [] x = refl
-firsts_more (y ∷ xs) x = ap (λ zs. y ∷ filter (is_other y) zs) (firsts_more xs x) ∙ more_behind x y (firsts xs) (is_same x y) refl
+firsts_more (y ∷ xs) x = ap (λ zs. y ∷ filter (is_other y) zs) (firsts_more xs x) ∙ more_after x y (firsts xs) (is_same x y) refl
 
 -- ---- lines
 

@@ -16,7 +16,7 @@ use Rattle.cts_defread.specs.declared.drafted.Drafted.{Drafted}
 use Rattle.cts_defread.specs.Defined.{BeginsAtHead, DefinitionsAreOfTheirLines, HasItemLine, HasPacketLine, IsBlock, IsDefinedBy, names_of_head, names_of_packet, names_said}
 use Rattle.cts_defread.specs.Definitions.{lines_of, refusal, at_end}
 use Rattle.cts_defread.specs.Standing.{are_same_kind, definitions_at, end_from, item_at, item_in, items_from, items_of, offset_or, packet_in, packet_of, packets_of, standing}
-use Rattle.cts_defread.proofs.InOrder.{end_behind_first}
+use Rattle.cts_defread.proofs.InOrder.{end_after_first}
 use Rattle.cts_words.specs.Blocks.{HasNoHead, begin_block, blocks, cut_at_heads}
 use Rattle.cts_reader.proofs.FirstRefused.{taken}
 use Rattle.cts_words.proofs.Blocks.{heads}
@@ -90,7 +90,7 @@ item_line order body before after i e =
       item = record {
         name = ap (λ (j : ItemData). j.name) same;
         kind = ap (λ (j : ItemData). j.kind) same;
-        offset = ap (λ (j : ItemData). j.offset) same ∙ ap (λ (n : ℕ). offset_or n found.2.0.offset) (end_behind_first before);
+        offset = ap (λ (j : ItemData). j.offset) same ∙ ap (λ (n : ℕ). offset_or n found.2.0.offset) (end_after_first before);
         size = ap (λ (j : ItemData). j.size) same;
         order = ap (λ (j : ItemData). j.order) same;
         id = ap (λ (j : ItemData). j.id) same;

@@ -16,7 +16,7 @@ use Rattle.cts_def.specs.declared.item_kind.Preset.TheVariants.{Whole, Raw}
 use Rattle.cts_def.specs.declared.limits.Limits.{Limits}
 use Rattle.cts_def.specs.declared.span.Span.{Span}
 use Rattle.cts_def.specs.declared.state_def.StateDef.{StateDef}
-use Rattle.cts_def.specs.Formats.{is_format}
+use Rattle.cts_def.specs.Readings.{is_format}
 use Rattle.cts_def.specs.Items.{ItemData, is_same, has_room, has_color, is_too_large, is_to_the_end, are_in_order, sets_in}
 use Rattle.cts_def.specs.Most.{most_items, most_items_in_all, most_packets, most_segments, most_sets, most_states}
 use Rattle.cts_def.specs.Packets.{received_count, unknown}
@@ -168,8 +168,8 @@ abbrev pub of_place : (Span → Bool) → List Drafted → ItemLine → Bool
 of_place test packets head = test (span_in packets head)
 
 -- an append stands after an item of size at most 0
-abbrev pub is_behind_open_end : List Drafted → ItemLine → Bool
-is_behind_open_end packets head = is_none head.offset && list_any is_open_ended (open_items packets)
+abbrev pub is_after_open_end : List Drafted → ItemLine → Bool
+is_after_open_end packets head = is_none head.offset && list_any is_open_ended (open_items packets)
 
 -- an id item has a negative offset
 abbrev pub is_id_from_end : List Drafted → ItemLine → Bool
@@ -181,15 +181,15 @@ is_from_end_in_command packets head =
     is_command_in (last_of packets) && (is_negative (span_in packets head).offset || is_negative head.size)
 
 -- in a command, an item stands after one of size 0
-abbrev pub is_behind_rest_in_command : List Drafted → ItemLine → Bool
-is_behind_rest_in_command packets head = is_command_in (last_of packets) && list_any is_to_the_end (open_items packets)
+abbrev pub is_after_rest_in_command : List Drafted → ItemLine → Bool
+is_after_rest_in_command packets head = is_command_in (last_of packets) && list_any is_to_the_end (open_items packets)
 
 -- all ten: six of the place alone, and four by what stands
 abbrev pub bad_places : List (List Drafted → ItemLine → Bool)
 bad_places =
     of_place is_too_far ∷ of_place is_refused_number ∷ of_place is_bad_from_end ∷ of_place is_split_text
     ∷ of_place is_text_past_end ∷ of_place ends_too_far
-    ∷ is_behind_open_end ∷ is_id_from_end ∷ is_from_end_in_command ∷ is_behind_rest_in_command ∷ []
+    ∷ is_after_open_end ∷ is_id_from_end ∷ is_from_end_in_command ∷ is_after_rest_in_command ∷ []
 
 abbrev pub is_bad_place : List Drafted → Line → Bool
 is_bad_place packets (line.Item head) = list_any (λ (bad : List Drafted → ItemLine → Bool). bad packets head) bad_places

@@ -12,7 +12,7 @@ use Rattle.cts_defline.specs.declared.line.PacketLine.{PacketLine}
 use Rattle.cts_defline.specs.declared.open.PacketKind.{PacketKind}
 use Rattle.cts_defline.specs.declared.open.PacketKind.TheVariants.{Telemetry, Command}
 use Rattle.cts_defread.specs.Definitions.{definitions_of, lines_of}
-use Rattle.cts_defread.specs.Laws.{end_behind}
+use Rattle.cts_defread.specs.Laws.{end_after}
 use Rattle.cts_defread.specs.Standing.{are_same_kind, conversion_of, firsts, format_in, is_hazardous, is_required, item_in, limits_from, limits_in, offset_or, overflow_in, packet_in, preset_or, set_in, state_in, units_in}
 use Rattle.cts_words.specs.Blocks.{HasNoHead, last_of}
 use Rattle.cts_words.specs.declared.statement.Statement.{Statement}
@@ -40,7 +40,7 @@ pub record IsBlock {L H : Type 0} (head_in : L → Option H) (all : List L) (hea
 pub record IsItemOf (order_of_packet : Order) (before : List ItemData) (l : ItemLine) (details : List Line) (i : ItemData) : Type 0 where
   pub name : i.name ≡ l.name
   pub kind : i.kind ≡ l.kind
-  pub offset : i.offset ≡ offset_or (end_behind before) l.offset
+  pub offset : i.offset ≡ offset_or (end_after before) l.offset
   pub size : i.size ≡ l.size
   pub order : i.order ≡ unwrap_or l.order order_of_packet
   pub id : i.id ≡ l.id

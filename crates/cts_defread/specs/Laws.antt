@@ -54,11 +54,11 @@ abbrev pub OneForEachItem : Type 0
 OneForEachItem = (head : PacketLine) (body : List Line) → map said_in (items_of (head, body)) ≡ map said_of (filter_map item_in body)
 
 -- the greatest end of the items
-abbrev pub end_behind : List ItemData → ℕ
-end_behind items = greatest (map (λ (i : ItemData). end_of (span_of i)) items)
+abbrev pub end_after : List ItemData → ℕ
+end_after items = greatest (map (λ (i : ItemData). end_of (span_of i)) items)
 
 -- An item begins at the offset of its line, or at the greatest end of the items before it where its line has none.
 abbrev pub ItemsHaveTheirOffsets : Type 0
 ItemsHaveTheirOffsets = (head : PacketLine) (body : List Line) (front rest : List ItemData) (i : ItemData) (before after : List ItemLine) (l : ItemLine)
     → items_of (head, body) ≡ front ++ i ∷ rest → filter_map item_in body ≡ before ++ l ∷ after → length front ≡ length before
-    → i.offset ≡ offset_or (end_behind front) l.offset
+    → i.offset ≡ offset_or (end_after front) l.offset

@@ -6,7 +6,7 @@ ghost use Rattle.std.specs.List.{list_any};
 ghost use Rattle.cts_bits.specs.Places.{is_whole};
 ghost use Rattle.cts_def.specs.Items.{is_to_the_end};
 ghost use Rattle.cts_def.specs.Spans.{is_far, is_misplaced};
-ghost use Rattle.cts_defread.specs.Causes.{open_items, open_end, order_in, span_in, is_little_append, is_open_ended, is_behind_open_end, is_id_from_end, is_from_end_in_command, is_behind_rest_in_command, is_bad_place};
+ghost use Rattle.cts_defread.specs.Causes.{open_items, open_end, order_in, span_in, is_little_append, is_open_ended, is_after_open_end, is_id_from_end, is_from_end_in_command, is_after_rest_in_command, is_bad_place};
 ghost use Rattle.cts_defread.specs.Standing.{offset_or};
 ghost use Rattle.cts_defread.specs.Drafts.{IsKept};
 ghost use Rattle.cts_words.specs.Blocks.{last_of};
@@ -56,10 +56,10 @@ fn is_whole(end: u32, size: i128) -> bool
     0 < size && end % 8 == 0 && (bits == 8 || bits == 16 || bits == 32 || bits == 64)
 }
 
-fn any_of(by_itself: bool, behind: bool, id: bool, parameter: bool, last: bool) -> bool
-    ensures { result ≡ by_itself || behind || id || parameter || last }
+fn any_of(by_itself: bool, later: bool, id: bool, parameter: bool, last: bool) -> bool
+    ensures { result ≡ by_itself || later || id || parameter || last }
 {
-    by_itself || behind || id || parameter || last
+    by_itself || later || id || parameter || last
 }
 
 impl Draft {
@@ -107,9 +107,9 @@ impl Draft {
     }
 
     // Whether it is appended after an item that goes to the packet's end, or up to some bits before it.
-    fn is_behind_open_end(&self, head: &ItemLine) -> bool
+    fn is_after_open_end(&self, head: &ItemLine) -> bool
         requires { IsKept self.now }
-        ensures { result ≡ is_behind_open_end self.now.packets.items head.now }
+        ensures { result ≡ is_after_open_end self.now.packets.items head.now }
     {
         head.offset.is_none() && self.is_open_ended
     }
@@ -131,9 +131,9 @@ impl Draft {
     }
 
     // Whether it is a parameter after one that goes to the end.
-    fn is_behind_rest_in_command(&self, head: &ItemLine) -> bool
+    fn is_after_rest_in_command(&self, head: &ItemLine) -> bool
         requires { IsKept self.now }
-        ensures { result ≡ is_behind_rest_in_command self.now.packets.items head.now }
+        ensures { result ≡ is_after_rest_in_command self.now.packets.items head.now }
     {
         self.is_command() && self.is_to_the_end
     }
@@ -144,15 +144,15 @@ impl Draft {
         ensures { result ≡ is_bad_place self.now.packets.items (line.Item head.now) }
     {
         let by_itself = self.is_misplaced(head);
-        let behind = self.is_behind_open_end(head);
+        let later = self.is_after_open_end(head);
         let id = self.is_id_from_end(head);
         let parameter = self.is_from_end_in_command(head);
         any_of(
             by_itself,
-            behind,
+            later,
             id,
             parameter,
-            self.is_behind_rest_in_command(head),
+            self.is_after_rest_in_command(head),
         )
     }
 

@@ -3,7 +3,7 @@ use Rattle.std.proofs.Common.{◌≡◌, false, List, [], ◌∷◌, ◌++◌, l
 use Rattle.std.specs.List.{concat}
 use Rattle.cts_outside.specs.Lines.{Connection}
 use Rattle.cts_http.specs.Requests.{Ending, Requests, Closed, Waiting, Refused as RefusedWith}
-use Rattle.cts_http.specs.Streams.{Stream, behind as ending_text, responses as responses_of}
+use Rattle.cts_http.specs.Streams.{Stream, ending_text, responses as responses_of}
 use Rattle.cts_desk.specs.Exchanges.{Exchange, bodies_of, fronts_of}
 use Rattle.cts_desk.specs.Laws.{StreamsArePut, texts_of}
 use Rattle.cts_desk.specs.Streams.{PeerEnded, ReadFault, WriteFault, LastAsked, Refused, NoMemory, Stopped, IsPut, responses, response_to}

@@ -6,4 +6,4 @@ mod found;
 mod starts;
 
 pub use fixed::{Fixed, FixedSearch};
-pub use starts::{begins_with, first_start};
+pub use starts::begins_with;

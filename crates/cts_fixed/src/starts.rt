@@ -42,7 +42,7 @@ pub fn begins_with(start: &Start, bytes: &[u8]) -> bool
 }
 
 /// The first start with which the bytes begin, if they begin with one.
-pub fn first_start<'a>(starts: &'a [Start], bytes: &[u8]) -> Option<&'a Start>
+pub(crate) fn first_start<'a>(starts: &'a [Start], bytes: &[u8]) -> Option<&'a Start>
     ensures { option_map (λ s. s.now) result ≡ find (λ s. begins_with s bytes.now) starts.now }
 {
     starts.iter().find(|start| begins_with(start, bytes))

@@ -178,9 +178,9 @@ module _ (t : TerminatedData) (u : List ℕ) where
       let is : u ≡ front ++ rest = e ∙ (ap (λ v. t.sync ++ v) (sym (append_assoc body t.read rest)) ∙ sym (append_assoc t.sync (body ++ t.read) rest)) in
       let left : List ℕ = take (frame_limit - length front) rest in
       let taken : take frame_limit u ≡ t.sync ++ ((body ++ t.read) ++ left) = ap (take frame_limit) is ∙ (front_taken frame_limit front rest (omega (arith, len, few)) ∙ append_assoc t.sync (body ++ t.read) left) in
-      let behind : drop (length t.sync) (take frame_limit u) ≡ body ++ (t.read ++ left) =
+      let later : drop (length t.sync) (take frame_limit u) ≡ body ++ (t.read ++ left) =
       ap (drop (length t.sync)) taken ∙ (drop_at t.sync ((body ++ t.read) ++ left) (length t.sync) refl ∙ append_assoc body t.read left) in
-      first_none t.read (drop (length t.sync) (take frame_limit u)) none body (left, behind)
+      first_none t.read (drop (length t.sync) (take frame_limit u)) none body (left, later)
 
   no_end : (o : Option ℕ) → end_of_frame t (take frame_limit u) ≡ o → o ≡ None → first_place t.read (drop (length t.sync) (take frame_limit u)) ≡ None
   no_end o e h = none_of (first_place t.read (drop (length t.sync) (take frame_limit u))) (e ∙ h)
@@ -291,13 +291,13 @@ preidentified_to p u c ub t =
 preidentified_back : (p : PreidentifiedData) (u : List ℕ) (c : BadCause) → IsPreidentifiedError p u c → WrongTells p.sync (preidentified_states p) u c
 preidentified_back p u c k =
     let v : List ℕ = head_bytes k.head ++ k.rest in
-    let behind : drop (length p.sync) u ≡ v = ap (drop (length p.sync)) k.begin ∙ drop_at p.sync v (length p.sync) refl in
+    let later : drop (length p.sync) u ≡ v = ap (drop (length p.sync)) k.begin ∙ drop_at p.sync v (length p.sync) refl in
     let there : has_head v ≡ true = le_test (head_end v) (length v) (omega (arith, end_again k.head k.rest, length-append (head_bytes k.head) k.rest)) in
     let count : (head_of v).count ≡ k.head.count = ap (λ (d : HeadData). d.count) (head_again k.head k.rest k.fits) in
     record {
       some = omega (arith, ap length k.begin, length-append p.sync v, length-append (head_bytes k.head) k.rest, head_length k.head);
       begin = begins_test p.sync u (v, k.begin);
-      states_are = ap (head_states p) behind ∙ rw (there, end_again k.head k.rest, count) (count_back p (length (head_bytes k.head)) k.head.count c k.cause);
+      states_are = ap (head_states p) later ∙ rw (there, end_again k.head k.rest, count) (count_back p (length (head_bytes k.head)) k.head.count c k.cause);
     }
 
 -- ---- all protocols

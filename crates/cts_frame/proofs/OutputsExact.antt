@@ -6,7 +6,7 @@ use Rattle.cts_frame.specs.Frames.{IsTerminatedFrame, IsPreidentifiedFrame}
 use Rattle.cts_frame.specs.Framing.{Output, plain}
 use Rattle.cts_frame.specs.Heads.{HeadData, head_bytes, head_end, head_of}
 use Rattle.cts_frame.specs.RowLaws.{OutputsAreExact}
-use Rattle.cts_frame.specs.Rows.{behind_head}
+use Rattle.cts_frame.specs.Rows.{after_head}
 use Rattle.cts_frame.proofs.HeadAgain.{end_again, head_again}
 
 -- a frame without its termination
@@ -21,14 +21,14 @@ strips t w h true =
 head_output : (d : HeadData) (bytes : List ℕ) → Output
 head_output d bytes = record { bytes = bytes; heading = Some (record { time = d.time; target = d.target; packet = d.packet }) }
 
-behind : (p : PreidentifiedData) (w : List ℕ) (h : IsPreidentifiedFrame p w) → behind_head (drop (length p.sync) w) ≡ head_output h.head h.bytes
+later : (p : PreidentifiedData) (w : List ℕ) (h : IsPreidentifiedFrame p w) → after_head (drop (length p.sync) w) ≡ head_output h.head h.bytes
 unfolding head_output
-behind p w h =
+later p w h =
     let v : List ℕ = head_bytes h.head ++ h.bytes in
     let rest : drop (length p.sync) w ≡ v = ap (drop (length p.sync)) h.frame_is ∙ drop_at p.sync v (length p.sync) refl in
     let bytes : drop (head_end v) v ≡ h.bytes = drop_at (head_bytes h.head) h.bytes (head_end v) (sym (end_again h.head h.bytes)) in
     let head : head_of v ≡ h.head = head_again h.head h.bytes h.fits in
-    ap behind_head rest ∙ (λ i. record { bytes = bytes i; heading = Some (record { time = (head i).time; target = (head i).target; packet = (head i).packet }) })
+    ap after_head rest ∙ (λ i. record { bytes = bytes i; heading = Some (record { time = (head i).time; target = (head i).target; packet = (head i).packet }) })
 
 pub outputs_are_exact : OutputsAreExact
 unfolding head_output
@@ -36,4 +36,4 @@ outputs_are_exact (Burst b) w x h = refl
 outputs_are_exact (Fixed f) w x h = refl
 outputs_are_exact (Length l) w x h = refl
 outputs_are_exact (Terminated t) w x h = ap (λ v. plain (drop t.discard v)) (strips t w h t.strip)
-outputs_are_exact (Preidentified p) w x h = behind p w h
+outputs_are_exact (Preidentified p) w x h = later p w h

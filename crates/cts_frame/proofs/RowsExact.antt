@@ -110,10 +110,10 @@ terminated_to t some w p =
 
 terminated_back : (t : TerminatedData) → 1 ≤ length t.read → (w : List ℕ) → IsTerminatedFrame t w → FrameTells t.sync (terminated_states t) w
 terminated_back t some w f =
-    let behind : drop (length t.sync) w ≡ f.body ++ t.read = ap (drop (length t.sync)) f.frame_is ∙ drop_at t.sync (f.body ++ t.read) (length t.sync) refl in
+    let later : drop (length t.sync) w ≡ f.body ++ t.read = ap (drop (length t.sync)) f.frame_is ∙ drop_at t.sync (f.body ++ t.read) (length t.sync) refl in
     let len : length w ≡ length t.sync + length f.body + length t.read = ap length f.frame_is ∙ omega (arith, length-append t.sync (f.body ++ t.read), length-append f.body t.read) in
     let end : end_of_frame t w ≡ Some (length w) =
-    ap (λ (v : List ℕ). option_map (λ k. length t.sync + k + length t.read) (first_place t.read v)) behind
+    ap (λ (v : List ℕ). option_map (λ k. length t.sync + k + length t.read) (first_place t.read v)) later
     ∙ (ap (option_map (λ k. length t.sync + k + length t.read)) (first_test t.read (f.body ++ t.read) f.body f.leftmost) ∙ ap Some (sym len)) in
     record {
       some = omega (arith, len, some);
@@ -179,7 +179,7 @@ preidentified_to p w wb t =
 preidentified_back : (p : PreidentifiedData) (w : List ℕ) → IsPreidentifiedFrame p w → FrameTells p.sync (preidentified_states p) w
 preidentified_back p w f =
     let v : List ℕ = head_bytes f.head ++ f.bytes in
-    let behind : drop (length p.sync) w ≡ v = ap (drop (length p.sync)) f.frame_is ∙ drop_at p.sync v (length p.sync) refl in
+    let later : drop (length p.sync) w ≡ v = ap (drop (length p.sync)) f.frame_is ∙ drop_at p.sync v (length p.sync) refl in
     let there : has_head v ≡ true = le_test (head_end v) (length v) (omega (arith, end_again f.head f.bytes, length-append (head_bytes f.head) f.bytes)) in
     let count : (head_of v).count ≡ f.head.count = ap (λ (d : HeadData). d.count) (head_again f.head f.bytes f.fits) in
     let total : length p.sync + length (head_bytes f.head) + f.head.count ≡ length w =
@@ -188,7 +188,7 @@ preidentified_back p w f =
     record {
       some = omega (arith, total, head_length f.head);
       begin = begins_test p.sync w (v, f.frame_is);
-      states_are = ap (head_states p) behind ∙ rw (there, end_again f.head f.bytes, count, over_test p.max f.head.count f.max, long) refl;
+      states_are = ap (head_states p) later ∙ rw (there, end_again f.head f.bytes, count, over_test p.max f.head.count f.max, long) refl;
     }
 
 -- ---- all protocols

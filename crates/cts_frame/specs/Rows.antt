@@ -57,11 +57,11 @@ length_states l u = if nat_lt (length u) (reach l.place) then Open else field_st
 -- ---- TERMINATED: frames that end with a termination
 
 -- where the leftmost termination ends that begins after the sync pattern or later
-abbrev pub end_behind : ℕ → List ℕ → List ℕ → Option ℕ
-end_behind sync read u = option_map (λ k. sync + k + length read) (first_place read (drop sync u))
+abbrev pub end_after : ℕ → List ℕ → List ℕ → Option ℕ
+end_after sync read u = option_map (λ k. sync + k + length read) (first_place read (drop sync u))
 
 abbrev pub end_of_frame : TerminatedData → List ℕ → Option ℕ
-end_of_frame t u = end_behind (length t.sync) t.read u
+end_of_frame t u = end_after (length t.sync) t.read u
 
 abbrev pub end_states : Option ℕ → Bool → Stated
 end_states (Some n) full = Long n
@@ -108,8 +108,8 @@ abbrev pub preidentified_states : PreidentifiedData → List ℕ → Stated
 preidentified_states p u = head_states p (drop (length p.sync) u)
 
 -- the bytes after the head, with its time and names
-abbrev pub behind_head : List ℕ → Output
-behind_head v = record {
+abbrev pub after_head : List ℕ → Output
+after_head v = record {
   bytes = drop (head_end v) v;
   heading = Some (record { time = (head_of v).time; target = (head_of v).target; packet = (head_of v).packet });
 }
@@ -130,4 +130,4 @@ framing_of (Burst b) = record { sync = b.sync; whole = burst_whole b; error = bu
 framing_of (Fixed f) = stating f.sync (fixed_states f) (λ w. plain (drop f.discard w))
 framing_of (Length l) = stating l.sync (length_states l) (λ w. plain (drop l.discard w))
 framing_of (Terminated t) = stating t.sync (terminated_states t) (λ w. plain (drop t.discard (stripped t w)))
-framing_of (Preidentified p) = stating p.sync (preidentified_states p) (λ w. behind_head (drop (length p.sync) w))
+framing_of (Preidentified p) = stating p.sync (preidentified_states p) (λ w. after_head (drop (length p.sync) w))

@@ -5,7 +5,7 @@ use Rattle.httparse.proofs.OpenLemmas.{request_may_from_line, line_blank, BlankL
 use Rattle.cts_http.proofs.RoomLemmas.{request-length}
 use Rattle.cts_http.specs.Heads.{most_head}
 use Rattle.cts_http.specs.Requests.{Accepts, Waits, Follow, Takes, Requests, Ends, Ending, Closed, Refused, Waiting}
-use Rattle.cts_http.specs.Streams.{responses, response_with, behind}
+use Rattle.cts_http.specs.Streams.{responses, response_with, ending_text}
 use Rattle.cts_http.specs.Laws.{EndWithinTarget, HaveOneStream, OneMoreResponse}
 use Rattle.cts_http.proofs.ReadingLemmas.{follow_more, follow_snoc, requests_more}
 use Rattle.cts_http.proofs.LawLemmas.{one_requests, accepts_one}
@@ -15,7 +15,7 @@ use Rattle.cts_http.proofs.LawLemmas.{one_requests, accepts_one}
 pub one_stream : HaveOneStream
 one_stream b fronts texts put other x y =
     let one = one_requests b x.0 y.0 x.1 y.1 x.2 y.2 in
-    ⊎_elim (λ (same : x.1 ≡ y.1). inl (x.3.put_is ∙ (ap (λ e. responses fronts texts ++ behind e) same ∙ sym y.3.put_is)))
+    ⊎_elim (λ (same : x.1 ≡ y.1). inl (x.3.put_is ∙ (ap (λ e. responses fronts texts ++ ending_text e) same ∙ sym y.3.put_is)))
     (λ (t : EndWithinTarget b x.0). inr (x.0, t)) one.1
 
 -- ---- one response more
@@ -47,7 +47,7 @@ no_target x =
     let m = length-append (print_blank x.0 ++ x.1) (32 ∷ x.2) in
     omega (arith, n, m)
 
-ends_nothing : (last : Bool) → (ending : Ending) × Ends last [] ending × (behind ending ≡ [])
+ends_nothing : (last : Bool) → (ending : Ending) × Ends last [] ending × (ending_text ending ≡ [])
 ends_nothing true = (Closed, refl, refl)
 ends_nothing false = (Waiting [], (refl, refl, nothing_waits), refl)
 
@@ -59,10 +59,10 @@ not_itself xs x e =
     omega (arith, n, m)
 
 -- the ending of bytes that go on to one more request puts nothing
-behind_open : (b p : List ℕ) (bodies : List (List ℕ)) (body : List ℕ) (e f : Ending) → Requests b bodies e → Requests (b ++ p) (bodies ++ body ∷ []) f → behind e ≡ []
-behind_open b p bodies body Closed f x y = refl
-behind_open b p bodies body (Waiting left) f x y = refl
-behind_open b p bodies body (Refused s) f x y =
+after_open : (b p : List ℕ) (bodies : List (List ℕ)) (body : List ℕ) (e f : Ending) → Requests b bodies e → Requests (b ++ p) (bodies ++ body ∷ []) f → ending_text e ≡ []
+after_open b p bodies body Closed f x y = refl
+after_open b p bodies body (Waiting left) f x y = refl
+after_open b p bodies body (Refused s) f x y =
     absurd (not_itself bodies body (one_requests (b ++ p) bodies (bodies ++ body ∷ []) (Refused s) f (requests_more b p bodies s x) y).0)
 
 -- the whole list of bytes with one request more
@@ -81,9 +81,9 @@ same_rest false b (x ∷ xs) c d r q y z =
     same_rest y.0 y.1 xs c d r q y.3 (subst (λ l. Follow l y.1 xs d q) (sym one.1) (subst (λ a. Follow z.0 a xs d q) (sym one.2) z.3))
 
 -- the ending of requests that leave nothing puts nothing
-behind_nothing : (b : List ℕ) (bodies : List (List ℕ)) (last : Bool) (e f : Ending) → Takes b bodies last [] → behind e ≡ [] → (e ≡ f) ⊎ EndWithinTarget b bodies → behind f ≡ []
-behind_nothing b bodies last e f x n (inl same) = sym (ap behind same) ∙ n
-behind_nothing b bodies last e f x n (inr t) =
+after_nothing : (b : List ℕ) (bodies : List (List ℕ)) (last : Bool) (e f : Ending) → Takes b bodies last [] → ending_text e ≡ [] → (e ≡ f) ⊎ EndWithinTarget b bodies → ending_text f ≡ []
+after_nothing b bodies last e f x n (inl same) = sym (ap ending_text same) ∙ n
+after_nothing b bodies last e f x n (inr t) =
     absurd (no_target (subst (λ r. EndsInTarget (take most_head r)) (same_rest false b bodies false last t.0 [] t.1 x) t.2))
 
 pub one_more_response : OneMoreResponse
@@ -92,9 +92,9 @@ one_more_response b p bodies left body last x a fronts texts front text put more
     let takes = one_more b p bodies left body last x a in
     let whole : Requests (b ++ p) (bodies ++ body ∷ []) end.0 = (last, [], takes, end.1) in
     let same : bodies ≡ y.0 = (one_requests b bodies y.0 (Waiting left) y.1 x y.2).0 in
-    let first : behind y.1 ≡ [] = behind_open b p bodies body y.1 end.0 (subst (λ xs. Requests b xs y.1) (sym same) y.2) whole in
+    let first : ending_text y.1 ≡ [] = after_open b p bodies body y.1 end.0 (subst (λ xs. Requests b xs y.1) (sym same) y.2) whole in
     let one = one_requests (b ++ p) (bodies ++ body ∷ []) z.0 end.0 z.1 whole z.2 in
-    let second : behind z.1 ≡ [] = behind_nothing (b ++ p) (bodies ++ body ∷ []) last end.0 z.1 takes end.2 one.1 in
+    let second : ending_text z.1 ≡ [] = after_nothing (b ++ p) (bodies ++ body ∷ []) last end.0 z.1 takes end.2 one.1 in
     let n : length fronts ≡ length texts = y.3.fronts_fit ∙ sym y.3.texts_fit in
     let put_is : put ≡ responses fronts texts = y.3.put_is ∙ (ap (λ r. responses fronts texts ++ r) first ∙ append-nil (responses fronts texts)) in
     z.3.put_is ∙ (ap (λ r. responses (fronts ++ front ∷ []) (texts ++ text ∷ []) ++ r) second

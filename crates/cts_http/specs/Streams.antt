@@ -15,16 +15,16 @@ responses (front ∷ fronts) [] = []
 responses (front ∷ fronts) (text ∷ texts) = response_with front text ++ responses fronts texts
 
 -- what is put after the responses: the refusal, where the rest is refused
-abbrev pub behind : Ending → List ℕ
-behind Closed = []
-behind (Waiting left) = []
-behind (Refused status) = refusal_text status
+abbrev pub ending_text : Ending → List ℕ
+ending_text Closed = []
+ending_text (Waiting left) = []
+ending_text (Refused status) = refusal_text status
 
 -- requests with the bodies and the ending have as many responses, with the fronts and texts, and then the refusal
 pub record AreAnswered (bodies : List (List ℕ)) (ending : Ending) (fronts : List ℕ) (texts : List (Option (List ℕ))) (put : List ℕ) : Type 0 where
   pub fronts_fit : length fronts ≡ length bodies
   pub texts_fit : length texts ≡ length bodies
-  pub put_is : put ≡ responses fronts texts ++ behind ending
+  pub put_is : put ≡ responses fronts texts ++ ending_text ending
 
 -- The stream of the bytes of a connection, where its requests are answered from the fronts with the texts (a text, or none
 -- for a notification): the responses in order, then the refusal.

@@ -42,12 +42,12 @@ module _ (e : Logged) (x : List ℕ) (f : FitsLogged e) where
   is_whole : has_entry u ≡ true
   is_whole = rw (le_test (head_end u) (length u) (omega (arith, ends, long)), le_test (entry_end u) (length u) (omega (arith, end_is, long))) refl
 
-  behind : drop (head_end u) u ≡ e.bytes ++ x
+  after : drop (head_end u) u ≡ e.bytes ++ x
   unfolding u
-  behind = drop_at (head_bytes (head_in e)) (e.bytes ++ x) (head_end u) (sym ends)
+  after = drop_at (head_bytes (head_in e)) (e.bytes ++ x) (head_end u) (sym ends)
 
   bytes_are : slice_range u (head_end u) (entry_end u) ≡ e.bytes
-  bytes_are = ap (take (entry_end u - head_end u)) behind ∙ take_at e.bytes x (entry_end u - head_end u) (omega (arith, ends, end_is))
+  bytes_are = ap (take (entry_end u - head_end u)) after ∙ take_at e.bytes x (entry_end u - head_end u) (omega (arith, ends, end_is))
 
   entry_is : entry_of u ≡ e
   entry_is = λ i. record { heading = record { time = (says i).time; target = (says i).target; packet = (says i).packet }; bytes = bytes_are i }

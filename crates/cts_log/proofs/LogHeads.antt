@@ -42,11 +42,11 @@ module _ (kind : LogKind) (file head x : List ℕ) (h : IsLogHead kind head) (e 
   marked : begins (marker kind) file ≡ true
   marked = ap (begins (marker kind)) parts ∙ begins_front (marker kind) (h.digits ++ 95 ∷ (h.host_field ++ x))
 
-  behind_marker : drop 12 file ≡ h.digits ++ 95 ∷ (h.host_field ++ x)
-  behind_marker = ap (drop 12) parts ∙ drop_at (marker kind) (h.digits ++ 95 ∷ (h.host_field ++ x)) 12 (marker_len kind)
+  after_marker : drop 12 file ≡ h.digits ++ 95 ∷ (h.host_field ++ x)
+  after_marker = ap (drop 12) parts ∙ drop_at (marker kind) (h.digits ++ 95 ∷ (h.host_field ++ x)) 12 (marker_len kind)
 
   digits_there : slice_range file 12 44 ≡ h.digits
-  digits_there = ap (take 32) behind_marker ∙ take_at h.digits (95 ∷ (h.host_field ++ x)) 32 h.digits_len
+  digits_there = ap (take 32) after_marker ∙ take_at h.digits (95 ∷ (h.host_field ++ x)) 32 h.digits_len
 
   joined : file ≡ (marker kind ++ h.digits) ++ 95 ∷ (h.host_field ++ x)
   joined = parts ∙ sym (append_assoc (marker kind) h.digits (95 ∷ (h.host_field ++ x)))
@@ -76,19 +76,19 @@ module _ (kind : LogKind) (file : List ℕ) (t : has_log_head kind file ≡ true
   pub long_enough : 128 ≤ length file
   long_enough = le_tells 128 (length file) first.0
 
-  behind : file ≡ marker kind ++ drop 12 file
-  behind =
+  after : file ≡ marker kind ++ drop 12 file
+  after =
       let b = begins_tells (marker kind) file second.0 in
       b.1 ∙ ap (λ v. marker kind ++ v) (sym (ap (drop 12) b.1 ∙ drop_at (marker kind) b.0 12 (marker_len kind)))
 
-  byte_behind : drop 44 file ≡ 95 ∷ drop 45 file
-  byte_behind = drop-cons file 44 0 (omega (arith, long_enough)) ∙ ap (λ n. n ∷ drop 45 file) (same_tells (slice_index file 44) 95 third.1)
+  byte_after : drop 44 file ≡ 95 ∷ drop 45 file
+  byte_after = drop-cons file 44 0 (omega (arith, long_enough)) ∙ ap (λ n. n ∷ drop 45 file) (same_tells (slice_index file 44) 95 third.1)
 
   split : file ≡ laid kind (slice_range file 12 44) (slice_range file 45 128) (drop 128 file)
   split =
-      behind
+      after
       ∙ ap (λ v. marker kind ++ v) (drop_split file 12 44 (omega arith)
-      ∙ ap (λ v. slice_range file 12 44 ++ v) (byte_behind ∙ ap (λ v. 95 ∷ v) (drop_split file 45 128 (omega arith))))
+      ∙ ap (λ v. slice_range file 12 44 ++ v) (byte_after ∙ ap (λ v. 95 ∷ v) (drop_split file 45 128 (omega arith))))
 
   pub head_tells : (head : List ℕ) × IsLogHead kind head × (file ≡ head ++ drop 128 file)
   head_tells = (

@@ -45,9 +45,9 @@ entries_once (e ∷ es) (f ∷ fs) r s a b n m h =
     let laid : entry_bytes e ++ (flat_map entry_bytes es ++ r) ≡ entry_bytes f ++ (flat_map entry_bytes fs ++ s) =
     sym (append_assoc (entry_bytes e) (flat_map entry_bytes es) r) ∙ (h ∙ append_assoc (entry_bytes f) (flat_map entry_bytes fs) s) in
     let same : e ≡ f = same_entry e f (flat_map entry_bytes es ++ r) (flat_map entry_bytes fs ++ s) (All-head FitsLogged e es a) (All-head FitsLogged f fs b) laid in
-    let behind : flat_map entry_bytes es ++ r ≡ flat_map entry_bytes fs ++ s =
+    let after : flat_map entry_bytes es ++ r ≡ flat_map entry_bytes fs ++ s =
     append_cancel_left (entry_bytes e) (flat_map entry_bytes es ++ r) (flat_map entry_bytes fs ++ s) (laid ∙ ap (λ (g : Logged). entry_bytes g ++ (flat_map entry_bytes fs ++ s)) (sym same)) in
-    let more = entries_once es fs r s (All-tail FitsLogged e es a) (All-tail FitsLogged f fs b) n m behind in
+    let more = entries_once es fs r s (All-tail FitsLogged e es a) (All-tail FitsLogged f fs b) n m after in
     (ap₂ ◌∷◌ same more.0, more.1)
 
 pub logs_are_read_once : LogsAreReadOnce
@@ -55,8 +55,8 @@ logs_are_read_once file kind other es fs place end r s =
     let joined : r.head ++ (flat_map entry_bytes es ++ r.rest) ≡ s.head ++ (flat_map entry_bytes fs ++ s.rest) = sym r.file_is ∙ s.file_is in
     let heads : r.head ≡ s.head =
     same_front r.head s.head (flat_map entry_bytes es ++ r.rest) (flat_map entry_bytes fs ++ s.rest) (head_len kind r.head r.is_head ∙ sym (head_len other s.head s.is_head)) joined in
-    let behind = append_cancel_left r.head (flat_map entry_bytes es ++ r.rest) (flat_map entry_bytes fs ++ s.rest) (joined ∙ ap (λ v. v ++ (flat_map entry_bytes fs ++ s.rest)) (sym heads)) in
-    let same = entries_once es fs r.rest s.rest r.fit s.fit r.none s.none behind in
+    let after = append_cancel_left r.head (flat_map entry_bytes es ++ r.rest) (flat_map entry_bytes fs ++ s.rest) (joined ∙ ap (λ v. v ++ (flat_map entry_bytes fs ++ s.rest)) (sym heads)) in
+    let same = entries_once es fs r.rest s.rest r.fit s.fit r.none s.none after in
     let rests : length r.rest ≡ length s.rest = ap length same.1 in (
       one_head kind other r.head s.head (flat_map entry_bytes es ++ r.rest) (flat_map entry_bytes fs ++ s.rest) r.is_head s.is_head joined,
       same.0,
@@ -92,12 +92,12 @@ begins_to_read file h =
     let long : length t.0 ≡ 128 = head_len k.0 t.0 t.2 in
     let l = ap length t.3 in
     let at : min log_head_len (length file) ≡ length t.0 = omega (arith, long, l, length-append t.0 t.1) in
-    let behind : t.1 ≡ drop (min log_head_len (length file)) file = sym (ap (drop (min log_head_len (length file))) t.3 ∙ drop_at t.0 t.1 (min log_head_len (length file)) (sym at)) in
+    let after : t.1 ≡ drop (min log_head_len (length file)) file = sym (ap (drop (min log_head_len (length file))) t.3 ∙ drop_at t.0 t.1 (min log_head_len (length file)) (sym at)) in
     record {
       kind = k.0;
       head = t.0;
       is_head = t.2;
-      file_is = t.3 ∙ ap (λ v. t.0 ++ v) behind;
+      file_is = t.3 ∙ ap (λ v. t.0 ++ v) after;
       fit = All-nil FitsLogged;
       within = omega arith;
     }

@@ -89,7 +89,7 @@ impl<'a> LogReader<'a> {
         if self.place == self.bytes.len() {
             return Ok(None);
         }
-        let Some((entry, end)) = entry_at(behind(self.bytes, self.place)) else {
+        let Some((entry, end)) = entry_at(after(self.bytes, self.place)) else {
             return Err(LogFault::Cut {
                 place: self.place as u64,
             });
@@ -100,7 +100,7 @@ impl<'a> LogReader<'a> {
 }
 
 // The bytes from a place on.
-fn behind(bytes: &[u8], place: usize) -> &[u8]
+fn after(bytes: &[u8], place: usize) -> &[u8]
     requires { place ≤ length bytes.now }
     ensures { result.now ≡ drop place bytes.now }
 {

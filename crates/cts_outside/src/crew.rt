@@ -80,7 +80,7 @@ fn count_cancelled<J: Job>(ends: &[J::End]) -> u64
 }
 
 /// The first of the jobs, which leaves them.
-pub fn take_first<J>(jobs: &mut Vec<J>) -> J
+pub(crate) fn take_first<J>(jobs: &mut Vec<J>) -> J
     requires { 0 < vec_len jobs.old }
     ensures { jobs.old.items ≡ result ∷ jobs.new.items }
 {

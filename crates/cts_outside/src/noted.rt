@@ -95,7 +95,7 @@ impl Noted {
     }
 
     /// Notes that a put failed.
-    pub fn fail_put(&mut self)
+    pub(crate) fn fail_put(&mut self)
         ensures { self.new.connection ≡ record self.old.connection { put_failed = true } }
     {
         self.put_failed = true;

@@ -77,7 +77,7 @@ impl Crew for ThreadCrew {
 }
 
 /// Runs each job on a thread of its own, in a scope. `Err` is want of memory for the threads or the ends; no job is started then.
-pub fn at_once<R: Threads + Wait + Sync, J: Job>(
+pub(crate) fn at_once<R: Threads + Wait + Sync, J: Job>(
     rt: &R,
     jobs: Vec<J>,
 ) -> Result<Vec<J::End>, Vec<J>>

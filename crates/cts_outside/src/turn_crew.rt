@@ -75,7 +75,7 @@ impl Crew for TurnCrew {
 }
 
 /// Runs the jobs one after another. `Err` is want of memory for their ends.
-pub fn one_by_one<W: Crew, J: Job>(crew: &W, mut jobs: Vec<J>) -> Result<Vec<J::End>, Vec<J>>
+pub(crate) fn one_by_one<W: Crew, J: Job>(crew: &W, mut jobs: Vec<J>) -> Result<Vec<J::End>, Vec<J>>
     requires { AllByRecursion J.is_ready jobs.items }
     ensures ends { IfOk result (λ ends. AllZip (EndsAs J.is_cancelled J.works_to J.cancels_to) jobs.items ends.items) }
     ensures exact { IfOk result (λ ends. CancelledFrom J.is_cancelled (W.seen crew.now).refused 0 ends.items) }

@@ -62,7 +62,7 @@ struct Steps;
 
 impl Answers for Steps {
     fn answer(alloc: Global, asked: &str) -> Result<String, Fail> {
-        debug_of(alloc, &behind(asked))
+        debug_of(alloc, &later(asked))
     }
 }
 
@@ -75,7 +75,7 @@ fn color_for(letter: u8) -> Color {
 }
 
 /// The state after these steps, how many of them changed it, and the change of the last one.
-fn behind(letters: &str) -> (RunState, u32, Option<Change>) {
+fn later(letters: &str) -> (RunState, u32, Option<Change>) {
     let mut state = fresh();
     let mut changes: u32 = 0;
     let mut last = None;

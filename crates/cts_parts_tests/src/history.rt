@@ -2,7 +2,7 @@
 use cts_base::Bytes;
 use cts_core::takes_room;
 use cts_def::{Ident, Time};
-use cts_entry::{Entry, Event, What, commands_for, is_command_for, place_behind};
+use cts_entry::{Entry, Event, Stands, What, commands_for, is_command_for, place_after};
 use cts_rows::{Answers, debug_of, number, part, rows_end_so, same};
 use cts_told::said_of;
 use std::alloc::Global;
@@ -63,24 +63,62 @@ fn commands_of_an_interface_are_known(rt: HostRuntime) -> Result<(), Fail> {
     rows_end_so::<Each>(rt.alloc(), EACH)
 }
 
-/// A number of commands for interface 0, the place after them, and how many there are.
+/// A list of entries, which stands for itself.
+#[derive(Drop)]
+struct Listed {
+    entries: Vec<Entry>,
+}
+
+impl Stands for Listed {
+    type Basis = ();
+
+    ghost list = { λ l. l.entries.items };
+
+    ghost basis = { λ l. tt };
+
+    fn count(&self) -> u64 {
+        self.entries.len() as u64
+    }
+
+    fn lend(&self, n: u64) -> &Entry {
+        &self.entries[n as usize]
+    }
+}
+
+/// A place and a number of commands for interface 0: how many there are from the place on, and how many entries from there hold the
+/// first so many.
 const PLACES: &str = "\
-0|(2, Some(0))
-1|(2, Some(2))
-2|(2, Some(4))
-3|(2, None)";
+0 0|(2, Some(0))
+0 1|(2, Some(2))
+0 2|(2, Some(4))
+0 3|(2, None)
+1 2|(2, Some(3))
+2 1|(1, Some(2))
+2 2|(1, None)
+4 0|(0, Some(0))
+4 1|(0, None)
+9 0|(0, Some(0))
+9 1|(0, None)";
 
 struct Places;
 
 impl Answers for Places {
     fn answer(alloc: Global, asked: &str) -> Result<String, Fail> {
-        let history = history(alloc)?;
-        debug_of(alloc, &place(&history, number(asked, 0)?))
+        let history = Listed {
+            entries: history(alloc)?,
+        };
+        debug_of(
+            alloc,
+            &place(&history, number(asked, 0)?, number(asked, 1)?),
+        )
     }
 }
 
-fn place(history: &[Entry], commands: u64) -> (usize, Option<usize>) {
-    (commands_for(history, 0), place_behind(history, 0, commands))
+fn place(history: &Listed, from: u64, commands: u64) -> (u64, Option<u64>) {
+    (
+        commands_for(history, from, 0),
+        place_after(history, from, 0, commands),
+    )
 }
 
 #[test]

@@ -258,7 +258,7 @@ const SAMPLED: &str =
     r#""4 1.250000 I PACKET INST HS 010203\nEVENT INST HS TEMP1 STALE YELLOW_HIGH\nEVENT INST HS PKTID GREEN RED\n""#;
 
 #[test]
-fn events_stand_behind_their_entry(rt: HostRuntime) -> Result<(), Fail> {
+fn events_stand_after_their_entry(rt: HostRuntime) -> Result<(), Fail> {
     let entry = sampled(rt.alloc())?;
     let text = text_of(rt.alloc(), 4, &entry, &[FIRST, SECOND])?;
     same(text.as_str(), SAMPLED, "an entry")

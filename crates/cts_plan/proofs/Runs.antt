@@ -14,7 +14,7 @@ use Rattle.cts_plan.specs.declared.draft.Draft.{Draft}
 use Rattle.cts_plan.specs.declared.fault.SiteCause.{SiteCause}
 use Rattle.cts_plan.specs.Standing.{start, closed}
 use Rattle.cts_plan.specs.Completing.{Refused, due}
-use Rattle.cts_plan.specs.SiteFiles.{step, behind, after, refusal_in, refusal, at_end, site_in, site_of}
+use Rattle.cts_plan.specs.SiteFiles.{step, later, after, refusal_in, refusal, at_end, site_in, site_of}
 use Rattle.cts_plan.specs.Keeping.{KeepsRules}
 use Rattle.cts_reader.specs.declared.fault.Fault.{Fault}
 use Rattle.cts_reader.specs.declared.fault.Fault.TheVariants as fault
@@ -22,12 +22,12 @@ use Rattle.cts_reader.specs.Reading.{Fails, Gives, IsRefused, Settles, unless_re
 use Rattle.cts_plan.proofs.Completed.{sound_completed}
 use Rattle.cts_plan.proofs.Kept.{keeps_rules, at_start}
 
-behind_more : (s : Draft) (before : List Statement) (t : Statement) → behind s (before ++ t ∷ []) ≡ step (behind s before) t
-behind_more s [] t = refl
-behind_more s (r ∷ before) t = behind_more (step s r) before t
+beyond_more : (s : Draft) (before : List Statement) (t : Statement) → later s (before ++ t ∷ []) ≡ step (later s before) t
+beyond_more s [] t = refl
+beyond_more s (r ∷ before) t = beyond_more (step s r) before t
 
 pub after_more : (d : DefinitionsData) (before : List Statement) (t : Statement) → after d (before ++ t ∷ []) ≡ step (after d before) t
-after_more d before t = behind_more (start d) before t
+after_more d before t = beyond_more (start d) before t
 
 -- what holds before each statement
 pub record IsReading (d : DefinitionsData) (draft : Draft) (before rest all : List Statement) : Type 0 where

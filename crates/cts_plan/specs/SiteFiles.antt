@@ -58,13 +58,13 @@ with_line n (Some p) stands = place (line_of n p.0 p.1) (ready (Some p) stands)
 abbrev pub step : Draft → Statement → Draft
 step stands s = with_line s.line (parts s.words) stands
 
-abbrev pub behind : Draft → List Statement → Draft
-behind stands [] = stands
-behind stands (s ∷ rest) = behind (step stands s) rest
+abbrev pub later : Draft → List Statement → Draft
+later stands [] = stands
+later stands (s ∷ rest) = later (step stands s) rest
 
 -- what stands after the statements
 abbrev pub after : DefinitionsData → List Statement → Draft
-after d statements = behind (start d) statements
+after d statements = later (start d) statements
 
 -- ---- refusals
 

@@ -140,10 +140,10 @@ words_fit s n p none =
     let passes = none_passes (λ c. holds c stands p.0 p.1 l) order (none_holds s n p none) in
     fits_where p.0 p.1 passes.1.0 (neither (is_file_unknown p.0 p.1) (is_unrouted stands l) passes.1.1.0).0 passes.1.1.1.0 passes.1.1.1.1.0 passes.1.1.1.1.1.1.0
 
-fits_behind : (d : DefinitionsData) (before : List Statement) (t : Statement) (p : Option (Keyword × List (List ℕ))) (k : Keyword) (ws : List (List ℕ))
+fits_after : (d : DefinitionsData) (before : List Statement) (t : Statement) (p : Option (Keyword × List (List ℕ))) (k : Keyword) (ws : List (List ℕ))
     → or_else (cond (opens p) (due (after d before)) None) (at_line t.line (cause_in (ready p (after d before)) t.line p)) ≡ None → p ≡ Some (k, ws) → Fits k ws
-fits_behind d before t None k ws none is = absurd cc
-fits_behind d before t (Some p) k ws none is =
+fits_after d before t None k ws none is = absurd cc
+fits_after d before t (Some p) k ws none is =
     let same : p ≡ (k, ws) = cc in
     subst (λ (q : Keyword × List (List ℕ)). Fits q.0 q.1) same (words_fit (after d before) t.line p none)
 
@@ -154,4 +154,4 @@ none_refused d all s (Some r) e said = absurd cc
 pub statements_fit : StatementsFit
 statements_fit d front t rest s e k ws is =
     let all : List Statement = front ++ t ∷ rest in
-    fits_behind d front t (parts t.words) k ws (none_refused d all s (first_refusal (refusal d) (at_end d) [] all) refl e front t rest refl) is
+    fits_after d front t (parts t.words) k ws (none_refused d all s (first_refusal (refusal d) (at_end d) [] all) refl e front t rest refl) is

@@ -10,7 +10,7 @@ use Rattle.cts_plan.specs.declared.draft.Draft.{Draft}
 use Rattle.cts_plan.specs.declared.opened.Current.{Current}
 use Rattle.cts_plan.specs.declared.opened.Current.TheVariants as current
 use Rattle.cts_plan.specs.Standing.{start, completed, closed}
-use Rattle.cts_plan.specs.SiteFiles.{parts, opens, step, behind, site_in}
+use Rattle.cts_plan.specs.SiteFiles.{parts, opens, step, later, site_in}
 use Rattle.cts_plan_laws.specs.SiteLaws.{Opener, opener}
 use Rattle.cts_plan_laws.specs.Laws.{IsOpened, interface_head, interface_head_by, router_head, router_head_by, is_interface_opener, is_router_opener, ConnectionsAreOfTheirStatements}
 use Rattle.cts_plan_laws.proofs.Readings.{Says, says_of, opened_by, change_by, placed_by, step_by}
@@ -127,7 +127,7 @@ cons_found : (o : Option Opener) (xs : List Opener) → option_to_list o ++ xs �
 cons_found None xs = refl
 cons_found (Some x) xs = refl
 
-all_steps : (s : Draft) (all : List Statement) → HasGrown (filter_map opener all) s (behind s all)
+all_steps : (s : Draft) (all : List Statement) → HasGrown (filter_map opener all) s (later s all)
 all_steps s [] = record { interfaces = sym (append-nil (heads_of s)); routers = sym (append-nil (router_heads_of s)) }
 all_steps s (t ∷ all) =
     let one = one_step s t (opens (parts t.words)) (opener t) refl refl in
@@ -135,17 +135,17 @@ all_steps s (t ∷ all) =
     let more = cons_found (opener t) (filter_map opener all) in
     record {
       interfaces =
-          joined interface_head_by is_interface_opener (option_to_list (opener t)) (filter_map opener all) (heads_of s) (heads_of (step s t)) (heads_of (behind (step s t) all)) one.interfaces rest.interfaces
+          joined interface_head_by is_interface_opener (option_to_list (opener t)) (filter_map opener all) (heads_of s) (heads_of (step s t)) (heads_of (later (step s t) all)) one.interfaces rest.interfaces
           ∙ ap (λ os. heads_of s ++ map interface_head_by (filter is_interface_opener os)) more;
       routers =
-          joined router_head_by is_router_opener (option_to_list (opener t)) (filter_map opener all) (router_heads_of s) (router_heads_of (step s t)) (router_heads_of (behind (step s t) all)) one.routers rest.routers
+          joined router_head_by is_router_opener (option_to_list (opener t)) (filter_map opener all) (router_heads_of s) (router_heads_of (step s t)) (router_heads_of (later (step s t) all)) one.routers rest.routers
           ∙ ap (λ os. router_heads_of s ++ map router_head_by (filter is_router_opener os)) more;
     }
 
 pub connections_are_of_their_statements : ConnectionsAreOfTheirStatements
 connections_are_of_their_statements d all =
     let grown = all_steps (start d) all in
-    let last = behind (start d) all in
+    let last = later (start d) all in
     record {
       interfaces = completed_interfaces last.site last.current ∙ grown.interfaces;
       routers = completed_routers last.site last.current ∙ grown.routers;

@@ -19,7 +19,7 @@ use Rattle.cts_plan.specs.Steps.{StepData}
 use Rattle.cts_plan.specs.Drafts.{InterfaceDraftData, RouterDraftData}
 use Rattle.cts_plan.specs.Lines.{name_of, step_at}
 use Rattle.cts_plan.specs.Standing.{start, number_of, closed}
-use Rattle.cts_plan.specs.SiteFiles.{parts, opening, opens, step, behind, after, site_in}
+use Rattle.cts_plan.specs.SiteFiles.{parts, opening, opens, step, later, after, site_in}
 use Rattle.cts_plan.proofs.Lists.{any_snoc}
 use Rattle.cts_plan_laws.specs.SiteLaws.{of_parts, said, all_said, last_said, target, route, logging, waiting, is_dont_reconnect, protocol_said, Opener, opener_with, opener_by, opener, five_seconds}
 use Rattle.cts_plan_laws.specs.Laws.{IsInterfaceDraft, IsRouterDraft, IsOpened, OpenNothing, ConnectionsHaveTheirStatements, NoneStandsBefore}
@@ -189,7 +189,7 @@ record IsThrough (o : Opener) (body : List Statement) (s : Draft) (new : Draft) 
   pub interfaces : new.site.interfaces ≡ s.site.interfaces
   pub routers : new.site.routers ≡ s.site.routers
 
-through : (o : Opener) (done body : List Statement) (s : Draft) → IsOpened s.site.interfaces (o, done) s.current → OpenNothing body → IsThrough o (done ++ body) s (behind s body)
+through : (o : Opener) (done body : List Statement) (s : Draft) → IsOpened s.site.interfaces (o, done) s.current → OpenNothing body → IsThrough o (done ++ body) s (later s body)
 through o done [] s h none = record {
   current = subst (λ (b : List Statement). IsOpened s.site.interfaces (o, b) s.current) (sym (append-nil done)) h;
   interfaces = refl;
@@ -201,14 +201,14 @@ through o done (t ∷ body) s h none =
     subst (λ (x : Draft). IsOpened x.site.interfaces (o, done ++ t ∷ []) x.current) (sym e) (opened_more s.site.interfaces o done t s.current h) in
     let rest = through o (done ++ t ∷ []) body (step s t) here none.1 in
     record {
-      current = subst (λ (b : List Statement). IsOpened (behind (step s t) body).site.interfaces (o, b) (behind (step s t) body).current) (append_assoc done (t ∷ []) body) rest.current;
+      current = subst (λ (b : List Statement). IsOpened (later (step s t) body).site.interfaces (o, b) (later (step s t) body).current) (append_assoc done (t ∷ []) body) rest.current;
       interfaces = rest.interfaces ∙ ap (λ (x : Draft). x.site.interfaces) e;
       routers = rest.routers ∙ ap (λ (x : Draft). x.site.routers) e;
     }
 
-behind_joined : (s : Draft) (before rest : List Statement) → behind s (before ++ rest) ≡ behind (behind s before) rest
-behind_joined s [] rest = refl
-behind_joined s (t ∷ before) rest = behind_joined (step s t) before rest
+after_joined : (s : Draft) (before rest : List Statement) → later s (before ++ rest) ≡ later (later s before) rest
+after_joined s [] rest = refl
+after_joined s (t ∷ before) rest = after_joined (step s t) before rest
 
 pub connections_have_their_statements : ConnectionsHaveTheirStatements
 connections_have_their_statements d before s o body opens none =
@@ -217,7 +217,7 @@ connections_have_their_statements d before s o body opens none =
     let first : IsOpened (step stands s).site.interfaces (o, []) (step stands s).current =
     subst (λ (x : Draft). IsOpened x.site.interfaces (o, []) x.current) (sym e) (opened_new (site_in stands).interfaces s o opens) in
     let rest = through o [] body (step stands s) first none in
-    let all = behind_joined (start d) before (s ∷ body) in
+    let all = after_joined (start d) before (s ∷ body) in
     record {
       current = subst (λ (x : Draft). IsOpened x.site.interfaces (o, body) x.current) (sym all) rest.current;
       interfaces = ap (λ (x : Draft). x.site.interfaces) all ∙ rest.interfaces ∙ ap (λ (x : Draft). x.site.interfaces) e;
@@ -225,7 +225,7 @@ connections_have_their_statements d before s o body opens none =
     }
 
 none_through : (statements : List Statement) (s : Draft) → s.current ≡ current.Nothing → OpenNothing statements
-    → ((behind s statements).current ≡ current.Nothing) × ((behind s statements).site.interfaces ≡ s.site.interfaces) × ((behind s statements).site.routers ≡ s.site.routers)
+    → ((later s statements).current ≡ current.Nothing) × ((later s statements).site.interfaces ≡ s.site.interfaces) × ((later s statements).site.routers ≡ s.site.routers)
 none_through [] s nothing none = (nothing, refl, refl)
 none_through (t ∷ statements) s nothing none =
     let e = details s t none.0 in

@@ -8,7 +8,7 @@ use Rattle.cts_def.specs.declared.bad_cause.BadCause.TheVariants.{OverMax, TooLo
 use Rattle.cts_frame.specs.Cuts.{Ends}
 use Rattle.cts_frame.specs.Framing.{Agree, Output}
 use Rattle.cts_frame.specs.Heads.{head_end, target_end, packet_end, has_head, head_of, HeadData}
-use Rattle.cts_frame.specs.Rows.{frame_limit, is_over, long_within, count_states, preidentified_states, behind_head, framing_of}
+use Rattle.cts_frame.specs.Rows.{frame_limit, is_over, long_within, count_states, preidentified_states, after_head, framing_of}
 use Rattle.cts_frame.specs.Stating.{Long, Wrong, is_open}
 use Rattle.cts_frame.proofs.Endings.{open_ends, part_ends}
 use Rattle.cts_frame.proofs.Fronts.{le_tells, le_test}
@@ -37,16 +37,16 @@ moved_range u by start end =
     ap (take (end - start)) (drop-drop start by u) ∙ ap (λ k. take k (drop (by + start) u)) e
 
 -- a head in the bytes from a place on
-pub head_behind : (u : List ℕ) (n : ℕ) (h : Head) → IsHead (take (length u - n) (drop n u)) h → IsHead (drop n u) h
-head_behind u n h is = subst (λ (v : List ℕ). IsHead v h) (take_all (length u - n) (drop n u) (omega (arith, length-drop n u))) is
+pub head_after : (u : List ℕ) (n : ℕ) (h : Head) → IsHead (take (length u - n) (drop n u)) h → IsHead (drop n u) h
+head_after u n h is = subst (λ (v : List ℕ). IsHead v h) (take_all (length u - n) (drop n u) (omega (arith, length-drop n u))) is
 
 -- what a frame gives
 abbrev given : PreidentifiedData → List ℕ → Output
-given p w = behind_head (drop (length p.sync) w)
+given p w = after_head (drop (length p.sync) w)
 
 -- the time of a head, and where its names stand after so many bytes
-abbrev pub stamp_behind : ℕ → Head → Stamp
-stamp_behind by h = record { time = h.time; target = (by + h.target.0, by + h.target.1); packet = (by + h.packet.0, by + h.packet.1) }
+abbrev pub stamp_after : ℕ → Head → Stamp
+stamp_after by h = record { time = h.time; target = (by + h.target.0, by + h.target.1); packet = (by + h.packet.0, by + h.packet.1) }
 
 module _ (p : PreidentifiedData) (u : List ℕ) (a : Agree p.sync u) where
   pub no_head : has_head (drop (length p.sync) u) ≡ false → Ends (framing_of (Preidentified p)) u None
@@ -103,7 +103,7 @@ module _ (p : PreidentifiedData) (u : List ℕ) (a : Agree p.sync u) where
             let there : has_head w ≡ true = le_test (head_end w) (length w) (omega (arith, ends, head_end_back w (drop n u) ends)) in
             rw there (over_decided (is_over p.max (head_of w).count) (head_of w).count (length p.sync + head_end w + (head_of w).count))
 
-        output_is : given p (take n u) ≡ output_at u (length p.sync + h.begin) n (Some (stamp_behind (length p.sync) h))
+        output_is : given p (take n u) ≡ output_at u (length p.sync + h.begin) n (Some (stamp_after (length p.sync) h))
         output_is =
             let s : ℕ = length p.sync in
             let w : List ℕ = drop s (take n u) in
@@ -117,11 +117,11 @@ module _ (p : PreidentifiedData) (u : List ℕ) (a : Agree p.sync u) where
             ap (λ (d : HeadData). d.packet) head_is ∙ (moved_range u s (target_end v + 1) (packet_end v) ∙ sym (ap (λ (x : ℕ × ℕ). slice_range u (s + x.0) (s + x.1)) is.packet)) in
             (λ i. record { bytes = bytes i; heading = Some (record { time = time i; target = target i; packet = packet i }) })
 
-        pub frame : FindsFrame (framing_of (Preidentified p)) u n (output_at u (length p.sync + h.begin) n (Some (stamp_behind (length p.sync) h)))
+        pub frame : FindsFrame (framing_of (Preidentified p)) u n (output_at u (length p.sync + h.begin) n (Some (stamp_after (length p.sync) h)))
         frame =
             let states : preidentified_states p (take n u) ≡ Long n =
             sym (preidentified_steady p (take n u) (drop n u) owns) ∙ (ap (preidentified_states p) (take-append-drop n u) ∙ states_long l) in
-            stated_found p.sync (preidentified_states p) (given p) (preidentified_steady p) u a n (output_at u (length p.sync + h.begin) n (Some (stamp_behind (length p.sync) h)))
+            stated_found p.sync (preidentified_states p) (given p) (preidentified_steady p) u a n (output_at u (length p.sync + h.begin) n (Some (stamp_after (length p.sync) h)))
             (omega (arith, n_is, is.begin)) (omega (arith, n_is)) fits states output_is
 
         pub names : IsSpan n (length p.sync + h.target.0, length p.sync + h.target.1) × IsSpan n (length p.sync + h.packet.0, length p.sync + h.packet.1)

@@ -9,7 +9,7 @@ module _ {C : Type 0} (holds : C → Bool) where
   more_before : (x : C) (xs : List C) (c : C) → holds x ≡ false → HoldsFirst holds xs c → HoldsFirst holds (x ∷ xs) c
   more_before x xs c e h = record {
     before = x ∷ h.before;
-    behind = h.behind;
+    after = h.after;
     parts = ap (λ (ys : List C). x ∷ ys) h.parts;
     none = (e, h.none);
     here = h.here;
@@ -18,7 +18,7 @@ module _ {C : Type 0} (holds : C → Bool) where
   at_first : (x : C) (xs : List C) (c : C) → holds x ≡ true → x ≡ c → HoldsFirst holds (x ∷ xs) c
   at_first x xs c e same = record {
     before = [];
-    behind = xs;
+    after = xs;
     parts = ap (λ (y : C). y ∷ xs) same;
     none = tt;
     here = ap holds (sym same) ∙ e;
@@ -32,16 +32,16 @@ module _ {C : Type 0} (holds : C → Bool) where
   told_holds [] c found = absurd cc
   told_holds (x ∷ xs) c found = told_step (holds x) x xs c refl (told_holds xs c) found
 
-  skipped : (before behind : List C) (c : C) → AllByRecursion (λ b. holds b ≡ false) before → holds c ≡ true → find holds (before ++ c ∷ behind) ≡ Some c
-  skipped [] behind c none here = ap (λ (b : Bool). cond b (Some c) (find holds behind)) here
-  skipped (x ∷ before) behind c none here = ap (λ (b : Bool). cond b (Some x) (find holds (before ++ c ∷ behind))) none.0 ∙ skipped before behind c none.1 here
+  skipped : (before after : List C) (c : C) → AllByRecursion (λ b. holds b ≡ false) before → holds c ≡ true → find holds (before ++ c ∷ after) ≡ Some c
+  skipped [] after c none here = ap (λ (b : Bool). cond b (Some c) (find holds after)) here
+  skipped (x ∷ before) after c none here = ap (λ (b : Bool). cond b (Some x) (find holds (before ++ c ∷ after))) none.0 ∙ skipped before after c none.1 here
 
   none_found : (order : List C) → AllByRecursion (λ b. holds b ≡ false) order → find holds order ≡ None
   none_found [] none = refl
   none_found (x ∷ xs) none = ap (λ (b : Bool). cond b (Some x) (find holds xs)) none.0 ∙ none_found xs none.1
 
 pub first_told : {C : Type 0} → TheFirstCauseIsTold C
-first_told holds order c = (told_holds holds order c, λ h. ap (find holds) h.parts ∙ skipped holds h.before h.behind c h.none h.here)
+first_told holds order c = (told_holds holds order c, λ h. ap (find holds) h.parts ∙ skipped holds h.before h.after c h.none h.here)
 
 pub none_told : {C : Type 0} → NoneIsToldWhereNoneHolds C
 none_told holds order = (none_passes holds order, none_found holds order)

@@ -8,8 +8,8 @@ use Rattle.cts_reader.specs.Reading.{said_of}
 -- This one holds, and none of those before it.
 pub record HoldsFirst {C : Type 0} (holds : C → Bool) (order : List C) (c : C) : Type 0 where
   pub before : List C
-  pub behind : List C
-  pub parts : order ≡ before ++ c ∷ behind
+  pub after : List C
+  pub parts : order ≡ before ++ c ∷ after
   pub none : AllByRecursion (λ b. holds b ≡ false) before
   pub here : holds c ≡ true
 

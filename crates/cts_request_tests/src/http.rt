@@ -133,7 +133,7 @@ fn refuses_for_good(reader: &mut Reader) -> Result<(), Fail>
     reader.feed(CALL)?;
     match reader.next() {
         HttpStep::Refuse(400) => Ok(()),
-        _ => Err(Fail::new("a call behind it is not refused")),
+        _ => Err(Fail::new("a call after it is not refused")),
     }
 }
 

@@ -12,7 +12,7 @@ entry_lines site n e events = entry_line site n e ++ event_lines site events
 
 -- The lines of entries that stand after a history. An entry's number is the length of the history before it, and its
 -- events are those that it has after that history.
-abbrev pub lines_behind : SiteData → (List Entry → Entry → List LimitsEvent) → List Entry → List Entry → List ℕ
-lines_behind site events history [] = []
-lines_behind site events history (e ∷ entries) =
-    entry_lines site (length history) e (events history e) ++ lines_behind site events (history ++ e ∷ []) entries
+abbrev pub lines_after : SiteData → (List Entry → Entry → List LimitsEvent) → List Entry → List Entry → List ℕ
+lines_after site events history [] = []
+lines_after site events history (e ∷ entries) =
+    entry_lines site (length history) e (events history e) ++ lines_after site events (history ++ e ∷ []) entries

@@ -101,10 +101,10 @@ known_keyword keyword.Stop word h = ap (found_by keywords) h
 abbrev NoneHolds : SiteData → Keyword → List (List ℕ) → Type 0
 NoneHolds site k words = AllByRecursion (λ c. holds site c k words ≡ false) order
 
-passes : (site : SiteData) (k : Keyword) (behind words : List (List ℕ)) → IsLine (keyword_text k) behind words → NoneHolds site k behind → cause_in site (parts words) ≡ None
-passes site k behind words line none =
-    let cut : parts words ≡ Some (k, behind) = ap parts line.parts ∙ ap (with_words behind) (known_keyword k line.first line.spelled) in
-    ap (cause_in site) cut ∙ (none_told (λ c. holds site c k behind) order).1 none
+passes : (site : SiteData) (k : Keyword) (after words : List (List ℕ)) → IsLine (keyword_text k) after words → NoneHolds site k after → cause_in site (parts words) ≡ None
+passes site k after words line none =
+    let cut : parts words ≡ Some (k, after) = ap parts line.parts ∙ ap (with_words after) (known_keyword k line.first line.spelled) in
+    ap (cause_in site) cut ∙ (none_told (λ c. holds site c k after) order).1 none
 
 -- ---- rows
 

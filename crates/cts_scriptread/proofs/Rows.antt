@@ -166,8 +166,8 @@ then_is f (Some x) c e = (x, refl, e)
 
 -- ---- rows
 
-line : (keyword key : List ℕ) (behind : List (List ℕ)) → in_upper_case key ≡ keyword → IsLine keyword behind (key ∷ behind)
-line keyword key behind h = record { first = key; parts = refl; spelled = h }
+line : (keyword key : List ℕ) (after : List (List ℕ)) → in_upper_case key ≡ keyword → IsLine keyword after (key ∷ after)
+line keyword key after h = record { first = key; parts = refl; spelled = h }
 
 time_row : (site : SiteData) (key : List ℕ) (ws : List (List ℕ)) (e : Event) → in_upper_case key ≡ codes "TIME" → time_in ws ≡ Some e → Says site (key ∷ ws) e
 time_row site key [] e h said = absurd cc

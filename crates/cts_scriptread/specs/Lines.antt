@@ -14,9 +14,9 @@ use Rattle.cts_scriptread.specs.Words.{is_piece_size}
 -- ---- words
 
 -- the line is this keyword, in any case, and the given words after it
-pub record IsLine (keyword : List ℕ) (behind words : List (List ℕ)) : Type 0 where
+pub record IsLine (keyword : List ℕ) (after words : List (List ℕ)) : Type 0 where
   pub first : List ℕ
-  pub parts : words ≡ first ∷ behind
+  pub parts : words ≡ first ∷ after
   pub spelled : in_upper_case first ≡ keyword
 
 -- the interface of this number has the name, in any case

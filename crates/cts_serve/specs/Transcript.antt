@@ -8,7 +8,7 @@ use Rattle.cts_script.specs.declared.limits_event.LimitsEvent.{LimitsEvent}
 use Rattle.cts_watch.specs.Events.{events_at}
 use Rattle.cts_watch.specs.declared.types.LimitsEvent.{LimitsEvent as Change}
 use Rattle.cts_script.specs.Effects.{effect_line}
-use Rattle.cts_script.specs.Transcripts.{lines_behind}
+use Rattle.cts_script.specs.Transcripts.{lines_after}
 
 abbrev pub events_of : List (ℕ × Event) → List Event
 events_of events = map (λ e. e.1) events
@@ -23,7 +23,7 @@ limits_events site history e = map line_event (events_at site history e)
 
 -- the lines of entries that stand after a history
 abbrev pub lines_of : SiteData → List Entry → List Entry → List ℕ
-lines_of site history entries = lines_behind site (limits_events site) history entries
+lines_of site history entries = lines_after site (limits_events site) history entries
 
 -- the lines of what an event did after a history: those of its entries, and then that of what it gave besides
 abbrev pub event_text : SiteData → List Entry → Did → List ℕ

@@ -55,14 +55,14 @@ impl Files for DemoFiles {
 }
 
 /// The name of its definitions.
-pub fn definitions_name() -> FileName<'static>
+pub(crate) fn definitions_name() -> FileName<'static>
     ensures { result ≡ definitions_name }
 {
     FileName::of("definitions")
 }
 
 /// The name of its site.
-pub fn site_name() -> FileName<'static>
+pub(crate) fn site_name() -> FileName<'static>
     ensures { result ≡ site_name }
 {
     FileName::of("site")

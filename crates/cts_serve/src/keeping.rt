@@ -11,7 +11,11 @@ use cts_outside::{LogKind, Vault};
 use std::alloc::Global;
 
 /// Appends the heads of both logs, which have the digest of the definitions.
-pub fn begin_logs<V: Vault>(alloc: Global, digest: &Digest, vault: &mut V) -> Result<(), Undone>
+pub(crate) fn begin_logs<V: Vault>(
+    alloc: Global,
+    digest: &Digest,
+    vault: &mut V,
+) -> Result<(), Undone>
     ensures { (out : SinkSeen) → DoesActs (head_acts digest.now) result (outside out (V.seen vault.old)) (outside out (V.seen vault.new)) }
 {
     let tlm = head(alloc, Log::Tlm, digest.bytes())?;
@@ -31,7 +35,7 @@ pub fn keep<V: Vault>(vault: &mut V, effect: &Effect) -> Result<(), Undone>
 }
 
 /// Syncs both logs.
-pub fn sync_both<V: Vault>(vault: &mut V) -> Result<(), Undone>
+pub(crate) fn sync_both<V: Vault>(vault: &mut V) -> Result<(), Undone>
     ensures memory { TakesNoMemory result }
     ensures acts { (out : SinkSeen) → DoesActs syncs result (outside out (V.seen vault.old)) (outside out (V.seen vault.new)) }
 {

@@ -19,7 +19,7 @@ use std::alloc::Global;
 
 /// Reads the definitions of this name and then the site of this name over them, each with its refusals before the next file is
 /// read. It gives the site, with the digest of the definitions file.
-pub fn load_site<'a, F: Files>(
+pub(crate) fn load_site<'a, F: Files>(
     alloc: Global,
     files: &mut F,
     definitions: &FileName<'a>,

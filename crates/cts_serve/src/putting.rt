@@ -43,7 +43,7 @@ pub fn put_text<O: Sink>(out: &mut O, text: &[u8]) -> Result<(), Undone>
 }
 
 /// What a command answers where its last act was done, or not.
-pub fn put_answer<'a>(done: Result<(), Undone>) -> Result<(), Halt<'a>>
+pub(crate) fn put_answer<'a>(done: Result<(), Undone>) -> Result<(), Halt<'a>>
     ensures { result ≡ put_answer done }
 {
     match done {

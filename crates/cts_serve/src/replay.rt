@@ -188,7 +188,7 @@ fn do_told<O: Sink, V: Vault>(
 }
 
 /// Why a replay halts at the event of this line.
-pub fn event_halt<'a>(script: &FileName<'a>, line: u32, fault: WorldFault) -> Halt<'a>
+pub(crate) fn event_halt<'a>(script: &FileName<'a>, line: u32, fault: WorldFault) -> Halt<'a>
     ensures { result ≡ event_halt script.now line fault }
 {
     match fault {

@@ -64,9 +64,9 @@ fn push_numbered(
     out: &mut String,
     front: &str,
     number: u32,
-    behind: &str,
+    after: &str,
 ) -> Result<(), Fail> {
-    let text = format!(in alloc; "{front}{number}{behind}")?;
+    let text = format!(in alloc; "{front}{number}{after}")?;
     Ok(out.push_str(text.as_str())?)
 }
 

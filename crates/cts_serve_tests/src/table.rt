@@ -105,8 +105,8 @@ fn filled(alloc: Global, form: &str, row: &str) -> Result<String, Fail> {
 }
 
 fn with_part(alloc: Global, form: &str, part: &str) -> Result<String, Fail> {
-    let (front, behind) = cut(form, '$')?;
-    Ok(format!(in alloc; "{front}{part}{behind}")?)
+    let (front, after) = cut(form, '$')?;
+    Ok(format!(in alloc; "{front}{part}{after}")?)
 }
 
 /// Notes a row with its label and all five parts where it does not hold over this shelf.

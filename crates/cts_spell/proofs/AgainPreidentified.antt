@@ -7,7 +7,7 @@ use Rattle.cts_frame.specs.Framing.{Heading}
 use Rattle.cts_frame.specs.Heads.{HeadData, head_bytes, head_end, has_head, head_of, FitsHead}
 use Rattle.cts_frame.specs.Patterns.{begins}
 use Rattle.cts_spell.specs.ReadBack.{FitsHeading, output_for}
-use Rattle.cts_frame.specs.Rows.{frame_limit, is_over, long_within, head_states, preidentified_states, behind_head}
+use Rattle.cts_frame.specs.Rows.{frame_limit, is_over, long_within, head_states, preidentified_states, after_head}
 use Rattle.cts_spell.specs.Spellings.{head_for, headed, too_large}
 use Rattle.cts_frame.specs.Stating.{Long, is_long}
 use Rattle.cts_spell.proofs.AgainCut.{is_whole}
@@ -29,8 +29,8 @@ module _ (p : PreidentifiedData) (h : Heading) (b : List ℕ) (fits : FitsHeadin
   fits_head : FitsHead (head_for h (length b))
   fits_head = record { seconds = fits.seconds; micros = fits.micros; target = fits.target; packet = fits.packet; count = not_full (2 ^ 32) (length b) few.0 }
 
-  behind : drop (length p.sync) (headed p h b) ≡ head_bytes (head_for h (length b)) ++ b
-  behind = drop_at p.sync (head_bytes (head_for h (length b)) ++ b) (length p.sync) refl
+  after : drop (length p.sync) (headed p h b) ≡ head_bytes (head_for h (length b)) ++ b
+  after = drop_at p.sync (head_bytes (head_for h (length b)) ++ b) (length p.sync) refl
 
   states_are : preidentified_states p (headed p h b) ≡ Long (length (headed p h b))
   states_are =
@@ -40,7 +40,7 @@ module _ (p : PreidentifiedData) (h : Heading) (b : List ℕ) (fits : FitsHeadin
       let total : length p.sync + length (head_bytes d) + length b ≡ length (headed p h b) = omega (arith, length-append p.sync v, length-append (head_bytes d) b) in
       let long : long_within (length p.sync + length (head_bytes d) + length b) ≡ Long (length (headed p h b)) = ap long_within total ∙ within_limit (length (headed p h b)) few.2 in
       let count : (head_of v).count ≡ length b = ap (λ (e : HeadData). e.count) (head_again d b fits_head) in
-      ap (head_states p) behind ∙ rw (there, end_again d b, count, few.1, long) refl
+      ap (head_states p) after ∙ rw (there, end_again d b, count, few.1, long) refl
 
   some_bytes : 1 ≤ length (headed p h b)
   some_bytes =
@@ -50,10 +50,10 @@ module _ (p : PreidentifiedData) (h : Heading) (b : List ℕ) (fits : FitsHeadin
   pub preidentified_whole : (nat_le 1 (length (headed p h b)) && begins p.sync (headed p h b) && is_long (preidentified_states p (headed p h b)) (length (headed p h b))) ≡ true
   preidentified_whole = is_whole p.sync (preidentified_states p) (headed p h b) some_bytes (begins_front p.sync (head_bytes (head_for h (length b)) ++ b)) states_are
 
-  pub preidentified_output : behind_head (drop (length p.sync) (headed p h b)) ≡ output_for (Preidentified p) h b
+  pub preidentified_output : after_head (drop (length p.sync) (headed p h b)) ≡ output_for (Preidentified p) h b
   preidentified_output =
       let d : HeadData = head_for h (length b) in
       let v : List ℕ = head_bytes d ++ b in
       let bytes : drop (head_end v) v ≡ b = ap (λ n. drop n v) (end_again d b) ∙ drop_at (head_bytes d) b (length (head_bytes d)) refl in
       let head : head_of v ≡ d = head_again d b fits_head in
-      ap behind_head behind ∙ (λ i. record { bytes = bytes i; heading = Some (record { time = (head i).time; target = (head i).target; packet = (head i).packet }) })
+      ap after_head after ∙ (λ i. record { bytes = bytes i; heading = Some (record { time = (head i).time; target = (head i).target; packet = (head i).packet }) })

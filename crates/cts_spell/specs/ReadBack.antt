@@ -54,10 +54,10 @@ OneSpelling = (s : SpecData) (h : Heading) (bytes one other : List ℕ) → IsTr
     → IsSpelling s h bytes one → IsSpelling s h bytes other → one ≡ other
 
 -- A head that was written is read again, whatever follows it, and it ends where it was written to.
-pub record HeadIsRead (h : HeadData) (behind : List ℕ) : Type 0 where
-  pub whole : has_head (head_bytes h ++ behind) ≡ true
-  pub head : head_of (head_bytes h ++ behind) ≡ h
-  pub end : head_end (head_bytes h ++ behind) ≡ length (head_bytes h)
+pub record HeadIsRead (h : HeadData) (after : List ℕ) : Type 0 where
+  pub whole : has_head (head_bytes h ++ after) ≡ true
+  pub head : head_of (head_bytes h ++ after) ≡ h
+  pub end : head_end (head_bytes h ++ after) ≡ length (head_bytes h)
 
 abbrev pub HeadsAreRead : Type 0
-HeadsAreRead = (h : HeadData) (behind : List ℕ) → FitsHead h → HeadIsRead h behind
+HeadsAreRead = (h : HeadData) (after : List ℕ) → FitsHead h → HeadIsRead h after

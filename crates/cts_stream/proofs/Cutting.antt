@@ -39,17 +39,17 @@ later t [] (suc d) none = nowhere (begins t []) none
     nowhere : (b : Bool) → ((k : ℕ) → k < suc d → cond b (Some 0) None ≡ Some k → ⊥) → cond b (Some 0) None ≡ option_map (λ k. suc d + k) (cond b (Some 0) None)
     nowhere true h = absurd (h 0 (omega arith) refl)
     nowhere false h = refl
-later t (x ∷ w) (suc d) none = behind (begins t (x ∷ w)) none (later t w d)
+later t (x ∷ w) (suc d) none = after (begins t (x ∷ w)) none (later t w d)
   where
     moved : (o : Option ℕ) → option_map suc (option_map (λ k. d + k) o) ≡ option_map (λ k. suc d + k) o
     moved None = refl
     moved (Some k) = ap Some (omega arith)
 
-    behind : (b : Bool) → ((k : ℕ) → k < suc d → cond b (Some 0) (option_map suc (first_place t w)) ≡ Some k → ⊥)
+    after : (b : Bool) → ((k : ℕ) → k < suc d → cond b (Some 0) (option_map suc (first_place t w)) ≡ Some k → ⊥)
         → (((k : ℕ) → k < d → first_place t w ≡ Some k → ⊥) → first_place t w ≡ option_map (λ k. d + k) (first_place t (drop d w)))
         → cond b (Some 0) (option_map suc (first_place t w)) ≡ option_map (λ k. suc d + k) (first_place t (drop d w))
-    behind true h more = absurd (h 0 (omega arith) refl)
-    behind false h more = ap (option_map suc) (more (λ k lt e. h (suc k) (omega (arith, lt)) (ap (option_map suc) e))) ∙ moved (first_place t (drop d w))
+    after true h more = absurd (h 0 (omega arith) refl)
+    after false h more = ap (option_map suc) (more (λ k lt e. h (suc k) (omega (arith, lt)) (ap (option_map suc) e))) ∙ moved (first_place t (drop d w))
 
 -- what stands leftmost after a place, found from a later place on
 pub found_later : (t u v : List ℕ) (start from : ℕ) (o : Option ℕ) → start ≤ from → ((k : ℕ) → k < from - start → first_place t (drop start u) ≡ Some k → ⊥) → v ≡ drop from u → o ≡ first_place t v

@@ -83,7 +83,7 @@ fn find_terminated(
     }
     let within = &bytes[..bytes.len().min(FRAME_LIMIT)];
     let from = first_unseen(seen, sync.len(), read.len());
-    match leftmost_behind(within, sync.len(), from, read) {
+    match leftmost_after(within, sync.len(), from, read) {
         None => {
             if bytes.len() < FRAME_LIMIT {
                 Found::Nothing
@@ -109,7 +109,7 @@ fn find_terminated(
 }
 
 /// The bytes after the first `count`, none where there are fewer.
-fn behind(bytes: &[u8], count: usize) -> &[u8]
+fn after(bytes: &[u8], count: usize) -> &[u8]
     ensures { result.now ≡ drop count bytes.now }
 {
     &bytes[count.min(bytes.len())..]
@@ -128,12 +128,12 @@ fn first_unseen(seen: usize, sync: usize, read: usize) -> usize
 
 /// The leftmost place, counted from `start`, at which the pattern stands in the bytes after `start`. It stands nowhere
 /// before the place `from`.
-fn leftmost_behind(bytes: &[u8], start: usize, from: usize, pattern: &[u8]) -> Option<usize>
+fn leftmost_after(bytes: &[u8], start: usize, from: usize, pattern: &[u8]) -> Option<usize>
     requires order { start ≤ from }
     requires none { (k : ℕ) → k < from - start → leftmost pattern.now (drop start bytes.now) ≡ Some k → ⊥ }
     ensures { result ≡ leftmost pattern.now (drop start bytes.now) }
 {
-    match leftmost_place(behind(bytes, from), pattern) {
+    match leftmost_place(after(bytes, from), pattern) {
         None => None,
         Some(place) => Some(from - start + place),
     }

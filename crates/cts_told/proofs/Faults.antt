@@ -127,13 +127,13 @@ failures c cs = by_test (failed c) (filter failed cs)
     by_test true rest = omega arith
     by_test false rest = omega arith
 
-faults_behind : (g : Routing) (room : Capacity) (m : ℕ) (found : List ℕ) (before : List Entry) (past : List Connection) (entries : List Entry) → Stays m (Looked g room m found) before past entries
+faults_after : (g : Routing) (room : Capacity) (m : ℕ) (found : List ℕ) (before : List Entry) (past : List Connection) (entries : List Entry) → Stays m (Looked g room m found) before past entries
     → faults_of m entries ≤ length (filter failed past)
-faults_behind g room m found before [] entries s = let none = no_faults m entries (none_faulty m entries s) in omega (arith, none)
-faults_behind g room m found before (c ∷ cs) entries s =
+faults_after g room m found before [] entries s = let none = no_faults m entries (none_faulty m entries s) in omega (arith, none)
+faults_after g room m found before (c ∷ cs) entries s =
     let gap = no_faults m s.0 (none_faulty m s.0 s.4) in
     let one = one_connection g room m found (before ++ s.0) c s.1 s.5 in
-    let more = faults_behind g room m found (before ++ (s.0 ++ s.1)) cs s.2 s.6 in
+    let more = faults_after g room m found (before ++ (s.0 ++ s.1)) cs s.2 s.6 in
     let whole = ap (faults_of m) s.3 in
     let outer = faults_append m s.0 (s.1 ++ s.2) in
     let inner = faults_append m s.1 s.2 in
@@ -141,4 +141,4 @@ faults_behind g room m found before (c ∷ cs) entries s =
     omega (arith, gap, one, more, whole, outer, inner, count)
 
 pub faults_are_told : FaultsAreTold
-faults_are_told g room m found past history s = faults_behind g room m found [] past history s
+faults_are_told g room m found past history s = faults_after g room m found [] past history s

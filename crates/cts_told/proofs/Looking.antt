@@ -247,8 +247,8 @@ put_before_its_entries g room m found before c entries l why earlier e later are
     let silent : has_own m l.since ≡ false = subst (λ (w : Why). PostsNone w (has_own m l.since ≡ false)) why l.posted_none in
     put_front g room m found before c entries l earlier none (stands_first (is_own m) l.looked l.since earlier later e silent own (sym l.between_is ∙ are))
 
-stop_behind : (before more : List Entry) (o : Entry) → is_stopped (before ++ o ∷ more) ≡ (is_stopped before || (is_stop o.what || is_stopped more))
-stop_behind before more o = stopped-append before (o ∷ more)
+stop_after : (before more : List Entry) (o : Entry) → is_stopped (before ++ o ∷ more) ≡ (is_stopped before || (is_stop o.what || is_stopped more))
+stop_after before more o = stopped-append before (o ∷ more)
 
 stop_of_three : (a b c d : Bool) → (a || (b || c)) ≡ true → (a || (b || d)) ≡ false → (c ≡ true) × (d ≡ false)
 stop_of_three true b c d h k = absurd (cc k)
@@ -261,7 +261,7 @@ put_before_the_stop g room m found before c entries l why earlier later are calm
     let none : l.waits ≡ [] = subst (λ (w : Why). PutsAll w (l.waits ≡ [])) why l.put_all in
     let stop : is_stopped (before ++ s.opened ∷ l.looked) ≡ true =
     subst (λ (w : Why). Causes room w (record { connection = c; looked = before ++ s.opened ∷ l.looked; whole = before ++ s.opened ∷ s.between; left = s.left })) why l.cause in
-    let both = stop_of_three (is_stopped before) (is_stop s.opened.what) (is_stopped l.looked) (is_stopped earlier) (sym (stop_behind before l.looked s.opened) ∙ stop) (sym (stop_behind before earlier s.opened) ∙ calm) in
+    let both = stop_of_three (is_stopped before) (is_stop s.opened.what) (is_stopped l.looked) (is_stopped earlier) (sym (stop_after before l.looked s.opened) ∙ stop) (sym (stop_after before earlier s.opened) ∙ calm) in
     put_front g room m found before c entries l earlier none (goes_beyond (λ (e : Entry). is_stop e.what) l.looked l.since earlier later both.0 both.1 (sym l.between_is ∙ are))
 
 pub puts_what_it_saw : PutsWhatItSaw

@@ -200,17 +200,17 @@ one_stretch m gap gap' mine mine' later later' quiet quiet' s t e =
     ∙ (ap (λ (l : List Entry). t.opened ∷ (l ++ s.closed ∷ [])) inner.0 ∙ ap (λ (c : Entry). t.opened ∷ (t.between ++ c ∷ [])) inner.1) in
     (s.entries_are ∙ (same ∙ sym t.entries_are), inner.2)
 
-one_telling_behind : (g : Routing) (m : ℕ) (before before' entries entries' : List Entry) → entries ≡ entries' → (cs ds : List Connection) → (s : Stays m (IsStay g m) before cs entries) (t : Stays m (IsStay g m) before' ds entries')
+one_telling_after : (g : Routing) (m : ℕ) (before before' entries entries' : List Entry) → entries ≡ entries' → (cs ds : List Connection) → (s : Stays m (IsStay g m) before cs entries) (t : Stays m (IsStay g m) before' ds entries')
     → stretches g m before cs entries s ≡ stretches g m before' ds entries' t
-one_telling_behind g m before before' entries entries' same [] [] s t = refl
-one_telling_behind g m before before' entries entries' same [] (d ∷ ds) s t =
+one_telling_after g m before before' entries entries' same [] [] s t = refl
+one_telling_after g m before before' entries entries' same [] (d ∷ ds) s t =
     absurd (some_own m entries t.0 t.1 t.2 s (same ∙ t.3) (stretch_of g m (before' ++ t.0) d t.1 t.5))
-one_telling_behind g m before before' entries entries' same (c ∷ cs) [] s t =
+one_telling_after g m before before' entries entries' same (c ∷ cs) [] s t =
     absurd (some_own m entries' s.0 s.1 s.2 t (sym same ∙ s.3) (stretch_of g m (before ++ s.0) c s.1 s.5))
-one_telling_behind g m before before' entries entries' same (c ∷ cs) (d ∷ ds) s t =
+one_telling_after g m before before' entries entries' same (c ∷ cs) (d ∷ ds) s t =
     let one = one_stretch m s.0 t.0 s.1 t.1 s.2 t.2 s.4 t.4 (stretch_of g m (before ++ s.0) c s.1 s.5) (stretch_of g m (before' ++ t.0) d t.1 t.5) (sym s.3 ∙ (same ∙ t.3)) in
-    let more = one_telling_behind g m (before ++ (s.0 ++ s.1)) (before' ++ (t.0 ++ t.1)) s.2 t.2 one.1 cs ds s.6 t.6 in
+    let more = one_telling_after g m (before ++ (s.0 ++ s.1)) (before' ++ (t.0 ++ t.1)) s.2 t.2 one.1 cs ds s.6 t.6 in
     ap (λ (l : List Entry). l ∷ stretches g m (before ++ (s.0 ++ s.1)) cs s.2 s.6) one.0 ∙ ap (λ (l : List (List Entry)). t.1 ∷ l) more
 
 pub one_telling : OneTelling
-one_telling g m history cs ds s t = one_telling_behind g m [] [] history history refl cs ds s t
+one_telling g m history cs ds s t = one_telling_after g m [] [] history history refl cs ds s t

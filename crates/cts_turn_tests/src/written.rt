@@ -22,6 +22,10 @@ impl Stands for Written {
     fn count(&self) -> u64 {
         self.entries.len() as u64
     }
+
+    fn lend(&self, n: u64) -> &Entry {
+        &self.entries[n as usize]
+    }
 }
 
 impl Written {

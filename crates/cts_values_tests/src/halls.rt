@@ -86,7 +86,7 @@ pub fn receives(alloc: Global, hall: &mut Hall, ident: Ident, digits: &str) -> R
 
 /// A hall of these limits, in which the one interface received the packets between blanks: each is the number of its definition,
 /// or `?`, in front of `:`, and digits after it.
-fn hall_behind(alloc: Global, entries: u64, bytes: u64, packets: &str) -> Result<Hall, Fail> {
+fn hall_after(alloc: Global, entries: u64, bytes: u64, packets: &str) -> Result<Hall, Fail> {
     let mut hall = connected(alloc, entries, bytes)?;
     for packet in packets.split(' ') {
         receives_text(alloc, &mut hall, packet)?;
@@ -115,7 +115,7 @@ struct Lookups;
 
 impl Answers for Lookups {
     fn answer(alloc: Global, asked: &str) -> Result<String, Fail> {
-        let hall = hall_behind(alloc, 100, 100, RECEIVED)?;
+        let hall = hall_after(alloc, 100, 100, RECEIVED)?;
         let found = hall.value(
             alloc,
             field(asked, 0).as_bytes(),
@@ -141,7 +141,7 @@ struct Current;
 
 impl Answers for Current {
     fn answer(alloc: Global, asked: &str) -> Result<String, Fail> {
-        let hall = hall_behind(alloc, 100, 100, RECEIVED)?;
+        let hall = hall_after(alloc, 100, 100, RECEIVED)?;
         debug_of(alloc, &hall.current(number(asked, 0)?))
     }
 }
@@ -160,7 +160,7 @@ fn counts_of(alloc: Global, hall: &Hall) -> Result<String, Fail> {
 
 #[test]
 fn short_and_long_packets_are_counted(rt: HostRuntime) -> Result<(), Fail> {
-    let hall = hall_behind(rt.alloc(), 100, 100, "0:0105 0:01050607 0:010506 ?:")?;
+    let hall = hall_after(rt.alloc(), 100, 100, "0:0105 0:01050607 0:010506 ?:")?;
     let found = counts_of(rt.alloc(), &hall)?;
     let wanted =
         "(Counts { received: 3, short: 1, long: 1 }, Counts { received: 1, short: 0, long: 0 }, 0)";
@@ -189,7 +189,7 @@ fn told_of_end(mut hall: Hall) -> (Result<(), HallFault>, u64, bool, bool, u64) 
 
 #[test]
 fn a_full_hall_takes_what_is_owed(rt: HostRuntime) -> Result<(), Fail> {
-    let hall = hall_behind(rt.alloc(), 8, 100, "?: ?: ?: ?: ?: ?: ?:")?;
+    let hall = hall_after(rt.alloc(), 8, 100, "?: ?: ?: ?: ?: ?: ?:")?;
     let found = debug_of(rt.alloc(), &told_of_end(hall))?;
     let wanted = "(Err(Full { entries: 8, bytes: 0 }), 10, true, false, 10)";
     same(found.as_str(), wanted, "a full hall")
@@ -197,7 +197,7 @@ fn a_full_hall_takes_what_is_owed(rt: HostRuntime) -> Result<(), Fail> {
 
 #[test]
 fn bytes_are_counted_against_their_limit(rt: HostRuntime) -> Result<(), Fail> {
-    let mut hall = hall_behind(rt.alloc(), 8, 3, "0:0105")?;
+    let mut hall = hall_after(rt.alloc(), 8, 3, "0:0105")?;
     let found = debug_of(rt.alloc(), &(hall.room(1, 1), hall.room(1, 2)))?;
     let wanted = "(Ok(()), Err(Full { entries: 2, bytes: 2 }))";
     same(found.as_str(), wanted, "room for a byte, and for two")

@@ -128,7 +128,7 @@ fn step(alloc: Global, hall: &mut Hall, text: &str) -> Result<(), Fail> {
 }
 
 /// A hall after these steps, of which the first entry is that the interface was opened.
-fn hall_behind(alloc: Global, steps: &str) -> Result<Hall, Fail> {
+fn hall_after(alloc: Global, steps: &str) -> Result<Hall, Fail> {
     let mut hall = hall_of(alloc, DEFINITIONS, 100, 100)?;
     for text in steps.split(';') {
         step(alloc, &mut hall, text)?;
@@ -142,7 +142,7 @@ impl Answers for Events {
     fn answer(alloc: Global, asked: &str) -> Result<String, Fail> {
         let (from, steps) = cut(asked, '|')?;
         let from = if from == "2" { 2 } else { 0 };
-        let hall = hall_behind(alloc, steps)?;
+        let hall = hall_after(alloc, steps)?;
         debug_of(alloc, &hall.events(alloc, from)?)
     }
 }
@@ -168,7 +168,7 @@ const STEPS: &str = "P 0 010500;L 0 DAWN;S NIGHT;P 0 010500";
 
 #[test]
 fn sets_are_known_by_the_site_and_by_entries(rt: HostRuntime) -> Result<(), Fail> {
-    let hall = hall_behind(rt.alloc(), STEPS)?;
+    let hall = hall_after(rt.alloc(), STEPS)?;
     let found = debug_of(rt.alloc(), &told_of_sets(&hall))?;
     same(
         found.as_str(),
@@ -179,7 +179,7 @@ fn sets_are_known_by_the_site_and_by_entries(rt: HostRuntime) -> Result<(), Fail
 
 #[test]
 fn the_set_that_was_chosen_is_the_current_one(rt: HostRuntime) -> Result<(), Fail> {
-    let hall = hall_behind(rt.alloc(), STEPS)?;
+    let hall = hall_after(rt.alloc(), STEPS)?;
     same(as_text(hall.limits_set().as_slice())?, "NIGHT", STEPS)
 }
 
@@ -194,7 +194,7 @@ struct Used;
 
 impl Answers for Used {
     fn answer(alloc: Global, asked: &str) -> Result<String, Fail> {
-        let hall = hall_behind(alloc, "L 1 DAWN;E 1 off")?;
+        let hall = hall_after(alloc, "L 1 DAWN;E 1 off")?;
         let (packet, item) = (number(asked, 0)?, number(asked, 1)?);
         debug_of(
             alloc,

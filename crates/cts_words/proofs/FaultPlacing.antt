@@ -98,13 +98,13 @@ data Ended {X : Type 0} (xs : List X) : Type 0 where
   Nothing : xs ≡ [] → Ended xs
   Behind : (front : List X) (last : X) → xs ≡ front ++ last ∷ [] → Ended xs
 
-ended_behind : {X : Type 0} (x : X) (xs : List X) → Ended xs → Ended (x ∷ xs)
-ended_behind x xs (Nothing e) = Behind [] x (ap (λ ys. x ∷ ys) e)
-ended_behind x xs (Behind front last e) = Behind (x ∷ front) last (ap (λ ys. x ∷ ys) e)
+ended_after : {X : Type 0} (x : X) (xs : List X) → Ended xs → Ended (x ∷ xs)
+ended_after x xs (Nothing e) = Behind [] x (ap (λ ys. x ∷ ys) e)
+ended_after x xs (Behind front last e) = Behind (x ∷ front) last (ap (λ ys. x ∷ ys) e)
 
 ended : {X : Type 0} (xs : List X) → Ended xs
 ended [] = Nothing refl
-ended (x ∷ xs) = ended_behind x xs (ended xs)
+ended (x ∷ xs) = ended_after x xs (ended xs)
 
 -- only the last line tells whether the lines dangle
 dangles_last : (before : Bool) (front : List (List Word)) (row : List Word) → dangles before (front ++ row ∷ []) ≡ joins row

@@ -30,27 +30,27 @@ no_split (f ∷ front) s rest e = cc
 
 module _ {C : Type 0} (at : List Statement → Statement → Option (Refusal C)) (end : List Statement → Option (Refusal C)) where
   -- what is refused after some statements
-  abbrev behind : List Statement → List Statement → Statement → Option (Refusal C)
-  behind before front s = at (before ++ front) s
+  abbrev later : List Statement → List Statement → Statement → Option (Refusal C)
+  later before front s = at (before ++ front) s
 
-  first_passes : (before : List Statement) (s : Statement) (rest : List Statement) → NoneRefused (behind before) (s ∷ rest) → at before s ≡ None
+  first_passes : (before : List Statement) (s : Statement) (rest : List Statement) → NoneRefused (later before) (s ∷ rest) → at before s ≡ None
   first_passes before s rest none = ap (λ (b : List Statement). at b s) (sym (append-nil before)) ∙ none [] s rest refl
 
-  others_pass : (before : List Statement) (s : Statement) (rest : List Statement) → NoneRefused (behind before) (s ∷ rest) → NoneRefused (behind (before ++ s ∷ [])) rest
+  others_pass : (before : List Statement) (s : Statement) (rest : List Statement) → NoneRefused (later before) (s ∷ rest) → NoneRefused (later (before ++ s ∷ [])) rest
   others_pass before s rest none front t after e =
       ap (λ (b : List Statement). at b t) (append_assoc before (s ∷ []) front) ∙ none (s ∷ front) t after (ap (λ (ss : List Statement). s ∷ ss) e)
 
   passed : (before : List Statement) (s : Statement) (rest : List Statement) → at before s ≡ None → first_refusal at end before (s ∷ rest) ≡ first_refusal at end (before ++ s ∷ []) rest
   passed before s rest none = ap (λ o. or_else o (first_refusal at end (before ++ s ∷ []) rest)) none
 
-  end_decides : (before all : List Statement) → NoneRefused (behind before) all → first_refusal at end before all ≡ end (before ++ all)
+  end_decides : (before all : List Statement) → NoneRefused (later before) all → first_refusal at end before all ≡ end (before ++ all)
   end_decides before [] none = ap end (sym (append-nil before))
   end_decides before (s ∷ rest) none =
       passed before s rest (first_passes before s rest none)
       ∙ end_decides (before ++ s ∷ []) rest (others_pass before s rest none)
       ∙ ap end (append_assoc before (s ∷ []) rest)
 
-  one_decides : (before front : List Statement) (s : Statement) (rest : List Statement) (r : Refusal C) → NoneRefused (behind before) front → at (before ++ front) s ≡ Some r
+  one_decides : (before front : List Statement) (s : Statement) (rest : List Statement) (r : Refusal C) → NoneRefused (later before) front → at (before ++ front) s ≡ Some r
       → first_refusal at end before (front ++ s ∷ rest) ≡ Some r
   one_decides before [] s rest r none some =
       ap (λ o. or_else o (first_refusal at end (before ++ s ∷ []) rest)) (ap (λ (b : List Statement). at b s) (sym (append-nil before)) ∙ some)
@@ -60,9 +60,9 @@ module _ {C : Type 0} (at : List Statement → Statement → Option (Refusal C))
 
   -- the first one that is refused, or none
   abbrev Judged : List Statement → List Statement → Type 0
-  Judged before all = ((r : Refusal C) × IsRefusedFirst (behind before) all r) ⊎ NoneRefused (behind before) all
+  Judged before all = ((r : Refusal C) × IsRefusedFirst (later before) all r) ⊎ NoneRefused (later before) all
 
-  none_more : (before : List Statement) (s : Statement) (rest : List Statement) → at before s ≡ None → NoneRefused (behind (before ++ s ∷ [])) rest → NoneRefused (behind before) (s ∷ rest)
+  none_more : (before : List Statement) (s : Statement) (rest : List Statement) → at before s ≡ None → NoneRefused (later (before ++ s ∷ [])) rest → NoneRefused (later before) (s ∷ rest)
   none_more before s rest none others [] t after e =
       let same : s ≡ t = cc in
       ap (λ (b : List Statement). at b t) (append-nil before) ∙ subst (λ (u : Statement). at before u ≡ None) same none

@@ -22,7 +22,7 @@ pub fn end<O: Sink>(alloc: Global, done: Result<(), Halt<'_>>, out: &mut O) -> S
 }
 
 /// Ends where the words fit no command.
-pub fn end_misused<O: Sink>(out: &mut O) -> Status
+pub(crate) fn end_misused<O: Sink>(out: &mut O) -> Status
     ensures status { result ≡ Status.Usage }
     ensures printed { Printed (O.seen out.old) (O.seen out.new) usage_line }
 {

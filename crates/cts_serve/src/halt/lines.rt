@@ -8,14 +8,14 @@ use cts_def::{Kind, Packet, Site};
 use std::alloc::Global;
 
 /// The line for words that fit no command.
-pub fn usage_text() -> &'static [u8]
+pub(crate) fn usage_text() -> &'static [u8]
     ensures { result.now ≡ usage_line }
 {
     b"usage: check DEFS SITE | replay DEFS SITE SCRIPT | rehearse N | dump LOG | serve DEFS SITE\n"
 }
 
 /// The line for want of memory. It takes none.
-pub fn memory_text() -> &'static [u8]
+pub(crate) fn memory_text() -> &'static [u8]
     ensures { result.now ≡ memory_line }
 {
     b"out of memory\n"
@@ -29,14 +29,14 @@ pub fn absent(alloc: Global, name: &str) -> Result<Vec<u8>, Memory>
 }
 
 /// The line for a file that could not be read.
-pub fn read_fault(alloc: Global, name: &str) -> Result<Vec<u8>, Memory>
+pub(crate) fn read_fault(alloc: Global, name: &str) -> Result<Vec<u8>, Memory>
     ensures { IfOk result (λ line. line.items ≡ read_fault_line name.now) }
 {
     naming(alloc, b"read fault: ", name)
 }
 
 /// The line for a packet log that could not be written or synced. It takes no memory.
-pub fn log_fault_text() -> &'static [u8]
+pub(crate) fn log_fault_text() -> &'static [u8]
     ensures { result.now ≡ log_fault_line }
 {
     b"log fault\n"
@@ -69,7 +69,12 @@ fn kind_name(kind: Kind) -> &'static str
 }
 
 /// The line for a shelf that holds so many boxes of a kind, of which more are needed.
-pub fn shelf_empty(alloc: Global, kind: Kind, needed: u32, stocked: u32) -> Result<Vec<u8>, Memory>
+pub(crate) fn shelf_empty(
+    alloc: Global,
+    kind: Kind,
+    needed: u32,
+    stocked: u32,
+) -> Result<Vec<u8>, Memory>
     ensures { IfOk result (λ line. line.items ≡ shelf_line kind needed stocked) }
 {
     let name = kind_name(kind);
@@ -78,7 +83,7 @@ pub fn shelf_empty(alloc: Global, kind: Kind, needed: u32, stocked: u32) -> Resu
 }
 
 /// The line for a history that would pass one of its limits.
-pub fn history_full(alloc: Global, entries: u64, bytes: u64) -> Result<Vec<u8>, Memory>
+pub(crate) fn history_full(alloc: Global, entries: u64, bytes: u64) -> Result<Vec<u8>, Memory>
     ensures { IfOk result (λ line. line.items ≡ full_line entries bytes) }
 {
     let line = format!(in alloc; "history full: {entries} entries, {bytes} bytes\n")?;
@@ -86,7 +91,7 @@ pub fn history_full(alloc: Global, entries: u64, bytes: u64) -> Result<Vec<u8>, 
 }
 
 /// The line for a log that is refused at this place.
-pub fn log_refused(alloc: Global, place: u64) -> Result<Vec<u8>, Memory>
+pub(crate) fn log_refused(alloc: Global, place: u64) -> Result<Vec<u8>, Memory>
     ensures { IfOk result (λ line. line.items ≡ log_line place) }
 {
     let line = format!(in alloc; "log refused at {place}\n")?;

@@ -19,7 +19,7 @@ use cts_words::Statement;
 use std::alloc::Global;
 
 /// Reads the definitions, and gives them with the digest of their file.
-pub fn load_definitions<'a, F: Files>(
+pub(crate) fn load_definitions<'a, F: Files>(
     alloc: Global,
     files: &mut F,
     name: &FileName<'a>,
@@ -58,7 +58,7 @@ fn take_definitions<'a>(
 }
 
 /// Reads the site over its definitions.
-pub fn load_plan<'a, F: Files>(
+pub(crate) fn load_plan<'a, F: Files>(
     alloc: Global,
     files: &mut F,
     name: &FileName<'a>,

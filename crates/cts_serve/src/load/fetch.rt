@@ -40,7 +40,7 @@ impl From<Memory> for FetchFault {
 const PIECE: usize = 65_536;
 
 /// The bytes of the file of this name.
-pub fn fetch<F: Files>(
+pub(crate) fn fetch<F: Files>(
     alloc: Global,
     files: &mut F,
     name: &str,

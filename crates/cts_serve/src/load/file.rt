@@ -11,7 +11,7 @@ use cts_outside::Files;
 use std::alloc::Global;
 
 /// The bytes of the file of this name. Where it holds more than the limit, the command halts as is given.
-pub fn read_file<'a, F: Files>(
+pub(crate) fn read_file<'a, F: Files>(
     alloc: Global,
     files: &mut F,
     name: &FileName<'a>,

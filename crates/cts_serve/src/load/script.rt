@@ -15,7 +15,7 @@ use cts_scriptread::{ScriptFault, read_events};
 use std::alloc::Global;
 
 /// Reads a script, and gives its events with their lines.
-pub fn load_script<'a, F: Files>(
+pub(crate) fn load_script<'a, F: Files>(
     alloc: Global,
     files: &mut F,
     name: &FileName<'a>,

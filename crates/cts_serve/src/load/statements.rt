@@ -36,7 +36,7 @@ pub fn read_statements<'a, F: Files>(
 }
 
 /// The statements of a file, and the digest of its bytes.
-pub fn read_digested<'a, F: Files>(
+pub(crate) fn read_digested<'a, F: Files>(
     alloc: Global,
     files: &mut F,
     name: &FileName<'a>,

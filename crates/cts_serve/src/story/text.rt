@@ -17,7 +17,7 @@ use std::alloc::Global;
 
 /// The lines of the entries from this number on, each with its limits events after it, and then that of an effect. The follower
 /// has to stand for the entries before them, and then stands for all.
-pub fn event_text(
+pub(crate) fn event_text(
     alloc: Global,
     hall: &Hall,
     follower: &mut Follower,
@@ -36,7 +36,7 @@ pub fn event_text(
 }
 
 /// The changes of limits states at the entries from this number on.
-pub fn changes_from(
+pub(crate) fn changes_from(
     alloc: Global,
     hall: &Hall,
     follower: &mut Follower,

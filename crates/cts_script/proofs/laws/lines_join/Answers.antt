@@ -1,5 +1,5 @@
-use Rattle.cts_script.proofs.LineLemmas.{lines_behind-append}
+use Rattle.cts_script.proofs.LineLemmas.{lines_after-append}
 use Rattle.cts_script.proofs.laws.lines_join.Goals as goal
 
 pub returns : goal.returns
-returns c = lines_behind-append
+returns c = lines_after-append

@@ -6,8 +6,8 @@ use Rattle.cts_spell.proofs.laws.heads_are_read.Goals as goal
 use Rattle.std.proofs.Common.{◌++◌}
 
 pub returns : goal.returns
-returns c = λ h behind fits. record {
-  whole = le_test (head_end (head_bytes h ++ behind)) (length (head_bytes h ++ behind)) (omega (arith, end_again h behind, length-append (head_bytes h) behind));
-  head = head_again h behind fits;
-  end = end_again h behind;
+returns c = λ h after fits. record {
+  whole = le_test (head_end (head_bytes h ++ after)) (length (head_bytes h ++ after)) (omega (arith, end_again h after, length-append (head_bytes h) after));
+  head = head_again h after fits;
+  end = end_again h after;
 }

@@ -58,10 +58,10 @@ returns-after-strip c write fill =
       tt,
     )
 
-pub leftmost_behind-requires-clause-order : goal.leftmost_behind-requires-clause-order
-leftmost_behind-requires-clause-order c = order_seen c.args.seen (length c.args.sync.now) (length c.args.read.now) c.first_unseen-from.result c.first_unseen-from.ensures
+pub leftmost_after-requires-clause-order : goal.leftmost_after-requires-clause-order
+leftmost_after-requires-clause-order c = order_seen c.args.seen (length c.args.sync.now) (length c.args.read.now) c.first_unseen-from.result c.first_unseen-from.ensures
 
-pub leftmost_behind-requires-clause-none : goal.leftmost_behind-requires-clause-none
-leftmost_behind-requires-clause-none c =
+pub leftmost_after-requires-clause-none : goal.leftmost_after-requires-clause-none
+leftmost_after-requires-clause-none c =
     none_seen (terminated_data [] c.args.read.now c.args.strip c.args.discard c.args.sync.now false) c.args.bytes.now c.min.result c.args.seen c.first_unseen-from.result c.requires.synced
     (omega (arith, c.if-bytes-sync.false)) c.requires.seen c.min.ensures c.first_unseen-from.ensures

@@ -9,7 +9,7 @@ use Rattle.cts_watch.proofs.Placed.{at_place, events_from_here}
 use Rattle.std.proofs.Math.Seq.{take-length}
 use Rattle.cts_entry.specs.declared.entry.Entry.{Entry}
 use Rattle.cts_serve.specs.Transcript.{limits_events, line_event, lines_of}
-use Rattle.cts_script.proofs.LineLemmas.{lines_behind-take_more}
+use Rattle.cts_script.proofs.LineLemmas.{lines_after-take_more}
 use Rattle.cts_script.specs.declared.limits_event.LimitsEvent.{LimitsEvent}
 use Rattle.cts_script.specs.Transcripts.{entry_lines}
 use Rattle.cts_serve.proofs.story.text.lines_from.Goals as goal
@@ -52,7 +52,7 @@ entries-preserved c =
     let sliced : take (length history - c.min-n.result) (drop c.min-n.result history) ≡ drop c.args.from history = slice_from c.args.from c.min-n.result history c.min-n.ensures in
     let below : index < length (drop c.args.from history) = subst (λ (es : List Entry). index < length es) sliced c.entries-test.true in
     let is : c.entry-item.result ≡ get_or (drop c.args.from history) index c.entry-item.result = subst (λ (es : List Entry). c.entry-item.result ≡ get_or es index c.entry-item.result) sliced c.entry-item.is in
-    let more = lines_behind-take_more site (limits_events site) (take c.args.from history) (drop c.args.from history) index c.entry-item.result below is in
+    let more = lines_after-take_more site (limits_events site) (take c.args.from history) (drop c.args.from history) index c.entry-item.result below is in
     let number : length (take c.args.from history) + index ≡ c.entries.n = omega (arith, count_to c.args.from c.min-n.result history c.min-n.ensures, c.entries.invariant.0) in
     let events = c.in_ok-events.ensures ∙ changes_here site history c.args.from index c.entries.n c.entry-item.result c.args.changes.now below is number c.requires in
     let line = ap (λ (n : ℕ). entry_lines site n c.entry-item.result (limits_events site (take c.args.from history ++ take index (drop c.args.from history)) c.entry-item.result)) number ∙ ap (entry_lines site c.entries.n c.entry-item.result) (sym events) in
