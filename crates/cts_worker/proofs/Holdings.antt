@@ -11,7 +11,7 @@ use Rattle.cts_table.specs.States.{Shown}
 use Rattle.cts_table.specs.declared.basis.Basis.{Basis}
 use Rattle.cts_told.specs.Makers.{of_maker}
 use Rattle.cts_told.proofs.Looking.{stop_kept}
-use Rattle.cts_told.proofs.Others.{connected_others, ended_others, nothing_own}
+use Rattle.cts_told.proofs.Others.{connected_others, ended_others, nothing_own, of_maker_append}
 use Rattle.cts_turn.specs.declared.rule.View.{View}
 use Rattle.cts_turn.specs.Lists.{AllBy, StartsWith, has}
 use Rattle.cts_turn.specs.Passes.{left}
@@ -99,6 +99,12 @@ hold_of m old new s t added held grows = record {
   found = held.found ∙ ap (λ (l : List Entry). old.found ++ length l ∷ []) held.began;
   makers = held.makers;
 }
+
+-- the maker's own entries are those that stood and those that were added
+pub hold_own : {G : Type 0} (m : ℕ) (old new : View Entry G) (added : List Entry) → Hold m old new added → of_maker m new.seen ≡ of_maker m old.seen ++ of_maker m added
+hold_own m old new added hold =
+    ap (of_maker m) hold.seen
+    ∙ (of_maker_append m old.seen (hold.others ++ added) ∙ ap (λ (l : List Entry). of_maker m old.seen ++ l) (of_maker_append m hold.others added ∙ ap (λ (l : List Entry). l ++ of_maker m added) hold.strange))
 
 -- a hall over this basis with these entries and no room
 abbrev pub shown_as : Basis → List Entry → Shown

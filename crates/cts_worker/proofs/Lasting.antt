@@ -14,7 +14,7 @@ use Rattle.cts_entry.proofs.Queuing.{none_connected}
 use Rattle.cts_table.specs.Keeping.{IsKept}
 use Rattle.cts_table.specs.States.{CanAdd, Shown}
 use Rattle.cts_told.specs.Makers.{LastEnded, of_maker}
-use Rattle.cts_told.proofs.Others.{of_maker_append, of_maker_one}
+use Rattle.cts_told.proofs.Others.{connected_of, ended_of, of_maker_append, of_maker_one}
 use Rattle.cts_told.proofs.Walks.{connected_kept}
 use Rattle.cts_turn.specs.declared.rule.View.{View}
 use Rattle.cts_turn.specs.Lists.{AllBy, StartsWith}
@@ -37,7 +37,7 @@ pub last_own : (by : ℕ) (time : Time) (stops : Bool) (before : List Entry) →
 last_own by time stops before = words_own (stops && not (is_stopped before)) by time
 
 words_by : (c : Bool) (by : ℕ) (time : Time) → AllBy (λ (e : Entry). e.by) (by ∷ []) (stop_if c by time ++ entry_of by time Ended ∷ [])
-words_by true by time = (by_one by, by_one by, tt)
+words_by true by time = (by_one by, (by_one by, tt))
 words_by false by time = (by_one by, tt)
 
 pub last_by : (by : ℕ) (time : Time) (stops : Bool) (before : List Entry) → AllBy (λ (e : Entry). e.by) (by ∷ []) (last_entries stops by time before)
@@ -84,6 +84,12 @@ may_end_stop site c m by time history may = record {
   ];
 }
 
+-- ---- who may end
+
+-- a worker that has said nothing
+pub new_may_end : (site : SiteData) (m : ℕ) (seen : List Entry) → is_worker site m ≡ true → of_maker m seen ≡ [] → MayEnd site m seen
+new_may_end site m seen worker new = record { worker = worker; active = ended_of m seen [] new; off = inl (connected_of m seen [] new) }
+
 -- ---- what a hall lets a worker append
 
 pub can_stop : (s : Shown) (by : ℕ) (time : Time) → is_worker s.basis.site by ≡ true → is_stopped s.entries ≡ false → has_ended by s.entries ≡ false → CanAdd s (entry_of by time Stop)
@@ -115,7 +121,7 @@ adds_last s t by time stops basis grows = (basis, (last_entries stops by time s.
 -- ---- what stands at the end
 
 module _ {G : Type 0} (by : ℕ) (time : Time) (stops : Bool) (old new : View Entry G) (ended : EndedHold by time stops old new) where
-  before : List Entry
+  abbrev before : List Entry
   before = old.seen ++ ended.hold.others
 
   pub ended_onward : Onward old new
@@ -153,6 +159,6 @@ module _ {G : Type 0} (by : ℕ) (time : Time) (stops : Bool) (old new : View En
     (ended.hold.others, refl),
     (last_entries stops by time before, ended_seen),
     ended_own
-    ∙ ap (λ (l : List Entry). l ++ last_entries stops by time before)
-    (of_maker_append by old.seen ended.hold.others ∙ (ap (λ (l : List Entry). l ++ of_maker by ended.hold.others) none ∙ ended.hold.strange)),
+        ∙ ap (λ (l : List Entry). l ++ last_entries stops by time before)
+        (of_maker_append by old.seen ended.hold.others ∙ (ap (λ (l : List Entry). l ++ of_maker by ended.hold.others) none ∙ ended.hold.strange)),
   )
