@@ -1,0 +1,5 @@
+pub mod Counting
+pub mod Onwards
+pub mod Holdings
+pub mod Lasting
+pub mod Unlinked

@@ -1,0 +1,5 @@
+use Rattle.cts_worker.proofs.Lasting.{can_end}
+use Rattle.cts_worker.proofs.ending.say_ended.Goals as goal
+
+pub end-requires : goal.end-requires
+end-requires c = can_end c.args.hall.now c.args.by c.args.time c.is_kept.ensures.site c.is_kept.ensures.kept c.requires.may

@@ -1,0 +1,5 @@
+pub mod Lasts
+pub mod Holds
+pub mod Grounds
+pub mod Counts
+pub mod Laws
