@@ -4,7 +4,7 @@ use cts_bits::{
     fields_of_other_bytes_are_apart, read_bytes, read_int, read_uint, write_has_one_outcome,
     write_int, write_uint,
 };
-use cts_rows::{Answers, bytes_of, debug_of, display_of, number, part, rows_hold, same};
+use cts_rows::{Answers, bytes_of, debug_of, display_of, number, part, rows_end_so, same};
 use std::alloc::Global;
 use std::test::Fail;
 
@@ -109,14 +109,14 @@ fn read(bytes: &[u8], place: &Place) -> Option<u64> {
 
 /// A place, the bytes that hold it, and the number of the field.
 const READS: &str = "\
-Some(1042)|12 12 Little 1234
-Some(197121)|16 24 Little 010203
-Some(564)|4 12 Big 1234
-Some(22068)|8 16 Little 12345678
-Some(13398)|8 16 Big 12345678
-Some(2018915346)|0 32 Little 12345678
-Some(18446744073709551615)|0 64 Big ffffffffffffffff
-Some(18446744073709551615)|0 64 Little ffffffffffffffff";
+12 12 Little 1234|Some(1042)
+16 24 Little 010203|Some(197121)
+4 12 Big 1234|Some(564)
+8 16 Little 12345678|Some(22068)
+8 16 Big 12345678|Some(13398)
+0 32 Little 12345678|Some(2018915346)
+0 64 Big ffffffffffffffff|Some(18446744073709551615)
+0 64 Little ffffffffffffffff|Some(18446744073709551615)";
 
 struct Reads;
 
@@ -130,17 +130,17 @@ impl Answers for Reads {
 
 #[test]
 fn reads_the_documented_fields(rt: HostRuntime) -> Result<(), Fail> {
-    rows_hold::<Reads>(rt.alloc(), READS)
+    rows_end_so::<Reads>(rt.alloc(), READS)
 }
 
 /// The signed number of a field, and what is read where it was written into eight bytes.
 const SIGNED: &str = "\
-Some((-4, -4))|0 3 Big 80
-Some((3, 3))|0 3 Big 60
-Some((-1, -1))|3 3 Big 1c
-Some((-2, -2))|0 16 Little feff
-Some((-1, -1))|0 64 Little ffffffffffffffff
-Some((-9223372036854775808, -9223372036854775808))|0 64 Big 8000000000000000";
+0 3 Big 80|Some((-4, -4))
+0 3 Big 60|Some((3, 3))
+3 3 Big 1c|Some((-1, -1))
+0 16 Little feff|Some((-2, -2))
+0 64 Little ffffffffffffffff|Some((-1, -1))
+0 64 Big 8000000000000000|Some((-9223372036854775808, -9223372036854775808))";
 
 struct SignedNumbers;
 
@@ -164,25 +164,25 @@ fn read_twice(bytes: &[u8], place: &Place) -> Option<(i64, i64)> {
 
 #[test]
 fn reads_and_writes_signed_fields(rt: HostRuntime) -> Result<(), Fail> {
-    rows_hold::<SignedNumbers>(rt.alloc(), SIGNED)
+    rows_end_so::<SignedNumbers>(rt.alloc(), SIGNED)
 }
 
 /// Why there is no such place, and none where there is one.
 const REFUSED: &str = "\
-Some(Size)|0 0 Big
-Some(Size)|0 65 Big
-Some(Size)|8388608 1 Big
-Some(Size)|8388545 64 Big
-None|8388544 64 Big
-Some(Size)|4294967295 64 Little
-Some(BeforeStart)|0 12 Little
-Some(BeforeStart)|0 24 Little
-Some(BeforeStart)|4 64 Little
-Some(BeforeStart)|4 12 Little
-None|4 4 Little
-None|12 12 Little
-None|0 12 Big
-None|0 16 Little";
+0 0 Big|Some(Size)
+0 65 Big|Some(Size)
+8388608 1 Big|Some(Size)
+8388545 64 Big|Some(Size)
+8388544 64 Big|None
+4294967295 64 Little|Some(Size)
+0 12 Little|Some(BeforeStart)
+0 24 Little|Some(BeforeStart)
+4 64 Little|Some(BeforeStart)
+4 12 Little|Some(BeforeStart)
+4 4 Little|None
+12 12 Little|None
+0 12 Big|None
+0 16 Little|None";
 
 struct Refused;
 
@@ -194,16 +194,16 @@ impl Answers for Refused {
 
 #[test]
 fn refuses_places_by_size_and_start(rt: HostRuntime) -> Result<(), Fail> {
-    rows_hold::<Refused>(rt.alloc(), REFUSED)
+    rows_end_so::<Refused>(rt.alloc(), REFUSED)
 }
 
 /// The offset, size, order and reach of a place, and whether as many bytes hold it.
 const REACHES: &str = "\
-(12, 12, Little, 2, true)|12 12 Little
-(12, 12, Big, 3, true)|12 12 Big
-(16, 32, Little, 6, true)|16 32 Little
-(16, 24, Little, 3, true)|16 24 Little
-(0, 8, Big, 1, true)|0 8 Big";
+12 12 Little|(12, 12, Little, 2, true)
+12 12 Big|(12, 12, Big, 3, true)
+16 32 Little|(16, 32, Little, 6, true)
+16 24 Little|(16, 24, Little, 3, true)
+0 8 Big|(0, 8, Big, 1, true)";
 
 struct Reaches;
 
@@ -226,7 +226,7 @@ fn told(place: &Place) -> (u32, u32, Order, u32, bool) {
 
 #[test]
 fn tells_a_place_and_its_reach(rt: HostRuntime) -> Result<(), Fail> {
-    rows_hold::<Reaches>(rt.alloc(), REACHES)
+    rows_end_so::<Reaches>(rt.alloc(), REACHES)
 }
 
 #[test]
@@ -237,8 +237,8 @@ fn bytes_are_read_as_they_stand(rt: HostRuntime) -> Result<(), Fail> {
 
 /// Why there is no such place, as it is printed.
 const PRINTED: &str = "\
-a field has 1 to 64 bits and ends by bit 8388608|0 0 Big
-the field would begin before byte 0|0 12 Little";
+0 0 Big|a field has 1 to 64 bits and ends by bit 8388608
+0 12 Little|the field would begin before byte 0";
 
 struct Printed;
 
@@ -253,15 +253,15 @@ impl Answers for Printed {
 
 #[test]
 fn prints_why_a_place_is_refused(rt: HostRuntime) -> Result<(), Fail> {
-    rows_hold::<Printed>(rt.alloc(), PRINTED)
+    rows_end_so::<Printed>(rt.alloc(), PRINTED)
 }
 
 // ---- what a write leaves
 
 /// The size of a field of eight bytes, and the bytes where it is written with ones.
 const ONES: &str = "\
-(64, [255, 255, 255, 255, 255, 255, 255, 255])|0 64 Big
-(64, [255, 255, 255, 255, 255, 255, 255, 255])|0 64 Little";
+0 64 Big|(64, [255, 255, 255, 255, 255, 255, 255, 255])
+0 64 Little|(64, [255, 255, 255, 255, 255, 255, 255, 255])";
 
 struct Ones;
 
@@ -282,7 +282,7 @@ fn filled(place: &Place) -> [u8; 8] {
 
 #[test]
 fn writes_all_ones(rt: HostRuntime) -> Result<(), Fail> {
-    rows_hold::<Ones>(rt.alloc(), ONES)
+    rows_end_so::<Ones>(rt.alloc(), ONES)
 }
 
 #[test]
@@ -379,8 +379,8 @@ fn holds_at<W: Walked>(offset: u32, bits: u32, order: Order) -> Option<bool> {
 
 /// In each order a field of n bits begins at 97 - n places, and at each of them the walk agrees.
 const COUNTS: &str = "\
-(4128, 4128)|Big
-(4128, 4128)|Little";
+Big|(4128, 4128)
+Little|(4128, 4128)";
 
 struct ReadCounts;
 
@@ -392,7 +392,7 @@ impl Answers for ReadCounts {
 
 #[test]
 fn reads_every_small_place_as_a_walk_over_its_bits(rt: HostRuntime) -> Result<(), Fail> {
-    rows_hold::<ReadCounts>(rt.alloc(), COUNTS)
+    rows_end_so::<ReadCounts>(rt.alloc(), COUNTS)
 }
 
 struct WriteCounts;
@@ -405,5 +405,5 @@ impl Answers for WriteCounts {
 
 #[test]
 fn writes_every_small_place_as_a_walk_over_its_bits(rt: HostRuntime) -> Result<(), Fail> {
-    rows_hold::<WriteCounts>(rt.alloc(), COUNTS)
+    rows_end_so::<WriteCounts>(rt.alloc(), COUNTS)
 }

@@ -2,7 +2,7 @@
 use cts_base::{Bytes, Decimal, List};
 use cts_bits::{Order, Place};
 use cts_def::{ItemKind, Limits, ProtoSpec, Span, Start, Time, is_format, is_too_large};
-use cts_rows::{Answers, cut, debug_of, number, part, rows_hold, same};
+use cts_rows::{Answers, cut, debug_of, number, part, rows_end_so, same};
 use std::alloc::Global;
 use std::test::Fail;
 
@@ -40,13 +40,13 @@ fn span_of(row: &str) -> Result<Span, Fail> {
 
 /// Whether a span is misplaced, its end in bits, and the bytes that it needs.
 const SPANS: &str = "\
-(false, 16, 2)|Uint Big 4 12
-(false, 24, 3)|Uint Little 8 16
-(false, 16, 2)|Uint Little 10 12
-(false, 32, 4)|Str Little 8 24
-(false, 16, 2)|Block Big 16 0
-(false, 16, 4)|Block Big 16 -16
-(false, 0, 2)|Int Big -16 16";
+Uint Big 4 12|(false, 16, 2)
+Uint Little 8 16|(false, 24, 3)
+Uint Little 10 12|(false, 16, 2)
+Str Little 8 24|(false, 32, 4)
+Block Big 16 0|(false, 16, 2)
+Block Big 16 -16|(false, 16, 4)
+Int Big -16 16|(false, 0, 2)";
 
 struct Spans;
 
@@ -62,25 +62,25 @@ impl Answers for Spans {
 
 #[test]
 fn spans_have_ends_and_needs(rt: HostRuntime) -> Result<(), Fail> {
-    rows_hold::<Spans>(rt.alloc(), SPANS)
+    rows_end_so::<Spans>(rt.alloc(), SPANS)
 }
 
 /// Whether a span is misplaced.
 const MISPLACED: &str = "\
-true|Uint Big 0 0
-true|Uint Big 0 65
-true|Uint Big 8388601 8
-true|Uint Little 0 12
-true|Uint Little 8388600 60
-true|Uint Big -12 8
-true|Uint Big -8 16
-true|Uint Little -16 12
-true|Str Big 4 8
-true|Str Big 0 12
-true|Block Big -8 16
-true|Block Big -8 -16
-true|Block Big 8388608 8
-true|Block Big 0 -2147483648";
+Uint Big 0 0|true
+Uint Big 0 65|true
+Uint Big 8388601 8|true
+Uint Little 0 12|true
+Uint Little 8388600 60|true
+Uint Big -12 8|true
+Uint Big -8 16|true
+Uint Little -16 12|true
+Str Big 4 8|true
+Str Big 0 12|true
+Block Big -8 16|true
+Block Big -8 -16|true
+Block Big 8388608 8|true
+Block Big 0 -2147483648|true";
 
 struct Misplaced;
 
@@ -92,16 +92,16 @@ impl Answers for Misplaced {
 
 #[test]
 fn misplaced_spans_are_told(rt: HostRuntime) -> Result<(), Fail> {
-    rows_hold::<Misplaced>(rt.alloc(), MISPLACED)
+    rows_end_so::<Misplaced>(rt.alloc(), MISPLACED)
 }
 
 /// Whether a span is variable, and whether it is bits in little-endian order.
 const FORMS: &str = "\
-(true, false)|Block Big 8 0
-(false, false)|Block Big 8 8
-(false, true)|Uint Little 10 12
-(false, false)|Uint Little 8 16
-(false, false)|Str Little 8 24";
+Block Big 8 0|(true, false)
+Block Big 8 8|(false, false)
+Uint Little 10 12|(false, true)
+Uint Little 8 16|(false, false)
+Str Little 8 24|(false, false)";
 
 struct Forms;
 
@@ -114,15 +114,15 @@ impl Answers for Forms {
 
 #[test]
 fn spans_of_any_length_and_of_bits_are_told(rt: HostRuntime) -> Result<(), Fail> {
-    rows_hold::<Forms>(rt.alloc(), FORMS)
+    rows_end_so::<Forms>(rt.alloc(), FORMS)
 }
 
 /// Whether a kind is a number, and a signed one.
 const KINDS: &str = "\
-(true, false)|Uint
-(true, true)|Int
-(false, false)|Str
-(false, false)|Block";
+Uint|(true, false)
+Int|(true, true)
+Str|(false, false)
+Block|(false, false)";
 
 struct Kinds;
 
@@ -135,13 +135,13 @@ impl Answers for Kinds {
 
 #[test]
 fn kinds_are_told(rt: HostRuntime) -> Result<(), Fail> {
-    rows_hold::<Kinds>(rt.alloc(), KINDS)
+    rows_end_so::<Kinds>(rt.alloc(), KINDS)
 }
 
 /// Whether a clock shows so many micros.
 const TIMES: &str = "\
-true|999999
-false|1000000";
+999999|true
+1000000|false";
 
 struct Times;
 
@@ -154,27 +154,27 @@ impl Answers for Times {
 
 #[test]
 fn times_of_a_clock_are_told(rt: HostRuntime) -> Result<(), Fail> {
-    rows_hold::<Times>(rt.alloc(), TIMES)
+    rows_end_so::<Times>(rt.alloc(), TIMES)
 }
 
 /// Whether so many bits of a kind spell a number.
 const SPELLINGS: &str = "\
-Some(true)|Uint 8 0
-Some(true)|Uint 8 255
-Some(false)|Uint 8 -1
-Some(false)|Uint 8 256
-Some(true)|Uint 64 0
-Some(true)|Uint 64 18446744073709551615
-Some(false)|Uint 64 -1
-Some(false)|Uint 64 18446744073709551616
-Some(true)|Int 8 -128
-Some(true)|Int 8 127
-Some(false)|Int 8 -129
-Some(false)|Int 8 128
-Some(true)|Int 1 -1
-Some(true)|Int 1 0
-Some(false)|Int 1 -2
-Some(false)|Int 1 1";
+Uint 8 0|Some(true)
+Uint 8 255|Some(true)
+Uint 8 -1|Some(false)
+Uint 8 256|Some(false)
+Uint 64 0|Some(true)
+Uint 64 18446744073709551615|Some(true)
+Uint 64 -1|Some(false)
+Uint 64 18446744073709551616|Some(false)
+Int 8 -128|Some(true)
+Int 8 127|Some(true)
+Int 8 -129|Some(false)
+Int 8 128|Some(false)
+Int 1 -1|Some(true)
+Int 1 0|Some(true)
+Int 1 -2|Some(false)
+Int 1 1|Some(false)";
 
 struct Spellings;
 
@@ -197,37 +197,37 @@ fn spelled(kind: ItemKind, bits: u32, value: i128) -> Option<bool> {
 
 #[test]
 fn numbers_have_spellings(rt: HostRuntime) -> Result<(), Fail> {
-    rows_hold::<Spellings>(rt.alloc(), SPELLINGS)
+    rows_end_so::<Spellings>(rt.alloc(), SPELLINGS)
 }
 
 /// Whether a text is a format.
 const FORMATS: &str = "\
-true|%0.3f
-true|%d
-true|%05d
-true|%00d
-true|%-+8x
-true|100%% %s
-true|%.05f
-true|%.12f
-true|%s%%
-true|a %+0-3X b
-false|
-false|none
-false|%d %d
-false|%
-false|%%
-false|%5
-false|%--d
-false|%1234d
-false|%.13f
-false|%.f
-false|%.2d
-false|%e
-false|%q
-false|% d
-false|%d%
-false|%%d";
+%0.3f|true
+%d|true
+%05d|true
+%00d|true
+%-+8x|true
+100%% %s|true
+%.05f|true
+%.12f|true
+%s%%|true
+a %+0-3X b|true
+|false
+none|false
+%d %d|false
+%|false
+%%|false
+%5|false
+%--d|false
+%1234d|false
+%.13f|false
+%.f|false
+%.2d|false
+%e|false
+%q|false
+% d|false
+%d%|false
+%%d|false";
 
 struct Formats;
 
@@ -239,19 +239,19 @@ impl Answers for Formats {
 
 #[test]
 fn formats_have_one_directive(rt: HostRuntime) -> Result<(), Fail> {
-    rows_hold::<Formats>(rt.alloc(), FORMATS)
+    rows_end_so::<Formats>(rt.alloc(), FORMATS)
 }
 
 /// Whether coefficients are too large for so many bits: those of 2^62 and 2^126 and their neighbours.
 const WEIGHTS: &str = "\
-Some(false)|64 
-Some(false)|8 85070591730234615865843651857942052863
-Some(true)|8 -85070591730234615865843651857942052864
-Some(true)|8 -170141183460469231731687303715884105728
-Some(true)|64 0 -4611686018427387904
-Some(false)|64 0 4611686018427387903
-Some(true)|64 85070591730234615865843651857942052863 0 1
-Some(false)|64 85070591730234615865843651857942052863 0 0";
+64 |Some(false)
+8 85070591730234615865843651857942052863|Some(false)
+8 -85070591730234615865843651857942052864|Some(true)
+8 -170141183460469231731687303715884105728|Some(true)
+64 0 -4611686018427387904|Some(true)
+64 0 4611686018427387903|Some(false)
+64 85070591730234615865843651857942052863 0 1|Some(true)
+64 85070591730234615865843651857942052863 0 0|Some(false)";
 
 struct Weights;
 
@@ -288,19 +288,19 @@ fn decimal_of(word: &str) -> Result<Decimal, Fail> {
 
 #[test]
 fn coefficients_are_weighed(rt: HostRuntime) -> Result<(), Fail> {
-    rows_hold::<Weights>(rt.alloc(), WEIGHTS)
+    rows_end_so::<Weights>(rt.alloc(), WEIGHTS)
 }
 
 /// Whether limits are in order: the yellow ones between -5 and 5, and perhaps green ones.
 const LIMITS: &str = "\
-true|-5 5
-false|2 2
-false|-6 2
-false|-2 6
-true|-2 2 -1 1
-false|-1 2 -1 1
-false|-2 1 -1 1
-false|-2 2 1 1";
+-5 5|true
+2 2|false
+-6 2|false
+-2 6|false
+-2 2 -1 1|true
+-1 2 -1 1|false
+-2 1 -1 1|false
+-2 2 1 1|false";
 
 struct Orders;
 
@@ -332,7 +332,7 @@ fn green_of(low: &str, high: &str) -> Result<Option<(Decimal, Decimal)>, Fail> {
 
 #[test]
 fn limits_have_an_order(rt: HostRuntime) -> Result<(), Fail> {
-    rows_hold::<Orders>(rt.alloc(), LIMITS)
+    rows_end_so::<Orders>(rt.alloc(), LIMITS)
 }
 
 /// A start of three bytes with one id field.

@@ -1,13 +1,13 @@
 use cts_base::{in_upper_case, is_name, spells};
-use cts_rows::{Answers, bytes_by_number, debug_of, part, readable_of, rows_hold};
+use cts_rows::{Answers, bytes_by_number, debug_of, part, readable_of, rows_end_so};
 use std::alloc::Global;
 use std::test::Fail;
 
 /// Whether a word spells a text.
 const SPELLED: &str = "\
-true|Target_1 TARGET_1
-false|TARGET TARGET_1
-false|TARGET_1 TARGET";
+Target_1 TARGET_1|true
+TARGET TARGET_1|false
+TARGET_1 TARGET|false";
 
 struct Spelled;
 
@@ -20,13 +20,13 @@ impl Answers for Spelled {
 
 #[test]
 fn words_are_compared_in_any_case(rt: HostRuntime) -> Result<(), Fail> {
-    rows_hold::<Spelled>(rt.alloc(), SPELLED)
+    rows_end_so::<Spelled>(rt.alloc(), SPELLED)
 }
 
 /// Whether a word is a name.
 const NAMES: &str = "\
-true|Target_1
-false|Target-1";
+Target_1|true
+Target-1|false";
 
 struct Names;
 
@@ -38,7 +38,7 @@ impl Answers for Names {
 
 #[test]
 fn names_are_told(rt: HostRuntime) -> Result<(), Fail> {
-    rows_hold::<Names>(rt.alloc(), NAMES)
+    rows_end_so::<Names>(rt.alloc(), NAMES)
 }
 
 /// The bytes of a text in upper case.
@@ -53,5 +53,5 @@ impl Answers for Upper {
 
 #[test]
 fn letters_alone_change_their_case(rt: HostRuntime) -> Result<(), Fail> {
-    rows_hold::<Upper>(rt.alloc(), "Ok('AZ{`@\u{e9}')|az{`@\u{e9}")
+    rows_end_so::<Upper>(rt.alloc(), "az{`@\u{e9}|Ok('AZ{`@\u{e9}')")
 }

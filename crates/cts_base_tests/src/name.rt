@@ -1,6 +1,6 @@
 use crate::keys::{Key, differs, set_answers};
 use cts_base::Name;
-use cts_rows::{Answers, as_text, debug_of, rows_hold, same};
+use cts_rows::{Answers, as_text, debug_of, rows_end_so, same};
 use std::alloc::Global;
 use std::test::Fail;
 
@@ -25,19 +25,19 @@ impl Answers for Names {
 }
 
 const NAMES: &str = "\
-TEMP_9Z|Temp_9z
-BadName|
-BadName|A-B
-BadName|A B
-BadName|@
-BadName|[
-BadName|`
-BadName|{
-BadName|\u{c9}";
+Temp_9z|TEMP_9Z
+|BadName
+A-B|BadName
+A B|BadName
+@|BadName
+[|BadName
+`|BadName
+{|BadName
+\u{c9}|BadName";
 
 #[test]
 fn a_name_has_letters_digits_and_underscores_in_upper_case(rt: HostRuntime) -> Result<(), Fail> {
-    rows_hold::<Names>(rt.alloc(), NAMES)
+    rows_end_so::<Names>(rt.alloc(), NAMES)
 }
 
 fn is_told(alloc: Global, text: &str, wanted: &str) -> Result<(), Fail> {

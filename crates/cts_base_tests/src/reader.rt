@@ -1,5 +1,5 @@
 use cts_reader::{Fault, Reader, Spelled, first_that_holds, keyword_in, read_statements, word_at};
-use cts_rows::{Answers, debug_of, display_of, number, rows_hold, same};
+use cts_rows::{Answers, debug_of, display_of, number, rows_end_so, same};
 use cts_words::{Statement, statements};
 use std::alloc::Global;
 use std::test::Fail;
@@ -33,9 +33,9 @@ impl Reader for Count {
 
 /// The first of the causes 1, 2 and 3 that holds, where those from this one on hold.
 const FIRST: &str = "\
-Some(2)|2
-Some(1)|1
-None|4";
+2|Some(2)
+1|Some(1)
+4|None";
 
 struct First;
 
@@ -51,7 +51,7 @@ fn first_from(least: u8) -> Option<u8> {
 
 #[test]
 fn first_cause_that_holds_is_told(rt: HostRuntime) -> Result<(), Fail> {
-    rows_hold::<First>(rt.alloc(), FIRST)
+    rows_end_so::<First>(rt.alloc(), FIRST)
 }
 
 const KEYWORDS: [Spelled<u8>; 2] = [
@@ -67,9 +67,9 @@ const KEYWORDS: [Spelled<u8>; 2] = [
 
 /// The keyword that a word is.
 const WORDS: &str = "\
-Some(2)|Id_iTem
-Some(1)|item
-None|items";
+Id_iTem|Some(2)
+item|Some(1)
+items|None";
 
 struct Keywords;
 
@@ -81,7 +81,7 @@ impl Answers for Keywords {
 
 #[test]
 fn keywords_are_read_in_any_case(rt: HostRuntime) -> Result<(), Fail> {
-    rows_hold::<Keywords>(rt.alloc(), WORDS)
+    rows_end_so::<Keywords>(rt.alloc(), WORDS)
 }
 
 fn statements_of(alloc: Global, text: &str) -> Result<Vec<Statement>, Fail> {
@@ -93,8 +93,8 @@ fn statements_of(alloc: Global, text: &str) -> Result<Vec<Statement>, Fail> {
 
 /// What a pass over three statements that refuses this line comes to, and how many it takes.
 const PASSES: &str = "\
-(Err(Refused { line: 3, cause: 2 }), 1)|3
-(Ok(()), 3)|2";
+3|(Err(Refused { line: 3, cause: 2 }), 1)
+2|(Ok(()), 3)";
 
 struct Passes;
 
@@ -114,7 +114,7 @@ fn passed(alloc: Global, line: u32, all: &[Statement]) -> (Result<(), Fault<u8>>
 
 #[test]
 fn first_statement_that_is_refused_ends_the_pass(rt: HostRuntime) -> Result<(), Fail> {
-    rows_hold::<Passes>(rt.alloc(), PASSES)
+    rows_end_so::<Passes>(rt.alloc(), PASSES)
 }
 
 /// The second and the third word of one statement.

@@ -1,4 +1,4 @@
-use cts_rows::{Answers, bytes_by_number, debug_of, readable_of, rows_hold};
+use cts_rows::{Answers, bytes_by_number, debug_of, readable_of, rows_end_so};
 use cts_words::{Statement, last, statements};
 use std::alloc::Global;
 use std::test::Fail;
@@ -38,101 +38,101 @@ fn show(alloc: Global, out: &mut String, statement: &Statement) -> Result<(), Fa
 }
 
 const WORDS: &str = "\
-(1, ['A', 'b c'])|A 'b c' #d
+A 'b c' #d|(1, ['A', 'b c'])
 |
-| \t\r
-(1, ['A', 'b', 'c'])|\tA  b\r\rc 
-(1, ['A\x0bB\x0c\u{c2}\u{a0}'])|A\x0bB\x0c\u{c2}\u{a0}
-(1, ['A\x00B', '\x00'])|A\x00B \x00
-(1, ['A', '', ''])|A '' \"\"
-(1, [''])|''
-(1, ['a', 'b', 'c', 'd'])|'a''b'\"c\"d
-(1, ['a', 'b'c'', 'd'e', 'f''])|'a'b'c' d'e f'
-(1, ['it\"s', 'it's'])|'it\"s' \"it's\"
-(1, [' a\tb\r '])|' a\tb\r '
-(1, ['\u{c3}\u{a9}', '\u{e2}\u{82}\u{ac}'])|\u{c3}\u{a9} '\u{e2}\u{82}\u{ac}'
-|# A
-(1, ['A'])|A # it's
-(1, ['A#b', 'c#'])|A#b c#
-(1, ['A', '#b', 'c#'])|A '#b' \"c#\"
-(1, ['a'])|'a'#b
-(1, ['A', '\\'b'])|A \\'b
-(1, ['A', '\\', 'b'])|A '\\' b";
+ \t\r|
+\tA  b\r\rc |(1, ['A', 'b', 'c'])
+A\x0bB\x0c\u{c2}\u{a0}|(1, ['A\x0bB\x0c\u{c2}\u{a0}'])
+A\x00B \x00|(1, ['A\x00B', '\x00'])
+A '' \"\"|(1, ['A', '', ''])
+''|(1, [''])
+'a''b'\"c\"d|(1, ['a', 'b', 'c', 'd'])
+'a'b'c' d'e f'|(1, ['a', 'b'c'', 'd'e', 'f''])
+'it\"s' \"it's\"|(1, ['it\"s', 'it's'])
+' a\tb\r '|(1, [' a\tb\r '])
+\u{c3}\u{a9} '\u{e2}\u{82}\u{ac}'|(1, ['\u{c3}\u{a9}', '\u{e2}\u{82}\u{ac}'])
+# A|
+A # it's|(1, ['A'])
+A#b c#|(1, ['A#b', 'c#'])
+A '#b' \"c#\"|(1, ['A', '#b', 'c#'])
+'a'#b|(1, ['a'])
+A \\'b|(1, ['A', '\\'b'])
+A '\\' b|(1, ['A', '\\', 'b'])";
 
 #[test]
 fn words_stand_between_white_space_and_quotes(rt: HostRuntime) -> Result<(), Fail> {
-    rows_hold::<Texts>(rt.alloc(), WORDS)
+    rows_end_so::<Texts>(rt.alloc(), WORDS)
 }
 
 const LINES: &str = "\
-|;;
-(1, ['A'])(4, ['B', 'c'])|A;; # c;B c;
-(1, ['A'])(2, ['B'])|A\r;B\r;
-(1, ['A', 'B'])|A &;B
-(1, ['A', 'B', 'C'])(4, ['D'])|A &\r;B &; C;D
-(1, ['A', 'B'])(3, ['C'])|A & # x;B;C
-(2, ['A'])(4, ['B'])|;&;A;B
-(1, ['A'])|&;&;A
-(1, ['A'])(3, ['B'])|A &;;B
-(1, ['A'])|A &; 
-(3, ['B'])|&;;B
-|&;;
-(1, ['A', '&', 'B'])|A & &;B
-(1, ['A', '&', 'b'])(2, ['C'])|A & b;C
-(1, ['A', '&'])(2, ['B'])|A \"&\";B
-(1, ['A', '&'])|A '&'
-(1, ['A', '&b'])(2, ['c&'])(3, ['&&'])(4, ['D'])|A &b;c&;&&;D
-(1, ['A', 'b', 'C'])|A 'b'&;C
-(1, ['A', '&#'])(2, ['B'])|A &#;B";
+;;|
+A;; # c;B c;|(1, ['A'])(4, ['B', 'c'])
+A\r;B\r;|(1, ['A'])(2, ['B'])
+A &;B|(1, ['A', 'B'])
+A &\r;B &; C;D|(1, ['A', 'B', 'C'])(4, ['D'])
+A & # x;B;C|(1, ['A', 'B'])(3, ['C'])
+;&;A;B|(2, ['A'])(4, ['B'])
+&;&;A|(1, ['A'])
+A &;;B|(1, ['A'])(3, ['B'])
+A &; |(1, ['A'])
+&;;B|(3, ['B'])
+&;;|
+A & &;B|(1, ['A', '&', 'B'])
+A & b;C|(1, ['A', '&', 'b'])(2, ['C'])
+A \"&\";B|(1, ['A', '&'])(2, ['B'])
+A '&'|(1, ['A', '&'])
+A &b;c&;&&;D|(1, ['A', '&b'])(2, ['c&'])(3, ['&&'])(4, ['D'])
+A 'b'&;C|(1, ['A', 'b', 'C'])
+A &#;B|(1, ['A', '&#'])(2, ['B'])";
 
 #[test]
 fn lines_are_counted_and_joined(rt: HostRuntime) -> Result<(), Fail> {
-    rows_hold::<Texts>(rt.alloc(), LINES)
+    rows_end_so::<Texts>(rt.alloc(), LINES)
 }
 
 const FAULTS: &str = "\
-NotText(2)|A \u{ff}
-NotText(0)|\u{ff}
-NotText(2)|A \u{e2}\u{82}
-NotText(2)|A \u{ed}\u{a0}\u{80}
-NotText(0)|\u{c0}\u{80}
-NotText(4)|A;\u{c3}\u{a9}\u{80}
-NotText(0)|\u{f4}\u{90}\u{80}\u{80}
-NotText(2)|# \u{f0}\u{9f}\u{98}
-OpenQuote(1)|A \"b
-OpenQuote(1)|'
-OpenQuote(2)|A;B 'c;d'
-OpenQuote(1)|'a\" 
-OpenQuote(1)|'a' '
-OpenQuote(2)|;'a;\"b
-DanglingJoin(1)|A &
-DanglingJoin(1)|A &;
-DanglingJoin(1)|&
-DanglingJoin(1)|A & # x;
-DanglingJoin(2)|A &;B &;
-DanglingJoin(4)|A;;B &;C &";
+A \u{ff}|NotText(2)
+\u{ff}|NotText(0)
+A \u{e2}\u{82}|NotText(2)
+A \u{ed}\u{a0}\u{80}|NotText(2)
+\u{c0}\u{80}|NotText(0)
+A;\u{c3}\u{a9}\u{80}|NotText(4)
+\u{f4}\u{90}\u{80}\u{80}|NotText(0)
+# \u{f0}\u{9f}\u{98}|NotText(2)
+A \"b|OpenQuote(1)
+'|OpenQuote(1)
+A;B 'c;d'|OpenQuote(2)
+'a\" |OpenQuote(1)
+'a' '|OpenQuote(1)
+;'a;\"b|OpenQuote(2)
+A &|DanglingJoin(1)
+A &;|DanglingJoin(1)
+&|DanglingJoin(1)
+A & # x;|DanglingJoin(1)
+A &;B &;|DanglingJoin(2)
+A;;B &;C &|DanglingJoin(4)";
 
 #[test]
 fn each_fault_has_its_place(rt: HostRuntime) -> Result<(), Fail> {
-    rows_hold::<Texts>(rt.alloc(), FAULTS)
+    rows_end_so::<Texts>(rt.alloc(), FAULTS)
 }
 
 const EARLIER: &str = "\
-NotText(5)|A 'b;\u{ff}
-NotText(3)|A &\u{ff}
-OpenQuote(1)|A 'b;C &
-OpenQuote(2)|A &;B 'c";
+A 'b;\u{ff}|NotText(5)
+A &\u{ff}|NotText(3)
+A 'b;C &|OpenQuote(1)
+A &;B 'c|OpenQuote(2)";
 
 #[test]
 fn an_earlier_kind_of_fault_hides_a_later_one(rt: HostRuntime) -> Result<(), Fail> {
-    rows_hold::<Texts>(rt.alloc(), EARLIER)
+    rows_end_so::<Texts>(rt.alloc(), EARLIER)
 }
 
 /// The last byte of a text.
 const LAST: &str = "\
-Some(51)|123
-Some(49)|1
-None|";
+123|Some(51)
+1|Some(49)
+|None";
 
 struct Last;
 
@@ -144,5 +144,5 @@ impl Answers for Last {
 
 #[test]
 fn the_last_one_is_found(rt: HostRuntime) -> Result<(), Fail> {
-    rows_hold::<Last>(rt.alloc(), LAST)
+    rows_end_so::<Last>(rt.alloc(), LAST)
 }

@@ -2,7 +2,7 @@
 use crate::read::site_of;
 use cts_base::Bytes;
 use cts_entry::Effect;
-use cts_rows::{Answers, as_text, bytes_of, cut, debug_of, number, part, rows_hold, same};
+use cts_rows::{Answers, as_text, bytes_of, cut, debug_of, number, part, rows_end_so, same};
 use cts_script::effect_line;
 use std::alloc::Global;
 use std::test::Fail;
@@ -21,10 +21,10 @@ fn line_of(alloc: Global, effect: &Effect) -> Result<String, Fail> {
     debug_of(alloc, &as_text(line.as_slice())?)
 }
 
-/// The line of a reply, its desk, the count of entries in front of it, and its text or `-`.
+/// A reply's desk, the count of entries in front of it, and its text or `-`; and its line.
 const REPLIES: &str =
-    r#""REPLY DESK/0 12 {\"id\":1,\"result\":\"-3.5 C\"}\n"|0 12 {"id":1,"result":"-3.5 C"}
-"REPLY DESK/3 18446744073709551615 -\n"|3 18446744073709551615 -"#;
+    r#"0 12 {"id":1,"result":"-3.5 C"}|"REPLY DESK/0 12 {\"id\":1,\"result\":\"-3.5 C\"}\n"
+3 18446744073709551615 -|"REPLY DESK/3 18446744073709551615 -\n""#;
 
 struct Replies;
 
@@ -50,7 +50,7 @@ fn reply(desk: u32, front: u64, text: Option<Bytes>) -> Effect {
 
 #[test]
 fn replies_have_their_lines(rt: HostRuntime) -> Result<(), Fail> {
-    rows_hold::<Replies>(rt.alloc(), REPLIES)
+    rows_end_so::<Replies>(rt.alloc(), REPLIES)
 }
 
 #[test]
@@ -59,11 +59,11 @@ fn what_says_nothing_has_its_line(rt: HostRuntime) -> Result<(), Fail> {
     same(found.as_str(), "\"\"", "a post")
 }
 
-/// The line of bytes that go out, whether they are written to an interface or routed to a slot, its number, and the bytes.
-const OUTGOING: &str = r#""WRITTEN INST_INT 0700ab\n"|written 1 0700ab
-"WRITTEN I -\n"|written 0
-"ROUTED BACK/1 4849\n"|routed 19 4849
-"ROUTED OUT/0 -\n"|routed 16"#;
+/// Whether bytes are written to an interface or routed to a slot, its number, and the bytes; and their line.
+const OUTGOING: &str = r#"written 1 0700ab|"WRITTEN INST_INT 0700ab\n"
+written 0|"WRITTEN I -\n"
+routed 19 4849|"ROUTED BACK/1 4849\n"
+routed 16|"ROUTED OUT/0 -\n""#;
 
 struct Outgoing;
 
@@ -89,7 +89,7 @@ fn going_out(word: &str, number: u32, bytes: Bytes) -> Effect {
 
 #[test]
 fn bytes_that_go_out_have_their_lines(rt: HostRuntime) -> Result<(), Fail> {
-    rows_hold::<Outgoing>(rt.alloc(), OUTGOING)
+    rows_end_so::<Outgoing>(rt.alloc(), OUTGOING)
 }
 
 fn logged(alloc: Global) -> Result<Effect, Fail> {

@@ -3,7 +3,7 @@ use crate::read::site_of;
 use cts_base::{Bytes, Decimal, Name};
 use cts_def::{BadCause, Color, Ident, Limits, Loss, Time};
 use cts_entry::{Entry, NotSent, What, Why};
-use cts_rows::{Answers, as_text, bytes_of, debug_of, number, part, rows_hold, same};
+use cts_rows::{Answers, as_text, bytes_of, debug_of, number, part, rows_end_so, same};
 use cts_script::{LimitsEvent, entry_lines};
 use std::alloc::Global;
 use std::test::Fail;
@@ -71,12 +71,12 @@ fn line_of(alloc: Global, by: u32, what: What) -> Result<String, Fail> {
     text_of(alloc, 9, &entry, &[])
 }
 
-/// The line of entry 9, its maker, what it is, a number or `-`, and bytes.
-const HELD: &str = r#""9 7.000005 I PACKET UNKNOWN UNKNOWN 0004aabb\n"|0 packet - 0004aabb
-"9 7.000005 INST_INT PACKET AUX LINE -\n"|1 packet 1
-"9 7.000005 DESK/0 INJECTED INST HS 4849\n"|24 injected 0 4849
-"9 7.000005 DESK/3 COMMAND AUX CLEAR 07000a\n"|27 command 1 07000a
-"9 7.000005 OUT/0 UNROUTED NOTCONNECTED ff\n"|16 unrouted - ff"#;
+/// A maker, what the entry is, a number or `-`, and bytes; and the line of entry 9.
+const HELD: &str = r#"0 packet - 0004aabb|"9 7.000005 I PACKET UNKNOWN UNKNOWN 0004aabb\n"
+1 packet 1|"9 7.000005 INST_INT PACKET AUX LINE -\n"
+24 injected 0 4849|"9 7.000005 DESK/0 INJECTED INST HS 4849\n"
+27 command 1 07000a|"9 7.000005 DESK/3 COMMAND AUX CLEAR 07000a\n"
+16 unrouted - ff|"9 7.000005 OUT/0 UNROUTED NOTCONNECTED ff\n""#;
 
 struct Held;
 
@@ -114,15 +114,15 @@ fn kept(word: &str, ident: Ident, bytes: Bytes) -> What {
 
 #[test]
 fn packets_and_commands_have_their_lines(rt: HostRuntime) -> Result<(), Fail> {
-    rows_hold::<Held>(rt.alloc(), HELD)
+    rows_end_so::<Held>(rt.alloc(), HELD)
 }
 
-/// The line of entry 9, its maker, and what happened.
-const BARE: &str = r#""9 7.000005 OUT/1 OPENED\n"|17 opened
-"9 7.000005 SCRIBE ENDED\n"|28 ended
-"9 7.000005 SERVER STOP\n"|31 stop
-"9 7.000005  OPENED\n"|2 opened
-"9 7.000005 DESK/0 ENABLE AUX LINE TEXT\n"|24 enable"#;
+/// A maker and what happened, and the line of entry 9.
+const BARE: &str = r#"17 opened|"9 7.000005 OUT/1 OPENED\n"
+28 ended|"9 7.000005 SCRIBE ENDED\n"
+31 stop|"9 7.000005 SERVER STOP\n"
+2 opened|"9 7.000005  OPENED\n"
+24 enable|"9 7.000005 DESK/0 ENABLE AUX LINE TEXT\n""#;
 
 struct Bare;
 
@@ -147,15 +147,15 @@ fn plain(word: &str) -> What {
 
 #[test]
 fn makers_have_their_names(rt: HostRuntime) -> Result<(), Fail> {
-    rows_hold::<Bare>(rt.alloc(), BARE)
+    rows_end_so::<Bare>(rt.alloc(), BARE)
 }
 
-/// The line of entry 9 by maker 19, and why a connection was closed.
+/// Why a connection was closed, and the line of entry 9 by maker 19.
 const CLOSES: &str =
-    r#""9 7.000005 BACK/1 CLOSED MEMORY held 3 40 500 6000 skipped 7 empty 8 unposted 9 unsent 10\n"|memory
-"9 7.000005 BACK/1 CLOSED BAD 2 SHORT -32768 held 3 40 500 6000 skipped 7 empty 8 unposted 9 unsent 10\n"|short
-"9 7.000005 BACK/1 CLOSED BAD 3 OVERMAX 1048577 held 3 40 500 6000 skipped 7 empty 8 unposted 9 unsent 10\n"|over
-"9 7.000005 BACK/1 CLOSED BAD 4 UNKNOWN held 3 40 500 6000 skipped 7 empty 8 unposted 9 unsent 10\n"|unknown"#;
+    r#"memory|"9 7.000005 BACK/1 CLOSED MEMORY held 3 40 500 6000 skipped 7 empty 8 unposted 9 unsent 10\n"
+short|"9 7.000005 BACK/1 CLOSED BAD 2 SHORT -32768 held 3 40 500 6000 skipped 7 empty 8 unposted 9 unsent 10\n"
+over|"9 7.000005 BACK/1 CLOSED BAD 3 OVERMAX 1048577 held 3 40 500 6000 skipped 7 empty 8 unposted 9 unsent 10\n"
+unknown|"9 7.000005 BACK/1 CLOSED BAD 4 UNKNOWN held 3 40 500 6000 skipped 7 empty 8 unposted 9 unsent 10\n""#;
 
 struct Closes;
 
@@ -186,13 +186,13 @@ fn bad(stage: u32, cause: BadCause) -> Why {
 
 #[test]
 fn a_close_says_why_and_what_was_lost(rt: HostRuntime) -> Result<(), Fail> {
-    rows_hold::<Closes>(rt.alloc(), CLOSES)
+    rows_end_so::<Closes>(rt.alloc(), CLOSES)
 }
 
-/// The line of entry 9 by a desk, whether it gives limits in a set or chooses it, and the set.
+/// Whether a desk gives limits in a set or chooses it, and the set; and the line of entry 9.
 const SETS: &str =
-    r#""9 7.000005 DESK/0 LIMITS INST HS TEMP1 TVAC 12 DISABLED -80.0 -70.0 0.5 80.0 -0.1 0.000000000001\n"|gives tvac
-"9 7.000005 DESK/0 LIMITSSET TVAC\n"|chooses TVAC"#;
+    r#"gives tvac|"9 7.000005 DESK/0 LIMITS INST HS TEMP1 TVAC 12 DISABLED -80.0 -70.0 0.5 80.0 -0.1 0.000000000001\n"
+chooses TVAC|"9 7.000005 DESK/0 LIMITSSET TVAC\n""#;
 
 struct Sets;
 
@@ -219,7 +219,7 @@ fn of_set(word: &str, set: Name) -> What {
 
 #[test]
 fn new_limits_and_a_set_that_is_chosen_have_their_lines(rt: HostRuntime) -> Result<(), Fail> {
-    rows_hold::<Sets>(rt.alloc(), SETS)
+    rows_end_so::<Sets>(rt.alloc(), SETS)
 }
 
 const FIRST: LimitsEvent = LimitsEvent {

@@ -9,38 +9,55 @@ pub trait Answers {
     fn answer(alloc: Global, asked: &str) -> Result<String, Fail>;
 }
 
-/// Each row is answered by what stands in front of its first bar. A table is gone through by one call a row, since a loop with
-/// more in it is slow to prove.
-pub fn rows_hold<A: Answers>(alloc: Global, rows: &str) -> Result<(), Fail> {
-    for row in rows.split('\n') {
-        row_holds::<A>(alloc, row)?;
-    }
-    Ok(())
-}
-
-fn row_holds<A: Answers>(alloc: Global, row: &str) -> Result<(), Fail> {
-    let (wanted, asked) = cut(row, '|')?;
-    is_answered::<A>(alloc, asked, wanted)
-}
-
-/// Each row is answered by what stands after its last bar.
+/// Each row is answered by what stands after its last bar. Where one is not, all of them that are not are told: the first with what was
+/// found, and the others with what they ask, as far as a failure has room for a text. A table is gone through by one call a row, since
+/// a loop with more in it is slow to prove.
 pub fn rows_end_so<A: Answers>(alloc: Global, rows: &str) -> Result<(), Fail> {
+    let mut told = String::new(alloc);
     for row in rows.split('\n') {
-        row_ends_so::<A>(alloc, row)?;
+        tell_row::<A>(alloc, row, &mut told)?;
     }
-    Ok(())
+    none_told(told.as_str())
 }
 
-fn row_ends_so<A: Answers>(alloc: Global, row: &str) -> Result<(), Fail> {
+// Tells of a row that is answered otherwise.
+fn tell_row<A: Answers>(alloc: Global, row: &str, told: &mut String) -> Result<(), Fail> {
     match row.rsplit_once('|') {
-        Some((asked, wanted)) => is_answered::<A>(alloc, asked, wanted),
+        Some((asked, wanted)) => {
+            let found = A::answer(alloc, asked)?;
+            tell(alloc, found.as_str(), wanted, asked, told)
+        }
         None => Err(Fail::new("no bar")),
     }
 }
 
-fn is_answered<A: Answers>(alloc: Global, asked: &str, wanted: &str) -> Result<(), Fail> {
-    let found = A::answer(alloc, asked)?;
-    same(found.as_str(), wanted, asked)
+fn tell(
+    alloc: Global,
+    found: &str,
+    wanted: &str,
+    asked: &str,
+    told: &mut String,
+) -> Result<(), Fail> {
+    if found == wanted {
+        return Ok(());
+    }
+    let more = if told.is_empty() {
+        difference(alloc, found, wanted, asked)?
+    } else {
+        format!(in alloc; "; also at {asked}")?
+    };
+    Ok(told.push_str(more.as_str())?)
+}
+
+fn difference(alloc: Global, found: &str, wanted: &str, asked: &str) -> Result<String, Fail> {
+    Ok(format!(in alloc; "found {found}, wanted {wanted}, at {asked}")?)
+}
+
+fn none_told(told: &str) -> Result<(), Fail> {
+    if told.is_empty() {
+        return Ok(());
+    }
+    Err(Fail::new(told))
 }
 
 /// What was found is what was wanted, where this was asked.

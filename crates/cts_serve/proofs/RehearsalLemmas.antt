@@ -28,7 +28,8 @@ use Rattle.cts_rehearsal.specs.Walks.{Walks, turned}
 use Rattle.cts_serve.specs.Acts.{DoesAll, Outside, outside, puts}
 use Rattle.cts_serve.specs.Causes.{put_answer}
 use Rattle.cts_serve.specs.Putting.{PutsText}
-use Rattle.cts_serve.specs.Rehearsal.{Halts, IsFar, IsSummary, Rehearses, is_command, is_packet, is_refusal, ones, refusals_in, rehearsal_acts, rehearsal_answer, rehearsal_name, rehearsal_text, summary_text}
+use Rattle.cts_serve.specs.Rehearsal.{Halts, IsFar, IsSummary, Rehearses, is_command, is_packet, is_refusal, ones, refusals_in, rehearsal_acts, rehearsal_answer, rehearsal_name, rehearsal_text}
+use Rattle.cts_rehearsal.specs.Summaries.{summary_text}
 use Rattle.cts_serve.specs.Replay.{event_halt, not_enabled}
 use Rattle.cts_serve.specs.Story.{Drains, Goes, Moves, Stands, StoryData, site_told}
 use Rattle.cts_serve.specs.declared.halt.Halt.{Halt}

@@ -1,9 +1,6 @@
 -- A rehearsal: a run of the events that are made from a number, in the demo's site, and the summary that is put of it.
 use Rattle.std.specs.Prelude.{◌≡◌, ℕ, ◌+◌, ◌<◌, ◌^◌, nat_eq, Bool, true, false, List, [], ◌∷◌, ◌++◌, length, codes, Option, Some, None, ◌⊎◌, Result, Ok, Err}
-use Rattle.std.specs.Fmt.{decimal}
 use Rattle.std.specs.List.{filter, starts_with}
-use Rattle.hex.specs.Hex.{encode_lower}
-use Rattle.md5.specs.Md5.{md5}
 use Rattle.cts_core.specs.Environments.{site_environment}
 use Rattle.cts_core.specs.Runs.{Did, Ending, Finished, NotEnabled, HistoryFull, Runs}
 use Rattle.cts_core.specs.States.{State, opening, packets_log}
@@ -17,13 +14,14 @@ use Rattle.cts_entry.specs.declared.event.Event.{Event}
 use Rattle.cts_entry.specs.declared.what.What.{What}
 use Rattle.cts_entry.specs.declared.what.What.TheVariants.{Opened, Packet, Closed, Command, SetLimits, Enable, LimitsSetIs, Injected, Unrouted, Stop, Ended}
 use Rattle.cts_rehearsal.specs.Generated.{generated}
+use Rattle.cts_rehearsal.specs.Summaries.{summary_text}
+use Rattle.cts_rehearsal.specs.declared.tally.Tally.{Tally}
 use Rattle.cts_rehearsal.specs.Walks.{Walks}
 use Rattle.cts_serve.specs.Acts.{Act, DoesAll, Outside, puts}
 use Rattle.cts_serve.specs.Replay.{not_enabled}
 use Rattle.cts_serve.specs.Story.{Goes, StoryData}
 use Rattle.cts_serve.specs.declared.halt.Halt.{Halt}
 use Rattle.cts_serve.specs.declared.halt.Halt.TheVariants as halt
-use Rattle.cts_serve.specs.declared.rehearse.summary.Tally.{Tally}
 use Rattle.cts_watch.specs.Events.{events}
 
 -- ---- what is counted
@@ -95,19 +93,6 @@ tally_of site dids = record {
   refused = refusals_in dids;
   log = packets_log (site_environment site) (history_of dids);
 }
-
--- its first three lines
-abbrev pub counts_text : ℕ → ℕ → ℕ → List ℕ
-counts_text entries packets commands = codes "entries " ++ decimal entries ++ codes "\npackets " ++ decimal packets ++ codes "\ncommands " ++ decimal commands ++ codes "\n"
-
--- the next ones, up to the digest of the log
-abbrev pub more_counts_text : ℕ → ℕ → ℕ → List ℕ
-more_counts_text refused limits bytes = codes "refused " ++ decimal refused ++ codes "\nevents " ++ decimal limits ++ codes "\nlog bytes " ++ decimal bytes ++ codes "\nlog md5 "
-
--- its eight lines, by the numbers of entries and of limits events
-abbrev pub summary_text : ℕ → ℕ → Tally → List ℕ
-summary_text entries limits tally =
-    counts_text entries tally.packets tally.commands ++ (more_counts_text tally.refused limits (length tally.log) ++ (encode_lower (md5 tally.log) ++ (codes "\nEND " ++ decimal entries ++ codes "\n")))
 
 abbrev pub rehearsal_text : SiteData → List Did → List ℕ
 rehearsal_text site dids = summary_text (length (history_of dids)) (length (events site (history_of dids))) (tally_of site dids)

@@ -13,7 +13,7 @@ ghost use Rattle.cts_serve.specs.Rehearsal.{GoesOn, IsFar, IsSummary, Rehearses,
 ghost use Rattle.cts_serve.specs.Story.{Stands, site_told};
 ghost use Rattle.cts_serve.specs.declared.words.Command.TheVariants.{Rehearse};
 
-pub mod summary;
+pub mod counting;
 
 use crate::demo::{DemoFiles, definitions_name, site_name};
 use crate::file_name::FileName;
@@ -22,13 +22,13 @@ use crate::load::load_site;
 use crate::putting::{put_answer, put_text};
 use crate::replay::{begin, event_halt};
 use crate::story::Story;
+use counting::{commands_in, packets_in, refusals};
 use cts_base::{Bytes, Memory};
 use cts_core::{Framer, Supplier};
 use cts_entry::{Effect, Event};
 use cts_outside::Sink;
-use cts_rehearsal::Rehearsal;
+use cts_rehearsal::{Rehearsal, Tally, summary};
 use std::alloc::Global;
-use summary::{Tally, commands_in, packets_in, refusals, summary};
 
 /// Does the events that are made from a number, choice by choice, in the world of the demo's site, whose chains take their boxes
 /// from the shelf. The summary is put when all are done.

@@ -1,5 +1,5 @@
 use Rattle.std.proofs.Common.{append_assoc}
-use Rattle.cts_serve.proofs.rehearse.summary.counts.Goals as goal
+use Rattle.cts_rehearsal.proofs.tally.counts.Goals as goal
 
 -- the two ways in which the parts of the lines group
 pub returns : goal.returns
