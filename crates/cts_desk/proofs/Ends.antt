@@ -14,11 +14,13 @@ use Rattle.cts_turn.specs.declared.rule.View.{View}
 use Rattle.cts_turn.specs.Lists.{StartsWith}
 use Rattle.cts_desk.specs.declared.ending.DeskWhy.{DeskWhy}
 use Rattle.cts_desk.specs.declared.ending.DeskWhy.TheVariants.{Stopped, Finished as FinishedWhy, DoorFailed, Cancelled}
-use Rattle.cts_desk.specs.Ending.{CausesEnd, entry_of, last_entries, may_cut, stop_if, stopped_if}
-use Rattle.cts_desk.specs.Holds.{EndedHold, Hold, Onward}
+use Rattle.cts_desk.specs.Ending.{CausesEnd, may_cut, stopped_if}
+use Rattle.cts_worker.specs.Lasts.{entry_of, last_entries, stop_if}
+use Rattle.cts_worker.specs.Holds.{EndedHold, Hold, Onward}
 use Rattle.cts_desk.specs.Serving.{Begins, Resting}
 use Rattle.cts_desk.proofs.Connections.{dials_failed, dials_finished, dials_later, dials_linked, settled_at}
-use Rattle.cts_desk.proofs.Histories.{last_own, of_append, stops_stay}
+use Rattle.cts_desk.proofs.Histories.{of_append, stops_stay}
+use Rattle.cts_worker.proofs.Lasting.{last_own}
 use Rattle.cts_desk.proofs.Steps.{resting_looked}
 
 -- ---- dials
@@ -59,29 +61,3 @@ causes_stay old new told before now Stopped on h = ap is_stopped on.seen.1 ∙ s
 causes_stay old new told before now FinishedWhy on h = h
 causes_stay old new told before now DoorFailed on h = h
 causes_stay old new told before now Cancelled on h = h
-
-module _ {G : Type 0} (by : ℕ) (time : Time) (stops : Bool) (old new : View Entry G) (ended : EndedHold by time stops old new) where
-  pub ended_seen : new.seen ≡ (old.seen ++ ended.hold.others) ++ last_entries stops by time (old.seen ++ ended.hold.others)
-  ended_seen = ended.hold.seen ∙ sym (append_assoc old.seen ended.hold.others ended.added) ∙ ap (λ l. (old.seen ++ ended.hold.others) ++ l) ended.words
-
-  ended_own : of_maker by new.seen ≡ of_maker by (old.seen ++ ended.hold.others) ++ last_entries stops by time (old.seen ++ ended.hold.others)
-  ended_own = let b = old.seen ++ ended.hold.others in
-      ap (of_maker by) ended_seen ∙ of_append by b (last_entries stops by time b) ∙ ap (λ l. of_maker by b ++ l) (last_own by time stops b)
-
-  pub ended_last : LastEnded by new.seen
-  ended_last = let b = old.seen ++ ended.hold.others in
-      let stop = stop_if (stops && not (is_stopped b)) by time in
-      (of_maker by b ++ stop, entry_of by time Ended, ended_own ∙ sym (append_assoc (of_maker by b) stop (entry_of by time Ended ∷ [])), refl)
-
-  always : (x : Bool) → (x || is_stopped (stop_if (true && not x) by time ++ entry_of by time Ended ∷ [])) ≡ true
-  always true = refl
-  always false = refl
-
-  pub ended_stops : stops ≡ true → is_stopped new.seen ≡ true
-  ended_stops is = let b = old.seen ++ ended.hold.others in
-      ap is_stopped ended_seen ∙ stopped-append b (last_entries stops by time b) ∙ ap (λ s. is_stopped b || is_stopped (last_entries s by time b)) is ∙ always (is_stopped b)
-
-  -- these are all its entries, where there was none before
-  pub ended_only : of_maker by old.seen ≡ [] → (stood : List Entry) × StartsWith stood old.seen × StartsWith new.seen stood × (of_maker by new.seen ≡ last_entries stops by time stood)
-  ended_only none = let b = old.seen ++ ended.hold.others in
-      (b, (ended.hold.others, refl), (last_entries stops by time b, ended_seen), ended_own ∙ ap (λ l. l ++ last_entries stops by time b) (of_append by old.seen ended.hold.others ∙ ap (λ l. l ++ of_maker by ended.hold.others) none ∙ ended.hold.strange))

@@ -1,5 +1,5 @@
 -- The history grows: what stands of a desk's exchanges.
-use Rattle.std.proofs.Common.{◌≡◌, ℕ, ◌+◌, ◌==◌, Bool, true, false, cond, List, [], ◌∷◌, ◌++◌, length, sym, refl, ap, ◌∙◌, subst, arith, length-append, append-nil, append_assoc, Option, eq-eqb, ⊎_elim}
+use Rattle.std.proofs.Common.{◌≡◌, ℕ, ◌+◌, ◌==◌, Bool, true, false, cond, List, [], ◌∷◌, ◌++◌, length, sym, refl, ap, ◌∙◌, subst, arith, length-append, append-nil, append_assoc, Option, ⊎_elim, inr}
 use Rattle.std.specs.Prelude.{◌&&◌, ◌||◌, not}
 use Rattle.std.specs.List.{All, list_any}
 use Rattle.std.proofs.lemmas.List.{nil_from_length, map-append}
@@ -8,8 +8,9 @@ use Rattle.std.proofs.lemmas.List.Elements.{All-head, All-tail, All-nil, All-con
 use Rattle.std.proofs.lemmas.Bool.Decides.{eqb_tells}
 use Rattle.std.proofs.lemmas.List.Folds.{list_any-append}
 use Rattle.cts_entry.specs.declared.entry.Entry.{Entry}
-use Rattle.cts_def.specs.declared.time.Time.{Time}
-use Rattle.cts_entry.specs.declared.what.What.TheVariants.{Stop, Ended}
+use Rattle.cts_def.specs.Makers.{scribe}
+use Rattle.cts_def.specs.Sites.{SiteData}
+use Rattle.cts_entry.specs.Workers.{is_desk, is_interface, is_slot, is_worker}
 use Rattle.cts_entry.specs.Histories.{is_stopped}
 use Rattle.cts_entry.proofs.Appending.{stopped-append}
 use Rattle.cts_entry.specs.Legal.{has_ended, is_ended}
@@ -20,8 +21,9 @@ use Rattle.cts_turn.specs.Passes.{left}
 use Rattle.cts_turn.specs.Rule.{entered}
 use Rattle.cts_desk.specs.Exchanges.{Exchange, Exchanges, IsAnswered, Among}
 use Rattle.cts_told.specs.Makers.{of_maker}
-use Rattle.cts_desk.specs.Ending.{entry_of, last_entries, stop_if}
-use Rattle.cts_desk.specs.Holds.{Hold, AskedHold, IsReady, Onward}
+use Rattle.cts_worker.specs.Lasts.{MayEnd}
+use Rattle.cts_desk.specs.Holds.{AskedHold, IsReady}
+use Rattle.cts_worker.specs.Holds.{Hold, Onward}
 use Rattle.cts_desk.specs.Serving.{Going}
 
 pub of_append : (m : ℕ) (xs ys : List Entry) → of_maker m (xs ++ ys) ≡ of_maker m xs ++ of_maker m ys
@@ -50,16 +52,6 @@ all_by m makers [] mine all = tt
 all_by m makers (e ∷ es) mine all =
     let P : Entry → Type 0 = λ x. x.by ≡ m in
     (subst (λ n. has n makers ≡ true) (sym (All-head P e es all)) mine, all_by m makers es mine (All-tail P e es all))
-
-pub onward_hold : {G : Type 0} (m : ℕ) (old new : View Entry G) (added : List Entry) → Hold m old new added → Onward old new
-onward_hold m old new added hold = record { makers = hold.makers; seen = (hold.others ++ added, hold.seen); found = (length (old.seen ++ hold.others) ∷ [], hold.found) }
-
-pub onward_both : {G : Type 0} (a b c : View Entry G) → Onward a b → Onward b c → Onward a c
-onward_both a b c f g = record {
-  makers = g.makers ∙ f.makers;
-  seen = (f.seen.0 ++ g.seen.0, g.seen.1 ∙ ap (λ l. l ++ g.seen.0) f.seen.1 ∙ append_assoc a.seen f.seen.0 g.seen.0);
-  found = (f.found.0 ++ g.found.0, g.found.1 ∙ ap (λ l. l ++ g.found.0) f.found.1 ∙ append_assoc a.found f.found.0 g.found.0);
-}
 
 -- ---- who has ended
 
@@ -180,36 +172,6 @@ going_ask b m body front text fronts old new xs asked g =
 
 -- ---- the last entries
 
-own_one : (by : ℕ) (es : List Entry) (e : Entry) → e.by ≡ by → of_maker by (e ∷ es) ≡ e ∷ of_maker by es
-own_one by es e is = ap (λ b. cond b (e ∷ of_maker by es) (of_maker by es)) (eq-eqb e.by by is)
-
-words_own : (c : Bool) (by : ℕ) (time : Time) → of_maker by (stop_if c by time ++ entry_of by time Ended ∷ []) ≡ stop_if c by time ++ entry_of by time Ended ∷ []
-words_own true by time = own_one by (entry_of by time Ended ∷ []) (entry_of by time Stop) refl ∙ ap (λ l. entry_of by time Stop ∷ l) (own_one by [] (entry_of by time Ended) refl)
-words_own false by time = own_one by [] (entry_of by time Ended) refl
-
-pub last_own : (by : ℕ) (time : Time) (stops : Bool) (before : List Entry) → of_maker by (last_entries stops by time before) ≡ last_entries stops by time before
-last_own by time stops before = words_own (stops && not (is_stopped before)) by time
-
--- each of them is the desk's
-words_by : (c : Bool) (by : ℕ) (time : Time) → All (λ (e : Entry). e.by ≡ by) (stop_if c by time ++ entry_of by time Ended ∷ [])
-words_by true by time =
-    let P : Entry → Type 0 = λ e. e.by ≡ by in
-    All-cons P (entry_of by time Stop) (entry_of by time Ended ∷ []) refl (All-cons P (entry_of by time Ended) [] refl (All-nil P))
-words_by false by time =
-    let P : Entry → Type 0 = λ e. e.by ≡ by in
-    All-cons P (entry_of by time Ended) [] refl (All-nil P)
-
-pub last_by : (by : ℕ) (time : Time) (stops : Bool) (before : List Entry) → All (λ (e : Entry). e.by ≡ by) (last_entries stops by time before)
-last_by by time stops before = words_by (stops && not (is_stopped before)) by time
-
-stop_lasts : (b : Bool) (by : ℕ) (time : Time) → list_any (λ (e : Entry). is_ended e.what) (stop_if b by time) ≡ false
-stop_lasts true by time = refl
-stop_lasts false by time = refl
-
--- a Stop ends nobody
-pub active_stop : (by : ℕ) (time : Time) (b : Bool) (es : List Entry) → has_ended by es ≡ false → has_ended by (es ++ stop_if b by time) ≡ false
-active_stop by time b es active = ended_append by es (stop_if b by time) ∙ ap (λ x. x || has_ended by (stop_if b by time)) active ∙ none_last by (stop_if b by time) (stop_lasts b by time)
-
 pub stops_stay : (seen more : List Entry) → is_stopped seen ≡ true → is_stopped (seen ++ more) ≡ true
 stops_stay seen more is = stopped-append seen more ∙ ap (λ b. b || is_stopped more) is
 
@@ -217,3 +179,18 @@ stops_stay seen more is = stopped-append seen more ∙ ap (λ b. b || is_stopped
 pub exchanges_end : (b : Basis) (by : ℕ) (xs : List Exchange) (seen others last : List Entry) → Exchanges b by [] xs [] seen → of_maker by others ≡ [] → of_maker by last ≡ last → Exchanges b by [] xs last (seen ++ (others ++ last))
 exchanges_end b by xs seen others last s none own =
     subst (λ l. Exchanges b by [] xs l (seen ++ (others ++ last))) (of_append by others last ∙ ap (λ l. l ++ of_maker by last) none ∙ own) (exchanges_more b by [] xs [] seen (others ++ last) s)
+
+-- ---- a desk as a worker
+
+third : (a b c d : Bool) → c ≡ true → (a || b || c || d) ≡ true
+third true true c d e = refl
+third true false c d e = refl
+third false true c d e = refl
+third false false true d e = refl
+third false false false d e = absurd (let f : false ≡ true = e in cc)
+
+pub desk_works : (site : SiteData) (by : ℕ) → is_desk site by ≡ true → is_worker site by ≡ true
+desk_works site by desk = third (is_interface site by) (is_slot site by) (is_desk site by) (by == scribe) desk
+
+pub desk_may_end : (b : Basis) (by : ℕ) (v : View Entry Basis) → IsReady b by v → MayEnd b.site by v.seen
+desk_may_end b by v ready = record { worker = desk_works b.site by ready.desk; active = ready.active; off = inr (ap (λ (d : Bool). d || (by == scribe)) ready.desk) }

@@ -4,6 +4,6 @@ pub mod Connections
 pub mod Stages
 pub mod Steps
 pub mod Replying
-pub mod Unlinked
 pub mod Ends
 pub mod Streaming
+pub mod Faulting

@@ -4,11 +4,11 @@ use Rattle.cts_http.specs.Texts.{Writes}
 use Rattle.cts_outside.specs.Lines.{Connection, Line, told_after, at_now, with_put, with_failed_put, LinkPuts}
 
 -- a beginning of what is put second
-pub take_behind : (xs ys : List ℕ) (n : ℕ) → xs ++ take n ys ≡ take (length xs + n) (xs ++ ys)
-take_behind [] ys n = ap (λ k. take k ys) (let e : n ≡ 0 + n = omega arith in e)
-take_behind (x ∷ xs) ys n =
+pub take_after : (xs ys : List ℕ) (n : ℕ) → xs ++ take n ys ≡ take (length xs + n) (xs ++ ys)
+take_after [] ys n = ap (λ k. take k ys) (let e : n ≡ 0 + n = omega arith in e)
+take_after (x ∷ xs) ys n =
     let e : suc (length xs) + n ≡ suc (length xs + n) = omega arith in
-    ap (λ l. x ∷ l) (take_behind xs ys n) ∙ ap (λ k. take k (x ∷ (xs ++ ys))) (sym e)
+    ap (λ l. x ∷ l) (take_after xs ys n) ∙ ap (λ k. take k (x ∷ (xs ++ ys))) (sym e)
 
 take_front : (xs ys : List ℕ) (n : ℕ) → n ≤ length xs → take n xs ≡ take n (xs ++ ys)
 take_front xs ys zero le = refl
@@ -29,7 +29,7 @@ put_twice a b c = ap (λ (l : List ℕ). let d : Connection = record c { put = l
 
 fail_second : (a b : List ℕ) (n : ℕ) (c : Connection) → with_failed_put (take n b) (with_put a c) ≡ with_failed_put (take (length a + n) (a ++ b)) c
 fail_second a b n c = ap (λ (l : List ℕ). let d : Connection = record c { put = l; put_failed = true } in d)
-    (append_assoc c.put a (take n b) ∙ ap (λ l. c.put ++ l) (take_behind a b n))
+    (append_assoc c.put a (take n b) ∙ ap (λ l. c.put ++ l) (take_after a b n))
 
 pub puts_both : {T E : Type 0} (a b : List ℕ) (old mid new : Option Line) (result : Result T E) → mid ≡ told_after (at_now (with_put a)) old → LinkPuts mid new b result → LinkPuts old new (a ++ b) result
 puts_both a b old mid new (Ok u) first second = second ∙ ap (told_after (at_now (with_put b))) first ∙ twice (with_put a) (with_put b) (with_put (a ++ b)) (put_twice a b) old

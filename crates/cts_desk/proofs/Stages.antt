@@ -10,10 +10,10 @@ use Rattle.cts_http.specs.Readings.{Reading, Stands, Steps, stands_by, steps_by}
 use Rattle.cts_http.specs.Requests.{Takes, Requests, Refused as RefusedWith}
 use Rattle.cts_http.specs.declared.step.HttpStep.TheVariants.{Request, Refuse}
 use Rattle.cts_desk.specs.Exchanges.{Exchange, bodies_of, fronts_of}
-use Rattle.cts_desk.specs.Streams.{PeerEnded, ReadFault, WriteFault, LastAsked, Refused, NoMemory, IsPut, behind, responses, response_to, last_front}
+use Rattle.cts_desk.specs.Streams.{PeerEnded, ReadFault, WriteFault, LastAsked, Refused, NoMemory, IsPut, last_put, responses, response_to, last_front}
 use Rattle.cts_desk.specs.Serving.{Reads, Waits, Asks, Over, Halted, StageSo, TalkingBy, TalksBy, IsAnswering}
 use Rattle.cts_http.specs.Texts.{refusal_text}
-use Rattle.cts_desk.proofs.Putting.{take_behind}
+use Rattle.cts_desk.proofs.Putting.{take_after}
 
 -- ---- a step of the connection that stands, and of what the door tells
 
@@ -64,7 +64,7 @@ put_part : (put before bytes : List ℕ) (n : ℕ) → put ≡ before → n ≤ 
 put_part put before bytes n is le = (
   length before + n,
   (let e = length-append before bytes in omega arith),
-  ap (λ l. l ++ take n bytes) is ∙ take_behind before bytes n,
+  ap (λ l. l ++ take n bytes) is ∙ take_after before bytes n,
 )
 
 -- ---- the reader
@@ -116,25 +116,25 @@ answered_part r earlier mine x c n none le so =
     )
 
 -- no room was found for a front
-pub unasked_whole : (r : Reading) (earlier mine : List Exchange) (body : List ℕ) (c : Connection) → r.refused ≡ None → StageSo (Asks body) r earlier mine c → StageSo Over r earlier mine (with_put (behind NoMemory (last_front (fronts_of (earlier ++ mine)))) c)
+pub unasked_whole : (r : Reading) (earlier mine : List Exchange) (body : List ℕ) (c : Connection) → r.refused ≡ None → StageSo (Asks body) r earlier mine c → StageSo Over r earlier mine (with_put (last_put NoMemory (last_front (fronts_of (earlier ++ mine)))) c)
 unasked_whole r earlier mine body c none so = (
   NoMemory,
   refl,
   record {
     asked = inr (body, r.closed, r.left, takes_of r (concat c.pieces) (bodies_of mine ++ body ∷ []) none so.0);
-    put = put_whole c.put_failed c.put (responses mine) (behind NoMemory (last_front (fronts_of (earlier ++ mine)))) so.1.1 so.1.0;
+    put = put_whole c.put_failed c.put (responses mine) (last_put NoMemory (last_front (fronts_of (earlier ++ mine)))) so.1.1 so.1.0;
     cause = tt;
   },
 )
 
-pub unasked_part : (r : Reading) (earlier mine : List Exchange) (body : List ℕ) (c : Connection) (n : ℕ) → r.refused ≡ None → n ≤ length (behind NoMemory (last_front (fronts_of (earlier ++ mine)))) → StageSo (Asks body) r earlier mine c
-    → StageSo Over r earlier mine (with_failed_put (take n (behind NoMemory (last_front (fronts_of (earlier ++ mine))))) c)
+pub unasked_part : (r : Reading) (earlier mine : List Exchange) (body : List ℕ) (c : Connection) (n : ℕ) → r.refused ≡ None → n ≤ length (last_put NoMemory (last_front (fronts_of (earlier ++ mine)))) → StageSo (Asks body) r earlier mine c
+    → StageSo Over r earlier mine (with_failed_put (take n (last_put NoMemory (last_front (fronts_of (earlier ++ mine))))) c)
 unasked_part r earlier mine body c n none le so = (
   NoMemory,
   refl,
   record {
     asked = inr (body, r.closed, r.left, takes_of r (concat c.pieces) (bodies_of mine ++ body ∷ []) none so.0);
-    put = put_part c.put (responses mine) (behind NoMemory (last_front (fronts_of (earlier ++ mine)))) n so.1.0 le;
+    put = put_part c.put (responses mine) (last_put NoMemory (last_front (fronts_of (earlier ++ mine)))) n so.1.0 le;
     cause = tt;
   },
 )
@@ -177,25 +177,25 @@ has_taken r earlier mine n buffer c so = (c, so, refl, refl, refl)
 
 -- what is put then
 pub unfed_whole : (r r' : Reading) (earlier mine : List Exchange) (n : ℕ) (buffer : List ℕ) (d : Connection) → HasTaken r earlier mine n buffer d
-    → StageSo Over r' earlier mine (with_put (behind NoMemory (last_front (fronts_of (earlier ++ mine)))) d)
+    → StageSo Over r' earlier mine (with_put (last_put NoMemory (last_front (fronts_of (earlier ++ mine)))) d)
 unfed_whole r r' earlier mine n buffer d has = (
   NoMemory,
   refl,
   record {
     asked = inl (has.0.pieces, take n buffer, r.left, has.2, has.1.2);
-    put = put_whole d.put_failed d.put (responses mine) (behind NoMemory (last_front (fronts_of (earlier ++ mine)))) (has.4 ∙ has.1.1.1) (has.3 ∙ has.1.1.0);
+    put = put_whole d.put_failed d.put (responses mine) (last_put NoMemory (last_front (fronts_of (earlier ++ mine)))) (has.4 ∙ has.1.1.1) (has.3 ∙ has.1.1.0);
     cause = tt;
   },
 )
 
-pub unfed_part : (r r' : Reading) (earlier mine : List Exchange) (n : ℕ) (buffer : List ℕ) (k : ℕ) (d : Connection) → k ≤ length (behind NoMemory (last_front (fronts_of (earlier ++ mine)))) → HasTaken r earlier mine n buffer d
-    → StageSo Over r' earlier mine (with_failed_put (take k (behind NoMemory (last_front (fronts_of (earlier ++ mine))))) d)
+pub unfed_part : (r r' : Reading) (earlier mine : List Exchange) (n : ℕ) (buffer : List ℕ) (k : ℕ) (d : Connection) → k ≤ length (last_put NoMemory (last_front (fronts_of (earlier ++ mine)))) → HasTaken r earlier mine n buffer d
+    → StageSo Over r' earlier mine (with_failed_put (take k (last_put NoMemory (last_front (fronts_of (earlier ++ mine))))) d)
 unfed_part r r' earlier mine n buffer k d le has = (
   NoMemory,
   refl,
   record {
     asked = inl (has.0.pieces, take n buffer, r.left, has.2, has.1.2);
-    put = put_part d.put (responses mine) (behind NoMemory (last_front (fronts_of (earlier ++ mine)))) k (has.3 ∙ has.1.1.0) le;
+    put = put_part d.put (responses mine) (last_put NoMemory (last_front (fronts_of (earlier ++ mine)))) k (has.3 ∙ has.1.1.0) le;
     cause = tt;
   },
 )

@@ -14,25 +14,27 @@ use Rattle.cts_turn.specs.declared.rule.View.{View}
 use Rattle.cts_desk.specs.Exchanges.{Exchange, Exchanges, Among, bodies_of, fronts_of}
 use Rattle.cts_told.specs.Makers.{of_maker}
 use Rattle.cts_http.specs.Streams.{response_with}
-use Rattle.cts_desk.specs.Streams.{NoMemory, behind, last_front}
+use Rattle.cts_desk.specs.Streams.{NoMemory, last_put, last_front}
 use Rattle.cts_desk.specs.Told.{Ends, past_of, IsIdle}
-use Rattle.cts_desk.specs.Ending.{last_entries}
-use Rattle.cts_desk.specs.Holds.{Hold, AskedHold, EndedHold}
+use Rattle.cts_worker.specs.Lasts.{last_entries}
+use Rattle.cts_desk.specs.Holds.{AskedHold}
+use Rattle.cts_worker.specs.Holds.{Hold, EndedHold}
 use Rattle.cts_desk.specs.Serving.{Going, Stage, Reads, Waits, Asks, Over, Halted, StageSo, TalksBy, Talks, Serving, Resting, Dials, Begins, goes_on, halts_or}
-use Rattle.cts_desk.proofs.Histories.{going_look, going_ask, among_more, last_own, stops_stay, exchanges_end}
+use Rattle.cts_desk.proofs.Histories.{going_look, going_ask, among_more, stops_stay, exchanges_end}
+use Rattle.cts_worker.proofs.Lasting.{last_own}
 use Rattle.cts_desk.proofs.Connections.{hangs_up, settled_at, settled_first}
 use Rattle.cts_desk.proofs.Stages.{talks_at, talks_map, talks_put, answered_whole, answered_last, answered_part, unasked_whole, unasked_part, refused_whole, refused_part, halted}
 
 module _ (b : Basis) (by : ℕ) (was : List Connection) (r : Reading) where
   -- no room was found for a front
   pub serving_unasked : {T E : Type 0} (body fronts : List ℕ) (v : View Entry Basis) (old new : Option Line) (result : Result T E) → r.refused ≡ None
-      → LinkPuts old new (behind NoMemory (last_front fronts)) result → Serving b by was (Asks body) fronts v r old → Serving b by was Over fronts v r new
+      → LinkPuts old new (last_put NoMemory (last_front fronts)) result → Serving b by was (Asks body) fronts v r old → Serving b by was Over fronts v r new
   serving_unasked body fronts v old new result none puts s = record {
     earlier = s.earlier;
     mine = s.mine;
     going = s.going;
-    talks = talks_put was s.earlier (StageSo (Asks body) r s.earlier s.mine) (StageSo Over r s.earlier s.mine) (behind NoMemory (last_front (fronts_of (s.earlier ++ s.mine)))) old new result
-        (subst (λ l. LinkPuts old new (behind NoMemory (last_front l)) result) s.going.fronts_are puts)
+    talks = talks_put was s.earlier (StageSo (Asks body) r s.earlier s.mine) (StageSo Over r s.earlier s.mine) (last_put NoMemory (last_front (fronts_of (s.earlier ++ s.mine)))) old new result
+        (subst (λ l. LinkPuts old new (last_put NoMemory (last_front l)) result) s.going.fronts_are puts)
         (λ c so. unasked_whole r s.earlier s.mine body c none so)
         (λ c n le so. unasked_part r s.earlier s.mine body c n none le so) s.talks;
   }

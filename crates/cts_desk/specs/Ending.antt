@@ -39,18 +39,3 @@ stops_all Stopped = false
 stops_all Finished = false
 stops_all DoorFailed = true
 stops_all Cancelled = true
-
-abbrev pub entry_of : ℕ → Time → What → Entry
-entry_of by time what = record { by = by; time = time; what = what }
-
--- a Stop, where one is to stand
-abbrev pub stop_if : Bool → ℕ → Time → List Entry
-stop_if true by time = entry_of by time Stop ∷ []
-stop_if false by time = []
-
--- The last entries of a desk: a Stop, where it is to stop the server and none stands, and its Ended.
-abbrev pub last_entries : Bool → ℕ → Time → List Entry → List Entry
-last_entries stops by time history = stop_if (stops && not (is_stopped history)) by time ++ entry_of by time Ended ∷ []
-
-abbrev pub first_moment : Time
-first_moment = record { seconds = 0; micros = 0 }

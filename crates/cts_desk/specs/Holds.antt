@@ -13,21 +13,7 @@ use Rattle.cts_turn.specs.Lists.{StartsWith, has}
 use Rattle.cts_api.specs.declared.settling.Answer.{Answer}
 use Rattle.cts_desk.specs.Exchanges.{IsAnswered, out_of_memory}
 use Rattle.cts_told.specs.Makers.{of_maker}
-use Rattle.cts_desk.specs.Ending.{last_entries}
-
--- others had appended entries, none of them m's, and then these were added
-pub record Hold {G : Type 0} (m : ℕ) (old new : View Entry G) (added : List Entry) : Type 0 where
-  pub others : List Entry
-  pub strange : of_maker m others ≡ []
-  pub seen : new.seen ≡ old.seen ++ (others ++ added)
-  pub found : new.found ≡ old.found ++ length (old.seen ++ others) ∷ []
-  pub makers : new.makers ≡ old.makers
-
--- Some holds of a pass: its makers are the same, what it had seen is a beginning of what it has seen, and so of the places at which its holds began.
-pub record Onward {G : Type 0} (old new : View Entry G) : Type 0 where
-  pub makers : new.makers ≡ old.makers
-  pub seen : StartsWith new.seen old.seen
-  pub found : StartsWith new.found old.found
+use Rattle.cts_worker.specs.Holds.{Hold}
 
 -- a desk that may ask for replies
 pub record IsReady (b : Basis) (by : ℕ) (v : View Entry Basis) : Type 0 where
@@ -57,9 +43,3 @@ pub record AskedHold (b : Basis) (by : ℕ) (body : List ℕ) (front : ℕ) (tex
   pub lasting : list_any (λ (e : Entry). is_ended e.what) added ≡ false
   pub front_is : front ≡ length (old.seen ++ hold.others)
   pub answered : IsAnswered b by (old.seen ++ hold.others) (record { body = body; front = front; text = text }) added
-
--- the last entries of a desk were added in a hold
-pub record EndedHold {G : Type 0} (by : ℕ) (time : Time) (stops : Bool) (old new : View Entry G) : Type 0 where
-  pub added : List Entry
-  pub hold : Hold by old new added
-  pub words : added ≡ last_entries stops by time (old.seen ++ hold.others)

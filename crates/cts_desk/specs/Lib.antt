@@ -1,8 +1,8 @@
 pub mod Exchanges
 pub mod Streams
 pub mod Told
+pub mod Faults
 pub mod Holds
 pub mod Serving
-pub mod Grounds
 pub mod Ending
 pub mod Laws

@@ -56,14 +56,14 @@ HasAsked NoMemory pieces bodies = IsUnfed pieces bodies ⊎ IsUnasked pieces bod
 HasAsked Stopped pieces bodies = (rest : List ℕ) × Requests (concat pieces) bodies (Waiting rest)
 
 -- what is put after the responses
-abbrev pub behind : Cut → ℕ → List ℕ
-behind PeerEnded front = []
-behind ReadFault front = []
-behind WriteFault front = []
-behind LastAsked front = []
-behind (Refused status) front = refusal_text status
-behind NoMemory front = response_with front (Some out_of_memory)
-behind Stopped front = []
+abbrev pub last_put : Cut → ℕ → List ℕ
+last_put PeerEnded front = []
+last_put ReadFault front = []
+last_put WriteFault front = []
+last_put LastAsked front = []
+last_put (Refused status) front = refusal_text status
+last_put NoMemory front = response_with front (Some out_of_memory)
+last_put Stopped front = []
 
 abbrev pub HasCause : Cut → Connection → Type 0
 HasCause PeerEnded c = c.ended ≡ true
@@ -82,7 +82,7 @@ IsPut true put stream = (n : ℕ) × (n ≤ length stream) × (put ≡ take n st
 -- A connection came to this end after the exchanges, and `front` was the desk's last.
 pub record Served (cut : Cut) (front : ℕ) (c : Connection) (xs : List Exchange) : Type 0 where
   pub asked : HasAsked cut c.pieces (bodies_of xs)
-  pub put : IsPut c.put_failed c.put (responses xs ++ behind cut front)
+  pub put : IsPut c.put_failed c.put (responses xs ++ last_put cut front)
   pub cause : HasCause cut c
 
 -- these bytes were put, or, where the put failed, a beginning of them

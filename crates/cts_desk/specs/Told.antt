@@ -6,7 +6,7 @@ use Rattle.cts_entry.specs.Histories.{is_stopped}
 use Rattle.cts_table.specs.declared.basis.Basis.{Basis}
 use Rattle.cts_def.specs.declared.time.Time.{Time}
 use Rattle.cts_turn.specs.declared.rule.View.{View}
-use Rattle.cts_desk.specs.Ending.{last_entries}
+use Rattle.cts_worker.specs.Lasts.{last_entries}
 use Rattle.cts_desk.specs.Exchanges.{Exchange, Exchanges, Among, fronts_of}
 use Rattle.cts_desk.specs.Streams.{Cut, PeerEnded, ReadFault, WriteFault, LastAsked, Refused, NoMemory, Stopped, Served, last_front}
 

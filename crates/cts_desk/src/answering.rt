@@ -2,13 +2,16 @@
 ghost use Rattle.std.specs.Prelude.{◌≡◌, ◌<◌, ℕ, List, None, Some, true, false, option_map, IsSome, vec_len, vec_capacity};
 ghost use Rattle.cts_outside.specs.Lines.{Connection};
 ghost use Rattle.cts_turn.specs.Passes.{IsPassOf, view};
-ghost use Rattle.cts_desk.specs.Grounds.{ground};
-ghost use Rattle.cts_desk.specs.Holds.{IsReady, Onward, text_of};
-ghost use Rattle.cts_desk.specs.Streams.{LinksTold, NoMemory, behind, last_front};
+ghost use Rattle.cts_desk.specs.Faults.{FaultsRise};
+ghost use Rattle.cts_worker.specs.Grounds.{ground};
+ghost use Rattle.cts_desk.specs.Holds.{IsReady, text_of};
+ghost use Rattle.cts_worker.specs.Holds.{Onward};
+ghost use Rattle.cts_desk.specs.Streams.{LinksTold, NoMemory, last_put, last_front};
 ghost use Rattle.cts_desk.specs.Serving.{Serving, Reads, Waits, Asks, goes_on};
 
 use crate::Talk;
 use crate::holds::ask;
+use crate::means::Means;
 use crate::puts::{out_of_memory, put_memory, put_refusal, put_response};
 use cts_api::Answer;
 use cts_base::Memory;
@@ -17,7 +20,6 @@ use cts_http::{HttpStep, Reader};
 use cts_outside::{Clock, Dialer, Gate, GateStage};
 use cts_table::Hall;
 use cts_turn::Turn;
-use std::alloc::Global;
 use std::sync::Wait;
 
 // The text that is put for an answer.
@@ -58,7 +60,8 @@ fn tell_memory<R: Dialer>(talk: Talk, door: &mut R) -> (Talk, bool)
     ensures goes { result.1 ≡ false }
     ensures linked { (R.seen door.new).linked ≡ true }
     ensures dials { (R.seen door.new).failed_dials ≡ (R.seen door.old).failed_dials }
-    ensures content { LinksTold (R.seen door.old).told (R.seen door.new).told (behind NoMemory (last_front talk.fronts.items)) }
+    ensures faults { FaultsRise (R.seen door.old) (R.seen door.new) }
+    ensures content { LinksTold (R.seen door.old).told (R.seen door.new).told (last_put NoMemory (last_front talk.fronts.items)) }
 {
     let put = put_memory(door, talk.fronts.as_slice());
     drop(put);
@@ -67,16 +70,13 @@ fn tell_memory<R: Dialer>(talk: Talk, door: &mut R) -> (Talk, bool)
 
 // One hold, and one response, after which the connection goes on or not.
 fn reply_to<W: Wait, R: Dialer, K: Clock, G: Gate>(
-    rt: &W,
-    alloc: Global,
+    means: &Means<'_, W, K, G>,
     by: u32,
     turn: &Turn<Hall>,
     talk: Talk,
     door: &mut R,
     reader: &Reader,
     last: bool,
-    clock: &K,
-    gate: &G,
 ) -> (Talk, bool)
     requires pass { IsPassOf turn.now talk.pass }
     requires ready { IsReady (ground turn.now) by (view talk.pass) }
@@ -90,22 +90,24 @@ fn reply_to<W: Wait, R: Dialer, K: Clock, G: Gate>(
     ensures onward { Onward (view talk.pass) (view result.0.pass) }
     ensures linked { (R.seen door.new).linked ≡ true }
     ensures dials { (R.seen door.new).failed_dials ≡ (R.seen door.old).failed_dials }
+    ensures faults { FaultsRise (R.seen door.old) (R.seen door.new) }
     ensures last { result.1 ≡ true → last ≡ false }
     ensures serves { (was : List Connection) (body : List ℕ) → Some body ≡ reader.now.given
         → Serving (ground turn.now) by was (Asks body) talk.fronts.items (view talk.pass) reader.now (R.seen door.old).told
         → Serving (ground turn.now) by was (goes_on result.1 Reads) result.0.fronts.items (view result.0.pass) reader.now (R.seen door.new).told }
 {
     let Talk { pass, mut fronts } = talk;
-    gate.pass(rt, by, GateStage::Took);
-    let (pass, front, answer) = ask(rt, alloc, turn, pass, by, time_of(clock), reader.body());
+    means.gate.pass(means.rt, by, GateStage::Took);
+    let time = time_of(means.clock);
+    let (pass, front, answer) = ask(means.rt, means.alloc, turn, pass, by, time, reader.body());
     fronts.push_reserved(front);
-    posted(rt, by, gate, &answer);
+    posted(means.rt, by, means.gate, &answer);
     let put = put_response(door, front, text_of(&answer));
     drop(answer);
     let talk = Talk { pass, fronts };
     match put {
         Ok(()) => {
-            gate.pass(rt, by, GateStage::Answered);
+            means.gate.pass(means.rt, by, GateStage::Answered);
             (talk, !last)
         }
         Err(_) => (talk, false),
@@ -114,16 +116,13 @@ fn reply_to<W: Wait, R: Dialer, K: Clock, G: Gate>(
 
 // Answers the request that the reader gave. Says whether the connection goes on.
 fn answer<W: Wait, R: Dialer, K: Clock, G: Gate>(
-    rt: &W,
-    alloc: Global,
+    means: &Means<'_, W, K, G>,
     by: u32,
     turn: &Turn<Hall>,
     mut talk: Talk,
     door: &mut R,
     reader: &Reader,
     last: bool,
-    clock: &K,
-    gate: &G,
 ) -> (Talk, bool)
     requires pass { IsPassOf turn.now talk.pass }
     requires ready { IsReady (ground turn.now) by (view talk.pass) }
@@ -136,28 +135,26 @@ fn answer<W: Wait, R: Dialer, K: Clock, G: Gate>(
     ensures onward { Onward (view talk.pass) (view result.0.pass) }
     ensures linked { (R.seen door.new).linked ≡ true }
     ensures dials { (R.seen door.new).failed_dials ≡ (R.seen door.old).failed_dials }
+    ensures faults { FaultsRise (R.seen door.old) (R.seen door.new) }
     ensures last { result.1 ≡ true → last ≡ false }
     ensures serves { (was : List Connection) (body : List ℕ) → Some body ≡ reader.now.given
         → Serving (ground turn.now) by was (Asks body) talk.fronts.items (view talk.pass) reader.now (R.seen door.old).told
         → Serving (ground turn.now) by was (goes_on result.1 Reads) result.0.fronts.items (view result.0.pass) reader.now (R.seen door.new).told }
 {
     match talk.fronts.reserve(1) {
-        Ok(()) => reply_to(rt, alloc, by, turn, talk, door, reader, last, clock, gate),
+        Ok(()) => reply_to(means, by, turn, talk, door, reader, last),
         Err(_) => tell_memory(talk, door),
     }
 }
 
 /// Answers all requests that stand in the bytes that the reader was fed. Says whether the connection goes on, for more bytes.
 pub(crate) fn answer_all<W: Wait, R: Dialer, K: Clock, G: Gate>(
-    rt: &W,
-    alloc: Global,
+    means: &Means<'_, W, K, G>,
     by: u32,
     turn: &Turn<Hall>,
     mut talk: Talk,
     door: &mut R,
     reader: &mut Reader,
-    clock: &K,
-    gate: &G,
 ) -> (Talk, bool)
     requires pass { IsPassOf turn.now talk.pass }
     requires ready { IsReady (ground turn.now) by (view talk.pass) }
@@ -168,12 +165,13 @@ pub(crate) fn answer_all<W: Wait, R: Dialer, K: Clock, G: Gate>(
     ensures onward { Onward (view talk.pass) (view result.0.pass) }
     ensures linked { (R.seen door.new).linked ≡ true }
     ensures dials { (R.seen door.new).failed_dials ≡ (R.seen door.old).failed_dials }
+    ensures faults { FaultsRise (R.seen door.old) (R.seen door.new) }
     ensures open { result.1 ≡ true → reader.new.closed ≡ false }
     ensures serves { (was : List Connection)
         → Serving (ground turn.now) by was Reads talk.fronts.items (view talk.pass) reader.old (R.seen door.old).told
         → Serving (ground turn.now) by was (goes_on result.1 Waits) result.0.fronts.items (view result.0.pass) reader.new (R.seen door.new).told }
 {
-    'requests: for _ in rt.forever() {
+    'requests: for _ in means.rt.forever() {
         let step = reader.next();
         match step {
             HttpStep::More => return (talk, true),
@@ -183,9 +181,7 @@ pub(crate) fn answer_all<W: Wait, R: Dialer, K: Clock, G: Gate>(
                 return (talk, false);
             }
             HttpStep::Request { last } => {
-                let (next, goes) = answer(
-                    rt, alloc, by, turn, talk, door, reader, last, clock, gate,
-                );
+                let (next, goes) = answer(means, by, turn, talk, door, reader, last);
                 talk = next;
                 if !goes {
                     return (talk, false);

@@ -3,30 +3,29 @@ ghost use Rattle.std.specs.Prelude.{◌≡◌, false, List, None, Some};
 ghost use Rattle.cts_entry.specs.Histories.{is_stopped};
 ghost use Rattle.cts_outside.specs.Lines.{Connection};
 ghost use Rattle.cts_turn.specs.Passes.{IsPassOf, view};
+ghost use Rattle.cts_desk.specs.Faults.{FaultsRise};
 ghost use Rattle.cts_desk.specs.Ending.{CausesEnd, CausesEndIf, may_cut, stopped_if};
-ghost use Rattle.cts_desk.specs.Grounds.{ground};
-ghost use Rattle.cts_desk.specs.Holds.{IsReady, Onward};
+ghost use Rattle.cts_worker.specs.Grounds.{ground};
+ghost use Rattle.cts_desk.specs.Holds.{IsReady};
+ghost use Rattle.cts_worker.specs.Holds.{Onward};
 ghost use Rattle.cts_desk.specs.Serving.{Resting};
 
 use crate::Talk;
 use crate::ending::DeskWhy;
+use crate::means::Means;
 use crate::serving::{looks, serve};
 use cts_outside::{Clock, Dialed, Dialer, Gate};
 use cts_table::Hall;
 use cts_turn::Turn;
-use std::alloc::Global;
 use std::sync::Wait;
 
 // Serves the next client, if one is there. Says why the desk ends, if it does.
 fn attempt<W: Wait, R: Dialer, K: Clock, G: Gate>(
-    rt: &W,
-    alloc: Global,
+    means: &Means<'_, W, K, G>,
     by: u32,
     turn: &Turn<Hall>,
     talk: Talk,
     door: &mut R,
-    clock: &K,
-    gate: &G,
 ) -> (Talk, Option<DeskWhy>)
     requires pass { IsPassOf turn.now talk.pass }
     requires ready { IsReady (ground turn.now) by (view talk.pass) }
@@ -35,6 +34,7 @@ fn attempt<W: Wait, R: Dialer, K: Clock, G: Gate>(
     ensures ready { IsReady (ground turn.now) by (view result.0.pass) }
     ensures onward { Onward (view talk.pass) (view result.0.pass) }
     ensures idle { (R.seen door.new).linked ≡ false }
+    ensures faults { FaultsRise (R.seen door.old) (R.seen door.new) }
     ensures cause { CausesEndIf (view result.0.pass).seen (R.seen door.new).told (R.seen door.old).failed_dials (R.seen door.new).failed_dials result.1 }
     ensures serves { (was : List Connection)
         → Resting (ground turn.now) by was false talk.fronts.items (view talk.pass) (R.seen door.old).told
@@ -42,11 +42,11 @@ fn attempt<W: Wait, R: Dialer, K: Clock, G: Gate>(
 {
     match door.dial() {
         Dialed::Linked => {
-            let (talk, stop) = serve(rt, alloc, by, turn, talk, door, clock, gate);
+            let (talk, stop) = serve(means, by, turn, talk, door);
             (talk, stop_if(stop))
         }
         Dialed::Later => {
-            let (talk, stop) = looks(rt, turn, talk, by);
+            let (talk, stop) = looks(means.rt, turn, talk, by);
             (talk, stop_if(stop))
         }
         Dialed::Finished => (talk, Some(DeskWhy::Finished)),
@@ -63,14 +63,11 @@ fn stop_if(stop: bool) -> Option<DeskWhy>
 
 /// Serves one client after another, until the desk ends, and says why.
 pub(crate) fn clients<W: Wait, R: Dialer, K: Clock, G: Gate>(
-    rt: &W,
-    alloc: Global,
+    means: &Means<'_, W, K, G>,
     by: u32,
     turn: &Turn<Hall>,
     mut talk: Talk,
     door: &mut R,
-    clock: &K,
-    gate: &G,
 ) -> (Talk, DeskWhy)
     requires pass { IsPassOf turn.now talk.pass }
     requires ready { IsReady (ground turn.now) by (view talk.pass) }
@@ -79,13 +76,14 @@ pub(crate) fn clients<W: Wait, R: Dialer, K: Clock, G: Gate>(
     ensures ready { IsReady (ground turn.now) by (view result.0.pass) }
     ensures onward { Onward (view talk.pass) (view result.0.pass) }
     ensures idle { (R.seen door.new).linked ≡ false }
+    ensures faults { FaultsRise (R.seen door.old) (R.seen door.new) }
     ensures cause { CausesEnd (view result.0.pass).seen (R.seen door.new).told (R.seen door.old).failed_dials (R.seen door.new).failed_dials result.1 }
     ensures serves { (was : List Connection)
         → Resting (ground turn.now) by was false talk.fronts.items (view talk.pass) (R.seen door.old).told
         → Resting (ground turn.now) by was (is_stopped (view result.0.pass).seen) result.0.fronts.items (view result.0.pass) (R.seen door.new).told }
 {
-    'clients: for _ in rt.forever() {
-        let (next, end) = attempt(rt, alloc, by, turn, talk, door, clock, gate);
+    'clients: for _ in means.rt.forever() {
+        let (next, end) = attempt(means, by, turn, talk, door);
         talk = next;
         if let Some(why) = end {
             return (talk, why);

@@ -6,6 +6,7 @@ mod clients;
 mod ending;
 mod holds;
 mod laws;
+mod means;
 mod puts;
 mod serving;
 mod taking;

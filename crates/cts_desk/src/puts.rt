@@ -3,6 +3,7 @@ ghost use Rattle.std.specs.Prelude.{◌≡◌, ◌++◌, ℕ, Bool, true, Option
 ghost use Rattle.cts_outside.specs.Causes.{Cause};
 ghost use Rattle.cts_outside.specs.Lines.{LinkPuts};
 ghost use Rattle.cts_http.specs.Texts.{is_refusal, refusal_text};
+ghost use Rattle.cts_desk.specs.Faults.{FaultsRise};
 ghost use Rattle.cts_desk.specs.Exchanges.{out_of_memory};
 ghost use Rattle.cts_http.specs.Streams.{response_with};
 ghost use Rattle.cts_desk.specs.Streams.{last_front};
@@ -12,7 +13,7 @@ use cts_outside::{Dialer, PutFailed};
 
 // What is said where no memory was found.
 #[tactic(auto, unfolding(crate::specs::Exchanges::out_of_memory))]
-pub fn out_of_memory() -> &'static [u8]
+pub(crate) fn out_of_memory() -> &'static [u8]
     ensures { result.now ≡ out_of_memory }
 {
     b"{\"error\":{\"code\":-32004,\"message\":\"Out of memory\"},\"id\":null,\"jsonrpc\":\"2.0\"}"
@@ -24,6 +25,7 @@ fn put_both<R: Dialer>(door: &mut R, first: &[u8], second: &[u8]) -> Result<(), 
     ensures content { LinkPuts (R.seen door.old).told (R.seen door.new).told (first.now ++ second.now) result }
     ensures linked { (R.seen door.new).linked ≡ true }
     ensures dials { (R.seen door.new).failed_dials ≡ (R.seen door.old).failed_dials }
+    ensures faults { FaultsRise (R.seen door.old) (R.seen door.new) }
 {
     match door.put(first) {
         Ok(()) => door.put(second),
@@ -41,6 +43,7 @@ pub(crate) fn put_response<R: Dialer>(
     ensures content { LinkPuts (R.seen door.old).told (R.seen door.new).told (response_with front (option_map (λ t. t.now) text.entry)) result }
     ensures linked { (R.seen door.new).linked ≡ true }
     ensures dials { (R.seen door.new).failed_dials ≡ (R.seen door.old).failed_dials }
+    ensures faults { FaultsRise (R.seen door.old) (R.seen door.new) }
 {
     match text {
         Some(text) => put_text(door, front, text),
@@ -57,6 +60,7 @@ fn put_text<R: Dialer>(door: &mut R, front: u64, text: &[u8]) -> Result<(), PutF
     ensures content { LinkPuts (R.seen door.old).told (R.seen door.new).told (response_with front (Some text.now)) result }
     ensures linked { (R.seen door.new).linked ≡ true }
     ensures dials { (R.seen door.new).failed_dials ≡ (R.seen door.old).failed_dials }
+    ensures faults { FaultsRise (R.seen door.old) (R.seen door.new) }
 {
     let mut head = [0u8; 160];
     let count = response(front, Some(text.len() as u64), &mut head);
@@ -70,6 +74,7 @@ pub(crate) fn put_refusal<R: Dialer>(door: &mut R, status: u16) -> Result<(), Pu
     ensures content { LinkPuts (R.seen door.old).told (R.seen door.new).told (refusal_text status) result }
     ensures linked { (R.seen door.new).linked ≡ true }
     ensures dials { (R.seen door.new).failed_dials ≡ (R.seen door.old).failed_dials }
+    ensures faults { FaultsRise (R.seen door.old) (R.seen door.new) }
 {
     let mut whole = [0u8; 160];
     let count = refusal(status, &mut whole);
@@ -92,6 +97,7 @@ pub(crate) fn put_memory<R: Dialer>(door: &mut R, fronts: &[u64]) -> Result<(), 
     ensures content { LinkPuts (R.seen door.old).told (R.seen door.new).told (response_with (last_front fronts.now) (Some out_of_memory)) result }
     ensures linked { (R.seen door.new).linked ≡ true }
     ensures dials { (R.seen door.new).failed_dials ≡ (R.seen door.old).failed_dials }
+    ensures faults { FaultsRise (R.seen door.old) (R.seen door.new) }
 {
     put_response(door, last_front(fronts), Some(out_of_memory()))
 }

@@ -3,19 +3,21 @@ ghost use Rattle.std.specs.Prelude.{◌≡◌, ◌<◌, ◌++◌, ℕ, List, [],
 ghost use Rattle.cts_outside.specs.Lines.{Connection};
 ghost use Rattle.cts_entry.specs.Histories.{is_stopped};
 ghost use Rattle.cts_turn.specs.Passes.{IsPassOf, view};
-ghost use Rattle.cts_desk.specs.Grounds.{ground};
-ghost use Rattle.cts_desk.specs.Holds.{Hold, IsReady, Onward};
+ghost use Rattle.cts_desk.specs.Faults.{FaultsRise};
+ghost use Rattle.cts_worker.specs.Grounds.{ground};
+ghost use Rattle.cts_desk.specs.Holds.{IsReady};
+ghost use Rattle.cts_worker.specs.Holds.{Hold, Onward};
 ghost use Rattle.cts_desk.specs.Serving.{Begins, Serving, Resting, Reads, Waits, halts_or};
 
 use crate::Talk;
 use crate::answering::answer_all;
-use crate::holds::look;
+use crate::means::Means;
 use crate::taking::take_piece;
 use cts_http::Reader;
 use cts_outside::{Clock, Dialer, Gate};
 use cts_table::Hall;
 use cts_turn::Turn;
-use std::alloc::Global;
+use cts_worker::sees_stop;
 use std::sync::Wait;
 
 // Looks whether a Stop stands.
@@ -29,21 +31,18 @@ pub(crate) fn looks<W: Wait>(rt: &W, turn: &Turn<Hall>, talk: Talk, by: u32) -> 
     ensures stop { result.1 ≡ is_stopped (view result.0.pass).seen }
 {
     let Talk { pass, fronts } = talk;
-    let (pass, stop) = look(rt, turn, pass, by);
+    let (pass, stop) = sees_stop(rt, turn, pass, by);
     (Talk { pass, fronts }, stop)
 }
 
 // Talks with the client of the connection that stands, until it is over. Says whether it is over for a Stop.
 fn talk_on<W: Wait, R: Dialer, K: Clock, G: Gate>(
-    rt: &W,
-    alloc: Global,
+    means: &Means<'_, W, K, G>,
     by: u32,
     turn: &Turn<Hall>,
     mut talk: Talk,
     door: &mut R,
     reader: &mut Reader,
-    clock: &K,
-    gate: &G,
 ) -> (Talk, bool)
     requires pass { IsPassOf turn.now talk.pass }
     requires ready { IsReady (ground turn.now) by (view talk.pass) }
@@ -54,19 +53,20 @@ fn talk_on<W: Wait, R: Dialer, K: Clock, G: Gate>(
     ensures onward { Onward (view talk.pass) (view result.0.pass) }
     ensures linked { (R.seen door.new).linked ≡ true }
     ensures dials { (R.seen door.new).failed_dials ≡ (R.seen door.old).failed_dials }
+    ensures faults { FaultsRise (R.seen door.old) (R.seen door.new) }
     ensures stop { result.1 ≡ true → is_stopped (view result.0.pass).seen ≡ true }
     ensures serves { (was : List Connection)
         → Serving (ground turn.now) by was Reads talk.fronts.items (view talk.pass) reader.old (R.seen door.old).told
         → Serving (ground turn.now) by was (halts_or result.1) result.0.fronts.items (view result.0.pass) reader.new (R.seen door.new).told }
 {
     let mut buffer = [0u8; 4096];
-    'rounds: for _ in rt.forever() {
-        let (next, goes) = answer_all(rt, alloc, by, turn, talk, door, reader, clock, gate);
+    'rounds: for _ in means.rt.forever() {
+        let (next, goes) = answer_all(means, by, turn, talk, door, reader);
         talk = next;
         if !goes {
             return (talk, false);
         }
-        let (next, stop) = looks(rt, turn, talk, by);
+        let (next, stop) = looks(means.rt, turn, talk, by);
         talk = next;
         if stop {
             return (talk, true);
@@ -81,14 +81,11 @@ fn talk_on<W: Wait, R: Dialer, K: Clock, G: Gate>(
 
 /// Serves the client of the connection that stands, and hangs up. Says whether it is over for a Stop.
 pub(crate) fn serve<W: Wait, R: Dialer, K: Clock, G: Gate>(
-    rt: &W,
-    alloc: Global,
+    means: &Means<'_, W, K, G>,
     by: u32,
     turn: &Turn<Hall>,
     talk: Talk,
     door: &mut R,
-    clock: &K,
-    gate: &G,
 ) -> (Talk, bool)
     requires pass { IsPassOf turn.now talk.pass }
     requires ready { IsReady (ground turn.now) by (view talk.pass) }
@@ -98,13 +95,14 @@ pub(crate) fn serve<W: Wait, R: Dialer, K: Clock, G: Gate>(
     ensures onward { Onward (view talk.pass) (view result.0.pass) }
     ensures idle { (R.seen door.new).linked ≡ false }
     ensures dials { (R.seen door.new).failed_dials ≡ (R.seen door.old).failed_dials }
+    ensures faults { FaultsRise (R.seen door.old) (R.seen door.new) }
     ensures stop { result.1 ≡ true → is_stopped (view result.0.pass).seen ≡ true }
     ensures serves { (was : List Connection)
         → Begins (ground turn.now) by was talk.fronts.items (view talk.pass) (R.seen door.old).told
         → Resting (ground turn.now) by was result.1 result.0.fronts.items (view result.0.pass) (R.seen door.new).told }
 {
-    let mut reader = Reader::new(alloc);
-    let (talk, stop) = talk_on(rt, alloc, by, turn, talk, door, &mut reader, clock, gate);
+    let mut reader = Reader::new(means.alloc);
+    let (talk, stop) = talk_on(means, by, turn, talk, door, &mut reader);
     door.hang_up();
     drop(reader);
     (talk, stop)

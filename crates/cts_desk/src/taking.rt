@@ -1,6 +1,7 @@
 // One piece of a desk's connection.
 ghost use Rattle.std.specs.Prelude.{◌≡◌, ◌<◌, ◌++◌, ℕ, List, [], true, false, length};
 ghost use Rattle.cts_outside.specs.Lines.{Connection};
+ghost use Rattle.cts_desk.specs.Faults.{FaultsRise};
 ghost use Rattle.cts_desk.specs.Exchanges.{Exchange, fronts_of};
 ghost use Rattle.cts_desk.specs.Serving.{Talks, Waits, Reads, goes_on};
 
@@ -20,6 +21,7 @@ pub(crate) fn take_piece<R: Dialer>(
     requires room { 0 < length buffer.old }
     ensures linked { (R.seen door.new).linked ≡ true }
     ensures dials { (R.seen door.new).failed_dials ≡ (R.seen door.old).failed_dials }
+    ensures faults { FaultsRise (R.seen door.old) (R.seen door.new) }
     ensures open { reader.new.closed ≡ false }
     ensures takes { (was : List Connection) (earlier mine : List Exchange) → fronts.now ≡ fronts_of (earlier ++ mine)
         → Talks was Waits reader.old earlier mine (R.seen door.old).told

@@ -5,22 +5,24 @@ ghost use Rattle.cts_entry.specs.Workers.{is_desk};
 ghost use Rattle.cts_told.specs.Makers.{LastEnded, of_maker};
 ghost use Rattle.cts_turn.specs.Lists.{StartsWith, has};
 ghost use Rattle.cts_turn.specs.Passes.{IsPassOf, view};
+ghost use Rattle.cts_desk.specs.Faults.{FaultsRise};
 ghost use Rattle.cts_desk.specs.declared.ending.DeskWhy.TheVariants.{Cancelled};
-ghost use Rattle.cts_desk.specs.Ending.{CausesEnd, first_moment, last_entries, stops_all};
-ghost use Rattle.cts_desk.specs.Grounds.{ground};
-ghost use Rattle.cts_desk.specs.Holds.{Onward};
+ghost use Rattle.cts_desk.specs.Ending.{CausesEnd, stops_all};
+ghost use Rattle.cts_worker.specs.Lasts.{first_moment, last_entries};
+ghost use Rattle.cts_worker.specs.Grounds.{ground};
+ghost use Rattle.cts_worker.specs.Holds.{Onward};
 ghost use Rattle.cts_desk.specs.Told.{Ends, IsIdle, past_of};
 
 use crate::Talk;
 use crate::answering::time_of;
 use crate::clients::clients;
 use crate::ending::{DeskEnd, DeskWhy};
-use crate::holds::end;
+use crate::means::Means;
 use cts_base::List;
-use cts_def::Time;
 use cts_outside::{Clock, Dialer, Gate, GateStage};
 use cts_table::Hall;
 use cts_turn::{Pass, Turn};
+use cts_worker::{cancel, end};
 use std::alloc::Global;
 use std::sync::Wait;
 
@@ -55,6 +57,7 @@ impl DeskWorker {
         ensures ended { LastEnded by (view result.pass).seen }
         ensures cause { CausesEnd (view result.pass).seen (R.seen door.new).told (R.seen door.old).failed_dials (R.seen door.new).failed_dials result.why }
         ensures stops { stops_all result.why ≡ true → is_stopped (view result.pass).seen ≡ true }
+        ensures faults { FaultsRise (R.seen door.old) (R.seen door.new) }
         ensures idle { (R.seen door.new).linked ≡ false }
     {
         gate.pass(rt, by, GateStage::Started);
@@ -62,7 +65,13 @@ impl DeskWorker {
             pass,
             fronts: Vec::new(alloc),
         };
-        let (talk, why) = clients(rt, alloc, by, turn, talk, door, clock, gate);
+        let means = Means {
+            rt,
+            alloc,
+            clock,
+            gate,
+        };
+        let (talk, why) = clients(&means, by, turn, talk, door);
         let Talk { pass, fronts } = talk;
         let pass = end(rt, turn, pass, by, time_of(clock), stops_all(why));
         gate.pass(rt, by, GateStage::Posted);
@@ -92,11 +101,7 @@ impl DeskWorker {
         ensures fronts { result.fronts ≡ [] }
         ensures why { result.why ≡ Cancelled }
     {
-        let time = Time {
-            seconds: 0,
-            micros: 0,
-        };
-        let pass = end(rt, turn, pass, by, time, true);
+        let pass = cancel(rt, by, turn, pass);
         DeskEnd {
             pass,
             fronts: List::of(Vec::new(alloc)),

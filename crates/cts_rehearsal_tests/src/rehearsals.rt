@@ -3,9 +3,7 @@
 use cts_base::Bytes;
 use cts_entry::Event;
 use cts_rehearsal::{Tally, generated, rehearsals_walk, summary};
-use cts_rows::{
-    Answers, debug_of, digits_of, in_one_line, number, part, readable_of, rows_end_so,
-};
+use cts_rows::{Answers, debug_of, digits_of, in_one_line, number, part, readable_of, rows_end_so};
 use md5::{Digest, Md5};
 use std::alloc::Global;
 use std::test::Fail;

@@ -1,9 +1,10 @@
 use Rattle.std.proofs.Common.{subst, Bool, ◌∙◌, ◌≡◌, true}
 use Rattle.cts_desk.specs.Serving.{Serving, Reads, goes_on}
 use Rattle.cts_turn.specs.Passes.{view}
-use Rattle.cts_desk.specs.Grounds.{ground}
-use Rattle.cts_desk.proofs.Histories.{onward_both}
+use Rattle.cts_worker.specs.Grounds.{ground}
+use Rattle.cts_worker.proofs.Onwards.{onward_then}
 use Rattle.cts_desk.proofs.Steps.{serving_more, serving_refused, serving_asks, given_of}
+use Rattle.cts_desk.proofs.Faulting.{rise_then}
 use Rattle.cts_desk.proofs.answering.answer_all.Goals as goal
 
 pub returns-in-More-clause-serves : goal.returns-in-More-clause-serves
@@ -29,9 +30,10 @@ requests-preserved g c =
     let goes : c.answer-next.result.1 ≡ true = c.if-not-goes.false in record {
       pass = c.answer-next.ensures.pass;
       ready = c.answer-next.ensures.ready;
-      onward = onward_both _ _ _ c.requests.invariant.onward c.answer-next.ensures.onward;
+      onward = onward_then _ _ _ c.requests.invariant.onward c.answer-next.ensures.onward;
       linked = c.answer-next.ensures.linked;
       dials = c.answer-next.ensures.dials ∙ c.requests.invariant.dials;
+      faults = rise_then (g.R.Link.seen c.args.door.now) (g.R.Link.seen c.requests.door) (g.R.Link.seen c.answer-next.new.door) c.requests.invariant.faults c.answer-next.ensures.faults;
       open_still = r.3 ∙ c.answer-next.ensures.last goes;
       serves = λ was s.
           let asks = serving_asks (ground c.args.turn.now) c.args.by was c.requests.reader c.next-step.new.self c.requests.talk.fronts.items (view c.requests.talk.pass) (g.R.Link.seen c.requests.door).told (c.requests.invariant.serves was s)
@@ -39,3 +41,9 @@ requests-preserved g c =
           subst (λ (x : Bool). Serving (ground c.args.turn.now) c.args.by was (goes_on x Reads) c.answer-next.result.0.fronts.items (view c.answer-next.result.0.pass) c.next-step.new.self (g.R.Link.seen c.answer-next.new.door).told) goes
           (c.answer-next.ensures.serves was r.0 r.1 asks);
     }
+
+pub returns-in-Refuse-clause-faults : goal.returns-in-Refuse-clause-faults
+returns-in-Refuse-clause-faults g c = rise_then (g.R.Link.seen c.args.door.now) (g.R.Link.seen c.requests.door) (g.R.Link.seen c.put_refusal-put.new.door) c.requests.invariant.faults c.put_refusal-put.ensures.faults
+
+pub returns-then-not-goes-clause-faults : goal.returns-then-not-goes-clause-faults
+returns-then-not-goes-clause-faults g c = rise_then (g.R.Link.seen c.args.door.now) (g.R.Link.seen c.requests.door) (g.R.Link.seen c.answer-next.new.door) c.requests.invariant.faults c.answer-next.ensures.faults

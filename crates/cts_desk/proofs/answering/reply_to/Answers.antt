@@ -2,7 +2,7 @@ use Rattle.std.proofs.Common.{◌≡◌, subst, sym, ap, ◌∙◌, [], List, �
 use Rattle.std.specs.Prelude.{unwrap_or, take, not}
 use Rattle.cts_turn.specs.Passes.{view}
 use Rattle.cts_outside.specs.Lines.{told_after, at_now, with_put, with_failed_put}
-use Rattle.cts_desk.specs.Grounds.{ground}
+use Rattle.cts_worker.specs.Grounds.{ground}
 use Rattle.cts_desk.specs.Holds.{text_of, AskedHold}
 use Rattle.cts_desk.specs.Serving.{Serving, Reads, Over, goes_on}
 use Rattle.cts_http.specs.Streams.{response_with}

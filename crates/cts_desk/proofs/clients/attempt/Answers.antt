@@ -1,10 +1,12 @@
 use Rattle.std.proofs.Common.{Bool, subst, sym}
 use Rattle.cts_turn.specs.Passes.{view}
 use Rattle.cts_desk.specs.Ending.{may_cut}
-use Rattle.cts_desk.specs.Grounds.{ground}
+use Rattle.cts_worker.specs.Grounds.{ground}
 use Rattle.cts_desk.specs.Serving.{Resting}
 use Rattle.cts_desk.proofs.Ends.{cut_for, failed_rests, finished_rests, later_rests, linked_begins}
 use Rattle.cts_entry.specs.Histories.{is_stopped}
+use Rattle.cts_outside.specs.declared.link.Dialed.TheVariants.{Linked, Later, Finished, Failed}
+use Rattle.cts_desk.proofs.Faulting.{dial_rises, rise_then}
 use Rattle.cts_desk.proofs.clients.attempt.Goals as goal
 
 pub returns-in-Linked-clause-serves : goal.returns-in-Linked-clause-serves
@@ -32,3 +34,15 @@ pub returns-in-Failed-clause-serves : goal.returns-in-Failed-clause-serves
 returns-in-Failed-clause-serves g c = λ was s.
     let v = view c.args.talk.pass in
     failed_rests (ground c.args.turn.now) c.args.by was c.args.talk.fronts.items (is_stopped v.seen) v _ (g.R.Link.seen c.dial.new.self).told c.in-Failed.ensures.content s
+
+pub returns-in-Linked-clause-faults : goal.returns-in-Linked-clause-faults
+returns-in-Linked-clause-faults g c = rise_then (g.R.Link.seen c.args.door.now) (g.R.Link.seen c.dial.new.self) (g.R.Link.seen c.serve-talk.new.door) (dial_rises Linked (g.R.Link.seen c.args.door.now) (g.R.Link.seen c.dial.new.self) c.in-Linked.ensures.content c.in-Linked.ensures.faults) c.serve-talk.ensures.faults
+
+pub returns-in-Later-clause-faults : goal.returns-in-Later-clause-faults
+returns-in-Later-clause-faults g c = dial_rises Later (g.R.Link.seen c.args.door.now) (g.R.Link.seen c.dial.new.self) c.in-Later.ensures.content c.in-Later.ensures.faults
+
+pub returns-in-Finished-clause-faults : goal.returns-in-Finished-clause-faults
+returns-in-Finished-clause-faults g c = dial_rises Finished (g.R.Link.seen c.args.door.now) (g.R.Link.seen c.dial.new.self) c.in-Finished.ensures.content c.in-Finished.ensures.faults
+
+pub returns-in-Failed-clause-faults : goal.returns-in-Failed-clause-faults
+returns-in-Failed-clause-faults g c = dial_rises Failed (g.R.Link.seen c.args.door.now) (g.R.Link.seen c.dial.new.self) c.in-Failed.ensures.content c.in-Failed.ensures.faults

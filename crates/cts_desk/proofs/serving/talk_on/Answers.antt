@@ -1,9 +1,10 @@
 use Rattle.std.proofs.Common.{subst, sym, Bool, [], ◌∙◌, rules}
 use Rattle.cts_turn.specs.Passes.{view}
-use Rattle.cts_desk.specs.Grounds.{ground}
+use Rattle.cts_worker.specs.Grounds.{ground}
 use Rattle.cts_desk.specs.Serving.{Serving, Reads, Waits, goes_on}
-use Rattle.cts_desk.proofs.Histories.{onward_both, onward_hold}
+use Rattle.cts_worker.proofs.Onwards.{onward_then, onward_hold}
 use Rattle.cts_desk.proofs.Steps.{serving_looked, serving_halted, serving_taken}
+use Rattle.cts_desk.proofs.Faulting.{rise_then}
 use Rattle.cts_desk.proofs.serving.talk_on.Goals as goal
 
 pub returns-then-stop-clause-serves : goal.returns-then-stop-clause-serves
@@ -34,9 +35,10 @@ pub rounds-preserved : goal.rounds-preserved
 rounds-preserved g c = record {
   pass = c.looks-next.ensures.pass;
   ready = c.looks-next.ensures.ready;
-  onward = onward_both _ _ _ (onward_both _ _ _ c.rounds.invariant.onward c.answer_all-next.ensures.onward) (onward_hold c.args.by _ _ [] c.looks-next.ensures.hold);
+  onward = onward_then _ _ _ (onward_then _ _ _ c.rounds.invariant.onward c.answer_all-next.ensures.onward) (onward_hold c.args.by _ _ [] c.looks-next.ensures.hold);
   linked = c.take_piece-more.ensures.linked;
   dials = c.take_piece-more.ensures.dials ∙ c.answer_all-next.ensures.dials ∙ c.rounds.invariant.dials;
+  faults = rise_then (g.R.Link.seen c.args.door.now) (g.R.Link.seen c.answer_all-next.new.door) (g.R.Link.seen c.take_piece-more.new.door) (rise_then (g.R.Link.seen c.args.door.now) (g.R.Link.seen c.rounds.door) (g.R.Link.seen c.answer_all-next.new.door) c.rounds.invariant.faults c.answer_all-next.ensures.faults) c.take_piece-more.ensures.faults;
   open_still = c.take_piece-more.ensures.open;
   room = search rules;
   serves = λ was s.
@@ -51,3 +53,14 @@ rounds-preserved g c = record {
       (serving_taken b c.args.by was r c.take_piece-more.new.reader c.take_piece-more.result c.looks-next.result.0.fronts.items (view c.looks-next.result.0.pass) told (g.R.Link.seen c.take_piece-more.new.door).told
       (λ earlier mine e t. c.take_piece-more.ensures.takes was earlier mine (c.as_slice.ensures.value ∙ e) t) k);
 }
+
+pub returns-then-not-goes-clause-faults : goal.returns-then-not-goes-clause-faults
+returns-then-not-goes-clause-faults g c = rise_then (g.R.Link.seen c.args.door.now) (g.R.Link.seen c.rounds.door) (g.R.Link.seen c.answer_all-next.new.door) c.rounds.invariant.faults c.answer_all-next.ensures.faults
+
+pub returns-then-stop-clause-faults : goal.returns-then-stop-clause-faults
+returns-then-stop-clause-faults g c = rise_then (g.R.Link.seen c.args.door.now) (g.R.Link.seen c.rounds.door) (g.R.Link.seen c.answer_all-next.new.door) c.rounds.invariant.faults c.answer_all-next.ensures.faults
+
+pub returns-then-not-more-clause-faults : goal.returns-then-not-more-clause-faults
+returns-then-not-more-clause-faults g c = rise_then (g.R.Link.seen c.args.door.now) (g.R.Link.seen c.answer_all-next.new.door) (g.R.Link.seen c.take_piece-more.new.door)
+    (rise_then (g.R.Link.seen c.args.door.now) (g.R.Link.seen c.rounds.door) (g.R.Link.seen c.answer_all-next.new.door) c.rounds.invariant.faults c.answer_all-next.ensures.faults)
+    c.take_piece-more.ensures.faults

@@ -1,8 +1,10 @@
 use Rattle.std.proofs.Common.{◌≡◌, true, false, List, length}
 use Rattle.cts_outside.specs.Lines.{Connection}
 use Rattle.cts_turn.specs.Passes.{IsPassOf, view}
-use Rattle.cts_desk.specs.Grounds.{ground}
-use Rattle.cts_desk.specs.Holds.{IsReady, Onward}
+use Rattle.cts_desk.specs.Faults.{FaultsRise}
+use Rattle.cts_worker.specs.Grounds.{ground}
+use Rattle.cts_desk.specs.Holds.{IsReady}
+use Rattle.cts_worker.specs.Holds.{Onward}
 use Rattle.cts_desk.specs.Serving.{Serving, Reads}
 use Rattle.cts_desk.proofs.serving.talk_on.Given as goal
 
@@ -13,6 +15,7 @@ invariant-rounds g l = record {
   onward : Onward (view l.initial.talk.pass) (view l.talk.pass);
   linked : (g.R.Link.seen l.door).linked ≡ true;
   dials : (g.R.Link.seen l.door).failed_dials ≡ (g.R.Link.seen l.initial.door).failed_dials;
+  faults : FaultsRise (g.R.Link.seen l.initial.door) (g.R.Link.seen l.door);
   open_still : l.reader.closed ≡ false;
   room : length l.buffer ≡ 4096;
   serves : (was : List Connection) → Serving (ground l.turn) l.by was Reads l.initial.talk.fronts.items (view l.initial.talk.pass) l.initial.reader (g.R.Link.seen l.initial.door).told

@@ -2,16 +2,22 @@ use Rattle.std.proofs.Common.{Bool, List, ℕ, subst, sym, false}
 use Rattle.cts_turn.specs.Passes.{view}
 use Rattle.cts_entry.specs.Histories.{is_stopped}
 use Rattle.cts_desk.specs.Ending.{stops_all}
-use Rattle.cts_desk.specs.Grounds.{ground}
+use Rattle.cts_worker.specs.Grounds.{ground}
 use Rattle.cts_desk.specs.Serving.{Resting}
 use Rattle.cts_desk.specs.Told.{Ends, past_of}
-use Rattle.cts_desk.proofs.Ends.{ended_last}
-use Rattle.cts_desk.proofs.Histories.{others_last}
+use Rattle.cts_worker.proofs.Lasting.{ended_last}
+use Rattle.cts_desk.proofs.Histories.{desk_may_end, others_last}
 use Rattle.cts_desk.proofs.Steps.{resting_ends, resting_first}
 use Rattle.cts_desk.proofs.worker.DeskWorker.run.Goals as goal
 
 pub clients-talk-requires-clause-ready : goal.clients-talk-requires-clause-ready
 clients-talk-requires-clause-ready g c = record { makers = c.requires.by; desk = c.requires.desk; active = others_last c.args.by (view c.args.pass).seen c.requires.new }
+
+pub end-pass-requires-clause-by : goal.end-pass-requires-clause-by
+end-pass-requires-clause-by g c = c.clients-talk.ensures.ready.makers
+
+pub end-pass-requires-clause-may : goal.end-pass-requires-clause-may
+end-pass-requires-clause-may g c = desk_may_end (ground c.args.turn.now) c.args.by (view c.clients-talk.result.0.pass) c.clients-talk.ensures.ready
 
 pub returns-clause-ends : goal.returns-clause-ends
 returns-clause-ends g c =
