@@ -1,0 +1,28 @@
+use Rattle.std.proofs.Common.{◌∙◌, subst, take}
+use Rattle.cts_turn.specs.Passes.{view}
+use Rattle.cts_worker.proofs.Onwards.{onward_then}
+use Rattle.cts_scribe.specs.Ending.{CausesEndIf, LogsEndIf}
+use Rattle.cts_scribe.specs.Following.{GoesOrEnds}
+use Rattle.cts_scribe.proofs.following.follow.Goals as goal
+
+pub returns-in-Some-end-clause-logs : goal.returns-in-Some-end-clause-logs
+returns-in-Some-end-clause-logs g c = λ digest whole.
+    let x = c.attempt-next.result.0 in
+    let told = (g.V.Vault.seen c.attempt-next.new.vault).told in
+    subst (λ o. LogsEndIf c.args.site.now digest (take x.progress.place (view x.pass).seen) o told) c.in-Some-end.is
+    (c.attempt-next.ensures.logs digest (c.looks.invariant.logs digest whole))
+
+pub looks-preserved : goal.looks-preserved
+looks-preserved g c =
+    let e = c.attempt-next.ensures in
+    let i = c.looks.invariant in
+    let x = c.attempt-next.result.0 in
+    let told = (g.V.Vault.seen c.attempt-next.new.vault).told in
+    let none = c.in_default.is in
+    record {
+      pass = e.pass;
+      following = subst (λ o. GoesOrEnds c.args.site.now c.args.by o (view x.pass) x.progress) none e.goes;
+      onward = onward_then _ _ _ i.onward e.onward;
+      logs = λ digest whole. subst (λ o. LogsEndIf c.args.site.now digest (take x.progress.place (view x.pass).seen) o told) none (e.logs digest (i.logs digest whole));
+      faults = subst (λ o. CausesEndIf (g.V.Vault.seen c.looks.vault).faults (g.V.Vault.seen c.attempt-next.new.vault).faults o) none e.cause ∙ i.faults;
+    }

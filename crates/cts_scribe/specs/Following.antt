@@ -1,0 +1,84 @@
+-- What a scribe knows of the history that it follows, and what one look at it gives.
+use Rattle.std.specs.Prelude.{◌≡◌, ◌≢◌, ℕ, ◌<◌, ◌≤◌, Bool, true, false, List, [], ◌++◌, length, take, slice_index_or, Option, Some, None, Result, Ok, Err}
+use Rattle.cts_base.specs.declared.memory.Memory.{Memory}
+use Rattle.cts_def.specs.Sites.{SiteData}
+use Rattle.cts_entry.specs.declared.entry.Entry.{Entry}
+use Rattle.cts_entry.specs.Legal.{has_ended}
+use Rattle.cts_entry.specs.Workers.{is_worker}
+use Rattle.cts_outside.specs.declared.vault.LogKind.TheVariants.{Tlm, Cmd}
+use Rattle.cts_told.specs.Makers.{of_maker}
+use Rattle.cts_turn.specs.Lists.{has}
+use Rattle.cts_turn.specs.declared.rule.View.{View}
+use Rattle.cts_worker.specs.Lasts.{first_moment, last_entries}
+use Rattle.cts_scribe.specs.declared.ending.ScribeWhy.{ScribeWhy}
+use Rattle.cts_scribe.specs.declared.ending.ScribeWhy.TheVariants.{Drained as IsDrainedWhy, VaultFailed, NoMemory, Cancelled}
+use Rattle.cts_scribe.specs.declared.progress.Progress.{Progress}
+use Rattle.cts_scribe.specs.declared.sight.Sight.{Sight}
+use Rattle.cts_scribe.specs.declared.sight.Sight.TheVariants.{More, Still, Drained}
+use Rattle.cts_scribe.specs.Ending.{stops_all}
+use Rattle.cts_scribe.specs.Logs.{entries_log}
+
+-- of each maker it is told whether it has ended
+pub record EndedTell (ended : List Bool) (history : List Entry) : Type 0 where
+  pub long : length ended ≡ 32
+  pub tell : (m : ℕ) → m < 32 → slice_index_or ended m false ≡ has_ended m history
+
+-- a maker is no worker of the site, or this one, or has ended
+abbrev pub IsDone : SiteData → ℕ → ℕ → List Entry → Type 0
+IsDone site but m history = is_worker site m ≡ true → m ≢ but → has_ended m history ≡ true
+
+-- every worker of the site but this one has ended
+abbrev pub HaveEnded : SiteData → ℕ → List Entry → Type 0
+HaveEnded site but history = (m : ℕ) → IsDone site but m history
+
+-- so many entries were followed, and these makers have ended in them
+pub record Follows (p : Progress) (history : List Entry) : Type 0 where
+  pub within : p.place ≤ length history
+  pub ended : EndedTell p.ended (take p.place history)
+
+-- The next entries were followed, at least one, and this is what they give to the logs: each log of all that were followed is what it was of
+-- those before, and then this.
+pub record Lays (site : SiteData) (history : List Entry) (p q : Progress) (tlm cmd : List ℕ) : Type 0 where
+  pub further : p.place < q.place
+  pub follows : Follows q history
+  pub tlm_is : entries_log Tlm site (take p.place history) ++ tlm ≡ entries_log Tlm site (take q.place history)
+  pub cmd_is : entries_log Cmd site (take p.place history) ++ cmd ≡ entries_log Cmd site (take q.place history)
+
+-- All entries were followed up to this place, and every other worker has ended.
+pub record IsDrained (site : SiteData) (by place : ℕ) (history : List Entry) : Type 0 where
+  pub last : place ≡ length history
+  pub others : HaveEnded site by history
+
+-- What a look gives of the entries of a hall, and what they are after it. The scribe's Ended came to them exactly where they are drained.
+abbrev pub Sees : SiteData → ℕ → List Entry → Progress → Result Sight Memory → List Entry → Progress → Type 0
+Sees site by old p (Ok (More batch)) new q = (new ≡ old) × Lays site old p q batch.tlm.items batch.cmd.items
+Sees site by old p (Ok Still) new q = (new ≡ old) × (q ≡ p) × (IsDrained site by p.place old → ⊥)
+Sees site by old p (Ok Drained) new q = (new ≡ old ++ last_entries false by first_moment old) × (q ≡ p) × IsDrained site by p.place old
+Sees site by old p (Err m) new q = (new ≡ old) × (q ≡ p)
+
+-- A scribe between two looks: it has followed some of what its pass has seen, in which no entry is its own.
+pub record Following {G : Type 0} (by : ℕ) (v : View Entry G) (p : Progress) : Type 0 where
+  pub makers : has by v.makers ≡ true
+  pub silent : of_maker by v.seen ≡ []
+  pub follows : Follows p v.seen
+
+-- at this end the history is drained
+abbrev pub DrainsAt : SiteData → ℕ → ScribeWhy → ℕ → List Entry → Type 0
+DrainsAt site by IsDrainedWhy place history = IsDrained site by place history
+DrainsAt site by VaultFailed place history = Unit {0}
+DrainsAt site by NoMemory place history = Unit {0}
+DrainsAt site by Cancelled place history = Unit {0}
+
+-- What a scribe has seen at its end: what stood, of which it had followed the entries up to its cursor, and its last entries. These are all of its
+-- own. Where it is drained, its cursor was at the end of what stood, and every other worker had ended there.
+pub record Ends (site : SiteData) (by : ℕ) (why : ScribeWhy) (seen : List Entry) (cursor : ℕ) : Type 0 where
+  pub stood : List Entry
+  pub seen_is : seen ≡ stood ++ last_entries (stops_all why) by first_moment stood
+  pub silent : of_maker by stood ≡ []
+  pub within : cursor ≤ length stood
+  pub drained : DrainsAt site by why cursor stood
+
+-- between two looks, or at the end
+abbrev pub GoesOrEnds : {G : Type 0} → SiteData → ℕ → Option ScribeWhy → View Entry G → Progress → Type 0
+GoesOrEnds site by None v p = Following by v p
+GoesOrEnds site by (Some why) v p = Ends site by why v.seen p.place

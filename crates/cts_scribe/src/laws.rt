@@ -1,0 +1,19 @@
+//! Laws of the logs that a scribe keeps.
+
+ghost use Rattle.cts_scribe.specs.Laws.{ClosedLogsAreWhole, LogsGrow, StopsLeaveLogs};
+
+/// The log of more entries is the log, and then what those give to it.
+pub fn logs_grow()
+    ensures { LogsGrow }
+{}
+
+/// What any stop of the program or of the system leaves of a log that a scribe has appended to is a beginning of the log of the history, with all that was
+/// synced; and the reader of logs reads all entries that lie whole in it.
+pub fn stops_leave_logs()
+    ensures { StopsLeaveLogs }
+{}
+
+/// Where every worker but the scribe has ended, nothing comes to the logs any more: the logs of the closed history are those of what stood then.
+pub fn closed_logs_are_whole()
+    ensures { ClosedLogsAreWhole }
+{}

@@ -1,0 +1,19 @@
+//! The scribe: the worker that keeps the packet logs of the one history in a vault. The heads of the logs come first, and then what the history gives to
+//! them, as it grows. The rules of this crate are the project's own; the logs are those that a server of COSMOS 4 writes.
+#![tactic(auto)]
+
+mod board;
+mod ending;
+mod follower;
+mod following;
+mod holds;
+mod laws;
+mod laying;
+mod progress;
+mod putting;
+mod sight;
+mod worker;
+
+pub use ending::{ScribeEnd, ScribeWhy};
+pub use laws::{closed_logs_are_whole, logs_grow, stops_leave_logs};
+pub use worker::Scribe;
