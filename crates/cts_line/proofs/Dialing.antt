@@ -30,7 +30,7 @@ use Rattle.cts_told.proofs.Looking.{settles_told, stop_kept, unopened_more}
 use Rattle.cts_told.proofs.Others.{of_maker_append, of_maker_one, strange_own}
 use Rattle.cts_turn.specs.declared.rule.View.{View}
 use Rattle.cts_line.specs.Doing.{IsShut, OpensIn, entry_of, last_entries, stop_if}
-use Rattle.cts_line.specs.Ending.{after_closed, reconnects, unless_again, CausesEnd, FaultsRise, IsUndialed, Keeps, RoseBy, RoseIf, fails, has_closed, is_any, is_full, one_if, opened_in, refused}
+use Rattle.cts_line.specs.Ending.{after_closed, reconnects, unless_again, CausesEnd, FaultsRise, IsUndialed, Keeps, RoseBy, RoseIf, fails, has_closed, has_stop, is_any, is_full, one_if, opened_in, refused, stops_all}
 use Rattle.cts_line.specs.Holding.{Held, InHold, Onward}
 use Rattle.cts_line.specs.Talks.{Begins, IsClosed, Talks, TalksAt, ToldSoFar, Waits, Went, room_of}
 use Rattle.cts_line.specs.declared.ending.LineWhy.{LineWhy}
@@ -39,9 +39,9 @@ use Rattle.cts_line.specs.declared.opening.Opening.{Opening}
 use Rattle.cts_line.specs.declared.opening.Opening.TheVariants.{Opened, Stopped as StoppedThere, Full as NoRoom, NoMemory as NoMemoryThere}
 use Rattle.cts_line.proofs.Chaining.{anew}
 use Rattle.cts_line.proofs.Growing.{Grows, said_grown}
-use Rattle.cts_line.proofs.Keeping.{Quiet, counted_none, faults_quiet, keeps_quiet, opened_quiet, quiet_none, quiet_others}
+use Rattle.cts_line.proofs.Keeping.{Quiet, counted_none, faults_quiet, keeps_quiet, opened_quiet, quiet_none, quiet_others, stop_both, stop_opened, stop_strange}
 use Rattle.cts_line.proofs.Boarding.{quiet_stop}
-use Rattle.cts_line.proofs.Following.{filter_few, grows_by, look_grows, look_kept, look_onward, onward_by, quiet_keeps}
+use Rattle.cts_line.proofs.Following.{filter_few, grows_by, look_grows, look_kept, look_onward, look_stop, onward_by, quiet_keeps, stop_kept_by}
 use Rattle.cts_line.proofs.Steps.{opens_talk}
 
 -- ---- counts of faults
@@ -93,6 +93,9 @@ if_none end P is p = subst (λ (x : Option Why). IfNone x P) is p
 
 pub went_none : {G : Type 0} (g : Routing) (room : Capacity) (m : ℕ) (c : HeldConnection) (v : View Entry G) (told : Option Line) (end : Option Why) → end ≡ None → Went g room m c v told end → TalksAt g room m Waits c v told
 went_none g room m c v told end is t = subst (λ (x : Option Why). Went g room m c v told x) is t
+
+pub went_some : {G : Type 0} (g : Routing) (room : Capacity) (m : ℕ) (c : HeldConnection) (v : View Entry G) (told : Option Line) (end : Option Why) (why : Why) → end ≡ Some why → Went g room m c v told end → IsClosed g room m v told
+went_some g room m c v told end why is t = subst (λ (x : Option Why). Went g room m c v told x) is t
 
 pub still_on : (m : ℕ) (a b : List Entry) → Keeps m a b None → is_connected m a ≡ true → is_connected m b ≡ true
 still_on m a b k on = k.on ∙ ap (λ (x : Bool). x && true) on
@@ -197,6 +200,7 @@ stop_stands history m time = stopped-append history (entry_of m time Stop ∷ []
 pub record Refusal {G : Type 0} (base : Basis) (m : ℕ) (old new : View Entry G) (c d : HeldConnection) (why : LineWhy) : Type 0 where
   pub onward : Onward old new
   pub keeps : Keeps m old.seen new.seen None
+  pub stop : stops_all why ≡ false → has_stop m new.seen ≡ has_stop m old.seen
   pub same : d ≡ c
   pub told : (before now : Option Line) → now ≡ told_after hung_up before → Begins (site_routing base.site) (room_of base) m old.found old.seen before → ToldBy (site_routing base.site) (room_of base) m new.found new.seen now
   pub cause : (told : Option Line) (before now : ℕ) → CausesEnd base.site base.entries m new.seen told before now why
@@ -205,16 +209,18 @@ pub record Refusal {G : Type 0} (base : Basis) (m : ℕ) (old new : View Entry G
 pub record OpeningView {G : Type 0} (base : Basis) (m : ℕ) (old new : View Entry G) (c d : HeldConnection) : Type 0 where
   pub onward : Onward old new
   pub opens : Opens m old.seen new.seen
+  pub stop : has_stop m new.seen ≡ has_stop m old.seen
   pub same : IsSameChain c.chain d.chain
   pub place : d.cursor.place ≤ length new.seen
   pub talks : (told : Option Line) → Begins (site_routing base.site) (room_of base) m old.found old.seen told → TalksAt (site_routing base.site) (room_of base) m Waits d new told
 
 module _ {G : Type 0} (m : ℕ) (old new : View Entry G) (s t : Shown) (held : Held m old new s t) (c d : HeldConnection) where
-  refusal_by : (why : LineWhy) (added : List Entry) → t.entries ≡ s.entries ++ added → Quiet m added → has_own m added ≡ false → d ≡ c → is_stopped t.entries ≡ true
+  refusal_by : (why : LineWhy) (added : List Entry) → t.entries ≡ s.entries ++ added → Quiet m added → has_own m added ≡ false → (stops_all why ≡ false → has_stop m added ≡ false) → d ≡ c → is_stopped t.entries ≡ true
       → ((told : Option Line) (before now : ℕ) → CausesEnd s.basis.site s.basis.entries m t.entries told before now why) → Refusal s.basis m old new c d why
-  refusal_by why added e quiet none same stop cause = record {
+  refusal_by why added e quiet none silent same stop cause = record {
     onward = onward_by m old new s t held added e;
     keeps = quiet_keeps m old new s t held added e quiet;
+    stop = λ off. stop_kept_by m old new s t held added e (silent off);
     same = same;
     told = λ before now is begins.
         unopened_hold (site_routing s.basis.site) (room_of s.basis) m old.found old.seen added new.found new.seen (grows_by m old new s t held added e) none before now (ap is_stopped held.seen ∙ stop) is begins;
@@ -229,18 +235,18 @@ module _ {G : Type 0} (m : ℕ) (old new : View Entry G) (s t : Shown) (held : H
   refusal_of time StoppedThere why is o =
       let w : Stopped ≡ why = cc in
       subst (λ (x : LineWhy). Refusal s.basis m old new c d x) w
-      (refusal_by Stopped [] (ap (λ (x : Shown). x.entries) o.0 ∙ sym (append-nil s.entries)) (quiet_none m) refl o.1 (ap (λ (x : Shown). is_stopped x.entries) o.0 ∙ o.2)
+      (refusal_by Stopped [] (ap (λ (x : Shown). x.entries) o.0 ∙ sym (append-nil s.entries)) (quiet_none m) refl (λ off. refl) o.1 (ap (λ (x : Shown). is_stopped x.entries) o.0 ∙ o.2)
       (λ told before now. ap (λ (x : Shown). is_stopped x.entries) o.0 ∙ o.2))
   refusal_of time NoRoom why is o =
       let w : Full ≡ why = cc in
       let more = ap entries_in o.0.entries ∙ entries-append s.entries (entry_of m time Stop ∷ []) in
       let le = o.2 in
       subst (λ (x : LineWhy). Refusal s.basis m old new c d x) w
-      (refusal_by Full (entry_of m time Stop ∷ []) o.0.entries (quiet_stop true m time) (stop_own m time) o.1 (stopped_by_it time o.0) (λ told before now. inr (omega (arith, more, le))))
+      (refusal_by Full (entry_of m time Stop ∷ []) o.0.entries (quiet_stop true m time) (stop_own m time) (λ off. absurd (let f : true ≡ false = off in cc)) o.1 (stopped_by_it time o.0) (λ told before now. inr (omega (arith, more, le))))
   refusal_of time NoMemoryThere why is o =
       let w : NoMemory ≡ why = cc in
       subst (λ (x : LineWhy). Refusal s.basis m old new c d x) w
-      (refusal_by NoMemory (entry_of m time Stop ∷ []) o.0.entries (quiet_stop true m time) (stop_own m time) o.1 (stopped_by_it time o.0) (λ told before now. tt))
+      (refusal_by NoMemory (entry_of m time Stop ∷ []) o.0.entries (quiet_stop true m time) (stop_own m time) (λ off. absurd (let f : true ≡ false = off in cc)) o.1 (stopped_by_it time o.0) (λ told before now. tt))
 
   opening_of : (time : Time) (opening : Opening) → refused opening ≡ None → OpensIn m time s c opening t d → OpeningView s.basis m old new c d
   opening_of time Opened is o =
@@ -251,6 +257,7 @@ module _ {G : Type 0} (m : ℕ) (old new : View Entry G) (s t : Shown) (held : H
       record {
         onward = onward_by m old new s t held (e ∷ []) o.0.entries;
         opens = subst (λ (l : List Entry). Opens m old.seen l) (sym grows.seen) (opens_own m old.seen grows.others time (quiet_others m grows.others grows.strange));
+        stop = stop_kept_by m old new s t held (e ∷ []) o.0.entries (stop_opened m time);
         same = o.1.same;
         place = omega (arith, place);
         talks = λ told begins.
@@ -304,6 +311,9 @@ module _ {G : Type 0} (base : Basis) (m : ℕ) (old new : View Entry G) (stop : 
   pub stop_keeps : Keeps m old.seen new.seen None
   stop_keeps = look_kept base m old new as_look
 
+  pub stop_same_look : has_stop m new.seen ≡ has_stop m old.seen
+  stop_same_look = look_stop base m old new as_look
+
   pub stop_settled : (told : Option Line) → Settled (site_routing base.site) (room_of base) m old.found old.seen told → Settled (site_routing base.site) (room_of base) m new.found new.seen told
   stop_settled told t = settled_hold (site_routing base.site) (room_of base) m old.found old.seen [] new.found new.seen (look_grows base m old new as_look) refl told t
 
@@ -313,6 +323,9 @@ module _ {G : Type 0} (base : Basis) (m : ℕ) (old new : View Entry G) (stop : 
 pub so_far_none : (g : Routing) (room : Capacity) (m : ℕ) (found : List ℕ) (history : List Entry) (told : Option Line) (end : Option LineWhy) → end ≡ None → ToldSoFar g room m found history told end → Settled g room m found history told
 so_far_none g room m found history told end is t = subst (λ (x : Option LineWhy). ToldSoFar g room m found history told x) is t
 
+pub so_far_some : (g : Routing) (room : Capacity) (m : ℕ) (found : List ℕ) (history : List Entry) (told : Option Line) (end : Option LineWhy) (why : LineWhy) → end ≡ Some why → ToldSoFar g room m found history told end → ToldBy g room m found history told
+so_far_some g room m found history told end why is t = subst (λ (x : Option LineWhy). ToldSoFar g room m found history told x) is t
+
 -- ---- before the first connection and after the last one
 
 -- what the history says of a line that has appended nothing
@@ -320,6 +333,7 @@ pub record Untouched (m : ℕ) (history : List Entry) : Type 0 where
   pub shut : IsShut m history
   pub opened : opened_in m history ≡ 0
   pub faults : faults_of m history ≡ 0
+  pub stop : has_stop m history ≡ false
   pub quiet : has_own m history ≡ false
 
 pub untouched : (m : ℕ) (history : List Entry) → of_maker m history ≡ [] → Untouched m history
@@ -330,6 +344,7 @@ untouched m history none =
       shut = (k.on, k.ended);
       opened = k.opened;
       faults = k.faults;
+      stop = stop_strange m history none;
       quiet = strange_own m history none;
     }
 
@@ -413,6 +428,20 @@ module _ {G : Type 0} (base : Basis) (m : ℕ) (old new : View Entry G) (stops :
   -- the count of connections is exact, since a hall keeps no more entries
   pub last_count : (n : ℕ) → n ≡ capped (opened_in m old.seen) → length new.seen ≤ 8000065 → n ≡ opened_in m new.seen
   last_count n is few = let same = last_opened_same in let le = filter_few (opens m) new.seen in omega (arith, is, few, same, le)
+
+  -- the server is stopped by none of them, where the line does not stop it
+  pub last_stop : stops ≡ false → has_stop m old.seen ≡ false → has_stop m new.seen ≡ false
+  last_stop off none =
+      ap (has_stop m) last_is ∙ stop_both m (old.seen ++ h.3.others) (last_entries stops m time h.0.entries) (stop_both m old.seen h.3.others none (stop_strange m h.3.others h.3.strange)) (ended_alone stops off)
+    where
+      ended_alone : (b : Bool) → b ≡ false → has_stop m (last_entries b m time h.0.entries) ≡ false
+      ended_alone true e = absurd (let f : true ≡ false = e in cc)
+      ended_alone false e = ap (λ (x : Bool). (x && false) || false) (eq-eqb m m refl)
+
+-- who did not stop the server has no Stop
+pub stops_where : (a b : Bool) → (b ≡ false → a ≡ false) → a ≡ true → b ≡ true
+stops_where a true f h = refl
+stops_where a false f h = absurd (let e : true ≡ false = sym h ∙ f refl in cc)
 
 -- ---- a line that does not connect again
 

@@ -33,7 +33,7 @@ use Rattle.cts_told.specs.Routing.{Routing, is_for, posted_entries, queue, said_
 use Rattle.cts_told.specs.Told.{Said}
 use Rattle.cts_turn.specs.declared.rule.View.{View}
 use Rattle.cts_line.specs.Doing.{ClosesTaken, ClosesUnfed, IsRefused, PostsIn}
-use Rattle.cts_line.specs.Ending.{Keeps}
+use Rattle.cts_line.specs.Ending.{Keeps, has_stop}
 use Rattle.cts_line.specs.Holding.{Held, InHold, Onward}
 use Rattle.cts_line.specs.Talks.{Caught, Ends, IsClosed, Puts, Suits, Takes, Talking, Talks, TalksAt, Waits, Went, after, closed_by, room_of, stopped_by}
 use Rattle.cts_line.specs.declared.posting.Posting.{Posting}
@@ -41,7 +41,7 @@ use Rattle.cts_line.specs.declared.posting.Posting.TheVariants.{Posted, Closed a
 use Rattle.cts_line.proofs.Bodies.{packets_shown}
 use Rattle.cts_line.proofs.Closing.{Closing, closes}
 use Rattle.cts_line.proofs.Growing.{Grows}
-use Rattle.cts_line.proofs.Keeping.{Quiet, keeps_closed, keeps_quiet, packets_bytes, quiet_both, quiet_none, quiet_others, quiet_packets}
+use Rattle.cts_line.proofs.Keeping.{Quiet, keeps_closed, keeps_quiet, packets_bytes, quiet_both, quiet_none, quiet_others, quiet_packets, stop_both, stop_closed, stop_packets, stop_same, stop_strange}
 use Rattle.cts_line.proofs.Pieces.{Feeds, blames_full, blames_memory, by_memory, by_room, goes_on, last_by, last_closing, refused_closing, same_framings, takes_piece, unfed_closing}
 use Rattle.cts_line.proofs.Steps.{ends_closing, looks_not, looks_talk, stopped_talks, takes_end, takes_failed, takes_nothing, talks_map, talks_step}
 
@@ -120,6 +120,14 @@ module _ {G : Type 0} (m : ℕ) (old new : View Entry G) (s t : Shown) (held : H
   post_keeps time c d piece (ClosedPosting why) (inr k) =
       let e : why ≡ NoMemory = (let f = k.closed in cc) in
       subst (λ (w : Why). Keeps m old.seen new.seen (Some w)) (sym e) (closed_keeps time s k.mid d NoMemory 0 [] (sym (append-nil s.entries)) (quiet_none m) k.closes)
+
+  -- ---- who stopped the server
+
+  -- the line did not
+  pub stop_kept_by : (added : List Entry) → t.entries ≡ s.entries ++ added → has_stop m added ≡ false → has_stop m new.seen ≡ has_stop m old.seen
+  stop_kept_by added e none =
+      let is : new.seen ≡ old.seen ++ (held.others ++ added) = held.seen ∙ (e ∙ (ap (λ (l : List Entry). l ++ added) held.began ∙ append_assoc old.seen held.others added)) in
+      ap (has_stop m) is ∙ stop_same m old.seen (held.others ++ added) (stop_both m held.others added (stop_strange m held.others held.strange) none)
 
   -- ---- what is told
 
@@ -239,16 +247,46 @@ module _ {G : Type 0} (base : Basis) (m : ℕ) (old new : View Entry G) (c d : H
       subst (λ (b : Basis). TalksAt (site_routing b.site) (room_of b) m (Ends why) c old told → IsClosed (site_routing b.site) (room_of b) m new told) h.1.2
       (λ x. close_follows m old new h.1.0 h.1.1 h.1.3 h.0 c d why (subst (λ (b : Basis). Suits b.site m c.chain) (sym h.1.2) suits) h.1.4 told x)
 
-  pub post_onward : (piece : List ℕ) (posting : Posting) → (time : Time) × InHold base m old new (λ s t. PostsIn m time s c piece posting t d) → Onward old new
-  post_onward piece (Posted some) (time, (s, t, is, held, inl k)) = onward_by m old new s t held k.entries k.posts.1.entries
-  post_onward piece (Posted some) (time, (s, t, is, held, inr k)) = absurd (let e = k.closed in cc)
-  post_onward piece (ClosedPosting why) (time, (s, t, is, held, inr k)) = onward_by m old new s t held (closed_of m time s k.mid NoMemory 0 ∷ []) k.closes.grown.entries
-  post_onward piece (ClosedPosting why) (time, (s, t, is, held, inl k)) = by_closes k.posts
+  pub close_stop : (why : Why) → (time : Time) × InHold base m old new (λ s t. Closes m time s c why 0 t d) → has_stop m new.seen ≡ has_stop m old.seen
+  close_stop why h =
+      stop_kept_by m old new h.1.0 h.1.1 h.1.3 (closed_of m h.0 h.1.0 c why 0 ∷ []) h.1.4.grown.entries
+      (stop_closed m h.0 why (loss_in c.chain.stages) 0 (waiting h.1.0.basis.site m h.1.0.entries c.cursor))
+
+  -- what a hold appended that was to post a piece: no Stop
+  record PostingAdds (s t : Shown) : Type 0 where
+    added : List Entry
+    entries : t.entries ≡ s.entries ++ added
+    none : has_stop m added ≡ false
+
+  adds_closed : (time : Time) (s h t : Shown) (k : HeldConnection) (why : Why) (unposted : ℕ) (entries : List Entry) → h.entries ≡ s.entries ++ entries → has_stop m entries ≡ false → Closes m time h k why unposted t d → PostingAdds s t
+  adds_closed time s h t k why unposted entries e none closes = record {
+    added = entries ++ closed_of m time h k why unposted ∷ [];
+    entries = closes.grown.entries ∙ (ap (λ (l : List Entry). l ++ closed_of m time h k why unposted ∷ []) e ∙ append_assoc s.entries entries (closed_of m time h k why unposted ∷ []));
+    none = stop_both m entries (closed_of m time h k why unposted ∷ []) none (stop_closed m time why (loss_in k.chain.stages) unposted (waiting h.basis.site m h.entries k.cursor));
+  }
+
+  adds_of : (piece : List ℕ) (posting : Posting) (time : Time) (s t : Shown) → PostsIn m time s c piece posting t d → PostingAdds s t
+  adds_of piece (Posted some) time s t (inl k) = record {
+    added = k.entries;
+    entries = k.posts.1.entries;
+    none = subst (λ (es : List Entry). has_stop m es ≡ false) (sym k.takes.entries_are) (stop_packets (site_routing s.basis.site) s.entries time m k.takes.packets);
+  }
+  adds_of piece (Posted some) time s t (inr k) = absurd (let e = k.closed in cc)
+  adds_of piece (ClosedPosting why) time s t (inr k) = adds_closed time s s t k.mid NoMemory 0 [] (sym (append-nil s.entries)) refl k.closes
+  adds_of piece (ClosedPosting why) time s t (inl k) = by_closes k.posts
     where
-      by_closes : ClosesTaken m time s k.mid k.entries k.unposted k.failed why t d → Onward old new
-      by_closes (inl p) = onward_by m old new s t held (k.entries ++ closed_of m time p.3.0 k.mid why p.0.unposted ∷ [])
-          (p.3.2.grown.entries ∙ (ap (λ (l : List Entry). l ++ closed_of m time p.3.0 k.mid why p.0.unposted ∷ []) p.3.1.entries ∙ append_assoc s.entries k.entries (closed_of m time p.3.0 k.mid why p.0.unposted ∷ [])))
-      by_closes (inr p) = onward_by m old new s t held (closed_of m time s k.mid why (capped (k.unposted + length k.entries)) ∷ []) p.1.grown.entries
+      no_stop : has_stop m k.entries ≡ false
+      no_stop = subst (λ (es : List Entry). has_stop m es ≡ false) (sym k.takes.entries_are) (stop_packets (site_routing s.basis.site) s.entries time m k.takes.packets)
+
+      by_closes : ClosesTaken m time s k.mid k.entries k.unposted k.failed why t d → PostingAdds s t
+      by_closes (inl p) = adds_closed time s p.3.0 t k.mid why p.0.unposted k.entries p.3.1.entries no_stop p.3.2
+      by_closes (inr p) = adds_closed time s s t k.mid why (capped (k.unposted + length k.entries)) [] (sym (append-nil s.entries)) refl p.1
+
+  pub post_onward : (piece : List ℕ) (posting : Posting) → (time : Time) × InHold base m old new (λ s t. PostsIn m time s c piece posting t d) → Onward old new
+  post_onward piece posting h = let a = adds_of piece posting h.0 h.1.0 h.1.1 h.1.4 in onward_by m old new h.1.0 h.1.1 h.1.3 a.added a.entries
+
+  pub post_stop : (piece : List ℕ) (posting : Posting) → (time : Time) × InHold base m old new (λ s t. PostsIn m time s c piece posting t d) → has_stop m new.seen ≡ has_stop m old.seen
+  post_stop piece posting h = let a = adds_of piece posting h.0 h.1.0 h.1.1 h.1.4 in stop_kept_by m old new h.1.0 h.1.1 h.1.3 a.added a.entries a.none
 
   pub post_kept : (piece : List ℕ) (posting : Posting) → (time : Time) × InHold base m old new (λ s t. PostsIn m time s c piece posting t d) → Keeps m old.seen new.seen (closed_by posting)
   post_kept piece posting h = post_keeps m old new h.1.0 h.1.1 h.1.3 h.0 c d piece posting h.1.4
@@ -289,6 +327,9 @@ module _ {G : Type 0} (base : Basis) (m : ℕ) (old new : View Entry G) (h : InH
 
   pub look_kept : Keeps m old.seen new.seen None
   look_kept = quiet_keeps m old new h.0 h.1 h.3 [] same_entries (quiet_none m)
+
+  pub look_stop : has_stop m new.seen ≡ has_stop m old.seen
+  look_stop = stop_kept_by m old new h.0 h.1 h.3 [] same_entries refl
 
   pub look_grows : Grows m old.found old.seen [] new.found new.seen
   look_grows = grows_by m old new h.0 h.1 h.3 [] same_entries

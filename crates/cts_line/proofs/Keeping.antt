@@ -11,10 +11,10 @@ use Rattle.cts_def.specs.declared.loss.Loss.{Loss}
 use Rattle.cts_def.specs.declared.time.Time.{Time}
 use Rattle.cts_entry.specs.declared.entry.Entry.{Entry}
 use Rattle.cts_entry.specs.declared.what.What.{What}
-use Rattle.cts_entry.specs.declared.what.What.TheVariants.{Packet, Closed, Command, Unrouted}
+use Rattle.cts_entry.specs.declared.what.What.TheVariants.{Opened, Packet, Closed, Command, Unrouted}
 use Rattle.cts_entry.specs.declared.what.NotSent.TheVariants.{NotConnected as NoConnection}
 use Rattle.cts_entry.specs.declared.why.Why.{Why}
-use Rattle.cts_entry.specs.Histories.{bytes_for, bytes_in, bytes_of, connects_maker, is_connected, latest, opens, or_earlier}
+use Rattle.cts_entry.specs.Histories.{bytes_for, bytes_in, bytes_of, connects_maker, is_connected, is_stop, latest, opens, or_earlier}
 use Rattle.cts_entry.specs.Legal.{has_ended, is_ended}
 use Rattle.cts_entry.proofs.Appending.{connected-append, latest-append}
 use Rattle.cts_entry.proofs.Queuing.{none_connected, none_opened}
@@ -24,7 +24,7 @@ use Rattle.cts_told.specs.Routing.{Routing, posted_entries, routed_as, said_of, 
 use Rattle.cts_told.proofs.Others.{strange_own}
 use Rattle.cts_told.proofs.Stretches.{filter_none}
 use Rattle.cts_told.proofs.Walks.{packets_connect, packets_open}
-use Rattle.cts_line.specs.Ending.{Keeps, has_closed, one_if, opened_in}
+use Rattle.cts_line.specs.Ending.{Keeps, has_closed, has_stop, one_if, opened_in}
 
 -- ---- what packets say
 
@@ -33,21 +33,22 @@ record SaysPacket (what : What) (bytes : List ℕ) : Type 0 where
   ended : is_ended what ≡ false
   closes : (test : Why → Bool) → closes_for test what ≡ false
   bytes_are : bytes_of what ≡ bytes
+  stops : is_stop what ≡ false
 
 sent_if : (b : Bool) (interface command : ℕ) (bytes : List ℕ) → SaysPacket (if b then Command interface command bytes else Unrouted NoConnection bytes) bytes
-sent_if true interface command bytes = record { ended = refl; closes = λ test. refl; bytes_are = refl }
-sent_if false interface command bytes = record { ended = refl; closes = λ test. refl; bytes_are = refl }
+sent_if true interface command bytes = record { ended = refl; closes = λ test. refl; bytes_are = refl; stops = refl }
+sent_if false interface command bytes = record { ended = refl; closes = λ test. refl; bytes_are = refl; stops = refl }
 
 sent : (history : List Entry) (to : Option ℕ) (command : ℕ) (bytes : List ℕ) → SaysPacket (sent_on history to command bytes) bytes
-sent history None command bytes = record { ended = refl; closes = λ test. refl; bytes_are = refl }
+sent history None command bytes = record { ended = refl; closes = λ test. refl; bytes_are = refl; stops = refl }
 sent history (Some interface) command bytes = sent_if (is_connected interface history) interface command bytes
 
 routed : (g : Routing) (history : List Entry) (ident : Ident) (bytes : List ℕ) → SaysPacket (routed_as g history ident bytes) bytes
 routed g history (Known command) bytes = sent history (g.interface_of command) command bytes
-routed g history Unknown bytes = record { ended = refl; closes = λ test. refl; bytes_are = refl }
+routed g history Unknown bytes = record { ended = refl; closes = λ test. refl; bytes_are = refl; stops = refl }
 
 said_if : (b : Bool) (g : Routing) (history : List Entry) (ident : Ident) (bytes : List ℕ) → SaysPacket (if b then Packet ident bytes else routed_as g history ident bytes) bytes
-said_if true g history ident bytes = record { ended = refl; closes = λ test. refl; bytes_are = refl }
+said_if true g history ident bytes = record { ended = refl; closes = λ test. refl; bytes_are = refl; stops = refl }
 said_if false g history ident bytes = routed g history ident bytes
 
 says_packet : (g : Routing) (history : List Entry) (m : ℕ) (o : Output) → SaysPacket (said_of g history m o) o.bytes
@@ -152,6 +153,26 @@ ended_quiet m history es q = list_any-append (λ (e : Entry). (e.by == m) && is_
 
 pub connected_quiet : (m : ℕ) (history es : List Entry) → Quiet m es → is_connected m (history ++ es) ≡ is_connected m history
 connected_quiet m history es q = connected-append m history es ∙ ap (λ (t : Option Bool). unwrap_or (or_earlier t (latest (connects_maker m) history)) false) q.connects
+
+-- ---- who stopped the server
+
+pub stop_strange : (m : ℕ) (es : List Entry) → of_maker m es ≡ [] → has_stop m es ≡ false
+stop_strange m es none = strange_kind m is_stop es none
+
+pub stop_packets : (g : Routing) (history : List Entry) (now : Time) (m : ℕ) (outs : List Output) → has_stop m (posted_entries g history now m outs) ≡ false
+stop_packets g history now m outs = packets_none is_stop g history now m m outs (λ o. (says_packet g history m o).stops)
+
+pub stop_closed : (m : ℕ) (time : Time) (why : Why) (loss : Loss) (unposted unsent : ℕ) → has_stop m (record { by = m; time = time; what = Closed why loss unposted unsent } ∷ []) ≡ false
+stop_closed m time why loss unposted unsent = ap (λ (b : Bool). (b && false) || false) (eq-eqb m m refl)
+
+pub stop_opened : (m : ℕ) (time : Time) → has_stop m (record { by = m; time = time; what = Opened } ∷ []) ≡ false
+stop_opened m time = ap (λ (b : Bool). (b && false) || false) (eq-eqb m m refl)
+
+pub stop_both : (m : ℕ) (xs ys : List Entry) → has_stop m xs ≡ false → has_stop m ys ≡ false → has_stop m (xs ++ ys) ≡ false
+stop_both m xs ys a b = list_any-append (λ (e : Entry). (e.by == m) && is_stop e.what) xs ys ∙ or_none _ _ a b
+
+pub stop_same : (m : ℕ) (history es : List Entry) → has_stop m es ≡ false → has_stop m (history ++ es) ≡ has_stop m history
+stop_same m history es none = list_any-append (λ (e : Entry). (e.by == m) && is_stop e.what) history es ∙ (ap (λ (b : Bool). has_stop m history || b) none ∙ or_false (has_stop m history))
 
 -- ---- what is kept
 

@@ -10,3 +10,4 @@ pub mod Holdings
 pub mod Boarding
 pub mod Chaining
 pub mod Dialing
+pub mod Telling

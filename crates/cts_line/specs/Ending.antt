@@ -6,7 +6,7 @@ use Rattle.cts_def.specs.declared.time.Time.{Time}
 use Rattle.cts_entry.specs.declared.entry.Entry.{Entry}
 use Rattle.cts_entry.specs.declared.why.Why.{Why}
 use Rattle.cts_entry.specs.declared.why.Why.TheVariants.{PeerEnded, ReadFault, WriteFault, BadFrame, Stopped as StoppedWhy, NoMemory as NoMemoryWhy, Full as FullWhy}
-use Rattle.cts_entry.specs.Histories.{entries_in, is_connected, is_stopped, opens}
+use Rattle.cts_entry.specs.Histories.{entries_in, is_connected, is_stop, is_stopped, opens}
 use Rattle.cts_entry.specs.Legal.{has_ended}
 use Rattle.cts_entry.specs.Workers.{is_interface}
 use Rattle.cts_outside.specs.Causes.{Rose}
@@ -50,6 +50,10 @@ one_if false = 0
 -- a connection of a maker was closed for a reason that passes a test
 abbrev pub has_closed : ℕ → (Why → Bool) → List Entry → Bool
 has_closed m test history = list_any (λ e. e.by == m && closes_for test e.what) history
+
+-- a maker has stopped the server
+abbrev pub has_stop : ℕ → List Entry → Bool
+has_stop m history = list_any (λ e. e.by == m && is_stop e.what) history
 
 -- What some holds of a line leave of what the history says of it: it has opened no connection and has not ended, and if it has closed its
 -- connection, then for this reason.
@@ -123,6 +127,11 @@ stops_all DoorFailed = true
 stops_all Full = true
 stops_all NoMemory = true
 stops_all Cancelled = true
+
+-- the same of a line that may go on
+abbrev pub stops_then : Option LineWhy → Bool
+stops_then None = false
+stops_then (Some why) = stops_all why
 
 -- a dialer tells no connection so far
 abbrev pub IsUndialed : Option Line → Type 0

@@ -2,4 +2,5 @@ pub mod Holding
 pub mod Doing
 pub mod Talks
 pub mod Putting
+pub mod Telling
 pub mod Ending

@@ -1,10 +1,11 @@
 // A look, and the puts of what it saw.
-ghost use Rattle.std.specs.Prelude.{◌≡◌, ◌≤◌, length, true, IfSome, None};
+ghost use Rattle.std.specs.Prelude.{◌≡◌, ◌≤◌, ℕ, length, true, IfSome, None};
 ghost use Rattle.cts_entry.specs.Legal.{StopsAfter};
 ghost use Rattle.cts_turn.specs.Lists.{has};
 ghost use Rattle.cts_turn.specs.Passes.{IsPassOf, basis_of, view};
 ghost use Rattle.cts_connection.specs.Routings.{site_routing};
-ghost use Rattle.cts_line.specs.Ending.{Keeps, RoseIf, fails};
+ghost use Rattle.cts_line.specs.Ending.{Keeps, RoseIf, fails, has_stop};
+ghost use Rattle.cts_line.specs.Telling.{Retells, since};
 ghost use Rattle.cts_line.specs.Holding.{Onward};
 ghost use Rattle.cts_line.specs.Talks.{Suits, TalksAt, Takes, Waits, after, room_of, stopped_by};
 
@@ -43,7 +44,6 @@ pub(crate) fn catch_up<R: Wait, C: Framer, D: Dialer>(
     requires linked { (D.seen dialer.old).linked ≡ true }
     requires place { connection.old.cursor.place ≤ length (view pass).seen }
     requires suits { Suits (basis_of ⟦<Hall as Stands>⟧.basis turn.now).site by connection.old.chain }
-    requires talks { TalksAt (site_routing (basis_of ⟦<Hall as Stands>⟧.basis turn.now).site) (room_of (basis_of ⟦<Hall as Stands>⟧.basis turn.now)) by Waits connection.old (view pass) (D.seen dialer.old).told }
     ensures pass { IsPassOf turn.now result.0 }
     ensures onward { Onward (view pass) (view result.0) }
     ensures keeps { Keeps by (view pass).seen (view result.0).seen None }
@@ -53,7 +53,10 @@ pub(crate) fn catch_up<R: Wait, C: Framer, D: Dialer>(
     ensures stops { IfSome result.1 (λ why. StopsAfter (view result.0).seen why) }
     ensures cause { RoseIf (fails result.1) (D.seen dialer.old).faults (D.seen dialer.new).faults }
     ensures dials { (D.seen dialer.new).failed_dials ≡ (D.seen dialer.old).failed_dials }
-    ensures talks { TalksAt (site_routing (basis_of ⟦<Hall as Stands>⟧.basis turn.now).site) (room_of (basis_of ⟦<Hall as Stands>⟧.basis turn.now)) by (after Takes result.1) connection.new (view result.0) (D.seen dialer.new).told }
+    ensures stop { has_stop by (view result.0).seen ≡ has_stop by (view pass).seen }
+    ensures retells { Retells (D.seen dialer.old).told (D.seen dialer.new).told }
+    ensures talks { (k : ℕ) → TalksAt (site_routing (basis_of ⟦<Hall as Stands>⟧.basis turn.now).site) (room_of (basis_of ⟦<Hall as Stands>⟧.basis turn.now)) by Waits connection.old (view pass) (since k (D.seen dialer.old).told)
+        → TalksAt (site_routing (basis_of ⟦<Hall as Stands>⟧.basis turn.now).site) (room_of (basis_of ⟦<Hall as Stands>⟧.basis turn.now)) by (after Takes result.1) connection.new (view result.0) (since k (D.seen dialer.new).told) }
 {
     let (pass, sight) = look(rt, alloc, turn, pass, by, connection);
     match sight {

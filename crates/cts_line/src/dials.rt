@@ -1,5 +1,5 @@
 // One connection of a line after another.
-ghost use Rattle.std.specs.Prelude.{◌≡◌, ◌≤◌, ◌<◌, ◌+◌, None, length, true, false, IfSome};
+ghost use Rattle.std.specs.Prelude.{◌≡◌, ◌≤◌, ◌<◌, ◌+◌, ℕ, None, length, true, false, IfSome};
 ghost use Rattle.cts_chain.specs.Shapes.{IsSameChain};
 ghost use Rattle.cts_frame.specs.Packets.{capped};
 ghost use Rattle.cts_turn.specs.Lists.{has};
@@ -9,11 +9,13 @@ ghost use Rattle.cts_connection.specs.Routings.{site_routing};
 ghost use Rattle.cts_entry.specs.Workers.{is_interface};
 ghost use Rattle.cts_told.specs.Told.{Settled, ToldBy};
 ghost use Rattle.cts_line.specs.Doing.{IsShut};
-ghost use Rattle.cts_line.specs.Ending.{CausesEnd, FaultsRise, after_closed, after_failed, opened_in, reconnects, refused};
+ghost use Rattle.cts_line.specs.Ending.{CausesEnd, FaultsRise, after_closed, after_failed, has_stop, opened_in, reconnects, refused, stops_all, stops_then};
+ghost use Rattle.cts_line.specs.Telling.{Has, Retells, since};
 ghost use Rattle.cts_line.specs.Holding.{Onward};
 ghost use Rattle.cts_line.specs.Talks.{Begins, Suits, ToldSoFar, room_of};
 
 use crate::ending::LineWhy;
+use crate::hand::AtHand;
 use crate::holds;
 use crate::opening::Opening;
 use crate::rounds::talk;
@@ -22,8 +24,7 @@ use cts_def::Site;
 use cts_entry::{Stands, Why};
 use cts_outside::{Clock, Dialed, Dialer, Gate, GateStage};
 use cts_table::Hall;
-use cts_turn::{Pass, Turn};
-use std::alloc::Global;
+use cts_turn::Pass;
 use std::sync::Wait;
 
 fn is_interface(site: &Site, by: u32) -> bool
@@ -80,175 +81,135 @@ fn after_failed(site: &Site, by: u32) -> Option<LineWhy>
 
 // Serves the connection that stands, and hangs up. Says why the line has to end then, if it has to.
 fn serve<R: Wait, C: Framer, D: Dialer, K: Clock, G: Gate>(
-    rt: &R,
-    alloc: Global,
-    site: &Site,
-    by: u32,
-    turn: &Turn<Hall>,
+    hand: &AtHand<R, K, G>,
     pass: Pass<Hall>,
     connection: &mut Connection<C>,
     dialer: &mut D,
-    clock: &K,
-    gate: &G,
     buffer: &mut [u8],
     connections: &mut u64,
 ) -> (Pass<Hall>, Option<LineWhy>)
-    requires pass { IsPassOf turn.now pass }
-    requires by { has by (view pass).makers ≡ true }
-    requires site { site.now ≡ (basis_of ⟦<Hall as Stands>⟧.basis turn.now).site }
-    requires line { is_line (basis_of ⟦<Hall as Stands>⟧.basis turn.now).site by ≡ true }
+    requires pass { IsPassOf hand.now.turn.now pass }
+    requires by { has hand.now.by (view pass).makers ≡ true }
+    requires site { hand.now.site.now ≡ (basis_of ⟦<Hall as Stands>⟧.basis hand.now.turn.now).site }
+    requires line { is_line (basis_of ⟦<Hall as Stands>⟧.basis hand.now.turn.now).site hand.now.by ≡ true }
     requires room { 0 < length buffer.old }
-    requires suits { Suits (basis_of ⟦<Hall as Stands>⟧.basis turn.now).site by connection.old.chain }
-    requires shut { IsShut by (view pass).seen }
-    requires count { connections.old ≡ capped (opened_in by (view pass).seen) }
+    requires suits { Suits (basis_of ⟦<Hall as Stands>⟧.basis hand.now.turn.now).site hand.now.by connection.old.chain }
+    requires shut { IsShut hand.now.by (view pass).seen }
+    requires count { connections.old ≡ capped (opened_in hand.now.by (view pass).seen) }
     requires linked { (D.seen dialer.old).linked ≡ true }
-    requires begins { Begins (site_routing (basis_of ⟦<Hall as Stands>⟧.basis turn.now).site) (room_of (basis_of ⟦<Hall as Stands>⟧.basis turn.now)) by (view pass).found (view pass).seen (D.seen dialer.old).told }
-    ensures pass { IsPassOf turn.now result.0 }
+    ensures pass { IsPassOf hand.now.turn.now result.0 }
     ensures onward { Onward (view pass) (view result.0) }
     ensures idle { (D.seen dialer.new).linked ≡ false }
     ensures room { length buffer.new ≡ length buffer.old }
     ensures same { IsSameChain connection.old.chain connection.new.chain }
-    ensures shut { IsShut by (view result.0).seen }
-    ensures count { connections.new ≡ capped (opened_in by (view result.0).seen) }
-    ensures faults { FaultsRise by (view pass).seen (view result.0).seen (D.seen dialer.old).faults (D.seen dialer.new).faults }
+    ensures shut { IsShut hand.now.by (view result.0).seen }
+    ensures count { connections.new ≡ capped (opened_in hand.now.by (view result.0).seen) }
+    ensures faults { FaultsRise hand.now.by (view pass).seen (view result.0).seen (D.seen dialer.old).faults (D.seen dialer.new).faults }
+    ensures retells { Retells (D.seen dialer.old).told (D.seen dialer.new).told }
+    ensures stop { stops_then result.1 ≡ false → has_stop hand.now.by (view result.0).seen ≡ has_stop hand.now.by (view pass).seen }
     ensures dials { (D.seen dialer.new).failed_dials ≡ (D.seen dialer.old).failed_dials }
-    ensures again { result.1 ≡ None → reconnects site.now by ≡ true }
-    ensures few { opened_in by (view result.0).seen ≤ opened_in by (view pass).seen + 1 }
-    ensures told { ToldSoFar (site_routing (basis_of ⟦<Hall as Stands>⟧.basis turn.now).site) (room_of (basis_of ⟦<Hall as Stands>⟧.basis turn.now)) by (view result.0).found (view result.0).seen (D.seen dialer.new).told result.1 }
-    ensures cause { IfSome result.1 (λ why. CausesEnd (basis_of ⟦<Hall as Stands>⟧.basis turn.now).site (basis_of ⟦<Hall as Stands>⟧.basis turn.now).entries by (view result.0).seen (D.seen dialer.new).told (D.seen dialer.old).failed_dials (D.seen dialer.new).failed_dials why) }
+    ensures again { result.1 ≡ None → reconnects hand.now.site.now hand.now.by ≡ true }
+    ensures few { opened_in hand.now.by (view result.0).seen ≤ opened_in hand.now.by (view pass).seen + 1 }
+    ensures told { (k : ℕ) → Has k (D.seen dialer.old).told → Begins (site_routing (basis_of ⟦<Hall as Stands>⟧.basis hand.now.turn.now).site) (room_of (basis_of ⟦<Hall as Stands>⟧.basis hand.now.turn.now)) hand.now.by (view pass).found (view pass).seen (since k (D.seen dialer.old).told)
+        → ToldSoFar (site_routing (basis_of ⟦<Hall as Stands>⟧.basis hand.now.turn.now).site) (room_of (basis_of ⟦<Hall as Stands>⟧.basis hand.now.turn.now)) hand.now.by (view result.0).found (view result.0).seen (since k (D.seen dialer.new).told) result.1 }
+    ensures cause { IfSome result.1 (λ why. CausesEnd (basis_of ⟦<Hall as Stands>⟧.basis hand.now.turn.now).site (basis_of ⟦<Hall as Stands>⟧.basis hand.now.turn.now).entries hand.now.by (view result.0).seen (D.seen dialer.new).told (D.seen dialer.old).failed_dials (D.seen dialer.new).failed_dials why) }
 {
-    let (pass, opening) = holds::open(rt, turn, pass, by, clock, connection);
+    let (pass, opening) = holds::open(hand.rt, hand.turn, pass, hand.by, hand.clock, connection);
     if let Some(why) = refused(opening) {
         dialer.hang_up();
         return (pass, Some(why));
     }
     *connections = connections.saturating_add(1);
-    gate.pass(rt, by, GateStage::Posted);
-    let (pass, why) = talk(
-        rt, alloc, turn, pass, by, connection, dialer, clock, gate, buffer,
-    );
+    hand.gate.pass(hand.rt, hand.by, GateStage::Posted);
+    let (pass, why) = talk(hand, pass, connection, dialer, buffer);
     dialer.hang_up();
-    (pass, after_closed(site, by, why))
+    (pass, after_closed(hand.site, hand.by, why))
 }
 
 // Dials, and serves the connection that is made. Says why the line has to end then, if it has to.
 fn attempt<R: Wait, C: Framer, D: Dialer, K: Clock, G: Gate>(
-    rt: &R,
-    alloc: Global,
-    site: &Site,
-    by: u32,
-    turn: &Turn<Hall>,
+    hand: &AtHand<R, K, G>,
     pass: Pass<Hall>,
     connection: &mut Connection<C>,
     dialer: &mut D,
-    clock: &K,
-    gate: &G,
     buffer: &mut [u8],
     connections: &mut u64,
 ) -> (Pass<Hall>, Option<LineWhy>)
-    requires pass { IsPassOf turn.now pass }
-    requires by { has by (view pass).makers ≡ true }
-    requires site { site.now ≡ (basis_of ⟦<Hall as Stands>⟧.basis turn.now).site }
-    requires line { is_line (basis_of ⟦<Hall as Stands>⟧.basis turn.now).site by ≡ true }
+    requires pass { IsPassOf hand.now.turn.now pass }
+    requires by { has hand.now.by (view pass).makers ≡ true }
+    requires site { hand.now.site.now ≡ (basis_of ⟦<Hall as Stands>⟧.basis hand.now.turn.now).site }
+    requires line { is_line (basis_of ⟦<Hall as Stands>⟧.basis hand.now.turn.now).site hand.now.by ≡ true }
     requires room { 0 < length buffer.old }
-    requires suits { Suits (basis_of ⟦<Hall as Stands>⟧.basis turn.now).site by connection.old.chain }
-    requires shut { IsShut by (view pass).seen }
-    requires count { connections.old ≡ capped (opened_in by (view pass).seen) }
+    requires suits { Suits (basis_of ⟦<Hall as Stands>⟧.basis hand.now.turn.now).site hand.now.by connection.old.chain }
+    requires shut { IsShut hand.now.by (view pass).seen }
+    requires count { connections.old ≡ capped (opened_in hand.now.by (view pass).seen) }
     requires idle { (D.seen dialer.old).linked ≡ false }
-    requires settled { Settled (site_routing (basis_of ⟦<Hall as Stands>⟧.basis turn.now).site) (room_of (basis_of ⟦<Hall as Stands>⟧.basis turn.now)) by (view pass).found (view pass).seen (D.seen dialer.old).told }
-    ensures pass { IsPassOf turn.now result.0 }
+    ensures pass { IsPassOf hand.now.turn.now result.0 }
     ensures onward { Onward (view pass) (view result.0) }
     ensures idle { (D.seen dialer.new).linked ≡ false }
     ensures room { length buffer.new ≡ length buffer.old }
     ensures same { IsSameChain connection.old.chain connection.new.chain }
-    ensures shut { IsShut by (view result.0).seen }
-    ensures count { connections.new ≡ capped (opened_in by (view result.0).seen) }
-    ensures faults { FaultsRise by (view pass).seen (view result.0).seen (D.seen dialer.old).faults (D.seen dialer.new).faults }
+    ensures shut { IsShut hand.now.by (view result.0).seen }
+    ensures count { connections.new ≡ capped (opened_in hand.now.by (view result.0).seen) }
+    ensures faults { FaultsRise hand.now.by (view pass).seen (view result.0).seen (D.seen dialer.old).faults (D.seen dialer.new).faults }
+    ensures retells { Retells (D.seen dialer.old).told (D.seen dialer.new).told }
+    ensures stop { stops_then result.1 ≡ false → has_stop hand.now.by (view result.0).seen ≡ has_stop hand.now.by (view pass).seen }
     ensures dials { (D.seen dialer.old).failed_dials ≤ (D.seen dialer.new).failed_dials }
-    ensures again { reconnects site.now by ≡ false → result.1 ≡ None → opened_in by (view result.0).seen ≡ opened_in by (view pass).seen }
-    ensures few { opened_in by (view result.0).seen ≤ opened_in by (view pass).seen + 1 }
-    ensures told { ToldSoFar (site_routing (basis_of ⟦<Hall as Stands>⟧.basis turn.now).site) (room_of (basis_of ⟦<Hall as Stands>⟧.basis turn.now)) by (view result.0).found (view result.0).seen (D.seen dialer.new).told result.1 }
-    ensures cause { IfSome result.1 (λ why. CausesEnd (basis_of ⟦<Hall as Stands>⟧.basis turn.now).site (basis_of ⟦<Hall as Stands>⟧.basis turn.now).entries by (view result.0).seen (D.seen dialer.new).told (D.seen dialer.old).failed_dials (D.seen dialer.new).failed_dials why) }
+    ensures again { reconnects hand.now.site.now hand.now.by ≡ false → result.1 ≡ None → opened_in hand.now.by (view result.0).seen ≡ opened_in hand.now.by (view pass).seen }
+    ensures few { opened_in hand.now.by (view result.0).seen ≤ opened_in hand.now.by (view pass).seen + 1 }
+    ensures told { (k : ℕ) → Has k (D.seen dialer.old).told → Settled (site_routing (basis_of ⟦<Hall as Stands>⟧.basis hand.now.turn.now).site) (room_of (basis_of ⟦<Hall as Stands>⟧.basis hand.now.turn.now)) hand.now.by (view pass).found (view pass).seen (since k (D.seen dialer.old).told)
+        → ToldSoFar (site_routing (basis_of ⟦<Hall as Stands>⟧.basis hand.now.turn.now).site) (room_of (basis_of ⟦<Hall as Stands>⟧.basis hand.now.turn.now)) hand.now.by (view result.0).found (view result.0).seen (since k (D.seen dialer.new).told) result.1 }
+    ensures cause { IfSome result.1 (λ why. CausesEnd (basis_of ⟦<Hall as Stands>⟧.basis hand.now.turn.now).site (basis_of ⟦<Hall as Stands>⟧.basis hand.now.turn.now).entries hand.now.by (view result.0).seen (D.seen dialer.new).told (D.seen dialer.old).failed_dials (D.seen dialer.new).failed_dials why) }
 {
     match dialer.dial() {
-        Dialed::Linked => serve(
-            rt,
-            alloc,
-            site,
-            by,
-            turn,
-            pass,
-            connection,
-            dialer,
-            clock,
-            gate,
-            buffer,
-            connections,
-        ),
+        Dialed::Linked => serve(hand, pass, connection, dialer, buffer, connections),
         Dialed::Later => (pass, None),
         Dialed::Finished => (pass, Some(LineWhy::Finished)),
-        Dialed::Failed => (pass, after_failed(site, by)),
+        Dialed::Failed => (pass, after_failed(hand.site, hand.by)),
     }
 }
 
 /// Makes one connection after another, until the line ends, and says why.
 pub(crate) fn connect<R: Wait, C: Framer, D: Dialer, K: Clock, G: Gate>(
-    rt: &R,
-    alloc: Global,
-    site: &Site,
-    by: u32,
-    turn: &Turn<Hall>,
+    hand: &AtHand<R, K, G>,
     mut pass: Pass<Hall>,
     connection: &mut Connection<C>,
     dialer: &mut D,
-    clock: &K,
-    gate: &G,
     buffer: &mut [u8],
     connections: &mut u64,
 ) -> (Pass<Hall>, LineWhy)
-    requires pass { IsPassOf turn.now pass }
-    requires by { has by (view pass).makers ≡ true }
-    requires site { site.now ≡ (basis_of ⟦<Hall as Stands>⟧.basis turn.now).site }
-    requires line { is_line (basis_of ⟦<Hall as Stands>⟧.basis turn.now).site by ≡ true }
+    requires pass { IsPassOf hand.now.turn.now pass }
+    requires by { has hand.now.by (view pass).makers ≡ true }
+    requires site { hand.now.site.now ≡ (basis_of ⟦<Hall as Stands>⟧.basis hand.now.turn.now).site }
+    requires line { is_line (basis_of ⟦<Hall as Stands>⟧.basis hand.now.turn.now).site hand.now.by ≡ true }
     requires room { 0 < length buffer.old }
-    requires suits { Suits (basis_of ⟦<Hall as Stands>⟧.basis turn.now).site by connection.old.chain }
-    requires shut { IsShut by (view pass).seen }
-    requires count { connections.old ≡ capped (opened_in by (view pass).seen) }
+    requires suits { Suits (basis_of ⟦<Hall as Stands>⟧.basis hand.now.turn.now).site hand.now.by connection.old.chain }
+    requires shut { IsShut hand.now.by (view pass).seen }
+    requires count { connections.old ≡ capped (opened_in hand.now.by (view pass).seen) }
     requires idle { (D.seen dialer.old).linked ≡ false }
-    requires settled { Settled (site_routing (basis_of ⟦<Hall as Stands>⟧.basis turn.now).site) (room_of (basis_of ⟦<Hall as Stands>⟧.basis turn.now)) by (view pass).found (view pass).seen (D.seen dialer.old).told }
-    ensures pass { IsPassOf turn.now result.0 }
+    ensures pass { IsPassOf hand.now.turn.now result.0 }
     ensures onward { Onward (view pass) (view result.0) }
     ensures idle { (D.seen dialer.new).linked ≡ false }
     ensures room { length buffer.new ≡ length buffer.old }
     ensures same { IsSameChain connection.old.chain connection.new.chain }
-    ensures shut { IsShut by (view result.0).seen }
-    ensures count { connections.new ≡ capped (opened_in by (view result.0).seen) }
-    ensures faults { FaultsRise by (view pass).seen (view result.0).seen (D.seen dialer.old).faults (D.seen dialer.new).faults }
+    ensures shut { IsShut hand.now.by (view result.0).seen }
+    ensures count { connections.new ≡ capped (opened_in hand.now.by (view result.0).seen) }
+    ensures faults { FaultsRise hand.now.by (view pass).seen (view result.0).seen (D.seen dialer.old).faults (D.seen dialer.new).faults }
+    ensures retells { Retells (D.seen dialer.old).told (D.seen dialer.new).told }
+    ensures stop { stops_all result.1 ≡ false → has_stop hand.now.by (view result.0).seen ≡ has_stop hand.now.by (view pass).seen }
     ensures dials { (D.seen dialer.old).failed_dials ≤ (D.seen dialer.new).failed_dials }
-    ensures once { reconnects site.now by ≡ false → opened_in by (view result.0).seen ≤ opened_in by (view pass).seen + 1 }
-    ensures told { ToldBy (site_routing (basis_of ⟦<Hall as Stands>⟧.basis turn.now).site) (room_of (basis_of ⟦<Hall as Stands>⟧.basis turn.now)) by (view result.0).found (view result.0).seen (D.seen dialer.new).told }
-    ensures cause { CausesEnd (basis_of ⟦<Hall as Stands>⟧.basis turn.now).site (basis_of ⟦<Hall as Stands>⟧.basis turn.now).entries by (view result.0).seen (D.seen dialer.new).told (D.seen dialer.old).failed_dials (D.seen dialer.new).failed_dials result.1 }
+    ensures once { reconnects hand.now.site.now hand.now.by ≡ false → opened_in hand.now.by (view result.0).seen ≤ opened_in hand.now.by (view pass).seen + 1 }
+    ensures told { (k : ℕ) → Has k (D.seen dialer.old).told → Settled (site_routing (basis_of ⟦<Hall as Stands>⟧.basis hand.now.turn.now).site) (room_of (basis_of ⟦<Hall as Stands>⟧.basis hand.now.turn.now)) hand.now.by (view pass).found (view pass).seen (since k (D.seen dialer.old).told)
+        → ToldBy (site_routing (basis_of ⟦<Hall as Stands>⟧.basis hand.now.turn.now).site) (room_of (basis_of ⟦<Hall as Stands>⟧.basis hand.now.turn.now)) hand.now.by (view result.0).found (view result.0).seen (since k (D.seen dialer.new).told) }
+    ensures cause { CausesEnd (basis_of ⟦<Hall as Stands>⟧.basis hand.now.turn.now).site (basis_of ⟦<Hall as Stands>⟧.basis hand.now.turn.now).entries hand.now.by (view result.0).seen (D.seen dialer.new).told (D.seen dialer.old).failed_dials (D.seen dialer.new).failed_dials result.1 }
 {
-    'dials: for _ in rt.forever() {
-        let (next, stop) = holds::sees_stop(rt, turn, pass, by);
+    'dials: for _ in hand.rt.forever() {
+        let (next, stop) = holds::sees_stop(hand.rt, hand.turn, pass, hand.by);
         pass = next;
         if stop {
             return (pass, LineWhy::Stopped);
         }
-        let (next, end) = attempt(
-            rt,
-            alloc,
-            site,
-            by,
-            turn,
-            pass,
-            connection,
-            dialer,
-            clock,
-            gate,
-            buffer,
-            connections,
-        );
+        let (next, end) = attempt(hand, pass, connection, dialer, buffer, connections);
         pass = next;
         if let Some(why) = end {
             return (pass, why);

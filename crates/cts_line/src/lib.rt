@@ -6,6 +6,7 @@ mod board;
 mod catching;
 mod dials;
 mod ending;
+mod hand;
 mod holds;
 mod opening;
 mod posting;

@@ -1,13 +1,13 @@
 // Puts of what the last look saw.
 ghost use Rattle.std.specs.Prelude.{◌≡◌, ◌≤◌, ◌+◌, ℕ, List, length, true};
 ghost use Rattle.cts_entry.specs.declared.entry.Entry.{Entry};
-ghost use Rattle.cts_outside.specs.Lines.{Line};
 ghost use Rattle.cts_proto.specs.Meaning.{Meaning};
 ghost use Rattle.cts_told.specs.Lines.{Capacity};
 ghost use Rattle.cts_told.specs.Routing.{Routing};
 ghost use Rattle.cts_line.specs.Ending.{RoseIf, fails};
 ghost use Rattle.cts_line.specs.Putting.{PutCause, PutsOne, is_write};
 ghost use Rattle.cts_line.specs.Talks.{Talks, after, Caught, Puts};
+ghost use Rattle.cts_line.specs.Telling.{Retells, since};
 
 use cts_base::Bytes;
 use cts_entry::Why;
@@ -52,9 +52,10 @@ pub(crate) fn put_all<D: Dialer>(
     ensures write { is_write result.1 ≡ true }
     ensures cause { RoseIf (fails result.1) (D.seen dialer.old).faults (D.seen dialer.new).faults }
     ensures dials { (D.seen dialer.new).failed_dials ≡ (D.seen dialer.old).failed_dials }
-    ensures talks { (g : Routing) (room : Capacity) (m place unsent : ℕ) (stages : List Meaning) (found : List ℕ) (history : List Entry)
-        → Talks g room m (Puts spellings.now) stages place unsent found history (D.seen dialer.old).told
-        → Talks g room m (after Caught result.1) stages place (unsent + result.0) found history (D.seen dialer.new).told }
+    ensures retells { Retells (D.seen dialer.old).told (D.seen dialer.new).told }
+    ensures talks { (g : Routing) (room : Capacity) (m place unsent : ℕ) (stages : List Meaning) (found : List ℕ) (history : List Entry) (k : ℕ)
+        → Talks g room m (Puts spellings.now) stages place unsent found history (since k (D.seen dialer.old).told)
+        → Talks g room m (after Caught result.1) stages place (unsent + result.0) found history (since k (D.seen dialer.new).told) }
 {
     let mut left = spellings;
     let mut unsent = 0;

@@ -1,5 +1,5 @@
 // The worker of a line.
-ghost use Rattle.std.specs.Prelude.{◌≡◌, ◌≤◌, List, [], length, true, false, IfOk};
+ghost use Rattle.std.specs.Prelude.{◌≡◌, ◌≤◌, ℕ, List, [], length, true, false, IfOk};
 ghost use Rattle.cts_chain.specs.Builds.{IsFresh};
 ghost use Rattle.cts_entry.specs.declared.entry.Entry.{Entry};
 ghost use Rattle.cts_entry.specs.Histories.{is_stopped};
@@ -9,16 +9,19 @@ ghost use Rattle.cts_turn.specs.Lists.{has, StartsWith};
 ghost use Rattle.cts_turn.specs.Passes.{IsPassOf, basis_of, view};
 ghost use Rattle.cts_connection.specs.LinePlaces.{is_line};
 ghost use Rattle.cts_connection.specs.Routings.{site_routing};
+ghost use Rattle.cts_outside.specs.Lines.{hung_up, told_after};
 ghost use Rattle.cts_told.specs.Makers.{LastEnded, faults_of, of_maker};
 ghost use Rattle.cts_told.specs.Told.{ToldBy};
 ghost use Rattle.cts_line.specs.declared.ending.LineWhy.TheVariants.{Cancelled};
 ghost use Rattle.cts_line.specs.Doing.{IsShut, last_entries};
-ghost use Rattle.cts_line.specs.Ending.{CausesEnd, FaultsRise, IsUndialed, RoseBy, first_moment, opened_in, reconnects, stops_all};
+ghost use Rattle.cts_line.specs.Ending.{CausesEnd, IsUndialed, RoseBy, first_moment, has_stop, opened_in, reconnects, stops_all};
+ghost use Rattle.cts_line.specs.Telling.{Has, Retells, made_by, since};
 ghost use Rattle.cts_line.specs.Holding.{Onward};
 ghost use Rattle.cts_line.specs.Talks.{room_of};
 
 use crate::dials::connect;
 use crate::ending::{LineEnd, LineWhy};
+use crate::hand::AtHand;
 use crate::holds;
 use cts_base::Memory;
 use cts_connection::{Connection, Framer};
@@ -60,34 +63,33 @@ impl LineWorker {
         requires site { site.now ≡ (basis_of ⟦<Hall as Stands>⟧.basis turn.now).site }
         requires line { is_line site.now by ≡ true }
         requires chain { IsFresh (uses_at site.now by) (C.shape chain) }
-        requires idle { (D.seen dialer.old).linked ≡ false }
-        requires undialed { IsUndialed (D.seen dialer.old).told }
         ensures pass { IsPassOf turn.now result.pass }
         ensures onward { Onward (view pass) (view result.pass) }
-        ensures told { ToldBy (site_routing site.now) (room_of (basis_of ⟦<Hall as Stands>⟧.basis turn.now)) by (view result.pass).found (view result.pass).seen (D.seen dialer.new).told }
+        ensures told { ToldBy (site_routing site.now) (room_of (basis_of ⟦<Hall as Stands>⟧.basis turn.now)) by (view result.pass).found (view result.pass).seen (since (made_by (D.seen dialer.old).told) (D.seen dialer.new).told) }
+        ensures retells { Retells (told_after hung_up (D.seen dialer.old).told) (D.seen dialer.new).told }
         ensures ended { LastEnded by (view result.pass).seen }
         ensures connections { result.connections ≡ opened_in by (view result.pass).seen }
         ensures once { reconnects site.now by ≡ false → result.connections ≤ 1 }
         ensures cause { CausesEnd site.now (basis_of ⟦<Hall as Stands>⟧.basis turn.now).entries by (view result.pass).seen (D.seen dialer.new).told (D.seen dialer.old).failed_dials (D.seen dialer.new).failed_dials result.why }
         ensures stops { stops_all result.why ≡ true → is_stopped (view result.pass).seen ≡ true }
+        ensures own_stop { has_stop by (view result.pass).seen ≡ true → stops_all result.why ≡ true }
         ensures faults { RoseBy (faults_of by (view result.pass).seen) (D.seen dialer.old).faults (D.seen dialer.new).faults }
+        ensures dials { (D.seen dialer.old).failed_dials ≤ (D.seen dialer.new).failed_dials }
         ensures idle { (D.seen dialer.new).linked ≡ false }
     {
         gate.pass(rt, by, GateStage::Started);
-        let mut connections = 0;
-        let (pass, why) = work(
+        dialer.hang_up();
+        let hand = AtHand {
             rt,
             alloc,
             site,
             by,
             turn,
-            pass,
-            dialer,
-            chain,
             clock,
             gate,
-            &mut connections,
-        );
+        };
+        let mut connections = 0;
+        let (pass, why) = work(&hand, pass, dialer, chain, &mut connections);
         let pass = holds::end(rt, turn, pass, by, holds::time_of(clock), stops_all(why));
         gate.pass(rt, by, GateStage::Posted);
         LineEnd {
@@ -142,52 +144,43 @@ fn buffer_of(alloc: Global) -> Result<Vec<u8>, Memory>
 
 // Makes the connections of a line, if there is memory for what is taken from them.
 fn work<R: Wait, C: Framer, D: Dialer, K: Clock, G: Gate>(
-    rt: &R,
-    alloc: Global,
-    site: &Site,
-    by: u32,
-    turn: &Turn<Hall>,
+    hand: &AtHand<R, K, G>,
     pass: Pass<Hall>,
     dialer: &mut D,
     chain: C,
-    clock: &K,
-    gate: &G,
     connections: &mut u64,
 ) -> (Pass<Hall>, LineWhy)
-    requires pass { IsPassOf turn.now pass }
-    requires by { has by (view pass).makers ≡ true }
-    requires new { of_maker by (view pass).seen ≡ [] }
-    requires site { site.now ≡ (basis_of ⟦<Hall as Stands>⟧.basis turn.now).site }
-    requires line { is_line site.now by ≡ true }
-    requires chain { IsFresh (uses_at site.now by) (C.shape chain) }
+    requires pass { IsPassOf hand.now.turn.now pass }
+    requires by { has hand.now.by (view pass).makers ≡ true }
+    requires new { of_maker hand.now.by (view pass).seen ≡ [] }
+    requires site { hand.now.site.now ≡ (basis_of ⟦<Hall as Stands>⟧.basis hand.now.turn.now).site }
+    requires line { is_line hand.now.site.now hand.now.by ≡ true }
+    requires chain { IsFresh (uses_at hand.now.site.now hand.now.by) (C.shape chain) }
     requires idle { (D.seen dialer.old).linked ≡ false }
-    requires undialed { IsUndialed (D.seen dialer.old).told }
     requires none { connections.old ≡ 0 }
-    ensures pass { IsPassOf turn.now result.0 }
+    ensures pass { IsPassOf hand.now.turn.now result.0 }
     ensures onward { Onward (view pass) (view result.0) }
     ensures idle { (D.seen dialer.new).linked ≡ false }
-    ensures shut { IsShut by (view result.0).seen }
-    ensures count { connections.new ≡ capped (opened_in by (view result.0).seen) }
-    ensures faults { RoseBy (faults_of by (view result.0).seen) (D.seen dialer.old).faults (D.seen dialer.new).faults }
-    ensures once { reconnects site.now by ≡ false → opened_in by (view result.0).seen ≤ 1 }
-    ensures told { ToldBy (site_routing site.now) (room_of (basis_of ⟦<Hall as Stands>⟧.basis turn.now)) by (view result.0).found (view result.0).seen (D.seen dialer.new).told }
-    ensures cause { CausesEnd site.now (basis_of ⟦<Hall as Stands>⟧.basis turn.now).entries by (view result.0).seen (D.seen dialer.new).told (D.seen dialer.old).failed_dials (D.seen dialer.new).failed_dials result.1 }
+    ensures shut { IsShut hand.now.by (view result.0).seen }
+    ensures count { connections.new ≡ capped (opened_in hand.now.by (view result.0).seen) }
+    ensures faults { RoseBy (faults_of hand.now.by (view result.0).seen) (D.seen dialer.old).faults (D.seen dialer.new).faults }
+    ensures dials { (D.seen dialer.old).failed_dials ≤ (D.seen dialer.new).failed_dials }
+    ensures retells { Retells (D.seen dialer.old).told (D.seen dialer.new).told }
+    ensures stop { stops_all result.1 ≡ false → has_stop hand.now.by (view result.0).seen ≡ false }
+    ensures once { reconnects hand.now.site.now hand.now.by ≡ false → opened_in hand.now.by (view result.0).seen ≤ 1 }
+    ensures told { (k : ℕ) → Has k (D.seen dialer.old).told → IsUndialed (since k (D.seen dialer.old).told)
+        → ToldBy (site_routing hand.now.site.now) (room_of (basis_of ⟦<Hall as Stands>⟧.basis hand.now.turn.now)) hand.now.by (view result.0).found (view result.0).seen (since k (D.seen dialer.new).told) }
+    ensures cause { CausesEnd hand.now.site.now (basis_of ⟦<Hall as Stands>⟧.basis hand.now.turn.now).entries hand.now.by (view result.0).seen (D.seen dialer.new).told (D.seen dialer.old).failed_dials (D.seen dialer.new).failed_dials result.1 }
 {
-    let Ok(mut buffer) = buffer_of(alloc) else {
+    let Ok(mut buffer) = buffer_of(hand.alloc) else {
         return (pass, LineWhy::NoMemory);
     };
     let mut connection = Connection::of(chain);
     connect(
-        rt,
-        alloc,
-        site,
-        by,
-        turn,
+        hand,
         pass,
         &mut connection,
         dialer,
-        clock,
-        gate,
         &mut buffer,
         connections,
     )

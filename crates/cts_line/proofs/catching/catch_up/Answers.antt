@@ -7,7 +7,8 @@ use Rattle.cts_entry.specs.Histories.{is_stopped}
 use Rattle.cts_told.specs.Routing.{queue}
 use Rattle.cts_table.specs.contracts.hall.HallStands.TheImpl.{ghosts as hall}
 use Rattle.cts_turn.specs.Passes.{basis_of, view}
-use Rattle.cts_line.proofs.Following.{at_ok, caught_up, look_kept, look_long, looked_not, spellings_few}
+use Rattle.cts_line.proofs.Following.{at_ok, caught_up, look_kept, look_long, look_stop, looked_not, spellings_few}
+use Rattle.cts_line.proofs.Telling.{retells_same}
 use Rattle.cts_line.proofs.catching.catch_up.Goals as goal
 
 pub pass-requires : goal.pass-requires
@@ -35,12 +36,25 @@ returns-in-Ok-clause-talks g c =
     let there = at_ok (λ s. s.place ≡ length v.seen) c.in-Ok.is c.look-pass.ensures.place in
     let saw = at_ok (λ s. s.spellings.items ≡ map (spell_by site (writers k.chain)) (queue (site_routing site) c.args.by (entries_ahead k v.seen))) c.in-Ok.is c.look-pass.ensures.spellings in
     let stands = at_ok (λ s. s.stop ≡ is_stopped v.seen) c.in-Ok.is c.look-pass.ensures.stop in
+    λ n told.
     let talks = caught_up base c.args.by (view c.args.pass) v c.look-pass.ensures.hold k c.in-Ok.sight.spellings.items c.deref.result.now c.in-Ok.sight.place c.put_all-unsent.result.0 c.put_all-unsent.result.1 c.in-Ok.sight.stop _ _ c.requires.suits
-    saw there stands c.deref.ensures.value (λ t. c.put_all-unsent.ensures.talks _ _ c.args.by c.in-Ok.sight.place k.cursor.refused k.chain.stages v.found v.seen t) c.requires.talks in
+    saw there stands c.deref.ensures.value (λ t. c.put_all-unsent.ensures.talks _ _ c.args.by c.in-Ok.sight.place k.cursor.refused k.chain.stages v.found v.seen n t) told in
     rw (c.stopped.ensures, c.pass.ensures) talks
 
 pub returns-in-Err-clause-keeps : goal.returns-in-Err-clause-keeps
 returns-in-Err-clause-keeps g c = look_kept _ c.args.by (view c.args.pass) (view c.look-pass.result.0) c.look-pass.ensures.hold
 
 pub returns-in-Err-clause-talks : goal.returns-in-Err-clause-talks
-returns-in-Err-clause-talks g c = looked_not _ c.args.by (view c.args.pass) (view c.look-pass.result.0) c.look-pass.ensures.hold c.args.connection.now _ c.requires.talks
+returns-in-Err-clause-talks g c = λ n told. looked_not _ c.args.by (view c.args.pass) (view c.look-pass.result.0) c.look-pass.ensures.hold c.args.connection.now _ told
+
+pub returns-in-Ok-clause-stop : goal.returns-in-Ok-clause-stop
+returns-in-Ok-clause-stop g c = look_stop _ c.args.by (view c.args.pass) (view c.look-pass.result.0) c.look-pass.ensures.hold
+
+pub returns-in-Err-clause-stop : goal.returns-in-Err-clause-stop
+returns-in-Err-clause-stop g c = look_stop _ c.args.by (view c.args.pass) (view c.look-pass.result.0) c.look-pass.ensures.hold
+
+pub returns-in-Ok-clause-retells : goal.returns-in-Ok-clause-retells
+returns-in-Ok-clause-retells g c = c.put_all-unsent.ensures.retells
+
+pub returns-in-Err-clause-retells : goal.returns-in-Err-clause-retells
+returns-in-Err-clause-retells g c = retells_same _

@@ -5,79 +5,95 @@ use Rattle.cts_connection.specs.Routings.{site_routing}
 use Rattle.cts_line.specs.Talks.{room_of}
 use Rattle.cts_line.proofs.Chaining.{suits_same}
 use Rattle.cts_line.proofs.Dialing.{again_of, count_closed, count_kept, faults_closed, faults_none, hangs_up, onward_then, opening_is, refusal, shut_closed, shut_kept, so_far}
+use Rattle.cts_line.proofs.Telling.{retells_has, retells_hung, retells_then, since_hung}
 use Rattle.cts_line.proofs.dials.serve.Goals as goal
 
 pub returns-in-Some-clause-shut : goal.returns-in-Some-clause-shut
 returns-in-Some-clause-shut g c =
-    let r = refusal (basis_of hall.basis c.args.turn.now) c.args.by (view c.args.pass) (view c.open-pass.result.0) c.args.connection.now c.open-pass.new.connection c.open-pass.result.1 c.open-pass.ensures.hold c.in-Some.why (sym c.refused.ensures ∙ c.in-Some.is) in
-    shut_kept c.args.by (view c.args.pass).seen (view c.open-pass.result.0).seen r.keeps c.requires.shut
+    let r = refusal (basis_of hall.basis c.args.hand.now.turn.now) c.args.hand.now.by (view c.args.pass) (view c.open-pass.result.0) c.args.connection.now c.open-pass.new.connection c.open-pass.result.1 c.open-pass.ensures.hold c.in-Some.why (sym c.refused.ensures ∙ c.in-Some.is) in
+    shut_kept c.args.hand.now.by (view c.args.pass).seen (view c.open-pass.result.0).seen r.keeps c.requires.shut
 
 pub returns-in-Some-clause-count : goal.returns-in-Some-clause-count
 returns-in-Some-clause-count g c =
-    let r = refusal (basis_of hall.basis c.args.turn.now) c.args.by (view c.args.pass) (view c.open-pass.result.0) c.args.connection.now c.open-pass.new.connection c.open-pass.result.1 c.open-pass.ensures.hold c.in-Some.why (sym c.refused.ensures ∙ c.in-Some.is) in
-    count_kept c.args.by (view c.args.pass).seen (view c.open-pass.result.0).seen c.args.connections.now r.keeps c.requires.count
+    let r = refusal (basis_of hall.basis c.args.hand.now.turn.now) c.args.hand.now.by (view c.args.pass) (view c.open-pass.result.0) c.args.connection.now c.open-pass.new.connection c.open-pass.result.1 c.open-pass.ensures.hold c.in-Some.why (sym c.refused.ensures ∙ c.in-Some.is) in
+    count_kept c.args.hand.now.by (view c.args.pass).seen (view c.open-pass.result.0).seen c.args.connections.now r.keeps c.requires.count
 
 pub returns-in-Some-clause-faults : goal.returns-in-Some-clause-faults
 returns-in-Some-clause-faults g c =
-    let r = refusal (basis_of hall.basis c.args.turn.now) c.args.by (view c.args.pass) (view c.open-pass.result.0) c.args.connection.now c.open-pass.new.connection c.open-pass.result.1 c.open-pass.ensures.hold c.in-Some.why (sym c.refused.ensures ∙ c.in-Some.is) in
-    faults_none c.args.by (view c.args.pass).seen (view c.open-pass.result.0).seen _ _ r.keeps c.hang_up.ensures.faults
+    let r = refusal (basis_of hall.basis c.args.hand.now.turn.now) c.args.hand.now.by (view c.args.pass) (view c.open-pass.result.0) c.args.connection.now c.open-pass.new.connection c.open-pass.result.1 c.open-pass.ensures.hold c.in-Some.why (sym c.refused.ensures ∙ c.in-Some.is) in
+    faults_none c.args.hand.now.by (view c.args.pass).seen (view c.open-pass.result.0).seen _ _ r.keeps c.hang_up.ensures.faults
 
 pub returns-in-Some-clause-told : goal.returns-in-Some-clause-told
 returns-in-Some-clause-told g c =
-    let r = refusal (basis_of hall.basis c.args.turn.now) c.args.by (view c.args.pass) (view c.open-pass.result.0) c.args.connection.now c.open-pass.new.connection c.open-pass.result.1 c.open-pass.ensures.hold c.in-Some.why (sym c.refused.ensures ∙ c.in-Some.is) in
-    r.told _ _ c.hang_up.ensures.content c.requires.begins
+    let r = refusal (basis_of hall.basis c.args.hand.now.turn.now) c.args.hand.now.by (view c.args.pass) (view c.open-pass.result.0) c.args.connection.now c.open-pass.new.connection c.open-pass.result.1 c.open-pass.ensures.hold c.in-Some.why (sym c.refused.ensures ∙ c.in-Some.is) in
+    λ k has b. r.told _ _ (since_hung k _ _ has c.hang_up.ensures.content) b
 
 pub talk-pass-requires-clause-on : goal.talk-pass-requires-clause-on
 talk-pass-requires-clause-on g c =
-    (opening_is (basis_of hall.basis c.args.turn.now) c.args.by (view c.args.pass) (view c.open-pass.result.0) c.args.connection.now c.open-pass.new.connection c.open-pass.result.1 c.open-pass.ensures.hold (sym c.refused.ensures ∙ c.in_default.is)).opens.on
+    (opening_is (basis_of hall.basis c.args.hand.now.turn.now) c.args.hand.now.by (view c.args.pass) (view c.open-pass.result.0) c.args.connection.now c.open-pass.new.connection c.open-pass.result.1 c.open-pass.ensures.hold (sym c.refused.ensures ∙ c.in_default.is)).opens.on
 
 pub talk-pass-requires-clause-suits : goal.talk-pass-requires-clause-suits
 talk-pass-requires-clause-suits g c =
-    let o = opening_is (basis_of hall.basis c.args.turn.now) c.args.by (view c.args.pass) (view c.open-pass.result.0) c.args.connection.now c.open-pass.new.connection c.open-pass.result.1 c.open-pass.ensures.hold (sym c.refused.ensures ∙ c.in_default.is) in
-    suits_same _ c.args.by c.args.connection.now.chain c.open-pass.new.connection.chain o.same c.requires.suits
-
-pub talk-pass-requires-clause-talks : goal.talk-pass-requires-clause-talks
-talk-pass-requires-clause-talks g c =
-    (opening_is (basis_of hall.basis c.args.turn.now) c.args.by (view c.args.pass) (view c.open-pass.result.0) c.args.connection.now c.open-pass.new.connection c.open-pass.result.1 c.open-pass.ensures.hold (sym c.refused.ensures ∙ c.in_default.is)).talks _ c.requires.begins
+    let o = opening_is (basis_of hall.basis c.args.hand.now.turn.now) c.args.hand.now.by (view c.args.pass) (view c.open-pass.result.0) c.args.connection.now c.open-pass.new.connection c.open-pass.result.1 c.open-pass.ensures.hold (sym c.refused.ensures ∙ c.in_default.is) in
+    suits_same _ c.args.hand.now.by c.args.connection.now.chain c.open-pass.new.connection.chain o.same c.requires.suits
 
 pub returns-clause-onward : goal.returns-clause-onward
 returns-clause-onward g c =
-    let o = opening_is (basis_of hall.basis c.args.turn.now) c.args.by (view c.args.pass) (view c.open-pass.result.0) c.args.connection.now c.open-pass.new.connection c.open-pass.result.1 c.open-pass.ensures.hold (sym c.refused.ensures ∙ c.in_default.is) in
+    let o = opening_is (basis_of hall.basis c.args.hand.now.turn.now) c.args.hand.now.by (view c.args.pass) (view c.open-pass.result.0) c.args.connection.now c.open-pass.new.connection c.open-pass.result.1 c.open-pass.ensures.hold (sym c.refused.ensures ∙ c.in_default.is) in
     onward_then (view c.args.pass) (view c.open-pass.result.0) (view c.talk-pass.result.0) o.onward c.talk-pass.ensures.onward
 
 pub returns-clause-shut : goal.returns-clause-shut
 returns-clause-shut g c =
-    let o = opening_is (basis_of hall.basis c.args.turn.now) c.args.by (view c.args.pass) (view c.open-pass.result.0) c.args.connection.now c.open-pass.new.connection c.open-pass.result.1 c.open-pass.ensures.hold (sym c.refused.ensures ∙ c.in_default.is) in
-    shut_closed c.args.by (view c.args.pass).seen (view c.open-pass.result.0).seen (view c.talk-pass.result.0).seen c.talk-pass.result.1 o.opens c.talk-pass.ensures.keeps c.requires.shut
+    let o = opening_is (basis_of hall.basis c.args.hand.now.turn.now) c.args.hand.now.by (view c.args.pass) (view c.open-pass.result.0) c.args.connection.now c.open-pass.new.connection c.open-pass.result.1 c.open-pass.ensures.hold (sym c.refused.ensures ∙ c.in_default.is) in
+    shut_closed c.args.hand.now.by (view c.args.pass).seen (view c.open-pass.result.0).seen (view c.talk-pass.result.0).seen c.talk-pass.result.1 o.opens c.talk-pass.ensures.keeps c.requires.shut
 
 pub returns-clause-count : goal.returns-clause-count
 returns-clause-count g c =
-    let o = opening_is (basis_of hall.basis c.args.turn.now) c.args.by (view c.args.pass) (view c.open-pass.result.0) c.args.connection.now c.open-pass.new.connection c.open-pass.result.1 c.open-pass.ensures.hold (sym c.refused.ensures ∙ c.in_default.is) in
-    count_closed c.args.by (view c.args.pass).seen (view c.open-pass.result.0).seen (view c.talk-pass.result.0).seen c.talk-pass.result.1 c.args.connections.now c.saturating_add.result o.opens c.talk-pass.ensures.keeps c.requires.count c.saturating_add.ensures
+    let o = opening_is (basis_of hall.basis c.args.hand.now.turn.now) c.args.hand.now.by (view c.args.pass) (view c.open-pass.result.0) c.args.connection.now c.open-pass.new.connection c.open-pass.result.1 c.open-pass.ensures.hold (sym c.refused.ensures ∙ c.in_default.is) in
+    count_closed c.args.hand.now.by (view c.args.pass).seen (view c.open-pass.result.0).seen (view c.talk-pass.result.0).seen c.talk-pass.result.1 c.args.connections.now c.saturating_add.result o.opens c.talk-pass.ensures.keeps c.requires.count c.saturating_add.ensures
 
 pub returns-clause-faults : goal.returns-clause-faults
 returns-clause-faults g c =
-    let o = opening_is (basis_of hall.basis c.args.turn.now) c.args.by (view c.args.pass) (view c.open-pass.result.0) c.args.connection.now c.open-pass.new.connection c.open-pass.result.1 c.open-pass.ensures.hold (sym c.refused.ensures ∙ c.in_default.is) in
-    faults_closed c.args.by (view c.args.pass).seen (view c.open-pass.result.0).seen (view c.talk-pass.result.0).seen c.talk-pass.result.1 _ _ _ o.opens c.talk-pass.ensures.keeps c.talk-pass.ensures.cause c.hang_up-2.ensures.faults
+    let o = opening_is (basis_of hall.basis c.args.hand.now.turn.now) c.args.hand.now.by (view c.args.pass) (view c.open-pass.result.0) c.args.connection.now c.open-pass.new.connection c.open-pass.result.1 c.open-pass.ensures.hold (sym c.refused.ensures ∙ c.in_default.is) in
+    faults_closed c.args.hand.now.by (view c.args.pass).seen (view c.open-pass.result.0).seen (view c.talk-pass.result.0).seen c.talk-pass.result.1 _ _ _ o.opens c.talk-pass.ensures.keeps c.talk-pass.ensures.cause c.hang_up-2.ensures.faults
 
 pub returns-clause-told : goal.returns-clause-told
 returns-clause-told g c =
-    let base = basis_of hall.basis c.args.turn.now in
+    let base = basis_of hall.basis c.args.hand.now.turn.now in
     let v = view c.talk-pass.result.0 in
-    so_far (site_routing base.site) (room_of base) c.args.by v.found v.seen _ _ (hangs_up (site_routing base.site) (room_of base) c.args.by v _ _ c.hang_up-2.ensures.content c.talk-pass.ensures.closed)
+    let o = opening_is base c.args.hand.now.by (view c.args.pass) (view c.open-pass.result.0) c.args.connection.now c.open-pass.new.connection c.open-pass.result.1 c.open-pass.ensures.hold (sym c.refused.ensures ∙ c.in_default.is) in
+    λ k has b.
+    so_far (site_routing base.site) (room_of base) c.args.hand.now.by v.found v.seen _ _
+    (hangs_up (site_routing base.site) (room_of base) c.args.hand.now.by v _ _ (since_hung k _ _ (retells_has k _ _ c.talk-pass.ensures.retells has) c.hang_up-2.ensures.content) (c.talk-pass.ensures.closed k (o.talks _ b)))
 
 pub returns-in-Some-clause-few : goal.returns-in-Some-clause-few
 returns-in-Some-clause-few g c =
-    let r = refusal (basis_of hall.basis c.args.turn.now) c.args.by (view c.args.pass) (view c.open-pass.result.0) c.args.connection.now c.open-pass.new.connection c.open-pass.result.1 c.open-pass.ensures.hold c.in-Some.why (sym c.refused.ensures ∙ c.in-Some.is) in
+    let r = refusal (basis_of hall.basis c.args.hand.now.turn.now) c.args.hand.now.by (view c.args.pass) (view c.open-pass.result.0) c.args.connection.now c.open-pass.new.connection c.open-pass.result.1 c.open-pass.ensures.hold c.in-Some.why (sym c.refused.ensures ∙ c.in-Some.is) in
     let k = r.keeps.opened in
     omega (arith, k)
 
 pub returns-clause-again : goal.returns-clause-again
-returns-clause-again g c = λ none. again_of c.args.site.now c.args.by c.talk-pass.result.1 (sym c.after_closed.ensures ∙ none)
+returns-clause-again g c = λ none. again_of c.args.hand.now.site.now c.args.hand.now.by c.talk-pass.result.1 (sym c.after_closed.ensures ∙ none)
 
 pub returns-clause-few : goal.returns-clause-few
 returns-clause-few g c =
-    let o = opening_is (basis_of hall.basis c.args.turn.now) c.args.by (view c.args.pass) (view c.open-pass.result.0) c.args.connection.now c.open-pass.new.connection c.open-pass.result.1 c.open-pass.ensures.hold (sym c.refused.ensures ∙ c.in_default.is) in
+    let o = opening_is (basis_of hall.basis c.args.hand.now.turn.now) c.args.hand.now.by (view c.args.pass) (view c.open-pass.result.0) c.args.connection.now c.open-pass.new.connection c.open-pass.result.1 c.open-pass.ensures.hold (sym c.refused.ensures ∙ c.in_default.is) in
     let k = o.opens.opened in
     let l = c.talk-pass.ensures.keeps.opened in
     omega (arith, k, l)
+
+pub returns-in-Some-clause-stop : goal.returns-in-Some-clause-stop
+returns-in-Some-clause-stop g c =
+    let r = refusal (basis_of hall.basis c.args.hand.now.turn.now) c.args.hand.now.by (view c.args.pass) (view c.open-pass.result.0) c.args.connection.now c.open-pass.new.connection c.open-pass.result.1 c.open-pass.ensures.hold c.in-Some.why (sym c.refused.ensures ∙ c.in-Some.is) in
+    r.stop
+
+pub returns-clause-stop : goal.returns-clause-stop
+returns-clause-stop g c =
+    let o = opening_is (basis_of hall.basis c.args.hand.now.turn.now) c.args.hand.now.by (view c.args.pass) (view c.open-pass.result.0) c.args.connection.now c.open-pass.new.connection c.open-pass.result.1 c.open-pass.ensures.hold (sym c.refused.ensures ∙ c.in_default.is) in
+    λ off. c.talk-pass.ensures.stop ∙ o.stop
+
+pub returns-in-Some-clause-retells : goal.returns-in-Some-clause-retells
+returns-in-Some-clause-retells g c = retells_hung _ _ c.hang_up.ensures.content
+
+pub returns-clause-retells : goal.returns-clause-retells
+returns-clause-retells g c = retells_then _ _ _ c.talk-pass.ensures.retells (retells_hung _ _ c.hang_up-2.ensures.content)

@@ -6,6 +6,8 @@ use Rattle.cts_outside.specs.Lines.{Line, at_now, with_put, with_failed_put}
 use Rattle.cts_line.specs.Talks.{Talks, Puts, Caught, Ends}
 use Rattle.cts_line.proofs.Putting.{puts_whole, puts_refused, puts_fault, puts_done}
 use Rattle.cts_line.proofs.Steps.{talks_step, talks_map}
+use Rattle.cts_line.specs.Telling.{Retells, since}
+use Rattle.cts_line.proofs.Telling.{retells_now, retells_same, retells_then, since_now}
 use Rattle.cts_line.proofs.puts.put_all.Goals as goal
 
 pub puts-init : goal.puts-init
@@ -14,7 +16,8 @@ puts-init g c = record {
   faults = refl;
   dials = refl;
   few = omega arith;
-  talks = λ r room m place unsent stages found history t. subst (λ n. Talks r room m (Puts c.args.spellings.now) stages place n found history (g.D.Link.seen c.args.dialer.now).told) (omega arith) t;
+  retells = retells_same _;
+  talks = λ r room m place unsent stages found history k t. subst (λ n. Talks r room m (Puts c.args.spellings.now) stages place n found history (since k (g.D.Link.seen c.args.dialer.now).told)) (omega arith) t;
 }
 
 pub returns-in-Fault-clause-talks : goal.returns-in-Fault-clause-talks
@@ -23,10 +26,13 @@ returns-in-Fault-clause-talks g c =
     let ss = c.in-Some.rest.now in
     let is : c.puts.left.now ≡ s ∷ ss = c.in-Some.ensures.cases.0 in
     let put = c.in-Fault.ensures.content in
-    λ r room m place unsent stages found history t.
-    talks_step r room m (Puts (s ∷ ss)) (Ends WriteFault) stages stages place place (unsent + c.puts.unsent) (unsent + (c.puts.unsent + length c.puts.left.now)) found found history history (at_now (with_failed_put (take put.1 put.0))) _ _ put.3
-    (subst (λ l. Talks r room m (Puts l) stages place (unsent + c.puts.unsent) found history (g.D.Link.seen c.puts.dialer).told) is (c.puts.invariant.talks r room m place unsent stages found history t))
+    λ r room m place unsent stages found history k t.
+    talks_step r room m (Puts (s ∷ ss)) (Ends WriteFault) stages stages place place (unsent + c.puts.unsent) (unsent + (c.puts.unsent + length c.puts.left.now)) found found history history (at_now (with_failed_put (take put.1 put.0))) _ _ (since_now k (with_failed_put (take put.1 put.0)) _ _ put.3)
+    (subst (λ l. Talks r room m (Puts l) stages place (unsent + c.puts.unsent) found history (since k (g.D.Link.seen c.puts.dialer).told)) is (c.puts.invariant.talks r room m place unsent stages found history k t))
     (λ l u. puts_fault r room m place stages found history s ss (unsent + c.puts.unsent) (unsent + (c.puts.unsent + length c.puts.left.now)) put.1 put.0 l put.2 (let n = ap length is in omega (arith, n)) u)
+
+pub returns-in-Fault-clause-retells : goal.returns-in-Fault-clause-retells
+returns-in-Fault-clause-retells g c = let put = c.in-Fault.ensures.content in retells_then _ _ _ c.puts.invariant.retells (retells_now (with_failed_put (take put.1 put.0)) _ _ put.3)
 
 pub puts-preserved-in-Whole : goal.puts-preserved-in-Whole
 puts-preserved-in-Whole g c =
@@ -38,9 +44,10 @@ puts-preserved-in-Whole g c =
       faults = c.in-Whole.ensures.cause ∙ c.puts.invariant.faults;
       dials = c.put_one.ensures.dials ∙ c.puts.invariant.dials;
       few = (let n = ap length is in let f = c.puts.invariant.few in omega (arith, n, f));
-      talks = λ r room m place unsent stages found history t.
-          talks_step r room m (Puts (s ∷ ss)) (Puts ss) stages stages place place (unsent + c.puts.unsent) (unsent + c.puts.unsent) found found history history (at_now (with_put put.0)) _ _ put.2
-          (subst (λ l. Talks r room m (Puts l) stages place (unsent + c.puts.unsent) found history (g.D.Link.seen c.puts.dialer).told) is (c.puts.invariant.talks r room m place unsent stages found history t))
+      retells = retells_then _ _ _ c.puts.invariant.retells (retells_now (with_put put.0) _ _ put.2);
+      talks = λ r room m place unsent stages found history k t.
+          talks_step r room m (Puts (s ∷ ss)) (Puts ss) stages stages place place (unsent + c.puts.unsent) (unsent + c.puts.unsent) found found history history (at_now (with_put put.0)) _ _ (since_now k (with_put put.0) _ _ put.2)
+          (subst (λ l. Talks r room m (Puts l) stages place (unsent + c.puts.unsent) found history (since k (g.D.Link.seen c.puts.dialer).told)) is (c.puts.invariant.talks r room m place unsent stages found history k t))
           (λ l u. puts_whole r room m place stages found history s ss (unsent + c.puts.unsent) (unsent + c.puts.unsent) put.0 l put.1 refl u);
     }
 
@@ -54,17 +61,18 @@ puts-preserved g c =
       faults = c.in-Refused.ensures.cause ∙ c.puts.invariant.faults;
       dials = c.put_one.ensures.dials ∙ c.puts.invariant.dials;
       few = (let n = ap length is in let f = c.puts.invariant.few in omega (arith, n, f));
-      talks = λ r room m place unsent stages found history t.
-          subst (λ (o : Option Line). Talks r room m (Puts ss) stages place (unsent + (c.puts.unsent + 1)) found history o) (sym put.1)
+      retells = subst (λ o. Retells (g.D.Link.seen c.args.dialer.now).told o) (sym put.1) c.puts.invariant.retells;
+      talks = λ r room m place unsent stages found history k t.
+          subst (λ (o : Option Line). Talks r room m (Puts ss) stages place (unsent + (c.puts.unsent + 1)) found history o) (sym (ap (since k) put.1))
           (talks_map r room m (Puts (s ∷ ss)) (Puts ss) stages stages place place (unsent + c.puts.unsent) (unsent + (c.puts.unsent + 1)) found found history history _
-          (subst (λ l. Talks r room m (Puts l) stages place (unsent + c.puts.unsent) found history (g.D.Link.seen c.puts.dialer).told) is (c.puts.invariant.talks r room m place unsent stages found history t))
+          (subst (λ l. Talks r room m (Puts l) stages place (unsent + c.puts.unsent) found history (since k (g.D.Link.seen c.puts.dialer).told)) is (c.puts.invariant.talks r room m place unsent stages found history k t))
           (λ l u. puts_refused r room m place stages found history s ss (unsent + c.puts.unsent) (unsent + (c.puts.unsent + 1)) l put.0 (omega arith) u));
     }
 
 pub returns-clause-talks : goal.returns-clause-talks
 returns-clause-talks g c =
     let none : c.puts.left.now ≡ [] = nil_from_length c.puts.left.now c.in_default.ensures.cases in
-    λ r room m place unsent stages found history t.
+    λ r room m place unsent stages found history k t.
     talks_map r room m (Puts []) Caught stages stages place place (unsent + c.puts.unsent) (unsent + c.puts.unsent) found found history history _
-    (subst (λ l. Talks r room m (Puts l) stages place (unsent + c.puts.unsent) found history (g.D.Link.seen c.puts.dialer).told) none (c.puts.invariant.talks r room m place unsent stages found history t))
+    (subst (λ l. Talks r room m (Puts l) stages place (unsent + c.puts.unsent) found history (since k (g.D.Link.seen c.puts.dialer).told)) none (c.puts.invariant.talks r room m place unsent stages found history k t))
     (λ l u. puts_done r room m place (unsent + c.puts.unsent) stages found history l u)

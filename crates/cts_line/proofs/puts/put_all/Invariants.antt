@@ -4,6 +4,7 @@ use Rattle.cts_proto.specs.Meaning.{Meaning}
 use Rattle.cts_told.specs.Lines.{Capacity}
 use Rattle.cts_told.specs.Routing.{Routing}
 use Rattle.cts_line.specs.Talks.{Talks, Puts}
+use Rattle.cts_line.specs.Telling.{Retells, since}
 use Rattle.cts_line.proofs.puts.put_all.Given as goal
 
 abbrev pub invariant-puts : goal.invariant-puts
@@ -12,8 +13,9 @@ invariant-puts g l = record {
   faults : (g.D.Link.seen l.dialer).faults ≡ (g.D.Link.seen l.initial.dialer).faults;
   dials : (g.D.Link.seen l.dialer).failed_dials ≡ (g.D.Link.seen l.initial.dialer).failed_dials;
   few : l.unsent + length l.left ≤ length l.spellings;
-  talks : (r : Routing) (room : Capacity) (m place unsent : ℕ) (stages : List Meaning) (found : List ℕ) (history : List Entry) → Talks r room m (Puts l.spellings) stages place unsent found history (g.D.Link.seen l.initial.dialer).told
-      → Talks r room m (Puts l.left) stages place (unsent + l.unsent) found history (g.D.Link.seen l.dialer).told;
+  retells : Retells (g.D.Link.seen l.initial.dialer).told (g.D.Link.seen l.dialer).told;
+  talks : (r : Routing) (room : Capacity) (m place unsent : ℕ) (stages : List Meaning) (found : List ℕ) (history : List Entry) (k : ℕ) → Talks r room m (Puts l.spellings) stages place unsent found history (since k (g.D.Link.seen l.initial.dialer).told)
+      → Talks r room m (Puts l.left) stages place (unsent + l.unsent) found history (since k (g.D.Link.seen l.dialer).told);
 }
 
 abbrev pub decreases-puts : goal.decreases-puts

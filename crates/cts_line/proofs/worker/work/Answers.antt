@@ -1,53 +1,61 @@
-use Rattle.std.proofs.Common.{arith, refl, subst, sym}
+use Rattle.std.proofs.Common.{arith, refl, subst, sym, ◌∙◌}
 use Rattle.cts_table.specs.contracts.hall.HallStands.TheImpl.{ghosts as hall}
 use Rattle.cts_turn.specs.Passes.{basis_of, view}
 use Rattle.cts_connection.specs.Routings.{site_routing}
 use Rattle.cts_told.specs.Told.{ToldBy}
 use Rattle.cts_told.proofs.Looking.{settles_told}
 use Rattle.cts_line.specs.Talks.{room_of}
+use Rattle.cts_line.specs.Telling.{since}
 use Rattle.cts_line.proofs.Dialing.{count_untouched, rose_from, rose_untouched, undialed_settled, untouched}
+use Rattle.cts_line.proofs.Telling.{retells_same}
 use Rattle.cts_line.proofs.worker.work.Goals as goal
 
 pub returns-in_default-clause-shut : goal.returns-in_default-clause-shut
-returns-in_default-clause-shut g c = (untouched c.args.by (view c.args.pass).seen c.requires.new).shut
+returns-in_default-clause-shut g c = (untouched c.args.hand.now.by (view c.args.pass).seen c.requires.new).shut
 
 pub returns-in_default-clause-count : goal.returns-in_default-clause-count
-returns-in_default-clause-count g c = count_untouched c.args.by (view c.args.pass).seen c.args.connections.now (untouched c.args.by (view c.args.pass).seen c.requires.new).opened c.requires.none
+returns-in_default-clause-count g c = count_untouched c.args.hand.now.by (view c.args.pass).seen c.args.connections.now (untouched c.args.hand.now.by (view c.args.pass).seen c.requires.new).opened c.requires.none
 
 pub returns-in_default-clause-faults : goal.returns-in_default-clause-faults
-returns-in_default-clause-faults g c = rose_untouched c.args.by (view c.args.pass).seen _ _ (untouched c.args.by (view c.args.pass).seen c.requires.new).faults refl
+returns-in_default-clause-faults g c = rose_untouched c.args.hand.now.by (view c.args.pass).seen _ _ (untouched c.args.hand.now.by (view c.args.pass).seen c.requires.new).faults refl
 
 pub returns-in_default-clause-told : goal.returns-in_default-clause-told
 returns-in_default-clause-told g c =
-    let base = basis_of hall.basis c.args.turn.now in
+    let base = basis_of hall.basis c.args.hand.now.turn.now in
     let v = view c.args.pass in
-    settles_told (site_routing c.args.site.now) (room_of base) c.args.by v.found v.seen _ (undialed_settled (site_routing c.args.site.now) (room_of base) c.args.by v.found v.seen _ (untouched c.args.by v.seen c.requires.new).quiet c.requires.undialed)
+    λ k has u. settles_told (site_routing c.args.hand.now.site.now) (room_of base) c.args.hand.now.by v.found v.seen _ (undialed_settled (site_routing c.args.hand.now.site.now) (room_of base) c.args.hand.now.by v.found v.seen _ (untouched c.args.hand.now.by v.seen c.requires.new).quiet u)
 
 pub connect-requires-clause-shut : goal.connect-requires-clause-shut
-connect-requires-clause-shut g c = (untouched c.args.by (view c.args.pass).seen c.requires.new).shut
+connect-requires-clause-shut g c = (untouched c.args.hand.now.by (view c.args.pass).seen c.requires.new).shut
 
 pub connect-requires-clause-count : goal.connect-requires-clause-count
-connect-requires-clause-count g c = count_untouched c.args.by (view c.args.pass).seen c.args.connections.now (untouched c.args.by (view c.args.pass).seen c.requires.new).opened c.requires.none
-
-pub connect-requires-clause-settled : goal.connect-requires-clause-settled
-connect-requires-clause-settled g c =
-    let base = basis_of hall.basis c.args.turn.now in
-    let v = view c.args.pass in
-    undialed_settled (site_routing base.site) (room_of base) c.args.by v.found v.seen _ (untouched c.args.by v.seen c.requires.new).quiet c.requires.undialed
+connect-requires-clause-count g c = count_untouched c.args.hand.now.by (view c.args.pass).seen c.args.connections.now (untouched c.args.hand.now.by (view c.args.pass).seen c.requires.new).opened c.requires.none
 
 pub returns-clause-faults : goal.returns-clause-faults
-returns-clause-faults g c = rose_from c.args.by (view c.args.pass).seen (view c.connect.result.0).seen _ _ (untouched c.args.by (view c.args.pass).seen c.requires.new).faults c.connect.ensures.faults
+returns-clause-faults g c = rose_from c.args.hand.now.by (view c.args.pass).seen (view c.connect.result.0).seen _ _ (untouched c.args.hand.now.by (view c.args.pass).seen c.requires.new).faults c.connect.ensures.faults
 
 pub returns-clause-told : goal.returns-clause-told
 returns-clause-told g c =
-    let base = basis_of hall.basis c.args.turn.now in
-    let v = view c.connect.result.0 in
-    subst (λ site. ToldBy (site_routing site) (room_of base) c.args.by v.found v.seen (g.D.Link.seen c.connect.new.dialer).told) (sym c.requires.site) c.connect.ensures.told
+    let base = basis_of hall.basis c.args.hand.now.turn.now in
+    let v = view c.args.pass in
+    let w = view c.connect.result.0 in
+    λ k has u.
+    subst (λ site. ToldBy (site_routing site) (room_of base) c.args.hand.now.by w.found w.seen (since k (g.D.Link.seen c.connect.new.dialer).told)) (sym c.requires.site)
+    (c.connect.ensures.told k has (undialed_settled (site_routing base.site) (room_of base) c.args.hand.now.by v.found v.seen _ (untouched c.args.hand.now.by v.seen c.requires.new).quiet u))
+
+pub returns-in_default-clause-stop : goal.returns-in_default-clause-stop
+returns-in_default-clause-stop g c = λ off. (untouched c.args.hand.now.by (view c.args.pass).seen c.requires.new).stop
+
+pub returns-clause-stop : goal.returns-clause-stop
+returns-clause-stop g c = λ off. c.connect.ensures.stop off ∙ (untouched c.args.hand.now.by (view c.args.pass).seen c.requires.new).stop
+
+pub returns-in_default-clause-retells : goal.returns-in_default-clause-retells
+returns-in_default-clause-retells g c = retells_same _
 
 pub returns-in_default-clause-once : goal.returns-in_default-clause-once
-returns-in_default-clause-once g c = let n = (untouched c.args.by (view c.args.pass).seen c.requires.new).opened in λ off. omega (arith, n)
+returns-in_default-clause-once g c = let n = (untouched c.args.hand.now.by (view c.args.pass).seen c.requires.new).opened in λ off. omega (arith, n)
 
 pub returns-clause-once : goal.returns-clause-once
 returns-clause-once g c =
-    let n = (untouched c.args.by (view c.args.pass).seen c.requires.new).opened in
+    let n = (untouched c.args.hand.now.by (view c.args.pass).seen c.requires.new).opened in
     λ off. (let f = c.connect.ensures.once off in omega (arith, n, f))
