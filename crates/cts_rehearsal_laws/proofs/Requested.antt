@@ -25,19 +25,19 @@ after_name v = codes " " ++ digits_of v
 head_0 : IsHead (order_text 0) (codes "INST") (codes "COLLECT") (after_names 0)
 head_0 = record {
   gap = codes " COLLECT with DURATION " ++ digits_of 0;
-  first = record { here = order_text 0; behind = record { white = []; parts = refl; blank = refl; black = refl }; parts = refl; whole = refl; over = refl };
-  second = record { here = codes "COLLECT with DURATION " ++ digits_of 0; behind = record { white = 32 ∷ []; parts = refl; blank = refl; black = refl }; parts = refl; whole = refl; over = refl };
+  first = record { here = order_text 0; after = record { white = []; parts = refl; blank = refl; black = refl }; parts = refl; whole = refl; over = refl };
+  second = record { here = codes "COLLECT with DURATION " ++ digits_of 0; after = record { white = 32 ∷ []; parts = refl; blank = refl; black = refl }; parts = refl; whole = refl; over = refl };
 }
 
 with_0 : IsWith (after_names 0) (after_with 0)
-with_0 = (codes "with", record { here = codes "with DURATION " ++ digits_of 0; behind = record { white = 32 ∷ []; parts = refl; blank = refl; black = refl }; parts = refl; whole = refl; over = refl }, refl)
+with_0 = (codes "with", record { here = codes "with DURATION " ++ digits_of 0; after = record { white = 32 ∷ []; parts = refl; blank = refl; black = refl }; parts = refl; whole = refl; over = refl }, refl)
 
 param_0 : IsParamFirst (after_with 0) (codes "DURATION", Whole (pos 0)) []
 unfolding whole_of
 param_0 = record {
   gap = after_name 0;
-  name = record { here = codes "DURATION " ++ digits_of 0; behind = record { white = 32 ∷ []; parts = refl; blank = refl; black = refl }; parts = refl; whole = refl; over = refl };
-  value = inr (digits_of 0, record { here = digits_of 0; behind = record { white = 32 ∷ []; parts = refl; blank = refl; black = refl }; parts = refl; whole = refl; over = refl }, refl, refl);
+  name = record { here = codes "DURATION " ++ digits_of 0; after = record { white = 32 ∷ []; parts = refl; blank = refl; black = refl }; parts = refl; whole = refl; over = refl };
+  value = inr (digits_of 0, record { here = digits_of 0; after = record { white = 32 ∷ []; parts = refl; blank = refl; black = refl }; parts = refl; whole = refl; over = refl }, refl, refl);
 }
 
 last_0 : IsLastParam (after_with 0) (codes "DURATION", Whole (pos 0))
@@ -52,19 +52,19 @@ requests_0 = inl (order_request 0, text_0, refl)
 head_1 : IsHead (order_text 1) (codes "INST") (codes "COLLECT") (after_names 1)
 head_1 = record {
   gap = codes " COLLECT with DURATION " ++ digits_of 1;
-  first = record { here = order_text 1; behind = record { white = []; parts = refl; blank = refl; black = refl }; parts = refl; whole = refl; over = refl };
-  second = record { here = codes "COLLECT with DURATION " ++ digits_of 1; behind = record { white = 32 ∷ []; parts = refl; blank = refl; black = refl }; parts = refl; whole = refl; over = refl };
+  first = record { here = order_text 1; after = record { white = []; parts = refl; blank = refl; black = refl }; parts = refl; whole = refl; over = refl };
+  second = record { here = codes "COLLECT with DURATION " ++ digits_of 1; after = record { white = 32 ∷ []; parts = refl; blank = refl; black = refl }; parts = refl; whole = refl; over = refl };
 }
 
 with_1 : IsWith (after_names 1) (after_with 1)
-with_1 = (codes "with", record { here = codes "with DURATION " ++ digits_of 1; behind = record { white = 32 ∷ []; parts = refl; blank = refl; black = refl }; parts = refl; whole = refl; over = refl }, refl)
+with_1 = (codes "with", record { here = codes "with DURATION " ++ digits_of 1; after = record { white = 32 ∷ []; parts = refl; blank = refl; black = refl }; parts = refl; whole = refl; over = refl }, refl)
 
 param_1 : IsParamFirst (after_with 1) (codes "DURATION", Whole (pos 1)) []
 unfolding whole_of
 param_1 = record {
   gap = after_name 1;
-  name = record { here = codes "DURATION " ++ digits_of 1; behind = record { white = 32 ∷ []; parts = refl; blank = refl; black = refl }; parts = refl; whole = refl; over = refl };
-  value = inr (digits_of 1, record { here = digits_of 1; behind = record { white = 32 ∷ []; parts = refl; blank = refl; black = refl }; parts = refl; whole = refl; over = refl }, refl, refl);
+  name = record { here = codes "DURATION " ++ digits_of 1; after = record { white = 32 ∷ []; parts = refl; blank = refl; black = refl }; parts = refl; whole = refl; over = refl };
+  value = inr (digits_of 1, record { here = digits_of 1; after = record { white = 32 ∷ []; parts = refl; blank = refl; black = refl }; parts = refl; whole = refl; over = refl }, refl, refl);
 }
 
 last_1 : IsLastParam (after_with 1) (codes "DURATION", Whole (pos 1))
@@ -79,19 +79,19 @@ requests_1 = inl (order_request 1, text_1, refl)
 head_2 : IsHead (order_text 2) (codes "INST") (codes "COLLECT") (after_names 2)
 head_2 = record {
   gap = codes " COLLECT with DURATION " ++ digits_of 2;
-  first = record { here = order_text 2; behind = record { white = []; parts = refl; blank = refl; black = refl }; parts = refl; whole = refl; over = refl };
-  second = record { here = codes "COLLECT with DURATION " ++ digits_of 2; behind = record { white = 32 ∷ []; parts = refl; blank = refl; black = refl }; parts = refl; whole = refl; over = refl };
+  first = record { here = order_text 2; after = record { white = []; parts = refl; blank = refl; black = refl }; parts = refl; whole = refl; over = refl };
+  second = record { here = codes "COLLECT with DURATION " ++ digits_of 2; after = record { white = 32 ∷ []; parts = refl; blank = refl; black = refl }; parts = refl; whole = refl; over = refl };
 }
 
 with_2 : IsWith (after_names 2) (after_with 2)
-with_2 = (codes "with", record { here = codes "with DURATION " ++ digits_of 2; behind = record { white = 32 ∷ []; parts = refl; blank = refl; black = refl }; parts = refl; whole = refl; over = refl }, refl)
+with_2 = (codes "with", record { here = codes "with DURATION " ++ digits_of 2; after = record { white = 32 ∷ []; parts = refl; blank = refl; black = refl }; parts = refl; whole = refl; over = refl }, refl)
 
 param_2 : IsParamFirst (after_with 2) (codes "DURATION", Whole (pos 2)) []
 unfolding whole_of
 param_2 = record {
   gap = after_name 2;
-  name = record { here = codes "DURATION " ++ digits_of 2; behind = record { white = 32 ∷ []; parts = refl; blank = refl; black = refl }; parts = refl; whole = refl; over = refl };
-  value = inr (digits_of 2, record { here = digits_of 2; behind = record { white = 32 ∷ []; parts = refl; blank = refl; black = refl }; parts = refl; whole = refl; over = refl }, refl, refl);
+  name = record { here = codes "DURATION " ++ digits_of 2; after = record { white = 32 ∷ []; parts = refl; blank = refl; black = refl }; parts = refl; whole = refl; over = refl };
+  value = inr (digits_of 2, record { here = digits_of 2; after = record { white = 32 ∷ []; parts = refl; blank = refl; black = refl }; parts = refl; whole = refl; over = refl }, refl, refl);
 }
 
 last_2 : IsLastParam (after_with 2) (codes "DURATION", Whole (pos 2))
@@ -106,19 +106,19 @@ requests_2 = inl (order_request 2, text_2, refl)
 head_3 : IsHead (order_text 3) (codes "INST") (codes "COLLECT") (after_names 3)
 head_3 = record {
   gap = codes " COLLECT with DURATION " ++ digits_of 3;
-  first = record { here = order_text 3; behind = record { white = []; parts = refl; blank = refl; black = refl }; parts = refl; whole = refl; over = refl };
-  second = record { here = codes "COLLECT with DURATION " ++ digits_of 3; behind = record { white = 32 ∷ []; parts = refl; blank = refl; black = refl }; parts = refl; whole = refl; over = refl };
+  first = record { here = order_text 3; after = record { white = []; parts = refl; blank = refl; black = refl }; parts = refl; whole = refl; over = refl };
+  second = record { here = codes "COLLECT with DURATION " ++ digits_of 3; after = record { white = 32 ∷ []; parts = refl; blank = refl; black = refl }; parts = refl; whole = refl; over = refl };
 }
 
 with_3 : IsWith (after_names 3) (after_with 3)
-with_3 = (codes "with", record { here = codes "with DURATION " ++ digits_of 3; behind = record { white = 32 ∷ []; parts = refl; blank = refl; black = refl }; parts = refl; whole = refl; over = refl }, refl)
+with_3 = (codes "with", record { here = codes "with DURATION " ++ digits_of 3; after = record { white = 32 ∷ []; parts = refl; blank = refl; black = refl }; parts = refl; whole = refl; over = refl }, refl)
 
 param_3 : IsParamFirst (after_with 3) (codes "DURATION", Whole (pos 3)) []
 unfolding whole_of
 param_3 = record {
   gap = after_name 3;
-  name = record { here = codes "DURATION " ++ digits_of 3; behind = record { white = 32 ∷ []; parts = refl; blank = refl; black = refl }; parts = refl; whole = refl; over = refl };
-  value = inr (digits_of 3, record { here = digits_of 3; behind = record { white = 32 ∷ []; parts = refl; blank = refl; black = refl }; parts = refl; whole = refl; over = refl }, refl, refl);
+  name = record { here = codes "DURATION " ++ digits_of 3; after = record { white = 32 ∷ []; parts = refl; blank = refl; black = refl }; parts = refl; whole = refl; over = refl };
+  value = inr (digits_of 3, record { here = digits_of 3; after = record { white = 32 ∷ []; parts = refl; blank = refl; black = refl }; parts = refl; whole = refl; over = refl }, refl, refl);
 }
 
 last_3 : IsLastParam (after_with 3) (codes "DURATION", Whole (pos 3))
@@ -133,19 +133,19 @@ requests_3 = inl (order_request 3, text_3, refl)
 head_4 : IsHead (order_text 4) (codes "INST") (codes "COLLECT") (after_names 4)
 head_4 = record {
   gap = codes " COLLECT with DURATION " ++ digits_of 4;
-  first = record { here = order_text 4; behind = record { white = []; parts = refl; blank = refl; black = refl }; parts = refl; whole = refl; over = refl };
-  second = record { here = codes "COLLECT with DURATION " ++ digits_of 4; behind = record { white = 32 ∷ []; parts = refl; blank = refl; black = refl }; parts = refl; whole = refl; over = refl };
+  first = record { here = order_text 4; after = record { white = []; parts = refl; blank = refl; black = refl }; parts = refl; whole = refl; over = refl };
+  second = record { here = codes "COLLECT with DURATION " ++ digits_of 4; after = record { white = 32 ∷ []; parts = refl; blank = refl; black = refl }; parts = refl; whole = refl; over = refl };
 }
 
 with_4 : IsWith (after_names 4) (after_with 4)
-with_4 = (codes "with", record { here = codes "with DURATION " ++ digits_of 4; behind = record { white = 32 ∷ []; parts = refl; blank = refl; black = refl }; parts = refl; whole = refl; over = refl }, refl)
+with_4 = (codes "with", record { here = codes "with DURATION " ++ digits_of 4; after = record { white = 32 ∷ []; parts = refl; blank = refl; black = refl }; parts = refl; whole = refl; over = refl }, refl)
 
 param_4 : IsParamFirst (after_with 4) (codes "DURATION", Whole (pos 4)) []
 unfolding whole_of
 param_4 = record {
   gap = after_name 4;
-  name = record { here = codes "DURATION " ++ digits_of 4; behind = record { white = 32 ∷ []; parts = refl; blank = refl; black = refl }; parts = refl; whole = refl; over = refl };
-  value = inr (digits_of 4, record { here = digits_of 4; behind = record { white = 32 ∷ []; parts = refl; blank = refl; black = refl }; parts = refl; whole = refl; over = refl }, refl, refl);
+  name = record { here = codes "DURATION " ++ digits_of 4; after = record { white = 32 ∷ []; parts = refl; blank = refl; black = refl }; parts = refl; whole = refl; over = refl };
+  value = inr (digits_of 4, record { here = digits_of 4; after = record { white = 32 ∷ []; parts = refl; blank = refl; black = refl }; parts = refl; whole = refl; over = refl }, refl, refl);
 }
 
 last_4 : IsLastParam (after_with 4) (codes "DURATION", Whole (pos 4))
@@ -160,19 +160,19 @@ requests_4 = inl (order_request 4, text_4, refl)
 head_5 : IsHead (order_text 5) (codes "INST") (codes "COLLECT") (after_names 5)
 head_5 = record {
   gap = codes " COLLECT with DURATION " ++ digits_of 5;
-  first = record { here = order_text 5; behind = record { white = []; parts = refl; blank = refl; black = refl }; parts = refl; whole = refl; over = refl };
-  second = record { here = codes "COLLECT with DURATION " ++ digits_of 5; behind = record { white = 32 ∷ []; parts = refl; blank = refl; black = refl }; parts = refl; whole = refl; over = refl };
+  first = record { here = order_text 5; after = record { white = []; parts = refl; blank = refl; black = refl }; parts = refl; whole = refl; over = refl };
+  second = record { here = codes "COLLECT with DURATION " ++ digits_of 5; after = record { white = 32 ∷ []; parts = refl; blank = refl; black = refl }; parts = refl; whole = refl; over = refl };
 }
 
 with_5 : IsWith (after_names 5) (after_with 5)
-with_5 = (codes "with", record { here = codes "with DURATION " ++ digits_of 5; behind = record { white = 32 ∷ []; parts = refl; blank = refl; black = refl }; parts = refl; whole = refl; over = refl }, refl)
+with_5 = (codes "with", record { here = codes "with DURATION " ++ digits_of 5; after = record { white = 32 ∷ []; parts = refl; blank = refl; black = refl }; parts = refl; whole = refl; over = refl }, refl)
 
 param_5 : IsParamFirst (after_with 5) (codes "DURATION", Whole (pos 5)) []
 unfolding whole_of
 param_5 = record {
   gap = after_name 5;
-  name = record { here = codes "DURATION " ++ digits_of 5; behind = record { white = 32 ∷ []; parts = refl; blank = refl; black = refl }; parts = refl; whole = refl; over = refl };
-  value = inr (digits_of 5, record { here = digits_of 5; behind = record { white = 32 ∷ []; parts = refl; blank = refl; black = refl }; parts = refl; whole = refl; over = refl }, refl, refl);
+  name = record { here = codes "DURATION " ++ digits_of 5; after = record { white = 32 ∷ []; parts = refl; blank = refl; black = refl }; parts = refl; whole = refl; over = refl };
+  value = inr (digits_of 5, record { here = digits_of 5; after = record { white = 32 ∷ []; parts = refl; blank = refl; black = refl }; parts = refl; whole = refl; over = refl }, refl, refl);
 }
 
 last_5 : IsLastParam (after_with 5) (codes "DURATION", Whole (pos 5))
@@ -187,19 +187,19 @@ requests_5 = inl (order_request 5, text_5, refl)
 head_6 : IsHead (order_text 6) (codes "INST") (codes "COLLECT") (after_names 6)
 head_6 = record {
   gap = codes " COLLECT with DURATION " ++ digits_of 6;
-  first = record { here = order_text 6; behind = record { white = []; parts = refl; blank = refl; black = refl }; parts = refl; whole = refl; over = refl };
-  second = record { here = codes "COLLECT with DURATION " ++ digits_of 6; behind = record { white = 32 ∷ []; parts = refl; blank = refl; black = refl }; parts = refl; whole = refl; over = refl };
+  first = record { here = order_text 6; after = record { white = []; parts = refl; blank = refl; black = refl }; parts = refl; whole = refl; over = refl };
+  second = record { here = codes "COLLECT with DURATION " ++ digits_of 6; after = record { white = 32 ∷ []; parts = refl; blank = refl; black = refl }; parts = refl; whole = refl; over = refl };
 }
 
 with_6 : IsWith (after_names 6) (after_with 6)
-with_6 = (codes "with", record { here = codes "with DURATION " ++ digits_of 6; behind = record { white = 32 ∷ []; parts = refl; blank = refl; black = refl }; parts = refl; whole = refl; over = refl }, refl)
+with_6 = (codes "with", record { here = codes "with DURATION " ++ digits_of 6; after = record { white = 32 ∷ []; parts = refl; blank = refl; black = refl }; parts = refl; whole = refl; over = refl }, refl)
 
 param_6 : IsParamFirst (after_with 6) (codes "DURATION", Whole (pos 6)) []
 unfolding whole_of
 param_6 = record {
   gap = after_name 6;
-  name = record { here = codes "DURATION " ++ digits_of 6; behind = record { white = 32 ∷ []; parts = refl; blank = refl; black = refl }; parts = refl; whole = refl; over = refl };
-  value = inr (digits_of 6, record { here = digits_of 6; behind = record { white = 32 ∷ []; parts = refl; blank = refl; black = refl }; parts = refl; whole = refl; over = refl }, refl, refl);
+  name = record { here = codes "DURATION " ++ digits_of 6; after = record { white = 32 ∷ []; parts = refl; blank = refl; black = refl }; parts = refl; whole = refl; over = refl };
+  value = inr (digits_of 6, record { here = digits_of 6; after = record { white = 32 ∷ []; parts = refl; blank = refl; black = refl }; parts = refl; whole = refl; over = refl }, refl, refl);
 }
 
 last_6 : IsLastParam (after_with 6) (codes "DURATION", Whole (pos 6))
@@ -214,19 +214,19 @@ requests_6 = inl (order_request 6, text_6, refl)
 head_7 : IsHead (order_text 7) (codes "INST") (codes "COLLECT") (after_names 7)
 head_7 = record {
   gap = codes " COLLECT with DURATION " ++ digits_of 7;
-  first = record { here = order_text 7; behind = record { white = []; parts = refl; blank = refl; black = refl }; parts = refl; whole = refl; over = refl };
-  second = record { here = codes "COLLECT with DURATION " ++ digits_of 7; behind = record { white = 32 ∷ []; parts = refl; blank = refl; black = refl }; parts = refl; whole = refl; over = refl };
+  first = record { here = order_text 7; after = record { white = []; parts = refl; blank = refl; black = refl }; parts = refl; whole = refl; over = refl };
+  second = record { here = codes "COLLECT with DURATION " ++ digits_of 7; after = record { white = 32 ∷ []; parts = refl; blank = refl; black = refl }; parts = refl; whole = refl; over = refl };
 }
 
 with_7 : IsWith (after_names 7) (after_with 7)
-with_7 = (codes "with", record { here = codes "with DURATION " ++ digits_of 7; behind = record { white = 32 ∷ []; parts = refl; blank = refl; black = refl }; parts = refl; whole = refl; over = refl }, refl)
+with_7 = (codes "with", record { here = codes "with DURATION " ++ digits_of 7; after = record { white = 32 ∷ []; parts = refl; blank = refl; black = refl }; parts = refl; whole = refl; over = refl }, refl)
 
 param_7 : IsParamFirst (after_with 7) (codes "DURATION", Whole (pos 7)) []
 unfolding whole_of
 param_7 = record {
   gap = after_name 7;
-  name = record { here = codes "DURATION " ++ digits_of 7; behind = record { white = 32 ∷ []; parts = refl; blank = refl; black = refl }; parts = refl; whole = refl; over = refl };
-  value = inr (digits_of 7, record { here = digits_of 7; behind = record { white = 32 ∷ []; parts = refl; blank = refl; black = refl }; parts = refl; whole = refl; over = refl }, refl, refl);
+  name = record { here = codes "DURATION " ++ digits_of 7; after = record { white = 32 ∷ []; parts = refl; blank = refl; black = refl }; parts = refl; whole = refl; over = refl };
+  value = inr (digits_of 7, record { here = digits_of 7; after = record { white = 32 ∷ []; parts = refl; blank = refl; black = refl }; parts = refl; whole = refl; over = refl }, refl, refl);
 }
 
 last_7 : IsLastParam (after_with 7) (codes "DURATION", Whole (pos 7))
@@ -241,19 +241,19 @@ requests_7 = inl (order_request 7, text_7, refl)
 head_8 : IsHead (order_text 8) (codes "INST") (codes "COLLECT") (after_names 8)
 head_8 = record {
   gap = codes " COLLECT with DURATION " ++ digits_of 8;
-  first = record { here = order_text 8; behind = record { white = []; parts = refl; blank = refl; black = refl }; parts = refl; whole = refl; over = refl };
-  second = record { here = codes "COLLECT with DURATION " ++ digits_of 8; behind = record { white = 32 ∷ []; parts = refl; blank = refl; black = refl }; parts = refl; whole = refl; over = refl };
+  first = record { here = order_text 8; after = record { white = []; parts = refl; blank = refl; black = refl }; parts = refl; whole = refl; over = refl };
+  second = record { here = codes "COLLECT with DURATION " ++ digits_of 8; after = record { white = 32 ∷ []; parts = refl; blank = refl; black = refl }; parts = refl; whole = refl; over = refl };
 }
 
 with_8 : IsWith (after_names 8) (after_with 8)
-with_8 = (codes "with", record { here = codes "with DURATION " ++ digits_of 8; behind = record { white = 32 ∷ []; parts = refl; blank = refl; black = refl }; parts = refl; whole = refl; over = refl }, refl)
+with_8 = (codes "with", record { here = codes "with DURATION " ++ digits_of 8; after = record { white = 32 ∷ []; parts = refl; blank = refl; black = refl }; parts = refl; whole = refl; over = refl }, refl)
 
 param_8 : IsParamFirst (after_with 8) (codes "DURATION", Whole (pos 8)) []
 unfolding whole_of
 param_8 = record {
   gap = after_name 8;
-  name = record { here = codes "DURATION " ++ digits_of 8; behind = record { white = 32 ∷ []; parts = refl; blank = refl; black = refl }; parts = refl; whole = refl; over = refl };
-  value = inr (digits_of 8, record { here = digits_of 8; behind = record { white = 32 ∷ []; parts = refl; blank = refl; black = refl }; parts = refl; whole = refl; over = refl }, refl, refl);
+  name = record { here = codes "DURATION " ++ digits_of 8; after = record { white = 32 ∷ []; parts = refl; blank = refl; black = refl }; parts = refl; whole = refl; over = refl };
+  value = inr (digits_of 8, record { here = digits_of 8; after = record { white = 32 ∷ []; parts = refl; blank = refl; black = refl }; parts = refl; whole = refl; over = refl }, refl, refl);
 }
 
 last_8 : IsLastParam (after_with 8) (codes "DURATION", Whole (pos 8))
@@ -268,19 +268,19 @@ requests_8 = inl (order_request 8, text_8, refl)
 head_9 : IsHead (order_text 9) (codes "INST") (codes "COLLECT") (after_names 9)
 head_9 = record {
   gap = codes " COLLECT with DURATION " ++ digits_of 9;
-  first = record { here = order_text 9; behind = record { white = []; parts = refl; blank = refl; black = refl }; parts = refl; whole = refl; over = refl };
-  second = record { here = codes "COLLECT with DURATION " ++ digits_of 9; behind = record { white = 32 ∷ []; parts = refl; blank = refl; black = refl }; parts = refl; whole = refl; over = refl };
+  first = record { here = order_text 9; after = record { white = []; parts = refl; blank = refl; black = refl }; parts = refl; whole = refl; over = refl };
+  second = record { here = codes "COLLECT with DURATION " ++ digits_of 9; after = record { white = 32 ∷ []; parts = refl; blank = refl; black = refl }; parts = refl; whole = refl; over = refl };
 }
 
 with_9 : IsWith (after_names 9) (after_with 9)
-with_9 = (codes "with", record { here = codes "with DURATION " ++ digits_of 9; behind = record { white = 32 ∷ []; parts = refl; blank = refl; black = refl }; parts = refl; whole = refl; over = refl }, refl)
+with_9 = (codes "with", record { here = codes "with DURATION " ++ digits_of 9; after = record { white = 32 ∷ []; parts = refl; blank = refl; black = refl }; parts = refl; whole = refl; over = refl }, refl)
 
 param_9 : IsParamFirst (after_with 9) (codes "DURATION", Whole (pos 9)) []
 unfolding whole_of
 param_9 = record {
   gap = after_name 9;
-  name = record { here = codes "DURATION " ++ digits_of 9; behind = record { white = 32 ∷ []; parts = refl; blank = refl; black = refl }; parts = refl; whole = refl; over = refl };
-  value = inr (digits_of 9, record { here = digits_of 9; behind = record { white = 32 ∷ []; parts = refl; blank = refl; black = refl }; parts = refl; whole = refl; over = refl }, refl, refl);
+  name = record { here = codes "DURATION " ++ digits_of 9; after = record { white = 32 ∷ []; parts = refl; blank = refl; black = refl }; parts = refl; whole = refl; over = refl };
+  value = inr (digits_of 9, record { here = digits_of 9; after = record { white = 32 ∷ []; parts = refl; blank = refl; black = refl }; parts = refl; whole = refl; over = refl }, refl, refl);
 }
 
 last_9 : IsLastParam (after_with 9) (codes "DURATION", Whole (pos 9))
@@ -295,19 +295,19 @@ requests_9 = inl (order_request 9, text_9, refl)
 head_10 : IsHead (order_text 10) (codes "INST") (codes "COLLECT") (after_names 10)
 head_10 = record {
   gap = codes " COLLECT with DURATION " ++ digits_of 10;
-  first = record { here = order_text 10; behind = record { white = []; parts = refl; blank = refl; black = refl }; parts = refl; whole = refl; over = refl };
-  second = record { here = codes "COLLECT with DURATION " ++ digits_of 10; behind = record { white = 32 ∷ []; parts = refl; blank = refl; black = refl }; parts = refl; whole = refl; over = refl };
+  first = record { here = order_text 10; after = record { white = []; parts = refl; blank = refl; black = refl }; parts = refl; whole = refl; over = refl };
+  second = record { here = codes "COLLECT with DURATION " ++ digits_of 10; after = record { white = 32 ∷ []; parts = refl; blank = refl; black = refl }; parts = refl; whole = refl; over = refl };
 }
 
 with_10 : IsWith (after_names 10) (after_with 10)
-with_10 = (codes "with", record { here = codes "with DURATION " ++ digits_of 10; behind = record { white = 32 ∷ []; parts = refl; blank = refl; black = refl }; parts = refl; whole = refl; over = refl }, refl)
+with_10 = (codes "with", record { here = codes "with DURATION " ++ digits_of 10; after = record { white = 32 ∷ []; parts = refl; blank = refl; black = refl }; parts = refl; whole = refl; over = refl }, refl)
 
 param_10 : IsParamFirst (after_with 10) (codes "DURATION", Whole (pos 10)) []
 unfolding whole_of
 param_10 = record {
   gap = after_name 10;
-  name = record { here = codes "DURATION " ++ digits_of 10; behind = record { white = 32 ∷ []; parts = refl; blank = refl; black = refl }; parts = refl; whole = refl; over = refl };
-  value = inr (digits_of 10, record { here = digits_of 10; behind = record { white = 32 ∷ []; parts = refl; blank = refl; black = refl }; parts = refl; whole = refl; over = refl }, refl, refl);
+  name = record { here = codes "DURATION " ++ digits_of 10; after = record { white = 32 ∷ []; parts = refl; blank = refl; black = refl }; parts = refl; whole = refl; over = refl };
+  value = inr (digits_of 10, record { here = digits_of 10; after = record { white = 32 ∷ []; parts = refl; blank = refl; black = refl }; parts = refl; whole = refl; over = refl }, refl, refl);
 }
 
 last_10 : IsLastParam (after_with 10) (codes "DURATION", Whole (pos 10))
@@ -322,19 +322,19 @@ requests_10 = inl (order_request 10, text_10, refl)
 head_11 : IsHead (order_text 11) (codes "INST") (codes "COLLECT") (after_names 11)
 head_11 = record {
   gap = codes " COLLECT with DURATION " ++ digits_of 11;
-  first = record { here = order_text 11; behind = record { white = []; parts = refl; blank = refl; black = refl }; parts = refl; whole = refl; over = refl };
-  second = record { here = codes "COLLECT with DURATION " ++ digits_of 11; behind = record { white = 32 ∷ []; parts = refl; blank = refl; black = refl }; parts = refl; whole = refl; over = refl };
+  first = record { here = order_text 11; after = record { white = []; parts = refl; blank = refl; black = refl }; parts = refl; whole = refl; over = refl };
+  second = record { here = codes "COLLECT with DURATION " ++ digits_of 11; after = record { white = 32 ∷ []; parts = refl; blank = refl; black = refl }; parts = refl; whole = refl; over = refl };
 }
 
 with_11 : IsWith (after_names 11) (after_with 11)
-with_11 = (codes "with", record { here = codes "with DURATION " ++ digits_of 11; behind = record { white = 32 ∷ []; parts = refl; blank = refl; black = refl }; parts = refl; whole = refl; over = refl }, refl)
+with_11 = (codes "with", record { here = codes "with DURATION " ++ digits_of 11; after = record { white = 32 ∷ []; parts = refl; blank = refl; black = refl }; parts = refl; whole = refl; over = refl }, refl)
 
 param_11 : IsParamFirst (after_with 11) (codes "DURATION", Whole (pos 11)) []
 unfolding whole_of
 param_11 = record {
   gap = after_name 11;
-  name = record { here = codes "DURATION " ++ digits_of 11; behind = record { white = 32 ∷ []; parts = refl; blank = refl; black = refl }; parts = refl; whole = refl; over = refl };
-  value = inr (digits_of 11, record { here = digits_of 11; behind = record { white = 32 ∷ []; parts = refl; blank = refl; black = refl }; parts = refl; whole = refl; over = refl }, refl, refl);
+  name = record { here = codes "DURATION " ++ digits_of 11; after = record { white = 32 ∷ []; parts = refl; blank = refl; black = refl }; parts = refl; whole = refl; over = refl };
+  value = inr (digits_of 11, record { here = digits_of 11; after = record { white = 32 ∷ []; parts = refl; blank = refl; black = refl }; parts = refl; whole = refl; over = refl }, refl, refl);
 }
 
 last_11 : IsLastParam (after_with 11) (codes "DURATION", Whole (pos 11))
