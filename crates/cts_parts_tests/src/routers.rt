@@ -111,11 +111,19 @@ ROUTER Q tcpip_server_interface.rb 4 4 nil nil LENGTH 0 8 0 1";
 /// of its router, each entry once; a slot that is opened again begins anew. What is no line opens nothing, and an interface is not
 /// drained. A router without routes is sent nothing and sends nothing on.
 const SLOTS: &str = "\
-open 0;open 16;from 16 030205;from 16 0309;from 16 01;write 0 2;write 0 1;end 0;from 16 030207|;;;;;NotEnabled;WRITTEN I 030205;;; 0 0.000000 I OPENED;1 0.000000 R/0 OPENED;2 0.000000 R/0 COMMAND T C 030205;3 0.000000 R/0 UNROUTED UNKNOWN 030901;4 0.000000 I CLOSED PEER held 0 0 0 0 skipped 0 empty 0 unposted 0 unsent 0;5 0.000000 R/0 UNROUTED NOTCONNECTED 030207;
-open 0;open 16;from 0 030107;open 17;from 0 030108;drain 16 4;drain 16 3;drain 16 1;drain 17 1;drain 17 0;end 16;from 0 030109;drain 17 2|;;;;;NotEnabled;ROUTED R/0 030107030108;NotEnabled;ROUTED R/1 030108;ROUTED R/1 -;;;ROUTED R/1 030109; 0 0.000000 I OPENED;1 0.000000 R/0 OPENED;2 0.000000 I PACKET T A 030107;3 0.000000 R/1 OPENED;4 0.000000 I PACKET T A 030108;5 0.000000 R/0 CLOSED PEER held 0 0 0 0 skipped 0 empty 0 unposted 0 unsent 0;6 0.000000 I PACKET T A 030109;
-open 0;open 16;from 0 030107;from 16 03;end 16;open 16;drain 16 1;from 0 030108;drain 16 1|;;;;;;NotEnabled;;ROUTED R/0 030108; 0 0.000000 I OPENED;1 0.000000 R/0 OPENED;2 0.000000 I PACKET T A 030107;3 0.000000 R/0 CLOSED PEER held 1 0 0 0 skipped 0 empty 0 unposted 0 unsent 1;4 0.000000 R/0 OPENED;5 0.000000 I PACKET T A 030108;
+open 0;open 16;from 16 030205;from 16 0309;from 16 01;write 0 2;write 0 1;end 0;from 16 030207|\
+;;;;;NotEnabled;WRITTEN I 030205;;; \
+0 0.000000 I OPENED;1 0.000000 R/0 OPENED;2 0.000000 R/0 COMMAND T C 030205;3 0.000000 R/0 UNROUTED UNKNOWN 030901;4 0.000000 I CLOSED PEER held 0 0 0 0 skipped 0 empty 0 unposted 0 unsent 0;5 0.000000 R/0 UNROUTED NOTCONNECTED 030207;
+open 0;open 16;from 0 030107;open 17;from 0 030108;drain 16 4;drain 16 3;drain 16 1;drain 17 1;drain 17 0;end 16;from 0 030109;drain 17 2|\
+;;;;;NotEnabled;ROUTED R/0 030107030108;NotEnabled;ROUTED R/1 030108;ROUTED R/1 -;;;ROUTED R/1 030109; \
+0 0.000000 I OPENED;1 0.000000 R/0 OPENED;2 0.000000 I PACKET T A 030107;3 0.000000 R/1 OPENED;4 0.000000 I PACKET T A 030108;5 0.000000 R/0 CLOSED PEER held 0 0 0 0 skipped 0 empty 0 unposted 0 unsent 0;6 0.000000 I PACKET T A 030109;
+open 0;open 16;from 0 030107;from 16 03;end 16;open 16;drain 16 1;from 0 030108;drain 16 1|\
+;;;;;;NotEnabled;;ROUTED R/0 030108; \
+0 0.000000 I OPENED;1 0.000000 R/0 OPENED;2 0.000000 I PACKET T A 030107;3 0.000000 R/0 CLOSED PEER held 1 0 0 0 skipped 0 empty 0 unposted 0 unsent 1;4 0.000000 R/0 OPENED;5 0.000000 I PACKET T A 030108;
 open 20;open 15;drain 0 0;open 16;write 16 0;drain 17 0;from 17 03;end 17;drain 24 0;open 18;drain 18 1|NotEnabled;NotEnabled;NotEnabled;;NotEnabled;NotEnabled;NotEnabled;NotEnabled;NotEnabled;;NotEnabled; 0 0.000000 R/0 OPENED;1 0.000000 Q/0 OPENED;
-open 0;open 1;open 16;open 19;from 0 030107;from 1 030109;from 19 030201;drain 19 2;drain 16 3|;;;;;;;ROUTED Q/1 -;ROUTED R/0 030107; 0 0.000000 I OPENED;1 0.000000 J OPENED;2 0.000000 R/0 OPENED;3 0.000000 Q/1 OPENED;4 0.000000 I PACKET T A 030107;5 0.000000 J PACKET UNKNOWN UNKNOWN 030109;6 0.000000 Q/1 UNROUTED UNKNOWN 030201;";
+open 0;open 1;open 16;open 19;from 0 030107;from 1 030109;from 19 030201;drain 19 2;drain 16 3|\
+;;;;;;;ROUTED Q/1 -;ROUTED R/0 030107; \
+0 0.000000 I OPENED;1 0.000000 J OPENED;2 0.000000 R/0 OPENED;3 0.000000 Q/1 OPENED;4 0.000000 I PACKET T A 030107;5 0.000000 J PACKET UNKNOWN UNKNOWN 030109;6 0.000000 Q/1 UNROUTED UNKNOWN 030201;";
 
 struct Slots;
 
@@ -133,7 +141,9 @@ fn slots_send_commands_and_are_routed_packets(rt: HostRuntime) -> Result<(), Fai
 /// The logs take each entry once, no more than there are, and nothing of an interface that is not logged: packets of the interface that
 /// made them, and commands of the interface that they are for, whoever sent them.
 const LOGS: &str = "\
-open 0;open 1;from 0 030107;from 1 030109;T C with N 4;log 6;log 4;log 1;log 1;log 0|;;;;REPLY DESK/0 4 -;NotEnabled;TLM 00000000000000000154014100000003030107 CMD ;TLM  CMD 00000000000000000154014300000003030204;NotEnabled;TLM  CMD ; 0 0.000000 I OPENED;1 0.000000 J OPENED;2 0.000000 I PACKET T A 030107;3 0.000000 J PACKET UNKNOWN UNKNOWN 030109;4 0.000000 DESK/0 COMMAND T C 030204;
+open 0;open 1;from 0 030107;from 1 030109;T C with N 4;log 6;log 4;log 1;log 1;log 0|\
+;;;;REPLY DESK/0 4 -;NotEnabled;TLM 00000000000000000154014100000003030107 CMD ;TLM  CMD 00000000000000000154014300000003030204;NotEnabled;TLM  CMD ; \
+0 0.000000 I OPENED;1 0.000000 J OPENED;2 0.000000 I PACKET T A 030107;3 0.000000 J PACKET UNKNOWN UNKNOWN 030109;4 0.000000 DESK/0 COMMAND T C 030204;
 open 0;open 16;from 16 030205;log 3;drain 16 1;write 0 1|;;;TLM  CMD 00000000000000000154014300000003030205;ROUTED R/0 -;WRITTEN I 030205; 0 0.000000 I OPENED;1 0.000000 R/0 OPENED;2 0.000000 R/0 COMMAND T C 030205;";
 
 struct Logs;
@@ -151,7 +161,9 @@ fn logs_take_each_entry_once(rt: HostRuntime) -> Result<(), Fail> {
 
 /// A packet whose spelling a slot's chain refuses, since it has the mark that ends a frame, is passed over and counts as unsent.
 const REFUSED: &str = "\
-open 0;open 16;from 0 03010a;from 0 030107;drain 16 1;drain 16 2;drain 16 1;end 16|;;;;ROUTED R/0 -;NotEnabled;ROUTED R/0 0301070a;; 0 0.000000 I OPENED;1 0.000000 R/0 OPENED;2 0.000000 I PACKET T A 03010a;3 0.000000 I PACKET T A 030107;4 0.000000 R/0 CLOSED PEER held 0 0 0 0 skipped 0 empty 0 unposted 0 unsent 1;";
+open 0;open 16;from 0 03010a;from 0 030107;drain 16 1;drain 16 2;drain 16 1;end 16|\
+;;;;ROUTED R/0 -;NotEnabled;ROUTED R/0 0301070a;; \
+0 0.000000 I OPENED;1 0.000000 R/0 OPENED;2 0.000000 I PACKET T A 03010a;3 0.000000 I PACKET T A 030107;4 0.000000 R/0 CLOSED PEER held 0 0 0 0 skipped 0 empty 0 unposted 0 unsent 1;";
 
 struct Refused;
 

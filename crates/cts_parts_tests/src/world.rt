@@ -5,7 +5,7 @@ use cts_base::Bytes;
 use cts_chain::Chain;
 use cts_core::{Framer, Supplier, World};
 use cts_def::{Site, Time};
-use cts_entry::{Entry, Event, Why};
+use cts_entry::{Effect, Entry, Event, Why};
 use cts_proto::Shelf;
 use cts_rows::{Answers, as_text, bytes_of, cut, debug_of, readable_of, rows_end_so};
 use cts_script::entry_lines;
@@ -24,7 +24,8 @@ const NO_TIME: Time = Time {
 };
 
 /// The event of a row: the clock is set to second 5 or to no time of a clock, the interface opens, a piece comes, the interface
-/// ends by a stop, one that there is not by its peer, the server is stopped, or desk 0 is asked, perhaps to send a command.
+/// ends by a stop, one that there is not by its peer, the server is stopped, or desk 0 is asked, perhaps to send a command
+/// (`tell`: with no id).
 fn event_of(alloc: Global, text: &str) -> Result<Event, Fail> {
     match text {
         "time" => Ok(Event::SetTime(TIME)),
@@ -43,7 +44,8 @@ fn long_event_of(alloc: Global, text: &str) -> Result<Event, Fail> {
         "piece" => Ok(Event::Piece(0, Bytes::of(bytes_of(alloc, rest)?))),
         "call" => Ok(Event::Call(0, Bytes::copy(alloc, rest.as_bytes())?)),
         "ask" => asking(alloc, rest),
-        "send" => sending(alloc, rest),
+        "send" => sending(alloc, rest, ",\"id\":1"),
+        "tell" => sending(alloc, rest, ""),
         _ => Err(Fail::new("no event")),
     }
 }
@@ -57,17 +59,28 @@ fn asking(alloc: Global, text: &str) -> Result<Event, Fail> {
     Ok(Event::Call(0, Bytes::copy(alloc, body.as_bytes())?))
 }
 
-/// A request that sends a command of this text.
-fn sending(alloc: Global, text: &str) -> Result<Event, Fail> {
+/// A request that sends a command of this text, with what stands after its params.
+fn sending(alloc: Global, text: &str, id: &str) -> Result<Event, Fail> {
     let body = format!(in alloc;
-        "{{\"jsonrpc\":\"2.0\",\"method\":\"cmd\",\"params\":[\"{text}\"],\"id\":1}}"
+        "{{\"jsonrpc\":\"2.0\",\"method\":\"cmd\",\"params\":[\"{text}\"]{id}}}"
     )?;
     Ok(Event::Call(0, Bytes::copy(alloc, body.as_bytes())?))
 }
 
-/// What the world answers to an event, in words.
+/// What the world answers to an event, in words; of a reply its front, and its text or `-`.
 fn answer<C: Framer>(alloc: Global, world: &mut World<C>, event: &Event) -> Result<String, Fail> {
-    readable_of(alloc, &world.step(event))
+    match world.step(event) {
+        Ok(Effect::Reply { front, text, .. }) => reply(alloc, front, text.as_ref()),
+        answer => readable_of(alloc, &answer),
+    }
+}
+
+fn reply(alloc: Global, front: u64, text: Option<&Bytes>) -> Result<String, Fail> {
+    let text = match text {
+        Some(text) => as_text(text.as_slice())?,
+        None => "-",
+    };
+    Ok(format!(in alloc; "{front} {text}")?)
 }
 
 /// Appends the answer to an event, with `;` after it.
@@ -163,8 +176,11 @@ fn events_are_answered_where_they_may_come(rt: HostRuntime) -> Result<(), Fail> 
 /// history only says so, after all checks, and the server may be stopped.
 const FULL: &str =
     r#"opens;piece 00;piece 0307;stop;other ends|Ok(Posted);Ok(Posted);Err(Full { entries: 1, bytes: 0 });Err(Full { entries: 1, bytes: 0 });Err(Full { entries: 1, bytes: 0 }); 0 0.000000 I OPENED;
-opens;ask set_limits_set ["DEFAULT"];ask set_limits_set ["NIGHT"];ask tlm_raw ["T A V"];stop|Ok(Posted);Ok(Reply { desk: 0, front: 1, text: Some('{"error":{"code":-32003,"message":"History full"},"id":1,"jsonrpc":"2.0"}') });Ok(Reply { desk: 0, front: 1, text: Some('{"error":{"code":-32001,"message":"Unknown limits set"},"id":1,"jsonrpc":"2.0"}') });Ok(Reply { desk: 0, front: 1, text: Some('{"error":{"code":-32001,"message":"Unknown target"},"id":1,"jsonrpc":"2.0"}') });Ok(Posted); 0 0.000000 I OPENED;1 0.000000 SERVER STOP;
-opens;call {"jsonrpc":"2.0","method":"set_limits_set","params":["DEFAULT"]};call {"jsonrpc":"2.0","method":"stop_server"};ask stop_server []|Ok(Posted);Ok(Reply { desk: 0, front: 1, text: None });Ok(Reply { desk: 0, front: 1, text: None });Ok(Reply { desk: 0, front: 2, text: Some('{"id":1,"jsonrpc":"2.0","result":null}') }); 0 0.000000 I OPENED;1 0.000000 DESK/0 STOP;"#;
+opens;ask set_limits_set ["DEFAULT"]|Ok(Posted);1 {"error":{"code":-32003,"message":"History full"},"id":1,"jsonrpc":"2.0"}; 0 0.000000 I OPENED;
+opens;ask set_limits_set ["NIGHT"]|Ok(Posted);1 {"error":{"code":-32001,"message":"Unknown limits set"},"id":1,"jsonrpc":"2.0"}; 0 0.000000 I OPENED;
+opens;ask tlm_raw ["T A V"];stop|Ok(Posted);1 {"error":{"code":-32001,"message":"Unknown target"},"id":1,"jsonrpc":"2.0"};Ok(Posted); 0 0.000000 I OPENED;1 0.000000 SERVER STOP;
+opens;call {"jsonrpc":"2.0","method":"set_limits_set","params":["DEFAULT"]}|Ok(Posted);1 -; 0 0.000000 I OPENED;
+opens;call {"jsonrpc":"2.0","method":"stop_server"};ask stop_server []|Ok(Posted);1 -;2 {"id":1,"jsonrpc":"2.0","result":null}; 0 0.000000 I OPENED;1 0.000000 DESK/0 STOP;"#;
 
 struct Full;
 
@@ -206,7 +222,11 @@ fn a_world_with_a_full_history_says_so(rt: HostRuntime) -> Result<(), Fail> {
 /// The same of a world whose history takes three entries and eight bytes, one of the entries the Opened, with a command of three bytes
 /// and one to the end: a command fits up to the last byte, and one without bytes up to the last entry.
 const SENT: &str =
-    r#"opens;send T C;send T E with L 'abcdef';send T X;send T E with L 'abcde';send T E;send T E with|Ok(Posted);Ok(Reply { desk: 0, front: 1, text: Some('{"id":1,"jsonrpc":"2.0","result":["T","C",{}]}') });Ok(Reply { desk: 0, front: 2, text: Some('{"error":{"code":-32003,"message":"History full"},"id":1,"jsonrpc":"2.0"}') });Ok(Reply { desk: 0, front: 2, text: Some('{"error":{"code":-32002,"message":"Unknown command"},"id":1,"jsonrpc":"2.0"}') });Ok(Reply { desk: 0, front: 2, text: Some('{"id":1,"jsonrpc":"2.0","result":["T","E",{"L":"abcde"}]}') });Ok(Reply { desk: 0, front: 3, text: Some('{"error":{"code":-32003,"message":"History full"},"id":1,"jsonrpc":"2.0"}') });Ok(Reply { desk: 0, front: 3, text: Some('{"error":{"code":-32602,"message":"Invalid params"},"id":1,"jsonrpc":"2.0"}') }); 0 0.000000 I OPENED;1 0.000000 DESK/0 COMMAND T C 000001;2 0.000000 DESK/0 COMMAND T E 6162636465;"#;
+    r#"opens;send T C;send T E with L 'abcdef'|Ok(Posted);1 {"id":1,"jsonrpc":"2.0","result":["T","C",{}]};2 {"error":{"code":-32003,"message":"History full"},"id":1,"jsonrpc":"2.0"}; 0 0.000000 I OPENED;1 0.000000 DESK/0 COMMAND T C 000001;
+opens;send T C;send T X|Ok(Posted);1 {"id":1,"jsonrpc":"2.0","result":["T","C",{}]};2 {"error":{"code":-32002,"message":"Unknown command"},"id":1,"jsonrpc":"2.0"}; 0 0.000000 I OPENED;1 0.000000 DESK/0 COMMAND T C 000001;
+opens;send T C;send T E with L 'abcde'|Ok(Posted);1 {"id":1,"jsonrpc":"2.0","result":["T","C",{}]};2 {"id":1,"jsonrpc":"2.0","result":["T","E",{"L":"abcde"}]}; 0 0.000000 I OPENED;1 0.000000 DESK/0 COMMAND T C 000001;2 0.000000 DESK/0 COMMAND T E 6162636465;
+opens;tell T C;tell T C;send T E|Ok(Posted);1 -;2 -;3 {"error":{"code":-32003,"message":"History full"},"id":1,"jsonrpc":"2.0"}; 0 0.000000 I OPENED;1 0.000000 DESK/0 COMMAND T C 000001;2 0.000000 DESK/0 COMMAND T C 000001;
+opens;tell T C;tell T C;send T E with|Ok(Posted);1 -;2 -;3 {"error":{"code":-32602,"message":"Invalid params"},"id":1,"jsonrpc":"2.0"}; 0 0.000000 I OPENED;1 0.000000 DESK/0 COMMAND T C 000001;2 0.000000 DESK/0 COMMAND T C 000001;"#;
 
 /// A command of one number, and one of a text to the end.
 const COMMANDS: &str =

@@ -29,7 +29,8 @@ impl Answers for Readable {
 const READABLE: &str = "\
 0|[Opens(0), Opens(1), Opens(16)]
 1|[Opens(0), Opens(1), Opens(16), Call(0, '{\"jsonrpc\":\"2.0\",\"method\":\"cmd\",\"params\":[\"INST COLLECT with DURATION 10\"],\"id\":1}'), Write(0, 1)]
-5|[Opens(0), Opens(1), Opens(16), Piece(0, '\0\u{6}\u{1}\u{f4}\u{6}'), Piece(0, '\u{1}'), Call(0, '{\"jsonrpc\":\"2.0\",\"method\":\"tlm\",\"params\":[\"INST HS TEMP1\"],\"id\":1}'), Piece(0, '\0'), Piece(0, '\u{6}\u{1}\u{c8}w\0'), Call(0, '{\"jsonrpc\":\"2.0\",\"method\":\"tlm\",\"params\":[\"INST HS TEMP1\"],\"id\":1}'), Finish(0, PeerEnded), Opens(0)]";
+5|[Opens(0), Opens(1), Opens(16), Piece(0, '\0\u{6}\u{1}\u{f4}\u{6}'), Piece(0, '\u{1}'), \
+Call(0, '{\"jsonrpc\":\"2.0\",\"method\":\"tlm\",\"params\":[\"INST HS TEMP1\"],\"id\":1}'), Piece(0, '\0'), Piece(0, '\u{6}\u{1}\u{c8}w\0'), Call(0, '{\"jsonrpc\":\"2.0\",\"method\":\"tlm\",\"params\":[\"INST HS TEMP1\"],\"id\":1}'), Finish(0, PeerEnded), Opens(0)]";
 
 #[test]
 fn small_rehearsals_are_as_the_rule_says(rt: HostRuntime) -> Result<(), Fail> {
