@@ -69,7 +69,9 @@ fn open<R: Files<File = File>>(rt: &R, opening: Opening, name: &str) -> Result<F
 impl<'a, R: Files<File = File>> DiskVault<'a, R> {
     /// A vault over files of these names, none of which is open yet.
     pub fn new(rt: &'a R, opening: Opening, tlm: &'a str, cmd: &'a str) -> DiskVault<'a, R>
-        ensures { result.faults ≡ 0 }
+        ensures opening { result.opening ≡ opening }
+        ensures names { (result.tlm.name.now ≡ tlm.now) × (result.cmd.name.now ≡ cmd.now) }
+        ensures faults { result.faults ≡ 0 }
     {
         DiskVault {
             rt,

@@ -4,5 +4,5 @@ mod Fitting
 mod Readings
 mod Opened
 mod Heads
-mod SoundSites
+pub mod SoundSites
 mod SiteSaid

@@ -12,7 +12,7 @@ use Rattle.cts_core.specs.LineChains.{line_uses}
 use Rattle.cts_core.specs.Environments.{basis_of, site_environment}
 use Rattle.cts_core.specs.Runs.{Did, Ending, Finished, NotEnabled, HistoryFull}
 use Rattle.cts_core.specs.States.{opening}
-use Rattle.cts_def.specs.Sites.{SiteData}
+use Rattle.cts_def.specs.Sites.{IsSoundSite, SiteData}
 use Rattle.cts_entry.specs.declared.event.Event.{Event}
 use Rattle.cts_outside.specs.Causes.{Rose, Steady}
 use Rattle.cts_outside.specs.Seen.{FilesSeen, SinkSeen, VaultSeen}
@@ -47,6 +47,7 @@ use Rattle.cts_serve.specs.declared.words.Command.TheVariants.{Check, Replay, Re
 use Rattle.cts_serve.proofs.ActLemmas.{all_of, put_done, sink_of, vault_of}
 use Rattle.cts_serve.proofs.DumpLemmas.{some_dump}
 use Rattle.cts_serve.proofs.EndingLemmas.{ends_with, fails_still}
+use Rattle.cts_serve.proofs.LoadLemmas.{site_asked_sound}
 use Rattle.cts_serve.proofs.LogLemmas.{replay_is}
 use Rattle.cts_serve.proofs.PhaseLemmas.{first_past, front, here, none_alone, past, read_past}
 
@@ -249,10 +250,10 @@ shelf_fails stock site (chain.ShelfEmpty kind n there) f =
 
 -- ---- a script
 
-some_replay : (digest : List ℕ) (site : SiteData) (script : List ℕ) (events : List (ℕ × Event)) → Some_due (IsReplay digest site script events)
-some_replay digest site script events =
+some_replay : (digest : List ℕ) (site : SiteData) (script : List ℕ) (events : List (ℕ × Event)) → IsSoundSite site → Some_due (IsReplay digest site script events)
+some_replay digest site script events sound =
     let run = has_run (site_environment site) (site_sound (basis_of site)) opening (events_of events) in
-    (replay_acts digest site events run.0 run.1, replay_answer script events run.0 run.1, replay_is digest site script events run.0 run.1 run.2)
+    (replay_acts digest site events run.0 run.1, replay_answer script events run.0 run.1, replay_is digest site script events run.0 run.1 sound run.2)
 
 replay_of_no_file : (script : List ℕ) (events : List (ℕ × Event)) (dids : List Did) (ending : Ending) → OfNoFile (replay_answer script events dids ending)
 replay_of_no_file script events dids Finished = tt
@@ -260,23 +261,23 @@ replay_of_no_file script events dids NotEnabled = tt
 replay_of_no_file script events dids HistoryFull = tt
 
 pub script_fails : (told : Option (List ℕ → Option (List ℕ))) (digest : List ℕ) (site : SiteData) (script : List ℕ) (h : Halt) (o : Outside)
-    → IfSome told (λ all. HaltsAt (script_phase all site script) h) → IfSome told (λ all. PerformsScript all digest site script (Err h) o o)
-script_fails None digest site script h o k = tt
-script_fails (Some all) digest site script h o k =
-    halts_here (script_phase all site script ∷ []) (IsReplay digest site script (events_asked all site script)) (some_replay digest site script (events_asked all site script)) h o
+    → IsSoundSite site → IfSome told (λ all. HaltsAt (script_phase all site script) h) → IfSome told (λ all. PerformsScript all digest site script (Err h) o o)
+script_fails None digest site script h o sound k = tt
+script_fails (Some all) digest site script h o sound k =
+    halts_here (script_phase all site script ∷ []) (IsReplay digest site script (events_asked all site script)) (some_replay digest site script (events_asked all site script) sound) h o
     (here (script_phase all site script) [] h k)
 
 pub script_replays : (told : Option (List ℕ → Option (List ℕ))) (digest : List ℕ) (site : SiteData) (script : List ℕ) (events : List (ℕ × Event)) (answer : Result (Unit {0}) Halt) (old new : Outside)
-    → IfSome told (λ all. TakesAt (script_phase all site script) (events_asked all site script) (Ok events)) → Replays digest site script events answer old new → IfSome told (λ all. PerformsScript all digest site script answer old new)
-script_replays None digest site script events answer old new t k = tt
-script_replays (Some all) digest site script events answer old new t k =
+    → IsSoundSite site → IfSome told (λ all. TakesAt (script_phase all site script) (events_asked all site script) (Ok events)) → Replays digest site script events answer old new → IfSome told (λ all. PerformsScript all digest site script answer old new)
+script_replays None digest site script events answer old new sound t k = tt
+script_replays (Some all) digest site script events answer old new sound t k =
     let acts = replay_acts digest site events k.dids k.ending in
     let due = replay_answer script events k.dids k.ending in
     record {
       acts = acts;
       due = due;
       is = goes_so (script_phase all site script ∷ []) (IsReplay digest site script (events_asked all site script)) acts due (none_alone (script_phase all site script) t.0)
-          (subst (λ (es : List (ℕ × Event)). IsReplay digest site script es acts due) t.1 (replay_is digest site script events k.dids k.ending k.runs));
+          (subst (λ (es : List (ℕ × Event)). IsReplay digest site script es acts due) t.1 (replay_is digest site script events k.dids k.ending sound k.runs));
       does = does_of (script_phase all site script ∷ []) acts due answer old new (replay_of_no_file script events k.dids k.ending) k.does;
     }
 
@@ -299,6 +300,7 @@ module _ (stock : List Meaning) (definitions site script : List ℕ) where
 
   some_done : (all : List ℕ → Option (List ℕ)) → Some_due (IsDone all (Replay definitions site script))
   some_done all = some_replay (digest_asked all definitions) (site_asked all definitions site) script (events_asked all (site_asked all definitions site) script)
+      (site_asked_sound all definitions site)
 
   pub replay_unloaded : (told : Option (List ℕ → Option (List ℕ))) (h : Halt) (o : Outside)
       → IfSome told (λ all. TakesSite all definitions site (Err h)) → IfSome told (λ all. Performs stock all (Replay definitions site script) (Err h) o o)

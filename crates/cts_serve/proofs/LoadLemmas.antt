@@ -1,20 +1,23 @@
 -- What is read of the files, and what it means for the command.
 use Rattle.std.proofs.Common.{◌≡◌, ℕ, ◌≤◌, false, List, [], ◌∷◌, length, take, Option, Some, None, Result, Ok, Err, IfSome, refl, sym, ◌∙◌, ap, ap₂, subst, arith}
 use Rattle.std.specs.Prelude.{nat_lt, IsSomeAnd}
+use Rattle.std.specs.Result.{result_unwrap_or}
 use Rattle.std.proofs.lemmas.Bool.Decides.{nat_tests}
 use Rattle.cts_def.specs.Packets.{DefinitionsData}
-use Rattle.cts_def.specs.Sites.{SiteData}
+use Rattle.cts_def.specs.Sites.{IsSoundSite, SiteData}
 use Rattle.cts_defline.specs.declared.cause.DefCause.{DefCause}
 use Rattle.cts_defread.specs.Definitions.{definitions_of}
 use Rattle.cts_entry.specs.declared.event.Event.{Event}
+use Rattle.cts_plan.proofs.Kept.{at_start}
 use Rattle.cts_plan.specs.declared.fault.SiteCause.{SiteCause}
 use Rattle.cts_plan.specs.SiteFiles.{site_of}
+use Rattle.cts_plan_laws.proofs.SoundSites.{sites_are_sound}
 use Rattle.cts_scriptread.specs.Scripts.{events_of}
 use Rattle.cts_scriptread.specs.declared.cause.ScriptCause.{ScriptCause}
 use Rattle.md5.specs.Md5.{md5}
 use Rattle.cts_words.specs.declared.statement.Statement.{Statement}
 use Rattle.cts_words.specs.Statements.{said}
-use Rattle.cts_serve.specs.Load.{bytes_of, definitions_asked, definitions_phase, definitions_read, digest_asked, no_definitions, or_cause, read_in, script_read, site_asked, site_asked_over, site_phase, site_phases, site_read}
+use Rattle.cts_serve.specs.Load.{bytes_of, definitions_asked, definitions_phase, definitions_read, digest_asked, no_definitions, no_site, or_cause, read_in, script_read, site_asked, site_asked_over, site_phase, site_phases, site_read, statements_in}
 use Rattle.cts_serve.specs.Load.Files.{GivesBytes, GivesDigested, GivesStatements, IsReason, ReadsAs, Says, file_limit, judge, judge_said, too_large, verdict}
 use Rattle.cts_serve.specs.Phases.{HaltsAt, Phase, Takes, TakesAt, file_halt, is_fault, reading}
 use Rattle.cts_serve.specs.declared.halt.Halt.{Halt}
@@ -223,3 +226,16 @@ script_ok site statements events h = ap (or_cause cause.Script) h
 pub script_err : (site : SiteData) (statements : List Statement) (line : ℕ) (c : ScriptCause) → events_of site statements ≡ Err (line, c) → script_read site statements ≡ Err (line, cause.Script c)
 unfolding script_read
 script_err site statements line c h = ap (or_cause cause.Script) h
+
+-- ---- a site that is asked for keeps the rules of sites
+
+read_sound : (r : Result SiteData (ℕ × SiteCause)) → ((s : SiteData) → r ≡ Ok s → IsSoundSite s) → IsSoundSite (result_unwrap_or (or_cause cause.Site r) no_site)
+read_sound (Ok s) k = k s refl
+read_sound (Err r) k = (at_start no_definitions).site
+
+asked_sound : (definitions : DefinitionsData) (statements : List Statement) → IsSoundSite (result_unwrap_or (site_read definitions statements) no_site)
+unfolding site_read
+asked_sound definitions statements = read_sound (site_of definitions statements) (sites_are_sound definitions statements)
+
+pub site_asked_sound : (files : List ℕ → Option (List ℕ)) (definitions site : List ℕ) → IsSoundSite (site_asked files definitions site)
+site_asked_sound files definitions site = asked_sound (definitions_asked files definitions) (statements_in (bytes_of (files site)))

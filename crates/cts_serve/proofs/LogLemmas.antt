@@ -14,7 +14,7 @@ use Rattle.cts_core_laws.proofs.SiteSound.{apart, by_desks, legally, site_sound}
 use Rattle.cts_core_laws.proofs.Telling.{core_is_told}
 use Rattle.cts_core_laws.specs.Logs.{commands_in, commands_logged, drained_by, packets_in, packets_logged}
 use Rattle.cts_core_laws.specs.Told.{history_of}
-use Rattle.cts_def.specs.Sites.{SiteData}
+use Rattle.cts_def.specs.Sites.{IsSoundSite, SiteData}
 use Rattle.cts_entry.specs.Histories.{commands_to, packets_from}
 use Rattle.cts_entry.specs.declared.entry.Entry.{Entry}
 use Rattle.cts_entry.specs.declared.event.Effect.{Effect}
@@ -146,9 +146,9 @@ module _ (site : SiteData) (events : List (ℕ × Event)) (dids : List Did) wher
 
 -- ---- a run is a replay
 
-pub replay_is : (digest : List ℕ) (site : SiteData) (script : List ℕ) (events : List (ℕ × Event)) (dids : List Did) (ending : Ending) → Runs (site_environment site) opening (events_of events) dids ending
+pub replay_is : (digest : List ℕ) (site : SiteData) (script : List ℕ) (events : List (ℕ × Event)) (dids : List Did) (ending : Ending) → IsSoundSite site → Runs (site_environment site) opening (events_of events) dids ending
     → IsReplay digest site script events (replay_acts digest site events dids ending) (replay_answer script events dids ending)
-replay_is digest site script events dids ending runs =
+replay_is digest site script events dids ending sound runs =
     let logged = core_is_logged (site_environment site) (events_of events) dids ending runs in
     record {
       dids = dids;
@@ -159,7 +159,7 @@ replay_is digest site script events dids ending runs =
       packets = replay_packets site events dids digest ending logged.0;
       commands = replay_commands site events dids digest ending logged.1;
       legal = core_is_legal (basis_of site) (legally (basis_of site)) (events_of events) dids ending runs;
-      lines = λ sound m line. core_is_told (site_environment site) (site_sound (basis_of site)) (by_desks (basis_of site)) (events_of events) dids ending m (apart (basis_of site) sound) line runs;
+      lines = λ m line. core_is_told (site_environment site) (site_sound (basis_of site)) (by_desks (basis_of site)) (events_of events) dids ending m (apart (basis_of site) sound) line runs;
       judged = run_judged site opening (events_of events) dids ending runs;
       due_is = refl;
     }

@@ -8,7 +8,7 @@ use Rattle.cts_core.specs.declared.fault.WorldFault.{WorldFault}
 use Rattle.cts_core.specs.declared.fault.WorldFault.TheVariants as fault
 use Rattle.cts_core_laws.specs.Logs.{drained_by}
 use Rattle.cts_core_laws.specs.Told.{Told, history_of, told}
-use Rattle.cts_def.specs.Sites.{IsSoundSite, SiteData}
+use Rattle.cts_def.specs.Sites.{SiteData}
 use Rattle.cts_entry.specs.Histories.{entries_in, bytes_in}
 use Rattle.cts_entry.specs.Legal.{IsLegal}
 use Rattle.cts_entry.specs.declared.entry.Entry.{Entry}
@@ -110,7 +110,7 @@ pub record IsReplay (digest : List ℕ) (site : SiteData) (script : List ℕ) (e
   pub packets : logged_of Tlm acts ≡ log_head Telemetry digest ++ packets_log (site_environment site) (kept_entries events dids ending)
   pub commands : logged_of Cmd acts ≡ log_head Commands digest ++ commands_log (site_environment site) (kept_entries events dids ending)
   pub legal : IsLegal (rules_of (basis_of site)) (history_of dids)
-  pub lines : IsSoundSite site → (m : ℕ) → is_line (site_environment site) m ≡ true → Told (site_environment site).routing m (history_of dids) (told m (events_of events) dids)
+  pub lines : (m : ℕ) → is_line (site_environment site) m ≡ true → Told (site_environment site).routing m (history_of dids) (told m (events_of events) dids)
   pub judged : AreJudged site opening (events_of events) dids
   pub due_is : due ≡ replay_answer script events dids ending
 

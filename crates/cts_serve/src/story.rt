@@ -33,7 +33,7 @@ impl<C: Framer> Story<C> {
     ghost use Rattle.cts_core.specs.LineChains.{line_uses};
     ghost use Rattle.cts_core.specs.Endings.{held_in};
     ghost use Rattle.cts_core.specs.States.{State, opening};
-    ghost use Rattle.cts_def.specs.Sites.{SiteData};
+    ghost use Rattle.cts_def.specs.Sites.{IsSoundSite, SiteData};
     ghost use Rattle.cts_serve.specs.Start.{short_kind};
     ghost use Rattle.cts_serve.specs.Story.{Drains, Goes, Moves, Stands, Tells, site_told};
     ghost use Rattle.cts_watch.specs.Events.{events};
@@ -88,11 +88,14 @@ impl<C: Framer> Story<C> {
         }
     }
 
-    /// Its site.
+    /// Its site, which keeps the rules of sites.
     pub fn site(&self) -> &Site
-        ensures { result.now ≡ site_told self.now }
+        ensures site { result.now ≡ site_told self.now }
+        ensures sound { IsSoundSite result.now }
     {
-        self.world.hall().site()
+        let hall = self.world.hall();
+        hall.is_kept();
+        hall.site()
     }
 
     /// How many entries stand in its history.

@@ -6,7 +6,7 @@ use Rattle.cts_serve.proofs.replay.replay_script.Goals as goal
 
 pub returns-in-Ok-clause-performs : goal.returns-in-Ok-clause-performs
 returns-in-Ok-clause-performs g c =
-    script_replays _ c.args.digest.now _ c.args.script.now c.in-Ok.events.items c.do_script-done.result _ _ (rw c.site.ensures at c.in-Ok.ensures.content) (rw c.deref.ensures.value at c.do_script-done.ensures)
+    script_replays _ c.args.digest.now _ c.args.script.now c.in-Ok.events.items c.do_script-done.result _ _ (rw c.site.ensures.site at c.site.ensures.sound) (rw c.site.ensures.site at c.in-Ok.ensures.content) (rw c.deref.ensures.value at c.do_script-done.ensures)
 
 pub returns-in-Ok-clause-files : goal.returns-in-Ok-clause-files
 returns-in-Ok-clause-files g c =
@@ -21,7 +21,7 @@ returns-in-Ok-clause-vault g c =
     script_logs c.args.digest.now (site_told c.args.story.now) c.args.script.now c.in-Ok.events.items c.do_script-done.result _ _ (rw c.deref.ensures.value at c.do_script-done.ensures)
 
 pub returns-in-Err-clause-performs : goal.returns-in-Err-clause-performs
-returns-in-Err-clause-performs g c = script_fails _ c.args.digest.now _ c.args.script.now c.in-Err.halt _ (rw c.site.ensures at c.in-Err.ensures.content)
+returns-in-Err-clause-performs g c = script_fails _ c.args.digest.now _ c.args.script.now c.in-Err.halt _ (rw c.site.ensures.site at c.site.ensures.sound) (rw c.site.ensures.site at c.in-Err.ensures.content)
 
 pub returns-in-Err-clause-files : goal.returns-in-Err-clause-files
 returns-in-Err-clause-files g c = load_counts c.in-Err.halt _ _ c.in-Err.ensures.counts
