@@ -1,0 +1,10 @@
+//! What the running server stands on outside of it, beside files: devices and clients over TCP, after the traits of `cts_outside`. They tell nothing of content, since no proof sees what a network carries; what they count is exact. No
+//! call of a dialer waits for a second, but for the system's search for a host's name.
+#![tactic(auto)]
+
+mod dialer;
+mod listener;
+mod stream;
+
+pub use crate::dialer::TcpDialer;
+pub use crate::listener::SharedListener;
