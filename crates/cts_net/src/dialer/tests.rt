@@ -12,12 +12,12 @@ use std::time::Clock;
 const HOST: &str = "127.0.0.1";
 
 /// The dialers of a row: three doors of one port, the last of which is patient for two takes; two lines that dial it; a line to a port
-/// where nobody listens, with a delay; one without an aim; and a door of another listener at the same port.
+/// where nobody listens, with a delay; one without an aim; and a door of another listener, whose port is taken.
 const NAMES: &str = "xyzabnut";
 
 /// What a call of a dialer answers, after the dialer's name: `d` dials until it is not Later, and `l` once; `t` takes until it is not
-/// Nothing, and `n` once; `pab` puts `ab`, and `f` puts until a put fails; `h` hangs up; `r` closes the socket without a word; and `c`
-/// gives the takes and puts that failed, and the dials.
+/// Nothing, and `n` once; `pab` puts `ab`, and `f` puts until a put fails; `h` hangs up; `r` closes the socket without a word; `c` gives
+/// the takes and puts that failed, and the dials; and `o` does so once the port that is taken is free.
 const CALLS: &str = "\
 xl ad xd yl xn apping xt xpback at ah xt xh xc ac|Later;Linked;Linked;Later;Nothing;Ok;Got(4) [112, 105, 110, 103];Ok;Got(4) [98, 97, 99, 107];;End [45, 45, 45, 45];;(0, 0);(0, 0);
 ad bd xd yd bptwo apone xt yt xh at bh yt|Linked;Linked;Linked;Linked;Ok;Ok;Got(3) [111, 110, 101, 45];Got(3) [116, 119, 111, 45];;End [45, 45, 45, 45];;End [45, 45, 45, 45];
@@ -25,7 +25,7 @@ ad xd ap123456 xt xt xn ah ad xt xh xd yl|Linked;Linked;Ok;Got(4) [49, 50, 51, 5
 ad xd af ac xc|Linked;Linked;PutFailed;(1, 0);(0, 0);
 ad xd xpabc ar xt xc|Linked;Linked;Ok;;Failed [45, 45, 45, 45];(1, 0);
 ad zd zn zn zn zc apa zt zn zn zn zc|Linked;Linked;Nothing;Nothing;Failed [45, 45, 45, 45];(1, 0);Ok;Got(1) [97, 45, 45, 45];Nothing;Nothing;Failed [45, 45, 45, 45];(2, 0);
-ul uc tl tc nl nl nl nl nl nc|Failed;(0, 1);Failed;(0, 1);Failed;Later;Later;Failed;Later;(0, 2);";
+ul uc tl to tl tc nl nl nl nl nl nc|Failed;(0, 1);Failed;(0, 1);Later;(0, 1);Failed;Later;Later;Failed;Later;(0, 2);";
 
 fn aim_of(alloc: Global, name: char, port: u16) -> Result<Aim, Memory> {
     let (port, serves, parts) = match name {
@@ -41,11 +41,22 @@ fn aim_of(alloc: Global, name: char, port: u16) -> Result<Aim, Memory> {
     })
 }
 
+fn port_of(listener: &Option<TcpListener>) -> u16 {
+    match listener {
+        Some(listener) => match listener.local_addr() {
+            Ok(address) => address.port(),
+            Err(_) => 0,
+        },
+        None => 0,
+    }
+}
+
 fn push_all<'a, R: Net<Listener = TcpListener, Stream = TcpStream> + Clock>(
     rt: &'a R,
     alloc: Global,
     listener: &'a SharedListener<'a>,
     other: &'a SharedListener<'a>,
+    taken: u16,
     dialers: &mut Vec<TcpDialer<'a, R>>,
 ) -> Result<(), Memory> {
     for name in NAMES.chars() {
@@ -54,8 +65,12 @@ fn push_all<'a, R: Net<Listener = TcpListener, Stream = TcpStream> + Clock>(
             't' => TcpDialer::new(rt, other, most_silent),
             _ => TcpDialer::new(rt, listener, most_silent),
         };
+        let port = match name {
+            't' => taken,
+            _ => listener.port().unwrap_or(0),
+        };
         if name != 'u' {
-            dialer.aim(aim_of(alloc, name, listener.port().unwrap_or(0))?);
+            dialer.aim(aim_of(alloc, name, port)?);
         }
         dialers.push(dialer)?;
     }
@@ -136,11 +151,15 @@ fn puts<R: Net<Listener = TcpListener, Stream = TcpStream> + Clock>(
 fn told<R: Net<Listener = TcpListener, Stream = TcpStream> + Clock>(
     alloc: Global,
     dialers: &mut [TcpDialer<'_, R>],
+    taken: &mut Option<TcpListener>,
     calls: &str,
 ) -> Result<String, Fail> {
     let mut told = String::new(alloc);
     for call in calls.split(' ') {
         let (name, what) = call.split_at_checked(1).unwrap_or((call, ""));
+        if what == "o" {
+            *taken = None;
+        }
         let number = NAMES.find(name).unwrap_or(0);
         let Some(dialer) = dialers.get_mut(number) else {
             return Err(Fail::new("no dialer"));
@@ -160,13 +179,15 @@ fn row_holds<R: Net<Listener = TcpListener, Stream = TcpStream> + Clock + Print>
     let (mut calls, mut wanted) = row.split_once('|').unwrap_or((row, ""));
     let listener = SharedListener::new(HOST);
     let other = SharedListener::new(HOST);
+    let mut taken = TcpListener::bind(rt, (HOST, 0)).ok();
     let mut dialers = Vec::new(alloc);
-    push_all(rt, alloc, &listener, &other, &mut dialers)?;
+    let port = port_of(&taken);
+    push_all(rt, alloc, &listener, &other, port, &mut dialers)?;
     if listener.port().is_none() {
         println!(rt; "no sockets here")?;
         (calls, wanted) = ("xl xc", "Failed;(0, 1);");
     }
-    let found = told(alloc, &mut dialers, calls)?;
+    let found = told(alloc, &mut dialers, &mut taken, calls)?;
     ends_so(found.as_str(), wanted)
 }
 
@@ -184,18 +205,4 @@ fn lines_and_doors_meet_over_real_sockets(rt: HostRuntime) -> Result<(), Fail> {
         row_holds(&rt, rt.alloc(), row)?;
     }
     Ok(())
-}
-
-#[test]
-fn a_door_whose_port_is_taken_opens_once_it_is_free(rt: HostRuntime) -> Result<(), Fail> {
-    let alloc = rt.alloc();
-    let other = SharedListener::new(HOST);
-    let listener = SharedListener::new(HOST);
-    let mut door = TcpDialer::new(&rt, &listener, 0);
-    let first = other.open(&rt, 0).is_ok();
-    door.aim(aim_of(alloc, 'x', other.port().unwrap_or(1))?);
-    ends_so(answer(alloc, &mut door, "l")?.as_str(), "Failed")?;
-    drop(other);
-    let wanted = if first { "Later" } else { "Failed" };
-    ends_so(answer(alloc, &mut door, "l")?.as_str(), wanted)
 }
