@@ -1,6 +1,6 @@
 // Dialers over TCP.
 ghost use Rattle.std.specs.Prelude.{◌≡◌, ◌≢◌, ◌⊎◌, ◌<◌, ◌-◌, length, min, true, false, is_some, None};
-ghost use Rattle.cts_outside.specs.Causes.{Cause, TakeCause, DialCause, Rose};
+ghost use Rattle.cts_outside.specs.Causes.{TakeCause, DialCause};
 ghost use Rattle.cts_outside.specs.Lines.{TakeFits, links};
 ghost use Rattle.cts_net.specs.Delays.{millis_of, rest_after_fault, rest_after_hang_up};
 ghost use Rattle.cts_net.specs.Waits.{IsHeard};

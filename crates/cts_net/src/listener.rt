@@ -1,5 +1,4 @@
 // A port on which doors accept clients.
-ghost use Rattle.std.specs.Prelude.{Result, MatchResult};
 ghost use Rattle.cts_net.specs.Waits.{Accepts};
 
 use crate::stream::{is_passing, patient};
