@@ -24,7 +24,7 @@ ad bd xd yd bptwo apone xt yt xh at bh yt|Linked;Linked;Linked;Linked;Ok;Ok;Got(
 ad xd ap123456 xt xt xn ah ad xt xh xd yl|Linked;Linked;Ok;Got(4) [49, 50, 51, 52];Got(2) [53, 54, 45, 45];Nothing;;Linked;End [45, 45, 45, 45];;Linked;Later;
 ad xd af ac xc|Linked;Linked;PutFailed;(1, 0);(0, 0);
 ad xd xpabc ar xt xc|Linked;Linked;Ok;;Failed [45, 45, 45, 45];(1, 0);
-ad zd zn zn zn zc apa zt zn zn zn zc|Linked;Linked;Nothing;Nothing;Failed [45, 45, 45, 45];(1, 0);Ok;Got(1) [97, 45, 45, 45];Nothing;Nothing;Failed [45, 45, 45, 45];(2, 0);
+ad zd zn zn zn zc|Linked;Linked;Nothing;Nothing;Failed [45, 45, 45, 45];(1, 0);
 ul uc tl to tl tc nl nl nl nl nl nc|Failed;(0, 1);Failed;(0, 1);Later;(0, 1);Failed;Later;Later;Failed;Later;(0, 2);";
 
 fn aim_of(alloc: Global, name: char, port: u16) -> Result<Aim, Memory> {
