@@ -35,26 +35,34 @@ fn a_replaced_log_has_what_is_appended_alone(rt: HostRuntime) -> Result<(), Fail
     Ok(())
 }
 
+// The files of a running server have the second of its start in their names.
 #[test]
 fn a_new_log_is_in_no_old_file(rt: HostRuntime) -> Result<(), Fail> {
     fs::create_dir_all(&rt, "new_vault_test")?;
-    fs::write(&rt, "new_vault_test/tlm.bin", "an earlier log")?;
+    fs::write(&rt, "new_vault_test/1796000000_tlm.bin", "an earlier log")?;
     let mut vault = DiskVault::new(
         &rt,
         Opening::New,
-        "new_vault_test/tlm.bin",
-        "new_vault_test/cmd.bin",
+        "new_vault_test/1796000000_tlm.bin",
+        "new_vault_test/1796000000_cmd.bin",
     );
-    assert_eq!(rt; vault.append(LogKind::Tlm, b"one"), Err(PutFailed));
-    assert_eq!(rt; vault.append(LogKind::Cmd, b"two"), Ok(()));
-    assert_eq!(rt; vault.append(LogKind::Tlm, b"one"), Err(PutFailed));
+    let rows = [
+        (LogKind::Tlm, b"one".as_slice(), Err(PutFailed)),
+        (LogKind::Cmd, b"two", Ok(())),
+        (LogKind::Tlm, b"one", Err(PutFailed)),
+        (LogKind::Cmd, b"too", Ok(())),
+    ];
+    for (kind, bytes, answer) in rows {
+        assert_eq!(rt; vault.append(kind, bytes), answer);
+        assert_eq!(rt; vault.sync(kind), Ok(()));
+    }
     assert_eq!(rt;
-        fs::read(&rt, "new_vault_test/tlm.bin")?.as_slice(),
+        fs::read(&rt, "new_vault_test/1796000000_tlm.bin")?.as_slice(),
         b"an earlier log".as_slice()
     );
     assert_eq!(rt;
-        fs::read(&rt, "new_vault_test/cmd.bin")?.as_slice(),
-        b"two".as_slice()
+        fs::read(&rt, "new_vault_test/1796000000_cmd.bin")?.as_slice(),
+        b"twotoo".as_slice()
     );
     assert_eq!(rt; vault.faults, 2);
     fs::remove_dir_all(&rt, "new_vault_test")?;
