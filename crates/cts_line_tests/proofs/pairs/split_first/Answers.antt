@@ -1,4 +1,4 @@
-use Rattle.std.proofs.Common.{[], ◌∷◌, ◌∙◌, ap, arith, refl}
+use Rattle.std.proofs.Common.{[], ◌∷◌, ◌∙◌, ap, arith}
 use Rattle.cts_turn.proofs.Makers.{has_from, split_from}
 use Rattle.cts_turn.specs.Lists.{has}
 use Rattle.cts_turn.specs.Passes.{view}
