@@ -1,14 +1,17 @@
-// Sites that are read from texts whose lines end with `;`, and dialers from words.
+// What tests read from the parts of rows: sites, whose lines end with `;`, halls and dialers.
+ghost use Rattle.std.specs.Prelude.{◌≡◌, [], IfOk};
+ghost use Rattle.std.specs.Arc.{arc_value};
+
 use cts_base::Bytes;
-use cts_def::{Kind, Site};
+use cts_def::Site;
 use cts_defread::read_definitions;
-use cts_outside::{MemConnection, MemPiece};
+use cts_outside::{MemConnection, MemDialer, MemPiece};
 use cts_plan::read_site;
-use cts_proto::{Boxed, Shelf};
-use cts_rows::{bytes_of, lines, number};
-use cts_stream::{Burst, Length};
+use cts_rows::{bytes_of, cut, lines, number};
+use cts_table::Hall;
 use cts_words::{Statement, statements};
 use std::alloc::Global;
+use std::sync::Arc;
 use std::test::Fail;
 
 fn statements_of(alloc: Global, text: &str) -> Result<Vec<Statement>, Fail> {
@@ -27,21 +30,6 @@ pub fn site_of(alloc: Global, definitions: &str, site: &str) -> Result<Site, Fai
     Ok(read_site(alloc, &found, definitions)?)
 }
 
-/// A shelf with one box of BURST and one of LENGTH.
-pub fn stocked(alloc: Global) -> Result<Shelf, Fail> {
-    let mut shelf = Shelf::new(alloc);
-    put(&mut shelf, Box::new(alloc, Burst::blank(alloc))?)?;
-    put(&mut shelf, Box::new(alloc, Length::blank(alloc))?)?;
-    Ok(shelf)
-}
-
-fn put(shelf: &mut Shelf, protocol: Boxed) -> Result<(), Fail> {
-    match shelf.put(protocol) {
-        Ok(()) => Ok(()),
-        Err(_) => Err(Fail::new("out of memory")),
-    }
-}
-
 /// The numbers of words.
 pub fn numbers(alloc: Global, text: &str) -> Result<Vec<u64>, Fail> {
     let mut found = Vec::new(alloc);
@@ -51,6 +39,34 @@ pub fn numbers(alloc: Global, text: &str) -> Result<Vec<u64>, Fail> {
         }
     }
     Ok(found)
+}
+
+/// What a row asks, with the row for the `$` of a form, and what it wants.
+pub fn parts<'r>(alloc: Global, form: &str, row: &'r str) -> Result<(String, &'r str), Fail> {
+    match row.rsplit_once('|') {
+        Some((asked, wanted)) => Ok((form.replace(alloc, '$', asked)?, wanted)),
+        None => Err(Fail::new("no bar")),
+    }
+}
+
+/// A hall without entries, by how many entries and how many bytes it may have.
+pub fn hall_of(alloc: Global, site: Arc<Site>, limits: &str) -> Result<Hall, Fail>
+    ensures site { IfOk result (λ hall. hall.basis.site ≡ arc_value site) }
+    ensures empty { IfOk result (λ hall. hall.entries ≡ []) }
+{
+    let entries: u64 = number(limits, 0)?;
+    let bytes: u64 = number(limits, 1)?;
+    if entries > 1000 || bytes > 1_000_000 {
+        return Err(Fail::new("too many entries or bytes"));
+    }
+    Ok(Hall::with_limits(alloc, site, entries, bytes)?)
+}
+
+/// A dialer by the numbers of its calls that fail and its connections, with `;` between.
+pub fn dialer_of(alloc: Global, text: &str) -> Result<MemDialer, Fail> {
+    let (failing, rest) = cut(text, ';')?;
+    let connections = connections(alloc, rest)?;
+    Ok(MemDialer::new(alloc, connections, numbers(alloc, failing)?))
 }
 
 /// Connections, each with how many Later it answers and its pieces in digits, `-` for Nothing.
@@ -75,9 +91,15 @@ fn connection(alloc: Global, words: &str) -> Result<MemConnection, Fail> {
     })
 }
 
+/// The piece of a word: digits, `-` for Nothing, or `x` and a number for so many bytes of 0.
 fn piece(alloc: Global, word: &str) -> Result<MemPiece, Fail> {
     if word == "-" {
         return Ok(MemPiece::Nothing);
+    }
+    if let Some(count) = word.strip_prefix('x') {
+        let mut bytes = Vec::new(alloc);
+        bytes.resize(number(count, 0)?, 0)?;
+        return Ok(MemPiece::Bytes(Bytes::of(bytes)));
     }
     Ok(MemPiece::Bytes(Bytes::of(bytes_of(alloc, word)?)))
 }
