@@ -8,7 +8,6 @@ mod follower;
 mod following;
 mod holds;
 mod laws;
-mod laying;
 mod progress;
 mod putting;
 mod sight;
