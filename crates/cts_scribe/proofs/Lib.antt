@@ -6,3 +6,4 @@ pub mod Sighting
 pub mod Lasting
 pub mod Stopping
 pub mod Closing
+pub mod Fitting

@@ -1,10 +1,9 @@
 -- Logs of more entries.
 use Rattle.std.proofs.Common.{◌≡◌, ℕ, List, ◌++◌, sym, refl, ap, ◌∙◌, append_assoc}
 use Rattle.std.specs.List.{filter, flat_map}
-use Rattle.std.proofs.lemmas.Grind.{flat_map-append}
-use Rattle.std.proofs.lemmas.List.Elements.{filter-append}
 use Rattle.cts_def.specs.Sites.{SiteData}
 use Rattle.cts_entry.specs.declared.entry.Entry.{Entry}
+use Rattle.cts_laying.proofs.Growing.{commands_grow, packets_grow}
 use Rattle.cts_log.specs.Files.{log_head}
 use Rattle.cts_log.specs.Logged.{entry_bytes}
 use Rattle.cts_outside.specs.declared.vault.LogKind.{LogKind}
@@ -21,12 +20,8 @@ log_laid Cmd site entries = refl
 
 -- the log of more entries is the log, and then theirs
 pub entries_more : (kind : LogKind) (site : SiteData) (xs ys : List Entry) → entries_log kind site (xs ++ ys) ≡ entries_log kind site xs ++ entries_log kind site ys
-entries_more kind site xs ys =
-    let f : Entry → List ℕ = λ e. entry_bytes (logged_as site e) in
-    let test = is_in_log kind site in
-    log_laid kind site (xs ++ ys)
-    ∙ ap (flat_map f) (filter-append test xs ys) ∙ flat_map-append f (filter test xs) (filter test ys)
-    ∙ ap (λ l. l ++ laid kind site ys) (sym (log_laid kind site xs)) ∙ ap (λ l. entries_log kind site xs ++ l) (sym (log_laid kind site ys))
+entries_more Tlm site xs ys = packets_grow site xs ys
+entries_more Cmd site xs ys = commands_grow site xs ys
 
 pub log_more : (kind : LogKind) (site : SiteData) (digest : List ℕ) (xs ys : List Entry) → log kind site digest (xs ++ ys) ≡ log kind site digest xs ++ entries_log kind site ys
 log_more kind site digest xs ys =

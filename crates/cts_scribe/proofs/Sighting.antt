@@ -20,7 +20,7 @@ use Rattle.cts_turn.specs.Lists.{StartsWith, has}
 use Rattle.cts_worker.proofs.Lasting.{last_by}
 use Rattle.cts_worker.specs.Holds.{Adds, Held, InHold, Onward}
 use Rattle.cts_worker.specs.Lasts.{MayEnd, first_moment, last_entries}
-use Rattle.cts_scribe.specs.declared.laying.Batch.{Batch}
+use Rattle.cts_laying.specs.declared.batch.Batch.{Batch}
 use Rattle.cts_scribe.specs.declared.progress.Progress.{Progress}
 use Rattle.cts_scribe.specs.declared.sight.Sight.{Sight}
 use Rattle.cts_scribe.specs.declared.sight.Sight.TheVariants.{More, Still, Drained}

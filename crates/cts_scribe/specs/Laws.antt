@@ -46,6 +46,11 @@ abbrev pub StopsLeaveLogs : Type 0
 StopsLeaveLogs = (kind : LogKind) (site : SiteData) (digest : List ℕ) (entries : List Entry) (l : Log) (left : List ℕ) → length digest ≡ 16 → AreBytes digest → All FitsLogged (logged kind site entries)
     → IsPart l (log kind site digest entries) → IsAfterStop l left → IsReadable kind site digest entries left
 
+-- The same of a site's history: what a stop leaves of a log that is a beginning of the log of some beginning of the history is readable.
+abbrev pub StopsLeaveLogsOf : SiteData → List Entry → List ℕ → Type 0
+StopsLeaveLogsOf site history digest = (kind : LogKind) (entries : List Entry) (l : Log) (left : List ℕ) → StartsWith history entries
+    → IsPart l (log kind site digest entries) → IsAfterStop l left → IsReadable kind site digest entries left
+
 -- ---- the closed history
 
 -- Where every worker but the scribe has ended, whatever comes after gives nothing to the logs.

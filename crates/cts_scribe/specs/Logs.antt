@@ -1,34 +1,28 @@
 -- The packet logs of a site's history: what stands in each of them after some of its entries.
 use Rattle.std.specs.Prelude.{ℕ, Bool, List, ◌++◌, map}
 use Rattle.std.specs.List.{filter}
-use Rattle.cts_connection.specs.Routings.{is_logged, packet_names}
-use Rattle.cts_def.specs.Names.{command_names}
+use Rattle.cts_connection.specs.Routings.{is_logged}
 use Rattle.cts_def.specs.Sites.{SiteData}
 use Rattle.cts_entry.specs.declared.entry.Entry.{Entry}
-use Rattle.cts_entry.specs.declared.what.What.{What}
 use Rattle.cts_entry.specs.Histories.{bytes_of, commands_to, packets_from}
+use Rattle.cts_laying.specs.Laying.{commands_log, names, packets_log}
 use Rattle.cts_log.specs.Files.{log_head}
-use Rattle.cts_log.specs.Logged.{Logged, laid_out}
+use Rattle.cts_log.specs.Logged.{Logged}
 use Rattle.cts_log.specs.declared.kind.LogKind.{LogKind as FileKind}
 use Rattle.cts_log.specs.declared.kind.LogKind.TheVariants.{Tlm as TlmFile, Cmd as CmdFile}
 use Rattle.cts_outside.specs.declared.vault.LogKind.{LogKind}
 use Rattle.cts_outside.specs.declared.vault.LogKind.TheVariants.{Tlm, Cmd}
-use Rattle.cts_told.specs.Routing.{heading_of, names_by}
-use Rattle.cts_told.specs.Streams.{command_log, telemetry_log}
+use Rattle.cts_told.specs.Routing.{heading_of}
 
 -- which log file a log of the vault is
 abbrev pub file_kind : LogKind → FileKind
 file_kind Tlm = TlmFile
 file_kind Cmd = CmdFile
 
--- the target and the name of what an entry says, and none where it is no packet and no command
-abbrev pub names : SiteData → What → List ℕ × List ℕ
-names site what = names_by (packet_names site) (command_names site) what
-
 -- what the entries give to a log: the packets of the interfaces that are logged, or the commands for these
 abbrev pub entries_log : LogKind → SiteData → List Entry → List ℕ
-entries_log Tlm site entries = telemetry_log laid_out (names site) (is_logged site) entries
-entries_log Cmd site entries = command_log laid_out (names site) (is_logged site) entries
+entries_log Tlm site entries = packets_log site entries
+entries_log Cmd site entries = commands_log site entries
 
 -- a log after some entries, with the digest of the definitions in its head
 abbrev pub log : LogKind → SiteData → List ℕ → List Entry → List ℕ

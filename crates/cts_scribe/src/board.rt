@@ -3,11 +3,11 @@ ghost use Rattle.std.specs.Prelude.{◌≡◌, ◌<◌, ◌++◌, IfOk, false, l
 ghost use Rattle.cts_scribe.specs.Following.{Follows, Lays, Sees};
 ghost use Rattle.cts_worker.specs.Lasts.{MayEnd, first_moment, last_entries};
 
-use crate::laying::Batch;
 use crate::progress::Progress;
 use crate::sight::Sight;
 use cts_base::Memory;
 use cts_def::{Site, Time};
+use cts_laying::Batch;
 use cts_table::Hall;
 use std::alloc::Global;
 

@@ -3,17 +3,17 @@
 #![tactic(auto)]
 
 mod board;
+mod bounds;
 mod ending;
 mod follower;
 mod following;
 mod holds;
 mod laws;
-mod laying;
 mod progress;
 mod putting;
 mod sight;
 mod worker;
 
 pub use ending::{ScribeEnd, ScribeWhy};
-pub use laws::{closed_logs_are_whole, logs_grow, stops_leave_logs};
+pub use laws::{closed_logs_are_whole, logs_grow, stops_leave_logs, stops_leave_logs_of_halls};
 pub use worker::Scribe;

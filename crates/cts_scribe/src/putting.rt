@@ -1,6 +1,4 @@
 // What is appended to the logs of a vault, and synced.
-ghost use Rattle.std.specs.Prelude.{◌++◌, IfOk, ◌≡◌};
-ghost use Rattle.cts_log.specs.Files.{log_head};
 ghost use Rattle.cts_outside.specs.Causes.{Cause};
 ghost use Rattle.cts_scribe.specs.Vaults.{PutsBoth, PutsLog};
 

@@ -1,5 +1,5 @@
 // What a look at the history gives.
-use crate::laying::Batch;
+use cts_laying::Batch;
 
 /// What a look at the history gives.
 #[derive(Drop)]

@@ -7,14 +7,14 @@ use Rattle.cts_table.specs.Keeping.{AllOfSite}
 use Rattle.cts_core.proofs.LogDrains.{commands_more, first_small, packets_more, rest_small}
 use Rattle.cts_core.proofs.draining.put_logs.Goals as goal
 
-pub put_entry-requires-clause-of_site : goal.put_entry-requires-clause-of_site
-put_entry-requires-clause-of_site c =
+pub add-requires-clause-of_site : goal.add-requires-clause-of_site
+add-requires-clause-of_site c =
     let split : c.left.left.now ≡ c.in-Some.entry.now ∷ c.in-Some.after.now = search rules in
     let h = c.left.invariant.of_site in
     (h.0, (subst (AllOfSite c.args.site.now h.0) split h.1).0)
 
-pub put_entry-requires-clause-small : goal.put_entry-requires-clause-small
-put_entry-requires-clause-small c =
+pub add-requires-clause-small : goal.add-requires-clause-small
+add-requires-clause-small c =
     let split : c.left.left.now ≡ c.in-Some.entry.now ∷ c.in-Some.after.now = search rules in
     first_small c.in-Some.entry.now c.in-Some.after.now (2 ^ 32) (subst (λ (l : List Entry). bytes_in l < 2 ^ 32) split c.left.invariant.small)
 
@@ -28,8 +28,8 @@ left-preserved c =
     record {
       of_site = (h.0 ++ e ∷ [], (subst (AllOfSite site h.0) split h.1).1);
       small = rest_small e es (2 ^ 32) (subst (λ (l : List Entry). bytes_in l < 2 ^ 32) split c.left.invariant.small);
-      tlm = packets_more site e es c.left.tlm.items c.put_entry.new.tlm.items _ c.in_ok-put_entry.ensures.tlm
-          (subst (λ (l : List Entry). c.left.tlm.items ++ site_packets_log site l ≡ c.args.tlm.now.items ++ site_packets_log site c.args.entries.now) split c.left.invariant.tlm);
-      cmd = commands_more site e es c.left.cmd.items c.put_entry.new.cmd.items _ c.in_ok-put_entry.ensures.cmd
-          (subst (λ (l : List Entry). c.left.cmd.items ++ site_commands_log site l ≡ c.args.cmd.now.items ++ site_commands_log site c.args.entries.now) split c.left.invariant.cmd);
+      tlm = packets_more site e es c.left.batch.tlm.items c.add.new.self.tlm.items _ c.in_ok-add.ensures.tlm
+          (subst (λ (l : List Entry). c.left.batch.tlm.items ++ site_packets_log site l ≡ c.args.batch.now.tlm.items ++ site_packets_log site c.args.entries.now) split c.left.invariant.tlm);
+      cmd = commands_more site e es c.left.batch.cmd.items c.add.new.self.cmd.items _ c.in_ok-add.ensures.cmd
+          (subst (λ (l : List Entry). c.left.batch.cmd.items ++ site_commands_log site l ≡ c.args.batch.now.cmd.items ++ site_commands_log site c.args.entries.now) split c.left.invariant.cmd);
     }

@@ -10,8 +10,8 @@ abbrev pub invariant-left : goal.invariant-left
 invariant-left l = record {
   of_site : (before : List Entry) × AllOfSite l.site before l.left;
   small : bytes_in l.left < 2 ^ 32;
-  tlm : l.tlm.items ++ site_packets_log l.site l.left ≡ l.initial.tlm.items ++ site_packets_log l.site l.entries;
-  cmd : l.cmd.items ++ site_commands_log l.site l.left ≡ l.initial.cmd.items ++ site_commands_log l.site l.entries;
+  tlm : l.batch.tlm.items ++ site_packets_log l.site l.left ≡ l.initial.batch.tlm.items ++ site_packets_log l.site l.entries;
+  cmd : l.batch.cmd.items ++ site_commands_log l.site l.left ≡ l.initial.batch.cmd.items ++ site_commands_log l.site l.entries;
 }
 
 abbrev pub decreases-left : goal.decreases-left

@@ -4,11 +4,10 @@ ghost use Rattle.cts_connection.specs.Routings.{is_logged, packet_names};
 ghost use Rattle.cts_def.specs.Names.{command_names};
 ghost use Rattle.cts_entry.specs.declared.entry.Entry.{Entry as EntryData};
 ghost use Rattle.cts_entry.specs.Histories.{bytes_in};
+ghost use Rattle.cts_laying.specs.Laying.{commands_log, packets_log};
 ghost use Rattle.cts_log.specs.Logged.{laid_out};
-ghost use Rattle.cts_outside.specs.declared.vault.LogKind.TheVariants.{Cmd, Tlm};
 ghost use Rattle.cts_table.specs.Keeping.{IsIdent, IsOfSite};
 ghost use Rattle.cts_told.specs.Routing.{heading_of};
-ghost use Rattle.cts_scribe.specs.Logs.{entries_log};
 
 use cts_base::Memory;
 use cts_connection::{command_label, packet_label};
@@ -19,7 +18,7 @@ use std::alloc::Global;
 
 /// What entries give to the logs.
 #[derive(Drop)]
-pub(crate) struct Batch {
+pub struct Batch {
     /// To that of telemetry.
     pub tlm: Vec<u8>,
     /// To that of commands.
@@ -28,7 +27,7 @@ pub(crate) struct Batch {
 
 impl Batch {
     /// What no entries give.
-    pub(crate) fn empty(alloc: Global) -> Batch
+    pub fn empty(alloc: Global) -> Batch
         ensures tlm { result.tlm.items ≡ [] }
         ensures cmd { result.cmd.items ≡ [] }
     {
@@ -38,12 +37,16 @@ impl Batch {
         }
     }
 
-    /// Adds what an entry gives. Where no memory is found, a part of it may have been added.
-    pub(crate) fn add(&mut self, alloc: Global, site: &Site, entry: &Entry) -> Result<(), Memory>
+    /// Adds what an entry gives.
+    ///
+    /// # Errors
+    ///
+    /// `Memory`. A part of what the entry gives may have been added then.
+    pub fn add(&mut self, alloc: Global, site: &Site, entry: &Entry) -> Result<(), Memory>
         requires of_site { (before : List EntryData) × IsOfSite site.now before entry.now }
         requires small { bytes_in (entry.now ∷ []) < 2 ^ 32 }
-        ensures tlm { OnOk result (self.new.tlm.items ≡ self.old.tlm.items ++ entries_log Tlm site.now (entry.now ∷ [])) }
-        ensures cmd { OnOk result (self.new.cmd.items ≡ self.old.cmd.items ++ entries_log Cmd site.now (entry.now ∷ [])) }
+        ensures tlm { OnOk result (self.new.tlm.items ≡ self.old.tlm.items ++ packets_log site.now (entry.now ∷ [])) }
+        ensures cmd { OnOk result (self.new.cmd.items ≡ self.old.cmd.items ++ commands_log site.now (entry.now ∷ [])) }
     {
         match &entry.what {
             What::Packet { ident, bytes } => {
