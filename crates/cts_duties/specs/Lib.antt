@@ -1,0 +1,4 @@
+pub mod Workers
+pub mod OwnLaws
+pub mod Lines
+pub mod LineLaws
