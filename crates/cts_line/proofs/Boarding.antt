@@ -12,28 +12,28 @@ use Rattle.cts_connection.proofs.LinePosts.{entries_count, makes}
 use Rattle.cts_def.specs.Sites.{IsSoundSite, SiteData}
 use Rattle.cts_def.specs.declared.time.Time.{Time}
 use Rattle.cts_entry.specs.declared.entry.Entry.{Entry}
-use Rattle.cts_entry.specs.declared.what.What.TheVariants.{Stop, Ended}
+use Rattle.cts_entry.specs.declared.what.What.TheVariants.{Stop}
 use Rattle.cts_entry.specs.declared.why.Why.{Why}
 use Rattle.cts_entry.specs.Histories.{bytes_in, connects, entries_in, is_connected, is_stopped, or_earlier}
 use Rattle.cts_entry.specs.Legal.{has_ended}
 use Rattle.cts_entry.specs.Workers.{is_worker}
 use Rattle.cts_frame.specs.Framing.{Output}
 use Rattle.cts_table.specs.Keeping.{IsKept}
-use Rattle.cts_table.specs.States.{CanAdd, Shown, added, fits}
+use Rattle.cts_table.specs.States.{Shown, added, fits}
 use Rattle.cts_table.specs.declared.fault.HallFault.{HallFault}
 use Rattle.cts_table.specs.declared.fault.HallFault.TheVariants.{Full as Crowded, Memory as Wanting}
 use Rattle.cts_turn.specs.Lists.{AllBy, has}
 use Rattle.cts_told.specs.Routing.{posted_entries}
-use Rattle.cts_line.specs.Doing.{Adds, IsPosted, IsRefused, IsShut, OpensIn, PostsTaken, entry_of, last_entries, refused_for, stop_if}
-use Rattle.cts_line.proofs.Keeping.{Quiet, connected_quiet, ended_quiet, quiet_none}
+use Rattle.cts_worker.specs.Holds.{Adds}
+use Rattle.cts_worker.specs.Lasts.{IsShut, MayEnd, entry_of, stop_if}
+use Rattle.cts_worker.proofs.Holdings.{by_one}
+use Rattle.cts_line.specs.Doing.{IsPosted, IsRefused, OpensIn, PostsTaken, refused_for}
+use Rattle.cts_line.proofs.Keeping.{Quiet, quiet_none}
 use Rattle.cts_line.specs.declared.opening.Opening.TheVariants.{Full as NoRoom}
 use Rattle.cts_line.specs.declared.posting.Posting.{Posting}
 use Rattle.cts_line.specs.declared.posting.Posting.TheVariants.{Posted, Closed}
 
 -- ---- the entries of a maker
-
-by_one : (by : ℕ) → has by (by ∷ []) ≡ true
-by_one by = ap (λ (b : Bool). b || false) (eq-eqb by by refl)
 
 pub all_by_append : (makers : List ℕ) (xs ys : List Entry) → AllBy (λ (e : Entry). e.by) makers xs → AllBy (λ (e : Entry). e.by) makers ys → AllBy (λ (e : Entry). e.by) makers (xs ++ ys)
 all_by_append makers [] ys a b = b
@@ -66,24 +66,12 @@ adds_closed by now s t c d why unposted k = adds_one by s t (closed_of by now s 
 pub grown_one : (s t : Shown) (e : Entry) → t ≡ added s e → Grown s (e ∷ []) t
 grown_one s t e is = record { basis = ap (λ (x : Shown). x.basis) is; entries = ap (λ (x : Shown). x.entries) is }
 
-pub can_stop : (s : Shown) (by : ℕ) (now : Time) → IsSoundSite s.basis.site → is_line s.basis.site by ≡ true → is_stopped s.entries ≡ false → has_ended by s.entries ≡ false → CanAdd s (entry_of by now Stop)
-can_stop s by now sound line going active = record {
-  allowed = record { active = active; says = going };
-  of_site = record { maker = makes s.basis.site by sound line; said = tt };
-  entry = omega arith;
-  bytes = omega arith;
-}
-
-works : (site : SiteData) (by : ℕ) → is_line site by ≡ true → is_worker site by ≡ true
+pub works : (site : SiteData) (by : ℕ) → is_line site by ≡ true → is_worker site by ≡ true
 works site by line = grind arith
 
-pub can_end : (s : Shown) (by : ℕ) (now : Time) → IsSoundSite s.basis.site → is_line s.basis.site by ≡ true → IsShut by s.entries → CanAdd s (entry_of by now Ended)
-can_end s by now sound line shut = record {
-  allowed = record { active = shut.1; says = shut.0 };
-  of_site = record { maker = makes s.basis.site by sound line; said = works s.basis.site by line };
-  entry = omega arith;
-  bytes = omega arith;
-}
+-- a line that is shut may end
+pub may_end : (site : SiteData) (by : ℕ) (seen : List Entry) → is_line site by ≡ true → IsShut by seen → MayEnd site by seen
+may_end site by seen line shut = record { worker = works site by line; active = shut.1; off = inl shut.0 }
 
 -- ---- the Opened
 
@@ -141,17 +129,7 @@ taken_adds by now s t c d packets entries unposted failed (Closed why) is (inl p
     adds_then by s p.3.0 t (adds_grown by s p.3.0 entries (subst (AllBy (λ (e : Entry). e.by) (by ∷ [])) (sym is) (all_by_packets s.basis.site s.entries by now packets)) p.3.1) (adds_closed by now p.3.0 t c d why p.0.unposted p.3.2)
 taken_adds by now s t c d packets entries unposted failed (Closed why) is (inr p) = adds_closed by now s t c d why _ p.1
 
--- ---- the last entries
-
-pub grown_then : (s mid t : Shown) (xs ys : List Entry) → Grown s xs mid → Grown mid ys t → Grown s (xs ++ ys) t
-grown_then s mid t xs ys a b = record { basis = b.basis ∙ a.basis; entries = b.entries ∙ (ap (λ (l : List Entry). l ++ ys) a.entries ∙ append_assoc s.entries xs ys) }
-
-pub stop_by : (b : Bool) (by : ℕ) (now : Time) → AllBy (λ (e : Entry). e.by) (by ∷ []) (stop_if b by now)
-stop_by true by now = (by_one by, tt)
-stop_by false by now = tt
-
-pub last_by_one : (stops : Bool) (by : ℕ) (now : Time) (history : List Entry) → AllBy (λ (e : Entry). e.by) (by ∷ []) (last_entries stops by now history)
-last_by_one stops by now history = all_by_append (by ∷ []) (stop_if (_) by now) (entry_of by now Ended ∷ []) (stop_by _ by now) (by_one by, tt)
+-- ---- a Stop
 
 pub quiet_stop : (b : Bool) (by : ℕ) (now : Time) → Quiet by (stop_if b by now)
 quiet_stop false by now = quiet_none by
@@ -163,10 +141,3 @@ quiet_stop true by now =
       opened = ap (λ (x : Bool). (x && false) || false) mine;
       faults = ap (λ (x : Bool). (x && false) || false) mine;
     }
-
--- a Stop leaves a line shut
-pub shut_stop : (s t : Shown) (by : ℕ) (now : Time) (b : Bool) → IsShut by s.entries → Grown s (stop_if b by now) t → IsShut by t.entries
-shut_stop s t by now b shut g = (
-  ap (is_connected by) g.entries ∙ (connected_quiet by s.entries (stop_if b by now) (quiet_stop b by now) ∙ shut.0),
-  ap (has_ended by) g.entries ∙ (ended_quiet by s.entries (stop_if b by now) (quiet_stop b by now) ∙ shut.1),
-)

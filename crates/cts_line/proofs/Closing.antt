@@ -23,7 +23,7 @@ use Rattle.cts_told.specs.Lines.{Capacity, Causes, Looked, IsLook, LastTwo, Puts
 use Rattle.cts_told.specs.Told.{Said}
 use Rattle.cts_told.proofs.Looking.{looks_append, puts_all_map}
 use Rattle.cts_told.proofs.Walks.{queue-append}
-use Rattle.cts_line.specs.Doing.{entry_of}
+use Rattle.cts_worker.specs.Lasts.{entry_of}
 use Rattle.cts_line.specs.Talks.{Body, Holds}
 use Rattle.cts_line.proofs.Bodies.{inside, drop_whole}
 use Rattle.cts_line.proofs.Growing.{looks_all}

@@ -29,9 +29,14 @@ use Rattle.cts_told.specs.Told.{HasFinished, Said, Settled, ToldBy, Unopened}
 use Rattle.cts_told.proofs.Looking.{settles_told, stop_kept, unopened_more}
 use Rattle.cts_told.proofs.Others.{of_maker_append, of_maker_one, strange_own}
 use Rattle.cts_turn.specs.declared.rule.View.{View}
-use Rattle.cts_line.specs.Doing.{IsShut, OpensIn, entry_of, last_entries, stop_if}
-use Rattle.cts_line.specs.Ending.{after_closed, reconnects, unless_again, CausesEnd, FaultsRise, IsUndialed, Keeps, RoseBy, RoseIf, fails, has_closed, has_stop, is_any, is_full, one_if, opened_in, refused, stops_all}
-use Rattle.cts_line.specs.Holding.{Held, InHold, Onward}
+use Rattle.cts_worker.specs.Counts.{RoseBy, RoseIf, one_if}
+use Rattle.cts_worker.specs.Holds.{EndedHold, Held, Hold, InHold, Onward}
+use Rattle.cts_worker.specs.Lasts.{IsShut, entry_of, last_entries, stop_if}
+use Rattle.cts_worker.proofs.Counting.{rose_if, rose_same, rose_then}
+use Rattle.cts_worker.proofs.Holdings.{looked_in}
+use Rattle.cts_worker.proofs.Lasting.{ended_onward, ended_seen}
+use Rattle.cts_line.specs.Doing.{OpensIn}
+use Rattle.cts_line.specs.Ending.{after_closed, reconnects, unless_again, CausesEnd, FaultsRise, IsUndialed, Keeps, fails, has_closed, has_stop, is_any, is_full, opened_in, refused, stops_all}
 use Rattle.cts_line.specs.Talks.{Begins, IsClosed, Talks, TalksAt, ToldSoFar, Waits, Went, room_of}
 use Rattle.cts_line.specs.declared.ending.LineWhy.{LineWhy}
 use Rattle.cts_line.specs.declared.ending.LineWhy.TheVariants.{Stopped, Finished, NoReconnect, DoorFailed, Full, NoMemory, Cancelled}
@@ -46,16 +51,6 @@ use Rattle.cts_line.proofs.Steps.{opens_talk}
 
 -- ---- counts of faults
 
-pub rose_then : (j k a b c : ℕ) → RoseBy j a b → RoseBy k b c → RoseBy (j + k) a c
-rose_then j k a b c r s = let w = r.0 in let x = r.1 in let y = s.0 in let z = s.1 in (omega (arith, w, y), omega (arith, w, x, y, z))
-
-pub rose_same : (a : ℕ) → RoseBy 0 a a
-rose_same a = (omega arith, omega arith)
-
-rose_if : (b : Bool) (before now : ℕ) → RoseIf b before now → RoseBy (one_if b) before now
-rose_if true before now r = let w = r.0 in let x = r.1 in (omega (arith, w), omega (arith, x))
-rose_if false before now r = (omega (arith, r), omega (arith, r))
-
 pub faults_same : (m : ℕ) (history : List Entry) (f : ℕ) → FaultsRise m history history f f
 faults_same m history f = (0, omega arith, rose_same f)
 
@@ -67,18 +62,6 @@ faults_kept m a b closed f g k r = (one_if (fails closed), k.faults, rose_if (fa
 
 pub faults_to : (m : ℕ) (a b : List Entry) (f g h : ℕ) → h ≡ g → FaultsRise m a b f g → FaultsRise m a b f h
 faults_to m a b f g h e x = subst (λ (n : ℕ). FaultsRise m a b f n) (sym e) x
-
--- ---- holds, one after another
-
-pub onward_same : {G : Type 0} (v : View Entry G) → Onward v v
-onward_same v = record { makers = refl; seen = ([], sym (append-nil v.seen)); found = ([], sym (append-nil v.found)) }
-
-pub onward_then : {G : Type 0} (a b c : View Entry G) → Onward a b → Onward b c → Onward a c
-onward_then a b c x y = record {
-  makers = y.makers ∙ x.makers;
-  seen = (x.seen.0 ++ y.seen.0, y.seen.1 ∙ (ap (λ (l : List Entry). l ++ y.seen.0) x.seen.1 ∙ append_assoc a.seen x.seen.0 y.seen.0));
-  found = (x.found.0 ++ y.found.0, y.found.1 ∙ (ap (λ (l : List ℕ). l ++ y.found.0) x.found.1 ∙ append_assoc a.found x.found.0 y.found.0));
-}
 
 -- ---- a round after which the connection stands
 
@@ -301,12 +284,9 @@ faults_none m a b f f' k same = faults_kept m a b None f f' k same
 
 -- ---- a look before a dial
 
-module _ {G : Type 0} (base : Basis) (m : ℕ) (old new : View Entry G) (stop : Bool) (h : InHold base m old new (λ s t. (t ≡ s) × (stop ≡ is_stopped s.entries))) where
+module _ {G : Type 0} (base : Basis) (m : ℕ) (old new : View Entry G) (hold : Hold m old new []) where
   abbrev as_look : InHold base m old new (λ s t. t ≡ s)
-  as_look = (h.0, h.1, h.2, h.3, h.4.0)
-
-  pub stop_onward : Onward old new
-  stop_onward = look_onward base m old new as_look
+  as_look = let l = looked_in base m old new hold in (l.0, l.1, l.2, l.3, l.4.0)
 
   pub stop_keeps : Keeps m old.seen new.seen None
   stop_keeps = look_kept base m old new as_look
@@ -316,9 +296,6 @@ module _ {G : Type 0} (base : Basis) (m : ℕ) (old new : View Entry G) (stop : 
 
   pub stop_settled : (told : Option Line) → Settled (site_routing base.site) (room_of base) m old.found old.seen told → Settled (site_routing base.site) (room_of base) m new.found new.seen told
   stop_settled told t = settled_hold (site_routing base.site) (room_of base) m old.found old.seen [] new.found new.seen (look_grows base m old new as_look) refl told t
-
-  pub stop_is : stop ≡ true → is_stopped new.seen ≡ true
-  stop_is is = ap is_stopped h.3.seen ∙ (ap (λ (x : Shown). is_stopped x.entries) h.4.0 ∙ (sym h.4.1 ∙ is))
 
 pub so_far_none : (g : Routing) (room : Capacity) (m : ℕ) (found : List ℕ) (history : List Entry) (told : Option Line) (end : Option LineWhy) → end ≡ None → ToldSoFar g room m found history told end → Settled g room m found history told
 so_far_none g room m found history told end is t = subst (λ (x : Option LineWhy). ToldSoFar g room m found history told x) is t
@@ -389,41 +366,35 @@ causes_more site most m history more told before now Full (inr c) = inr (let e =
 causes_more site most m history more told before now NoMemory c = tt
 causes_more site most m history more told before now Cancelled c = absurd c
 
-module _ {G : Type 0} (base : Basis) (m : ℕ) (old new : View Entry G) (stops : Bool) (time : Time) (h : InHold base m old new (λ s t. Grown s (last_entries stops m time s.entries) t)) where
-  last_grows : Grows m old.found old.seen (last_entries stops m time h.0.entries) new.found new.seen
-  last_grows = grows_by m old new h.0 h.1 h.3 (last_entries stops m time h.0.entries) h.4.entries
+module _ {G : Type 0} (m : ℕ) (old new : View Entry G) (stops : Bool) (time : Time) (ended : EndedHold m time stops old new) where
+  abbrev before : List Entry
+  before = old.seen ++ ended.hold.others
 
-  last_is : new.seen ≡ (old.seen ++ h.3.others) ++ last_entries stops m time h.0.entries
-  last_is = h.3.seen ∙ (h.4.entries ∙ ap (λ (l : List Entry). l ++ last_entries stops m time h.0.entries) h.3.began)
+  abbrev last : List Entry
+  last = last_entries stops m time before
 
-  others_quiet : Quiet m h.3.others
-  others_quiet = quiet_others m h.3.others h.3.strange
+  last_is : new.seen ≡ before ++ last
+  last_is = ended_seen m time stops old new ended
+
+  last_grows : Grows m old.found old.seen last new.found new.seen
+  last_grows = record { others = ended.hold.others; strange = ended.hold.strange; seen = last_is; found_is = ended.hold.found }
+
+  others_quiet : Quiet m ended.hold.others
+  others_quiet = quiet_others m ended.hold.others ended.hold.strange
 
   pub last_told : (g : Routing) (room : Capacity) (told : Option Line) → ToldBy g room m old.found old.seen told → ToldBy g room m new.found new.seen told
-  last_told g room told t = told_hold g room m old.found old.seen (last_entries stops m time h.0.entries) new.found new.seen last_grows (last_own _ m time) told t
-
-  pub last_onward : Onward old new
-  last_onward = onward_by m old new h.0 h.1 h.3 (last_entries stops m time h.0.entries) h.4.entries
-
-  pub last_ended : LastEnded m new.seen
-  last_ended =
-      let e : Entry = entry_of m time Ended in
-      let front : List Entry = (old.seen ++ h.3.others) ++ stop_if (stops && not (is_stopped h.0.entries)) m time in
-      let is : new.seen ≡ front ++ e ∷ [] = last_is ∙ sym (append_assoc (old.seen ++ h.3.others) (stop_if (stops && not (is_stopped h.0.entries)) m time) (e ∷ [])) in
-      (of_maker m front, e, ap (of_maker m) is ∙ (of_maker_append m front (e ∷ []) ∙ ap (λ (l : List Entry). of_maker m front ++ l) (of_maker_one m e refl)), refl)
+  last_told g room told t = told_hold g room m old.found old.seen last new.found new.seen last_grows (last_own _ m time) told t
 
   pub last_causes : (site : SiteData) (most : ℕ) (told : Option Line) (before now : ℕ) (why : LineWhy) → CausesEnd site most m old.seen told before now why → CausesEnd site most m new.seen told before now why
   last_causes site most told before now why c =
-      let o = last_onward.seen in subst (λ (l : List Entry). CausesEnd site most m l told before now why) (sym o.1) (causes_more site most m old.seen o.0 told before now why c)
+      let o = (ended_onward m time stops old new ended).seen in subst (λ (l : List Entry). CausesEnd site most m l told before now why) (sym o.1) (causes_more site most m old.seen o.0 told before now why c)
 
   pub last_faults_same : faults_of m new.seen ≡ faults_of m old.seen
   last_faults_same =
-      ap (faults_of m) last_is ∙ (counted_none (λ (e : Entry). (e.by == m) && closes_for is_fault e.what) (old.seen ++ h.3.others) (last_entries stops m time h.0.entries) (last_faults _ m time)
-      ∙ faults_quiet m old.seen h.3.others others_quiet)
+      ap (faults_of m) last_is ∙ (counted_none (λ (e : Entry). (e.by == m) && closes_for is_fault e.what) before last (last_faults _ m time) ∙ faults_quiet m old.seen ended.hold.others others_quiet)
 
   pub last_opened_same : opened_in m new.seen ≡ opened_in m old.seen
-  last_opened_same =
-      ap (opened_in m) last_is ∙ (counted_none (opens m) (old.seen ++ h.3.others) (last_entries stops m time h.0.entries) (last_opens _ m time) ∙ opened_quiet m old.seen h.3.others others_quiet)
+  last_opened_same = ap (opened_in m) last_is ∙ (counted_none (opens m) before last (last_opens _ m time) ∙ opened_quiet m old.seen ended.hold.others others_quiet)
 
   -- the count of connections is exact, since a hall keeps no more entries
   pub last_count : (n : ℕ) → n ≡ capped (opened_in m old.seen) → length new.seen ≤ 8000065 → n ≡ opened_in m new.seen
@@ -431,10 +402,9 @@ module _ {G : Type 0} (base : Basis) (m : ℕ) (old new : View Entry G) (stops :
 
   -- the server is stopped by none of them, where the line does not stop it
   pub last_stop : stops ≡ false → has_stop m old.seen ≡ false → has_stop m new.seen ≡ false
-  last_stop off none =
-      ap (has_stop m) last_is ∙ stop_both m (old.seen ++ h.3.others) (last_entries stops m time h.0.entries) (stop_both m old.seen h.3.others none (stop_strange m h.3.others h.3.strange)) (ended_alone stops off)
+  last_stop off none = ap (has_stop m) last_is ∙ stop_both m before last (stop_both m old.seen ended.hold.others none (stop_strange m ended.hold.others ended.hold.strange)) (ended_alone stops off)
     where
-      ended_alone : (b : Bool) → b ≡ false → has_stop m (last_entries b m time h.0.entries) ≡ false
+      ended_alone : (b : Bool) → b ≡ false → has_stop m (last_entries b m time before) ≡ false
       ended_alone true e = absurd (let f : true ≡ false = e in cc)
       ended_alone false e = ap (λ (x : Bool). (x && false) || false) (eq-eqb m m refl)
 

@@ -34,7 +34,7 @@ use Rattle.cts_told.specs.Told.{Said}
 use Rattle.cts_turn.specs.declared.rule.View.{View}
 use Rattle.cts_line.specs.Doing.{ClosesTaken, ClosesUnfed, IsRefused, PostsIn}
 use Rattle.cts_line.specs.Ending.{Keeps, has_stop}
-use Rattle.cts_line.specs.Holding.{Held, InHold, Onward}
+use Rattle.cts_worker.specs.Holds.{Held, InHold, Onward}
 use Rattle.cts_line.specs.Talks.{Caught, Ends, IsClosed, Puts, Suits, Takes, Talking, Talks, TalksAt, Waits, Went, after, closed_by, room_of, stopped_by}
 use Rattle.cts_line.specs.declared.posting.Posting.{Posting}
 use Rattle.cts_line.specs.declared.posting.Posting.TheVariants.{Posted, Closed as ClosedPosting}

@@ -24,7 +24,8 @@ use Rattle.cts_told.specs.Routing.{Routing, posted_entries, routed_as, said_of, 
 use Rattle.cts_told.proofs.Others.{strange_own}
 use Rattle.cts_told.proofs.Stretches.{filter_none}
 use Rattle.cts_told.proofs.Walks.{packets_connect, packets_open}
-use Rattle.cts_line.specs.Ending.{Keeps, has_closed, has_stop, one_if, opened_in}
+use Rattle.cts_worker.specs.Counts.{one_if}
+use Rattle.cts_line.specs.Ending.{Keeps, has_closed, has_stop, opened_in}
 
 -- ---- what packets say
 

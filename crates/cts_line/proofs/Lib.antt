@@ -6,7 +6,6 @@ pub mod Putting
 pub mod Pieces
 pub mod Keeping
 pub mod Following
-pub mod Holdings
 pub mod Boarding
 pub mod Chaining
 pub mod Dialing

@@ -4,17 +4,15 @@ use Rattle.cts_chain.specs.Chains.{Reserved}
 use Rattle.cts_chain.specs.Shapes.{IsSameChain}
 use Rattle.cts_def.specs.declared.time.Time.{Time}
 use Rattle.cts_entry.specs.declared.entry.Entry.{Entry}
-use Rattle.cts_entry.specs.declared.what.What.{What}
-use Rattle.cts_entry.specs.declared.what.What.TheVariants.{Stop, Ended}
+use Rattle.cts_entry.specs.declared.what.What.TheVariants.{Stop}
 use Rattle.cts_entry.specs.declared.why.Why.{Why}
 use Rattle.cts_entry.specs.declared.why.Why.TheVariants.{Full, NoMemory}
-use Rattle.cts_entry.specs.Histories.{entries_in, bytes_in, is_connected, is_stopped}
-use Rattle.cts_entry.specs.Legal.{has_ended}
+use Rattle.cts_entry.specs.Histories.{entries_in, bytes_in, is_stopped}
 use Rattle.cts_frame.specs.Packets.{capped}
 use Rattle.cts_table.specs.States.{Shown, fits}
 use Rattle.cts_table.specs.declared.fault.HallFault.{HallFault}
 use Rattle.cts_table.specs.declared.fault.HallFault.TheVariants.{Full as Crowded, Memory as Wanting}
-use Rattle.cts_turn.specs.Lists.{AllBy}
+use Rattle.cts_worker.specs.Lasts.{entry_of}
 use Rattle.cts_connection.specs.declared.end.End.{End}
 use Rattle.cts_connection.specs.Connections.{HeldConnection, IsRenewed}
 use Rattle.cts_connection.specs.Postings.{Closes, Grown, end_of, opened_entry}
@@ -23,22 +21,6 @@ use Rattle.cts_line.specs.declared.opening.Opening.{Opening}
 use Rattle.cts_line.specs.declared.opening.Opening.TheVariants.{Opened, Stopped, Full as NoRoom, NoMemory as NoMemoryThere}
 use Rattle.cts_line.specs.declared.posting.Posting.{Posting}
 use Rattle.cts_line.specs.declared.posting.Posting.TheVariants.{Posted, Closed}
-
--- a maker has no connection, and has not ended
-abbrev pub IsShut : ℕ → List Entry → Type 0
-IsShut by history = (is_connected by history ≡ false) × (has_ended by history ≡ false)
-
-abbrev pub entry_of : ℕ → Time → What → Entry
-entry_of by time what = record { by = by; time = time; what = what }
-
--- a Stop, where none stands
-abbrev pub stop_if : Bool → ℕ → Time → List Entry
-stop_if true by time = entry_of by time Stop ∷ []
-stop_if false by time = []
-
--- The hall has the same site and limits, and some entries of a maker more.
-abbrev pub Adds : ℕ → Shown → Shown → Type 0
-Adds by s t = (t.basis ≡ s.basis) × ((new : List Entry) × (t.entries ≡ s.entries ++ new) × AllBy (λ (e : Entry). e.by) (by ∷ []) new)
 
 -- ---- the Opened
 
@@ -98,9 +80,3 @@ pub record ClosesUnfed (by : ℕ) (time : Time) (s : Shown) (c : HeldConnection)
 -- What one hold makes of a piece.
 abbrev pub PostsIn : ℕ → Time → Shown → HeldConnection → List ℕ → Posting → Shown → HeldConnection → Type 0
 PostsIn by time s c piece posting t d = PostsFed by time s c piece posting t d ⊎ ClosesUnfed by time s c posting t d
-
--- ---- the last entries
-
--- A Stop, where one is to stand and none does; and then the Ended.
-abbrev pub last_entries : Bool → ℕ → Time → List Entry → List Entry
-last_entries stops by time history = stop_if (stops && not (is_stopped history)) by time ++ entry_of by time Ended ∷ []

@@ -2,7 +2,6 @@
 use Rattle.std.specs.Prelude.{◌≡◌, ℕ, ◌+◌, ◌-◌, ◌^◌, ◌≤◌, ◌==◌, ◌&&◌, ◌⊎◌, min, Bool, true, false, List, length, Option, Some, None, option_map, unwrap_or, slice_get, is_none, IfSome, if◌then◌else◌, []}
 use Rattle.std.specs.List.{filter, list_any}
 use Rattle.cts_def.specs.Sites.{InterfaceData, SiteData}
-use Rattle.cts_def.specs.declared.time.Time.{Time}
 use Rattle.cts_entry.specs.declared.entry.Entry.{Entry}
 use Rattle.cts_entry.specs.declared.why.Why.{Why}
 use Rattle.cts_entry.specs.declared.why.Why.TheVariants.{PeerEnded, ReadFault, WriteFault, BadFrame, Stopped as StoppedWhy, NoMemory as NoMemoryWhy, Full as FullWhy}
@@ -13,21 +12,13 @@ use Rattle.cts_outside.specs.Causes.{Rose}
 use Rattle.cts_outside.specs.Lines.{Line}
 use Rattle.cts_told.specs.Makers.{closes_for, faults_of, is_fault}
 use Rattle.cts_told.specs.Told.{HasFinished}
+use Rattle.cts_worker.specs.Counts.{RoseBy, one_if}
 use Rattle.cts_line.specs.declared.opening.Opening.{Opening}
 use Rattle.cts_line.specs.declared.opening.Opening.TheVariants.{Opened, Stopped as StoppedThere, Full as NoRoom, NoMemory as NoMemoryThere}
 use Rattle.cts_line.specs.declared.ending.LineWhy.{LineWhy}
 use Rattle.cts_line.specs.declared.ending.LineWhy.TheVariants.{Stopped, Finished, NoReconnect, DoorFailed, Full, NoMemory, Cancelled}
 
 -- ---- counts
-
--- a count rose at least so often
-abbrev pub RoseBy : ℕ → ℕ → ℕ → Type 0
-RoseBy n before now = (before ≤ now) × (min (before + n) (2 ^ 64 - 1) ≤ now)
-
--- so often for one step that may have failed
-abbrev pub RoseIf : Bool → ℕ → ℕ → Type 0
-RoseIf true before now = Rose before now
-RoseIf false before now = now ≡ before
 
 -- why a connection ends is that a read or a write failed
 abbrev pub fails : Option Why → Bool
@@ -41,11 +32,6 @@ FaultsRise m old new before now = (n : ℕ) × (faults_of m new ≡ faults_of m 
 -- how many connections of a maker were opened
 abbrev pub opened_in : ℕ → List Entry → ℕ
 opened_in m history = length (filter (opens m) history)
-
--- one where a test holds
-abbrev pub one_if : Bool → ℕ
-one_if true = 1
-one_if false = 0
 
 -- a connection of a maker was closed for a reason that passes a test
 abbrev pub has_closed : ℕ → (Why → Bool) → List Entry → Bool
@@ -137,6 +123,3 @@ stops_then (Some why) = stops_all why
 abbrev pub IsUndialed : Option Line → Type 0
 IsUndialed None = Unit {0}
 IsUndialed (Some line) = (line.past ≡ []) × (line.now ≡ None)
-
-abbrev pub first_moment : Time
-first_moment = record { seconds = 0; micros = 0 }

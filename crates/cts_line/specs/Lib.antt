@@ -1,4 +1,3 @@
-pub mod Holding
 pub mod Doing
 pub mod Talks
 pub mod Putting

@@ -13,7 +13,9 @@ ghost use Rattle.cts_connection.specs.Postings.{Closes, Grown};
 ghost use Rattle.cts_connection.specs.Routings.{site_routing};
 ghost use Rattle.cts_connection.specs.Takings.{blamed, entries_of};
 ghost use Rattle.cts_connection.specs.Writings.{spell_by};
-ghost use Rattle.cts_line.specs.Doing.{Adds, IsPosted, IsShut, OpensIn, PostsIn, PostsTaken, entry_of, last_entries, refused_for, stop_if};
+ghost use Rattle.cts_worker.specs.Holds.{Adds};
+ghost use Rattle.cts_worker.specs.Lasts.{IsShut};
+ghost use Rattle.cts_line.specs.Doing.{IsPosted, OpensIn, PostsIn, PostsTaken, refused_for};
 
 use crate::opening::Opening;
 use crate::posting::Posting;
@@ -23,6 +25,7 @@ use cts_connection::{Connection, End, Framer, Taken};
 use cts_def::Time;
 use cts_entry::Why;
 use cts_table::{Hall, HallFault};
+use cts_worker::stop;
 use std::alloc::Global;
 
 /// Opens a connection, unless a Stop stands. Where there is no room or no memory for it, the server is stopped.
@@ -57,17 +60,6 @@ pub(crate) fn open<C: Framer>(
             Opening::NoMemory
         }
     }
-}
-
-/// Stops the server.
-fn stop(hall: &mut Hall, by: u32, time: Time)
-    requires line { is_line hall.old.basis.site by ≡ true }
-    requires going { is_stopped hall.old.entries ≡ false }
-    requires active { has_ended by hall.old.entries ≡ false }
-    ensures { Grown hall.old (entry_of by time Stop ∷ []) hall.new }
-{
-    hall.is_kept();
-    hall.stop(by, time);
 }
 
 /// Looks at the history: the spellings of what is for the peer and was not put yet.
@@ -193,36 +185,4 @@ pub(crate) fn close<C: Framer>(
 {
     let end = End { why, unposted: 0 };
     connection.close(hall, by, time, end);
-}
-
-/// Appends the last entries of a line: a Stop, where it is to stop the server and none stands, and its Ended.
-pub(crate) fn end(hall: &mut Hall, by: u32, time: Time, stops: bool)
-    requires line { is_line hall.old.basis.site by ≡ true }
-    requires shut { IsShut by hall.old.entries }
-    ensures ends { Grown hall.old (last_entries stops by time hall.old.entries) hall.new }
-    ensures few { length hall.new.entries ≤ 8000065 }
-    ensures adds { Adds by hall.old hall.new }
-{
-    stop_unless(hall, by, time, stops);
-    last(hall, by, time);
-    hall.is_kept();
-}
-
-fn stop_unless(hall: &mut Hall, by: u32, time: Time, stops: bool)
-    requires line { is_line hall.old.basis.site by ≡ true }
-    requires active { has_ended by hall.old.entries ≡ false }
-    ensures { Grown hall.old (stop_if (stops && not (is_stopped hall.old.entries)) by time) hall.new }
-{
-    if stops && !hall.stopped() {
-        stop(hall, by, time);
-    }
-}
-
-fn last(hall: &mut Hall, by: u32, time: Time)
-    requires line { is_line hall.old.basis.site by ≡ true }
-    requires shut { IsShut by hall.old.entries }
-    ensures { Grown hall.old (entry_of by time Ended ∷ []) hall.new }
-{
-    hall.is_kept();
-    hall.end(by, time);
 }

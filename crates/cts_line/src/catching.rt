@@ -4,9 +4,10 @@ ghost use Rattle.cts_entry.specs.Legal.{StopsAfter};
 ghost use Rattle.cts_turn.specs.Lists.{has};
 ghost use Rattle.cts_turn.specs.Passes.{IsPassOf, basis_of, view};
 ghost use Rattle.cts_connection.specs.Routings.{site_routing};
-ghost use Rattle.cts_line.specs.Ending.{Keeps, RoseIf, fails, has_stop};
+ghost use Rattle.cts_worker.specs.Counts.{RoseIf};
+ghost use Rattle.cts_worker.specs.Holds.{Onward};
+ghost use Rattle.cts_line.specs.Ending.{Keeps, fails, has_stop};
 ghost use Rattle.cts_line.specs.Telling.{Retells, since};
-ghost use Rattle.cts_line.specs.Holding.{Onward};
 ghost use Rattle.cts_line.specs.Talks.{Suits, TalksAt, Takes, Waits, after, room_of, stopped_by};
 
 use crate::holds::look;

@@ -8,10 +8,10 @@ ghost use Rattle.cts_connection.specs.LinePlaces.{is_line};
 ghost use Rattle.cts_connection.specs.Routings.{site_routing};
 ghost use Rattle.cts_entry.specs.Workers.{is_interface};
 ghost use Rattle.cts_told.specs.Told.{Settled, ToldBy};
-ghost use Rattle.cts_line.specs.Doing.{IsShut};
+ghost use Rattle.cts_worker.specs.Holds.{Onward};
+ghost use Rattle.cts_worker.specs.Lasts.{IsShut};
 ghost use Rattle.cts_line.specs.Ending.{CausesEnd, FaultsRise, after_closed, after_failed, has_stop, opened_in, reconnects, refused, stops_all, stops_then};
 ghost use Rattle.cts_line.specs.Telling.{Has, Retells, since};
-ghost use Rattle.cts_line.specs.Holding.{Onward};
 ghost use Rattle.cts_line.specs.Talks.{Begins, Suits, ToldSoFar, room_of};
 
 use crate::ending::LineWhy;
@@ -25,6 +25,7 @@ use cts_entry::{Stands, Why};
 use cts_outside::{Clock, Dialed, Dialer, Gate, GateStage};
 use cts_table::Hall;
 use cts_turn::Pass;
+use cts_worker::sees_stop;
 use std::sync::Wait;
 
 fn is_interface(site: &Site, by: u32) -> bool
@@ -204,7 +205,7 @@ pub(crate) fn connect<R: Wait, C: Framer, D: Dialer, K: Clock, G: Gate>(
     ensures cause { CausesEnd (basis_of ⟦<Hall as Stands>⟧.basis hand.now.turn.now).site (basis_of ⟦<Hall as Stands>⟧.basis hand.now.turn.now).entries hand.now.by (view result.0).seen (D.seen dialer.new).told (D.seen dialer.old).failed_dials (D.seen dialer.new).failed_dials result.1 }
 {
     'dials: for _ in hand.rt.forever() {
-        let (next, stop) = holds::sees_stop(hand.rt, hand.turn, pass, hand.by);
+        let (next, stop) = sees_stop(hand.rt, hand.turn, pass, hand.by);
         pass = next;
         if stop {
             return (pass, LineWhy::Stopped);

@@ -9,11 +9,12 @@ ghost use Rattle.cts_turn.specs.Lists.{has};
 ghost use Rattle.cts_turn.specs.Passes.{IsPassOf, basis_of, view};
 ghost use Rattle.cts_connection.specs.Connections.{entries_ahead};
 ghost use Rattle.cts_connection.specs.LinePlaces.{is_line};
-ghost use Rattle.cts_connection.specs.Postings.{Closes, Grown};
+ghost use Rattle.cts_connection.specs.Postings.{Closes};
 ghost use Rattle.cts_connection.specs.Routings.{site_routing};
 ghost use Rattle.cts_connection.specs.Writings.{spell_by};
-ghost use Rattle.cts_line.specs.Doing.{IsShut, OpensIn, PostsIn, last_entries};
-ghost use Rattle.cts_line.specs.Holding.{InHold};
+ghost use Rattle.cts_worker.specs.Holds.{InHold};
+ghost use Rattle.cts_worker.specs.Lasts.{IsShut};
+ghost use Rattle.cts_line.specs.Doing.{OpensIn, PostsIn};
 
 use crate::board;
 use crate::opening::Opening;
@@ -33,23 +34,6 @@ use std::sync::Wait;
 pub(crate) fn time_of<K: Clock>(clock: &K) -> Time {
     let (seconds, micros) = clock.now();
     Time { seconds, micros }
-}
-
-/// Whether a Stop stands.
-pub(crate) fn sees_stop<R: Wait>(
-    rt: &R,
-    turn: &Turn<Hall>,
-    pass: Pass<Hall>,
-    by: u32,
-) -> (Pass<Hall>, bool)
-    requires pass { IsPassOf turn.now pass }
-    requires by { has by (view pass).makers ≡ true }
-    ensures pass { IsPassOf turn.now result.0 }
-    ensures hold { InHold (basis_of ⟦<Hall as Stands>⟧.basis turn.now) by (view pass) (view result.0) (λ s t. (t ≡ s) × (result.1 ≡ is_stopped s.entries)) }
-{
-    let held = turn.enter(rt, pass);
-    let stop = held.state().stopped();
-    (turn.leave(held), stop)
 }
 
 /// Opens a connection in the history, unless a Stop stands.
@@ -145,27 +129,5 @@ pub(crate) fn close<R: Wait, C: Framer, K: Clock>(
 {
     let mut held = turn.enter(rt, pass);
     board::close(held.state_mut(), by, time_of(clock), connection, why);
-    turn.leave(held)
-}
-
-/// Appends the last entries of a line.
-pub(crate) fn end<R: Wait>(
-    rt: &R,
-    turn: &Turn<Hall>,
-    pass: Pass<Hall>,
-    by: u32,
-    time: Time,
-    stops: bool,
-) -> Pass<Hall>
-    requires pass { IsPassOf turn.now pass }
-    requires by { has by (view pass).makers ≡ true }
-    requires line { is_line (basis_of ⟦<Hall as Stands>⟧.basis turn.now).site by ≡ true }
-    requires shut { IsShut by (view pass).seen }
-    ensures pass { IsPassOf turn.now result }
-    ensures hold { InHold (basis_of ⟦<Hall as Stands>⟧.basis turn.now) by (view pass) (view result) (λ s t. Grown s (last_entries stops by time s.entries) t) }
-    ensures few { length (view result).seen ≤ 8000065 }
-{
-    let mut held = turn.enter(rt, pass);
-    board::end(held.state_mut(), by, time, stops);
     turn.leave(held)
 }

@@ -1,6 +1,7 @@
 // The worker of a line.
 ghost use Rattle.std.specs.Prelude.{◌≡◌, ◌≤◌, ℕ, List, [], length, true, false, IfOk};
 ghost use Rattle.cts_chain.specs.Builds.{IsFresh};
+ghost use Rattle.cts_def.specs.declared.time.Time.{Time as TimeData};
 ghost use Rattle.cts_entry.specs.declared.entry.Entry.{Entry};
 ghost use Rattle.cts_entry.specs.Histories.{is_stopped};
 ghost use Rattle.cts_frame.specs.Chains.{uses_at};
@@ -13,23 +14,26 @@ ghost use Rattle.cts_outside.specs.Lines.{hung_up, told_after};
 ghost use Rattle.cts_told.specs.Makers.{LastEnded, faults_of, of_maker};
 ghost use Rattle.cts_told.specs.Told.{ToldBy};
 ghost use Rattle.cts_line.specs.declared.ending.LineWhy.TheVariants.{Cancelled};
-ghost use Rattle.cts_line.specs.Doing.{IsShut, last_entries};
-ghost use Rattle.cts_line.specs.Ending.{CausesEnd, IsUndialed, RoseBy, first_moment, has_stop, opened_in, reconnects, stops_all};
+ghost use Rattle.cts_worker.specs.Counts.{RoseBy};
+ghost use Rattle.cts_worker.specs.Grounds.{ground};
+ghost use Rattle.cts_worker.specs.Holds.{EndedHold, Onward};
+ghost use Rattle.cts_worker.specs.Lasts.{IsShut, MayEnd, first_moment, last_entries};
+ghost use Rattle.cts_line.specs.Ending.{CausesEnd, IsUndialed, has_stop, opened_in, reconnects, stops_all};
 ghost use Rattle.cts_line.specs.Telling.{Has, Retells, made_by, since};
-ghost use Rattle.cts_line.specs.Holding.{Onward};
 ghost use Rattle.cts_line.specs.Talks.{room_of};
 
 use crate::dials::connect;
 use crate::ending::{LineEnd, LineWhy};
 use crate::hand::AtHand;
-use crate::holds;
+use crate::holds::time_of;
 use cts_base::Memory;
 use cts_connection::{Connection, Framer};
-use cts_def::{Site, Time};
+use cts_def::Site;
 use cts_entry::Stands;
 use cts_outside::{Clock, Dialer, Gate, GateStage};
 use cts_table::Hall;
 use cts_turn::{Pass, Turn};
+use cts_worker::{cancel, end};
 use std::alloc::Global;
 use std::sync::Wait;
 
@@ -90,7 +94,7 @@ impl LineWorker {
         };
         let mut connections = 0;
         let (pass, why) = work(&hand, pass, dialer, chain, &mut connections);
-        let pass = holds::end(rt, turn, pass, by, holds::time_of(clock), stops_all(why));
+        let pass = finish(&hand, pass, why);
         gate.pass(rt, by, GateStage::Posted);
         LineEnd {
             pass,
@@ -112,11 +116,7 @@ impl LineWorker {
         ensures connections { result.connections ≡ 0 }
         ensures why { result.why ≡ Cancelled }
     {
-        let time = Time {
-            seconds: 0,
-            micros: 0,
-        };
-        let pass = holds::end(rt, turn, pass, by, time, true);
+        let pass = cancel(rt, by, turn, pass);
         LineEnd {
             pass,
             connections: 0,
@@ -132,6 +132,23 @@ fn stops_all(why: LineWhy) -> bool
         LineWhy::Stopped | LineWhy::Finished | LineWhy::NoReconnect => false,
         LineWhy::DoorFailed | LineWhy::Full | LineWhy::NoMemory | LineWhy::Cancelled => true,
     }
+}
+
+// Appends the last entries of a line.
+fn finish<R: Wait, K: Clock, G: Gate>(
+    hand: &AtHand<R, K, G>,
+    pass: Pass<Hall>,
+    why: LineWhy,
+) -> Pass<Hall>
+    requires pass { IsPassOf hand.now.turn.now pass }
+    requires by { has hand.now.by (view pass).makers ≡ true }
+    requires may { MayEnd (ground hand.now.turn.now).site hand.now.by (view pass).seen }
+    ensures pass { IsPassOf hand.now.turn.now result }
+    ensures ended { (time : TimeData) × EndedHold hand.now.by time (stops_all why) (view pass) (view result) }
+    ensures few { length (view result).seen ≤ 8000065 }
+{
+    let time = time_of(hand.clock);
+    end(hand.rt, hand.turn, pass, hand.by, time, stops_all(why))
 }
 
 fn buffer_of(alloc: Global) -> Result<Vec<u8>, Memory>

@@ -1,4 +1,4 @@
-use Rattle.std.proofs.Common.{ap, arith, ◌∙◌, refl, rules}
+use Rattle.std.proofs.Common.{[], ap, arith, ◌∙◌, refl, rules}
 use Rattle.cts_table.specs.contracts.hall.HallStands.TheImpl.{ghosts as hall}
 use Rattle.cts_turn.specs.Lists.{has}
 use Rattle.cts_turn.specs.Passes.{basis_of, view}
@@ -7,7 +7,8 @@ use Rattle.cts_told.proofs.Looking.{settles_told}
 use Rattle.cts_line.specs.Ending.{stops_then}
 use Rattle.cts_line.specs.Talks.{room_of}
 use Rattle.cts_line.proofs.Chaining.{same_self, same_then, suits_same}
-use Rattle.cts_line.proofs.Dialing.{count_kept, faults_none, faults_same, faults_then, onward_same, onward_then, shut_kept, so_far_none, so_far_some, stop_keeps, stop_onward, stop_same_look, stop_settled}
+use Rattle.cts_line.proofs.Dialing.{count_kept, faults_none, faults_same, faults_then, shut_kept, so_far_none, so_far_some, stop_keeps, stop_same_look, stop_settled}
+use Rattle.cts_worker.proofs.Onwards.{onward_hold, onward_same, onward_then}
 use Rattle.cts_line.proofs.Telling.{retells_has, retells_same, retells_then}
 use Rattle.cts_line.proofs.dials.connect.Goals as goal
 
@@ -15,39 +16,39 @@ pub returns-then-stop-clause-shut : goal.returns-then-stop-clause-shut
 returns-then-stop-clause-shut g c =
     let v = view c.dials.pass in
     let w = view c.sees_stop-next.result.0 in
-    shut_kept c.args.hand.now.by v.seen w.seen (stop_keeps (basis_of hall.basis c.args.hand.now.turn.now) c.args.hand.now.by v w c.sees_stop-next.result.1 c.sees_stop-next.ensures.hold) c.dials.invariant.shut
+    shut_kept c.args.hand.now.by v.seen w.seen (stop_keeps (basis_of hall.basis c.args.hand.now.turn.now) c.args.hand.now.by v w c.sees_stop-next.ensures.hold) c.dials.invariant.shut
 
 pub returns-then-stop-clause-count : goal.returns-then-stop-clause-count
 returns-then-stop-clause-count g c =
     let v = view c.dials.pass in
     let w = view c.sees_stop-next.result.0 in
-    count_kept c.args.hand.now.by v.seen w.seen c.dials.connections (stop_keeps (basis_of hall.basis c.args.hand.now.turn.now) c.args.hand.now.by v w c.sees_stop-next.result.1 c.sees_stop-next.ensures.hold) c.dials.invariant.count
+    count_kept c.args.hand.now.by v.seen w.seen c.dials.connections (stop_keeps (basis_of hall.basis c.args.hand.now.turn.now) c.args.hand.now.by v w c.sees_stop-next.ensures.hold) c.dials.invariant.count
 
 pub returns-then-stop-clause-faults : goal.returns-then-stop-clause-faults
 returns-then-stop-clause-faults g c =
     let v = view c.dials.pass in
     let w = view c.sees_stop-next.result.0 in
     faults_then c.args.hand.now.by (view c.args.pass).seen v.seen w.seen _ _ _ c.dials.invariant.faults
-    (faults_none c.args.hand.now.by v.seen w.seen _ _ (stop_keeps (basis_of hall.basis c.args.hand.now.turn.now) c.args.hand.now.by v w c.sees_stop-next.result.1 c.sees_stop-next.ensures.hold) refl)
+    (faults_none c.args.hand.now.by v.seen w.seen _ _ (stop_keeps (basis_of hall.basis c.args.hand.now.turn.now) c.args.hand.now.by v w c.sees_stop-next.ensures.hold) refl)
 
 pub returns-then-stop-clause-told : goal.returns-then-stop-clause-told
 returns-then-stop-clause-told g c =
     let base = basis_of hall.basis c.args.hand.now.turn.now in
     let v = view c.dials.pass in
     let w = view c.sees_stop-next.result.0 in
-    λ k has t. settles_told (site_routing base.site) (room_of base) c.args.hand.now.by w.found w.seen _ (stop_settled base c.args.hand.now.by v w c.sees_stop-next.result.1 c.sees_stop-next.ensures.hold _ (c.dials.invariant.settled k has t))
+    λ k has t. settles_told (site_routing base.site) (room_of base) c.args.hand.now.by w.found w.seen _ (stop_settled base c.args.hand.now.by v w c.sees_stop-next.ensures.hold _ (c.dials.invariant.settled k has t))
 
 pub attempt-next-requires-clause-shut : goal.attempt-next-requires-clause-shut
 attempt-next-requires-clause-shut g c =
     let v = view c.dials.pass in
     let w = view c.sees_stop-next.result.0 in
-    shut_kept c.args.hand.now.by v.seen w.seen (stop_keeps (basis_of hall.basis c.args.hand.now.turn.now) c.args.hand.now.by v w c.sees_stop-next.result.1 c.sees_stop-next.ensures.hold) c.dials.invariant.shut
+    shut_kept c.args.hand.now.by v.seen w.seen (stop_keeps (basis_of hall.basis c.args.hand.now.turn.now) c.args.hand.now.by v w c.sees_stop-next.ensures.hold) c.dials.invariant.shut
 
 pub attempt-next-requires-clause-count : goal.attempt-next-requires-clause-count
 attempt-next-requires-clause-count g c =
     let v = view c.dials.pass in
     let w = view c.sees_stop-next.result.0 in
-    count_kept c.args.hand.now.by v.seen w.seen c.dials.connections (stop_keeps (basis_of hall.basis c.args.hand.now.turn.now) c.args.hand.now.by v w c.sees_stop-next.result.1 c.sees_stop-next.ensures.hold) c.dials.invariant.count
+    count_kept c.args.hand.now.by v.seen w.seen c.dials.connections (stop_keeps (basis_of hall.basis c.args.hand.now.turn.now) c.args.hand.now.by v w c.sees_stop-next.ensures.hold) c.dials.invariant.count
 
 pub returns-in-Some-end-clause-faults : goal.returns-in-Some-end-clause-faults
 returns-in-Some-end-clause-faults g c =
@@ -56,7 +57,7 @@ returns-in-Some-end-clause-faults g c =
     let x = view c.attempt-next.result.0 in
     faults_then c.args.hand.now.by (view c.args.pass).seen w.seen x.seen _ _ _
     (faults_then c.args.hand.now.by (view c.args.pass).seen v.seen w.seen _ _ _ c.dials.invariant.faults
-    (faults_none c.args.hand.now.by v.seen w.seen _ _ (stop_keeps (basis_of hall.basis c.args.hand.now.turn.now) c.args.hand.now.by v w c.sees_stop-next.result.1 c.sees_stop-next.ensures.hold) refl))
+    (faults_none c.args.hand.now.by v.seen w.seen _ _ (stop_keeps (basis_of hall.basis c.args.hand.now.turn.now) c.args.hand.now.by v w c.sees_stop-next.ensures.hold) refl))
     c.attempt-next.ensures.faults
 
 pub dials-init : goal.dials-init
@@ -88,8 +89,8 @@ dials-preserved g c =
     let x = view c.attempt-next.result.0 in
     let i = c.dials.invariant in
     let e = c.attempt-next.ensures in
-    let looked = stop_keeps base c.args.hand.now.by v w c.sees_stop-next.result.1 c.sees_stop-next.ensures.hold in
-    let on = onward_then v w x (stop_onward base c.args.hand.now.by v w c.sees_stop-next.result.1 c.sees_stop-next.ensures.hold) e.onward in record {
+    let looked = stop_keeps base c.args.hand.now.by v w c.sees_stop-next.ensures.hold in
+    let on = onward_then v w x (onward_hold c.args.hand.now.by v w [] c.sees_stop-next.ensures.hold) e.onward in record {
       next = tt;
       pass = e.pass;
       by = ap (has c.args.hand.now.by) on.makers ∙ i.by;
@@ -103,25 +104,25 @@ dials-preserved g c =
       faults = faults_then c.args.hand.now.by u.seen w.seen x.seen _ _ _ (faults_then c.args.hand.now.by u.seen v.seen w.seen _ _ _ i.faults (faults_none c.args.hand.now.by v.seen w.seen _ _ looked refl)) e.faults;
       dials = (let a = i.dials in let b = e.dials in omega (arith, a, b));
       once = λ off. e.again off c.in_default.is ∙ (looked.opened ∙ i.once off);
-      stop = e.stop (ap stops_then c.in_default.is) ∙ (stop_same_look base c.args.hand.now.by v w c.sees_stop-next.result.1 c.sees_stop-next.ensures.hold ∙ i.stop);
+      stop = e.stop (ap stops_then c.in_default.is) ∙ (stop_same_look base c.args.hand.now.by v w c.sees_stop-next.ensures.hold ∙ i.stop);
       retells = retells_then _ _ _ i.retells e.retells;
       settled = λ k has t.
           so_far_none (site_routing base.site) (room_of base) c.args.hand.now.by x.found x.seen _ _ c.in_default.is
-          (e.told k (retells_has k _ _ i.retells has) (stop_settled base c.args.hand.now.by v w c.sees_stop-next.result.1 c.sees_stop-next.ensures.hold _ (i.settled k has t)));
+          (e.told k (retells_has k _ _ i.retells has) (stop_settled base c.args.hand.now.by v w c.sees_stop-next.ensures.hold _ (i.settled k has t)));
     }
 
 pub returns-then-stop-clause-once : goal.returns-then-stop-clause-once
 returns-then-stop-clause-once g c =
     let v = view c.dials.pass in
     let w = view c.sees_stop-next.result.0 in
-    let k = stop_keeps (basis_of hall.basis c.args.hand.now.turn.now) c.args.hand.now.by v w c.sees_stop-next.result.1 c.sees_stop-next.ensures.hold in
+    let k = stop_keeps (basis_of hall.basis c.args.hand.now.turn.now) c.args.hand.now.by v w c.sees_stop-next.ensures.hold in
     λ off. (let a = k.opened in let b = c.dials.invariant.once off in omega (arith, a, b))
 
 pub returns-in-Some-end-clause-once : goal.returns-in-Some-end-clause-once
 returns-in-Some-end-clause-once g c =
     let v = view c.dials.pass in
     let w = view c.sees_stop-next.result.0 in
-    let k = stop_keeps (basis_of hall.basis c.args.hand.now.turn.now) c.args.hand.now.by v w c.sees_stop-next.result.1 c.sees_stop-next.ensures.hold in
+    let k = stop_keeps (basis_of hall.basis c.args.hand.now.turn.now) c.args.hand.now.by v w c.sees_stop-next.ensures.hold in
     λ off. (let a = k.opened in let b = c.dials.invariant.once off in let f = c.attempt-next.ensures.few in omega (arith, a, b, f))
 
 pub returns-in-Some-end-clause-told : goal.returns-in-Some-end-clause-told
@@ -133,16 +134,16 @@ returns-in-Some-end-clause-told g c =
     let i = c.dials.invariant in
     λ k has t.
     so_far_some (site_routing base.site) (room_of base) c.args.hand.now.by x.found x.seen _ _ c.in-Some-end.why c.in-Some-end.is
-    (c.attempt-next.ensures.told k (retells_has k _ _ i.retells has) (stop_settled base c.args.hand.now.by v w c.sees_stop-next.result.1 c.sees_stop-next.ensures.hold _ (i.settled k has t)))
+    (c.attempt-next.ensures.told k (retells_has k _ _ i.retells has) (stop_settled base c.args.hand.now.by v w c.sees_stop-next.ensures.hold _ (i.settled k has t)))
 
 pub returns-then-stop-clause-stop : goal.returns-then-stop-clause-stop
 returns-then-stop-clause-stop g c =
-    let same = stop_same_look (basis_of hall.basis c.args.hand.now.turn.now) c.args.hand.now.by (view c.dials.pass) (view c.sees_stop-next.result.0) c.sees_stop-next.result.1 c.sees_stop-next.ensures.hold in
+    let same = stop_same_look (basis_of hall.basis c.args.hand.now.turn.now) c.args.hand.now.by (view c.dials.pass) (view c.sees_stop-next.result.0) c.sees_stop-next.ensures.hold in
     λ off. same ∙ c.dials.invariant.stop
 
 pub returns-in-Some-end-clause-stop : goal.returns-in-Some-end-clause-stop
 returns-in-Some-end-clause-stop g c =
-    let same = stop_same_look (basis_of hall.basis c.args.hand.now.turn.now) c.args.hand.now.by (view c.dials.pass) (view c.sees_stop-next.result.0) c.sees_stop-next.result.1 c.sees_stop-next.ensures.hold in
+    let same = stop_same_look (basis_of hall.basis c.args.hand.now.turn.now) c.args.hand.now.by (view c.dials.pass) (view c.sees_stop-next.result.0) c.sees_stop-next.ensures.hold in
     λ off. c.attempt-next.ensures.stop (ap stops_then c.in-Some-end.is ∙ off) ∙ (same ∙ c.dials.invariant.stop)
 
 pub returns-in-Some-end-clause-retells : goal.returns-in-Some-end-clause-retells

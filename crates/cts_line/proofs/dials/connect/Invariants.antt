@@ -5,9 +5,9 @@ use Rattle.cts_turn.specs.Lists.{has}
 use Rattle.cts_turn.specs.Passes.{IsPassOf, basis_of, view}
 use Rattle.cts_connection.specs.Routings.{site_routing}
 use Rattle.cts_told.specs.Told.{Settled}
-use Rattle.cts_line.specs.Doing.{IsShut}
+use Rattle.cts_worker.specs.Lasts.{IsShut}
 use Rattle.cts_line.specs.Ending.{FaultsRise, has_stop, opened_in, reconnects}
-use Rattle.cts_line.specs.Holding.{Onward}
+use Rattle.cts_worker.specs.Holds.{Onward}
 use Rattle.cts_line.specs.Talks.{Suits, room_of}
 use Rattle.cts_line.specs.Telling.{Has, Retells, since}
 use Rattle.cts_table.specs.contracts.hall.HallStands.TheImpl.{ghosts as hall}

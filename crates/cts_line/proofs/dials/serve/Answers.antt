@@ -4,7 +4,8 @@ use Rattle.cts_turn.specs.Passes.{basis_of, view}
 use Rattle.cts_connection.specs.Routings.{site_routing}
 use Rattle.cts_line.specs.Talks.{room_of}
 use Rattle.cts_line.proofs.Chaining.{suits_same}
-use Rattle.cts_line.proofs.Dialing.{again_of, count_closed, count_kept, faults_closed, faults_none, hangs_up, onward_then, opening_is, refusal, shut_closed, shut_kept, so_far}
+use Rattle.cts_line.proofs.Dialing.{again_of, count_closed, count_kept, faults_closed, faults_none, hangs_up, opening_is, refusal, shut_closed, shut_kept, so_far}
+use Rattle.cts_worker.proofs.Onwards.{onward_then}
 use Rattle.cts_line.proofs.Telling.{retells_has, retells_hung, retells_then, since_hung}
 use Rattle.cts_line.proofs.dials.serve.Goals as goal
 

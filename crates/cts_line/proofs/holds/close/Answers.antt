@@ -2,7 +2,7 @@ use Rattle.std.proofs.Common.{ap, ◌∙◌, subst}
 use Rattle.cts_turn.specs.Passes.{view}
 use Rattle.cts_connection.specs.Postings.{Closes}
 use Rattle.cts_entry.specs.Histories.{is_connected}
-use Rattle.cts_line.proofs.Holdings.{a_held, kept_connected}
+use Rattle.cts_worker.proofs.Holdings.{a_held, kept_connected}
 use Rattle.cts_line.proofs.holds.close.Goals as goal
 
 pub close-requires-clause-on : goal.close-requires-clause-on

@@ -1,6 +1,6 @@
 use Rattle.std.proofs.Common.{refl}
 use Rattle.cts_turn.specs.Passes.{view}
-use Rattle.cts_line.proofs.Holdings.{a_held, nothing_new}
+use Rattle.cts_worker.proofs.Holdings.{a_held, nothing_new}
 use Rattle.cts_line.proofs.holds.look.Goals as goal
 
 pub leave-requires-clause-new : goal.leave-requires-clause-new

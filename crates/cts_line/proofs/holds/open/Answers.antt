@@ -1,7 +1,9 @@
 use Rattle.std.proofs.Common.{subst, sym}
 use Rattle.cts_turn.specs.Passes.{view}
-use Rattle.cts_line.specs.Doing.{Adds, IsShut, OpensIn}
-use Rattle.cts_line.proofs.Holdings.{a_held, kept_shut, new_by}
+use Rattle.cts_worker.specs.Holds.{Adds}
+use Rattle.cts_worker.specs.Lasts.{IsShut}
+use Rattle.cts_line.specs.Doing.{OpensIn}
+use Rattle.cts_worker.proofs.Holdings.{a_held, kept_shut, new_by}
 use Rattle.cts_line.proofs.holds.open.Goals as goal
 
 pub open-opening-requires-clause-shut : goal.open-opening-requires-clause-shut

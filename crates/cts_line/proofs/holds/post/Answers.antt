@@ -1,8 +1,9 @@
 use Rattle.std.proofs.Common.{ap, ◌∙◌, subst}
 use Rattle.cts_turn.specs.Passes.{view}
 use Rattle.cts_entry.specs.Histories.{is_connected}
-use Rattle.cts_line.specs.Doing.{Adds, PostsIn}
-use Rattle.cts_line.proofs.Holdings.{a_held, kept_connected, new_by}
+use Rattle.cts_worker.specs.Holds.{Adds}
+use Rattle.cts_line.specs.Doing.{PostsIn}
+use Rattle.cts_worker.proofs.Holdings.{a_held, kept_connected, new_by}
 use Rattle.cts_line.proofs.holds.post.Goals as goal
 
 pub post-posting-requires-clause-on : goal.post-posting-requires-clause-on

@@ -5,7 +5,7 @@ use Rattle.cts_turn.specs.Lists.{has}
 use Rattle.cts_turn.specs.Passes.{IsPassOf, basis_of, view}
 use Rattle.cts_connection.specs.Routings.{site_routing}
 use Rattle.cts_line.specs.Ending.{Keeps, has_stop}
-use Rattle.cts_line.specs.Holding.{Onward}
+use Rattle.cts_worker.specs.Holds.{Onward}
 use Rattle.cts_line.specs.Talks.{Suits, TalksAt, Waits, room_of}
 use Rattle.cts_line.specs.Telling.{Retells, since}
 use Rattle.cts_table.specs.contracts.hall.HallStands.TheImpl.{ghosts as hall}
