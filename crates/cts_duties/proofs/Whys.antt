@@ -1,4 +1,4 @@
--- A line that ran was not cancelled.
+-- A worker that ran was not cancelled.
 use Rattle.std.proofs.Common.{◌≡◌, ℕ, false, List, Option, refl}
 use Rattle.cts_def.specs.Sites.{SiteData}
 use Rattle.cts_entry.specs.declared.entry.Entry.{Entry}
@@ -6,7 +6,11 @@ use Rattle.cts_line.specs.Ending.{CausesEnd}
 use Rattle.cts_line.specs.declared.ending.LineWhy.{LineWhy}
 use Rattle.cts_line.specs.declared.ending.LineWhy.TheVariants.{Stopped, Finished, NoReconnect, DoorFailed, Full, NoMemory, Cancelled}
 use Rattle.cts_outside.specs.Lines.{Line}
+use Rattle.cts_scribe.specs.Ending.{CausesEnd as CausesScribe}
+use Rattle.cts_scribe.specs.declared.ending.ScribeWhy.{ScribeWhy}
+use Rattle.cts_scribe.specs.declared.ending.ScribeWhy.TheVariants.{Drained, VaultFailed, NoMemory as NoMemoryScribe, Cancelled as CancelledScribe}
 use Rattle.cts_duties.specs.Lines.{is_cancelled}
+use Rattle.cts_duties.specs.Scribes.{is_cancelled as is_cancelled_scribe}
 
 pub line_ran : (site : SiteData) (most m : ℕ) (history : List Entry) (told : Option Line) (before now : ℕ) (why : LineWhy) → CausesEnd site most m history told before now why → is_cancelled why ≡ false
 line_ran site most m history told before now Stopped c = refl
@@ -16,3 +20,9 @@ line_ran site most m history told before now DoorFailed c = refl
 line_ran site most m history told before now Full c = refl
 line_ran site most m history told before now NoMemory c = refl
 line_ran site most m history told before now Cancelled c = absurd c
+
+pub scribe_ran : (before now : ℕ) (why : ScribeWhy) → CausesScribe before now why → is_cancelled_scribe why ≡ false
+scribe_ran before now Drained c = refl
+scribe_ran before now VaultFailed c = refl
+scribe_ran before now NoMemoryScribe c = refl
+scribe_ran before now CancelledScribe c = absurd c

@@ -2,3 +2,5 @@ pub mod Workers
 pub mod OwnLaws
 pub mod Lines
 pub mod LineLaws
+pub mod Scribes
+pub mod ScribeLaws
