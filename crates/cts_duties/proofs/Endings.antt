@@ -1,5 +1,5 @@
 -- What a worker has seen at its end is how the history begins.
-use Rattle.std.proofs.Common.{◌≡◌, ℕ, List, [], ◌++◌, ◌∙◌, ap, sym, append-nil}
+use Rattle.std.proofs.Common.{◌≡◌, ℕ, List, refl, [], ◌++◌, ◌∙◌, ap, sym, append-nil}
 use Rattle.cts_def.specs.Sites.{SiteData}
 use Rattle.cts_entry.specs.declared.entry.Entry.{Entry}
 use Rattle.cts_scribe.specs.Ending.{stops_all}
@@ -11,9 +11,14 @@ use Rattle.cts_turn.specs.Lists.{StartsWith}
 use Rattle.cts_worker.specs.Lasts.{first_moment, last_entries}
 use Rattle.cts_worker.proofs.Lasting.{last_own}
 use Rattle.cts_duties.specs.Scribes.{EndedScribe}
+use Rattle.cts_duties.specs.Workers.{LastLook}
 
 pub begins_all : (seen all : List Entry) → seen ≡ all → StartsWith seen all
 begins_all seen all e = ([], e ∙ sym (append-nil all))
+
+-- a worker's own end is its last look
+pub look_all : (by : ℕ) (seen : List Entry) → LastLook by seen seen
+look_all by seen = record { begins = begins_all seen seen refl; own = refl }
 
 pub ended_scribe : (site : SiteData) (by : ℕ) (why : ScribeWhy) (seen : List Entry) (cursor : ℕ) → Ends site by why seen cursor → EndedScribe site by why seen cursor
 ended_scribe site by why seen cursor e =

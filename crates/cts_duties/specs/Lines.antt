@@ -19,7 +19,7 @@ use Rattle.cts_table.specs.declared.basis.Basis.{Basis}
 use Rattle.cts_told.specs.Makers.{LastEnded, faults_of}
 use Rattle.cts_told.specs.Told.{ToldBy}
 use Rattle.cts_worker.specs.Counts.{RoseBy}
-use Rattle.cts_duties.specs.Workers.{IsUnstarted}
+use Rattle.cts_duties.specs.Workers.{IsUnstarted, LastLook}
 
 -- The site is that of the turn, the worker is a line of it, and its chain is the site's, to which nothing was fed.
 pub record MayRunLine (basis : Basis) (by : ℕ) (site : SiteData) (chain : ChainData) : Type 0 where
@@ -37,15 +37,18 @@ is_cancelled NoMemory = false
 is_cancelled Cancelled = true
 
 -- What a line that ran leaves, by what its dialer showed before and shows now. What the history says of its connections is what its dialer tells of
--- this run; its last entry is its Ended; and why it ended has its cause.
+-- this run, as what it saw at its last look did; its last entry is its Ended. Why it ended has its cause in that look, since others may stop the server later.
 pub record RanLine (basis : Basis) (by : ℕ) (found : List ℕ) (history : List Entry) (old new : LineSeen) (connections : ℕ) (why : LineWhy) : Type 0 where
+  pub seen : List Entry
+  pub look : LastLook by seen history
+  pub looked : ToldBy (site_routing basis.site) (room_of basis) by found seen (since (made_by old.told) new.told)
   pub told : ToldBy (site_routing basis.site) (room_of basis) by found history (since (made_by old.told) new.told)
   pub retells : Retells (told_after hung_up old.told) new.told
   pub ended : LastEnded by history
   pub opened : connections ≡ opened_in by history
   pub once : reconnects basis.site by ≡ false → connections ≤ 1
-  pub cause : CausesEnd basis.site basis.entries by history new.told old.failed_dials new.failed_dials why
-  pub stops : stops_all why ≡ true → is_stopped history ≡ true
+  pub cause : CausesEnd basis.site basis.entries by seen new.told old.failed_dials new.failed_dials why
+  pub stops : stops_all why ≡ true → is_stopped seen ≡ true
   pub own_stop : has_stop by history ≡ true → stops_all why ≡ true
   pub faults : RoseBy (faults_of by history) old.faults new.faults
   pub dials : old.failed_dials ≤ new.failed_dials

@@ -7,7 +7,7 @@ use Rattle.cts_staff.specs.Lasting.{Lasts}
 use Rattle.cts_told.specs.Makers.{LastEnded, of_maker}
 use Rattle.cts_told.proofs.Looking.{stop_kept}
 use Rattle.cts_turn.specs.Lists.{StartsWith}
-use Rattle.cts_duties.specs.Workers.{IsUnstarted}
+use Rattle.cts_duties.specs.Workers.{IsUnstarted, LastLook}
 
 module _ (m : ℕ) (kind : What → Bool) where
   abbrev says : Entry → Bool
@@ -60,3 +60,6 @@ unstarted_more by seen more own u = record {
   own = own ∙ u.own;
   stopped = stop_kept seen more u.stopped;
 }
+
+pub look_more : (by : ℕ) (look seen more : List Entry) → of_maker by (seen ++ more) ≡ of_maker by seen → LastLook by look seen → LastLook by look (seen ++ more)
+look_more by look seen more own l = record { begins = begins_more seen more look l.begins; own = own ∙ l.own }

@@ -8,6 +8,7 @@ use Rattle.cts_turn.specs.Lists.{has}
 use Rattle.cts_turn.specs.Passes.{view}
 use Rattle.cts_worker.specs.Grounds.{ground}
 use Rattle.cts_worker.proofs.Holdings.{by_one}
+use Rattle.cts_duties.proofs.Endings.{look_all}
 use Rattle.cts_duties.proofs.Whys.{line_ran}
 use Rattle.cts_duties.proofs.lines.LineDutyDuty.perform.Goals as goal
 
@@ -25,8 +26,12 @@ returns-clause-does g c =
     let v = view c.run-end.result.pass in
     let old = g.D.Link.seen c.args.self.dialer in
     let new = g.D.Link.seen c.run-end.new.dialer in
+    let told = subst (λ s. ToldBy (site_routing s) (room_of basis) c.args.by v.found v.seen (since (made_by old.told) new.told)) same e.told in
     inl (record {
-      told = subst (λ s. ToldBy (site_routing s) (room_of basis) c.args.by v.found v.seen (since (made_by old.told) new.told)) same e.told;
+      seen = v.seen;
+      look = look_all c.args.by v.seen;
+      looked = told;
+      told = told;
       retells = e.retells;
       ended = e.ended;
       opened = e.connections;
