@@ -1,6 +1,9 @@
 -- A worker that ran was not cancelled.
 use Rattle.std.proofs.Common.{◌≡◌, ℕ, false, List, Option, refl}
 use Rattle.cts_def.specs.Sites.{SiteData}
+use Rattle.cts_desk.specs.Ending.{CausesEnd as CausesDesk}
+use Rattle.cts_desk.specs.declared.ending.DeskWhy.{DeskWhy}
+use Rattle.cts_desk.specs.declared.ending.DeskWhy.TheVariants.{Stopped as StoppedDesk, Finished as FinishedDesk, DoorFailed as DoorFailedDesk, Cancelled as CancelledDesk}
 use Rattle.cts_entry.specs.declared.entry.Entry.{Entry}
 use Rattle.cts_line.specs.Ending.{CausesEnd}
 use Rattle.cts_line.specs.declared.ending.LineWhy.{LineWhy}
@@ -9,6 +12,7 @@ use Rattle.cts_outside.specs.Lines.{Line}
 use Rattle.cts_scribe.specs.Ending.{CausesEnd as CausesScribe}
 use Rattle.cts_scribe.specs.declared.ending.ScribeWhy.{ScribeWhy}
 use Rattle.cts_scribe.specs.declared.ending.ScribeWhy.TheVariants.{Drained, VaultFailed, NoMemory as NoMemoryScribe, Cancelled as CancelledScribe}
+use Rattle.cts_duties.specs.Desks.{is_cancelled as is_cancelled_desk}
 use Rattle.cts_duties.specs.Lines.{is_cancelled}
 use Rattle.cts_duties.specs.Scribes.{is_cancelled as is_cancelled_scribe}
 
@@ -26,3 +30,9 @@ scribe_ran before now Drained c = refl
 scribe_ran before now VaultFailed c = refl
 scribe_ran before now NoMemoryScribe c = refl
 scribe_ran before now CancelledScribe c = absurd c
+
+pub desk_ran : (history : List Entry) (told : Option Line) (before now : ℕ) (why : DeskWhy) → CausesDesk history told before now why → is_cancelled_desk why ≡ false
+desk_ran history told before now StoppedDesk c = refl
+desk_ran history told before now FinishedDesk c = refl
+desk_ran history told before now DoorFailedDesk c = refl
+desk_ran history told before now CancelledDesk c = absurd c

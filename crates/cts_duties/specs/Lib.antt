@@ -4,3 +4,5 @@ pub mod Lines
 pub mod LineLaws
 pub mod Scribes
 pub mod ScribeLaws
+pub mod Desks
+pub mod DeskLaws

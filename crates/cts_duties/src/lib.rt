@@ -1,9 +1,11 @@
-//! The workers of a server as duties of its staff, so far those of a line and of the scribe. What each owes over the one history is what its `run` says, or that it was not started;
+//! The workers of a server as duties of its staff: those of lines and desks, and the scribe. What each owes over the one history is what its `run` says, or that it was not started;
 //! and this goes on to hold when others append. The rules of this crate are the project's own.
 #![tactic(auto)]
 
+mod desks;
 mod lines;
 mod scribes;
 
+pub use desks::{DeskDuty, DeskNote};
 pub use lines::{LineDuty, LineNote};
 pub use scribes::{ScribeDuty, ScribeNote};
