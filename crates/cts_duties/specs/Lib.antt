@@ -6,3 +6,5 @@ pub mod Scribes
 pub mod ScribeLaws
 pub mod Desks
 pub mod DeskLaws
+pub mod Any
+pub mod AnyLaws

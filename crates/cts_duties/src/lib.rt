@@ -2,10 +2,12 @@
 //! and this goes on to hold when others append. The rules of this crate are the project's own.
 #![tactic(auto)]
 
+mod any;
 mod desks;
 mod lines;
 mod scribes;
 
+pub use any::{AnyDuty, AnyNote};
 pub use desks::{DeskDuty, DeskNote};
 pub use lines::{LineDuty, LineNote};
 pub use scribes::{ScribeDuty, ScribeNote};
