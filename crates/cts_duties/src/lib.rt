@@ -6,8 +6,10 @@ mod any;
 mod desks;
 mod lines;
 mod scribes;
+mod site;
 
 pub use any::{AnyDuty, AnyNote};
 pub use desks::{DeskDuty, DeskNote};
 pub use lines::{LineDuty, LineNote};
 pub use scribes::{ScribeDuty, ScribeNote};
+pub use site::{SiteDuty, work_site};
