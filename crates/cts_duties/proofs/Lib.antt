@@ -1,2 +1,3 @@
+mod Closed
 mod Endings
 mod Whys

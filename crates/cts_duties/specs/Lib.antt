@@ -8,3 +8,4 @@ pub mod Desks
 pub mod DeskLaws
 pub mod Any
 pub mod AnyLaws
+pub mod ClosedLogs

@@ -34,6 +34,21 @@ impl<'a, D: Drop, K, G> Drop for DeskDuty<'a, D, K, G> {
     }
 }
 
+impl<'a, D, K, G> DeskDuty<'a, D, K, G> {
+    /// Its door, where nobody is to do the duty.
+    pub fn into_door(self) -> D
+        ensures { result ≡ self.entry.door }
+    {
+        let Self {
+            alloc: _,
+            door,
+            clock: _,
+            gate: _,
+        } = self;
+        door
+    }
+}
+
 /// What a desk leaves.
 #[derive(Drop)]
 pub struct DeskNote<D> {

@@ -4,12 +4,14 @@
 
 mod any;
 mod desks;
+mod laws;
 mod lines;
 mod scribes;
 mod site;
 
 pub use any::{AnyDuty, AnyNote};
 pub use desks::{DeskDuty, DeskNote};
+pub use laws::drained_logs_are_whole;
 pub use lines::{LineDuty, LineNote};
 pub use scribes::{ScribeDuty, ScribeNote};
 pub use site::{SiteDuty, work_site};

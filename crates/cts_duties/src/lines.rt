@@ -41,6 +41,23 @@ impl<'a, D: Drop, C: Drop, K, G> Drop for LineDuty<'a, D, C, K, G> {
     }
 }
 
+impl<'a, D, C: Drop, K, G> LineDuty<'a, D, C, K, G> {
+    /// Its dialer, where nobody is to do the duty.
+    pub fn into_dialer(self) -> D
+        ensures { result ≡ self.entry.dialer }
+    {
+        let Self {
+            alloc: _,
+            site: _,
+            dialer,
+            chain: _,
+            clock: _,
+            gate: _,
+        } = self;
+        dialer
+    }
+}
+
 /// What a line leaves.
 #[derive(Drop)]
 pub struct LineNote<D> {

@@ -34,6 +34,21 @@ impl<'a, V: Drop> Drop for ScribeDuty<'a, V> {
     }
 }
 
+impl<'a, V> ScribeDuty<'a, V> {
+    /// Its vault, where nobody is to do the duty.
+    pub fn into_vault(self) -> V
+        ensures { result ≡ self.entry.vault }
+    {
+        let Self {
+            alloc: _,
+            site: _,
+            digest: _,
+            vault,
+        } = self;
+        vault
+    }
+}
+
 /// What the scribe leaves.
 #[derive(Drop)]
 pub struct ScribeNote<V> {

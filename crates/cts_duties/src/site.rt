@@ -1,6 +1,7 @@
 // The staff of a site.
 ghost use Rattle.std.specs.Prelude.{◌≡◌, true, [], IfOk, IfErr, OnErr, count_by, length};
 ghost use Rattle.std.specs.List.{AllByRecursion, AllZip};
+ghost use Rattle.cts_def.specs.Sites.{IsSoundSite};
 ghost use Rattle.cts_outside.specs.Crews.{CancelledFrom, with_cancelled, with_jobs};
 ghost use Rattle.cts_staff.specs.Tasks.{Did, Rising};
 ghost use Rattle.cts_table.specs.Keeping.{IsKept};
@@ -54,6 +55,7 @@ pub fn work_site<
     requires seen { (view pass).seen ≡ [] }
     requires rising { Rising 0 tasks.items }
     requires can { AllByRecursion (λ t. ⟦<SiteDuty<'a, D, Q, V, C, K, G> as Duty>⟧.can_do t.duty t.by (ground turn)) tasks.items }
+    ensures sound { IfOk result (λ r. IsSoundSite (ground turn).site) }
     ensures legal { IfOk result (λ r. IsKept (ground turn) r.0) }
     ensures did { IfOk result (λ r. AllZip (Did (⟦<SiteDuty<'a, D, Q, V, C, K, G> as Duty>⟧.does) (ground turn) r.0) tasks.entry.items r.1.items) }
     ensures crew { IfOk result (λ r. W.seen crew.new ≡ with_cancelled (with_jobs (W.seen crew.old) (length tasks.entry.items)) (count_by (⟦<SiteDuty<'a, D, Q, V, C, K, G> as Duty>⟧.is_cancelled) r.1.items)) }
