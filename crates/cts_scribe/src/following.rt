@@ -24,7 +24,12 @@ use cts_table::Hall;
 use cts_turn::Turn;
 use std::alloc::Global;
 use std::sync::Wait;
-use std::thread;
+use std::thread::Parker;
+use std::time::Duration;
+
+/// How many milliseconds a scribe sleeps where nothing was new: so few that the logs follow the history closely, and so many that a server at rest leaves
+/// its processors to others.
+const NAP: u64 = 5;
 
 // The heads of both logs.
 fn heads(alloc: Global, digest: &[u8; 16]) -> Result<(Bytes, Bytes), Memory>
@@ -56,6 +61,11 @@ pub(crate) fn begin_logs<V: Vault>(
         },
         Err(_) => Err(ScribeWhy::NoMemory),
     }
+}
+
+// Sleeps before the next look. A scribe has no clock to sleep by, so it parks where nobody wakes it.
+fn nap<R: Wait>(rt: &R) {
+    Parker::new().park_timeout(rt, Duration::from_millis(NAP));
 }
 
 // One look, and the logs after it. Says why the scribe ends, if it does.
@@ -91,7 +101,7 @@ fn attempt<R: Wait, V: Vault>(
             }
         }
         Ok(Sight::Still) => {
-            thread::yield_now();
+            nap(rt);
             (follower, None)
         }
         Ok(Sight::Drained) => (follower, Some(ScribeWhy::Drained)),

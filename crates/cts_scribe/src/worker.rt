@@ -34,7 +34,8 @@ impl Scribe {
     /// Puts the heads of both logs, with the digest of the definitions, and then follows the history: each packet of an interface that is logged, and
     /// each command for one, is appended to its log once and in order, and synced, until every other worker has ended and nothing stands that was not
     /// followed. It looks at the history in holds of the turn, and appends outside of them. Where an append or a sync fails or no memory is found, it stops
-    /// the server. Its last entry is Ended; its entries have the first moment. It waits for the turn, and for no other reason but in the vault's calls.
+    /// the server. Its last entry is Ended; its entries have the first moment. It waits for the turn, a few
+    /// milliseconds where nothing is new, and in the vault's calls.
     pub fn run<R: Wait, V: Vault>(
         rt: &R,
         alloc: Global,
