@@ -5,8 +5,10 @@
 
 mod console;
 mod disk;
+mod names;
 mod vault;
 
 pub use crate::console::Console;
 pub use crate::disk::DiskFiles;
+pub use crate::names::LogNames;
 pub use crate::vault::{DiskVault, Opening};

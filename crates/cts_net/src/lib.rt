@@ -4,10 +4,12 @@
 #![tactic(auto)]
 
 mod clock;
+mod devices;
 mod dialer;
 mod listener;
 mod stream;
 
 pub use crate::clock::SystemClock;
+pub use crate::devices::Listeners;
 pub use crate::dialer::TcpDialer;
 pub use crate::listener::SharedListener;

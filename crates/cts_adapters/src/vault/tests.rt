@@ -1,4 +1,5 @@
 // Real files, in the folder of the test.
+use crate::names::LogNames;
 use crate::vault::{DiskVault, Opening};
 use cts_outside::{LogKind, PutFailed, Vault};
 use std::fs;
@@ -36,6 +37,14 @@ fn a_replaced_log_has_what_is_appended_alone(rt: HostRuntime) -> Result<(), Fail
 }
 
 // The files of a running server have the second of its start in their names.
+#[test]
+fn log_files_are_named_after_the_second(rt: HostRuntime) -> Result<(), Fail> {
+    let names = LogNames::of_second(rt.alloc(), 1_796_000_000)?;
+    assert_eq!(rt; names.tlm.as_str(), "1796000000_tlm.bin");
+    assert_eq!(rt; names.cmd.as_str(), "1796000000_cmd.bin");
+    Ok(())
+}
+
 #[test]
 fn a_new_log_is_in_no_old_file(rt: HostRuntime) -> Result<(), Fail> {
     fs::create_dir_all(&rt, "new_vault_test")?;

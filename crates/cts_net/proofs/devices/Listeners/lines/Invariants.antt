@@ -1,0 +1,7 @@
+use Rattle.cts_net.proofs.Unused.{seen}
+use Rattle.cts_net.specs.Devices.{AreUnused}
+use Rattle.cts_net.proofs.devices.Listeners.lines.Given as goal
+
+-- so many dialers stand in their places so far
+abbrev pub invariant-loop-listener : goal.invariant-loop-listener
+invariant-loop-listener g l = AreUnused seen l.listener-index l.lines.items

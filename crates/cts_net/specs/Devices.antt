@@ -1,0 +1,18 @@
+-- The devices of a server, before they are used.
+use Rattle.std.specs.Prelude.{◌≡◌, ℕ, false, List, length, Option, Some, None}
+use Rattle.std.specs.List.{AllByRecursion}
+use Rattle.cts_outside.specs.Seen.{LineSeen}
+
+-- what a dialer shows that was not aimed yet, and of which no connection stands
+abbrev pub unused : LineSeen
+unused = record { told = None; linked = false; faults = 0; failed_dials = 0 }
+
+module _ {X : Type 0} (seen : X → LineSeen) where
+  -- a dialer stands in the place, and was not used yet
+  abbrev pub IsUnused : Option X → Type 0
+  IsUnused (Some x) = seen x ≡ unused
+  IsUnused None = ⊥
+
+  -- so many places, and such a dialer in each of them
+  abbrev pub AreUnused : ℕ → List (Option X) → Type 0
+  AreUnused n places = (length places ≡ n) × AllByRecursion IsUnused places

@@ -1,0 +1,136 @@
+// The devices of a server: the dialers of its lines, the doors of its routers and desks, and the listeners that these stand at.
+ghost use Rattle.std.specs.Prelude.{◌≡◌, ℕ, ◌+◌, [], length, IfOk, OnOk};
+ghost use Rattle.cts_net.specs.Devices.{AreUnused};
+
+use crate::{SharedListener, TcpDialer};
+use cts_base::Memory;
+use cts_outside::Link;
+use std::alloc::Global;
+use std::net::{Net, TcpListener, TcpStream};
+use std::time::Clock;
+
+/// How many interfaces a site may have.
+const INTERFACES: usize = 16;
+
+/// How many routers a site may have. Each has two slots, with a door each.
+const ROUTERS: usize = 4;
+
+/// How many desks a site may have.
+const DESKS: u64 = 4;
+
+/// How many takes in a row may find nothing at a desk: a client that says nothing for about a minute is taken to be gone.
+const SILENT_CLIENT: u64 = 6_000;
+
+/// The listeners of a server's ports: one for each interface, which opens it where its site says that it serves; one for each router,
+/// whose two slots share it; and one for all desks.
+#[derive(Drop)]
+pub struct Listeners<'a> {
+    interfaces: Vec<SharedListener<'a>>,
+    routers: Vec<SharedListener<'a>>,
+    desks: SharedListener<'a>,
+    ghost interfaces_are: { length interfaces.items ≡ 16 },
+    ghost routers_are: { length routers.items ≡ 4 },
+}
+
+impl<'a> Listeners<'a> {
+    /// Listeners that are not open yet. Those of interfaces and routers will be at the one address of this machine, those of desks at
+    /// the other.
+    pub fn new(
+        alloc: Global,
+        streams: &'a str,
+        requests: &'a str,
+    ) -> Result<Listeners<'a>, Memory> {
+        Ok(Listeners {
+            interfaces: at(alloc, INTERFACES, streams)?,
+            routers: at(alloc, ROUTERS, streams)?,
+            desks: SharedListener::new(requests),
+        })
+    }
+
+    /// A dialer for each interface that a site may have, in its place.
+    pub fn lines<R: Net<Listener = TcpListener, Stream = TcpStream> + Clock>(
+        &'a self,
+        rt: &'a R,
+        alloc: Global,
+    ) -> Result<Vec<Option<TcpDialer<'a, R>>>, Memory>
+        ensures { IfOk result (λ places. AreUnused (⟦<TcpDialer<'a, R> as Link>⟧.seen) 16 places.items) }
+    {
+        let mut lines = Vec::new(alloc);
+        for listener in &self.interfaces {
+            put(rt, listener, u64::MAX, &mut lines)?;
+        }
+        Ok(lines)
+    }
+
+    /// A door for each slot that a site may have, those of a router side by side, and then one for each desk, in their places.
+    pub fn doors<R: Net<Listener = TcpListener, Stream = TcpStream> + Clock>(
+        &'a self,
+        rt: &'a R,
+        alloc: Global,
+    ) -> Result<Vec<Option<TcpDialer<'a, R>>>, Memory>
+        ensures { IfOk result (λ places. AreUnused (⟦<TcpDialer<'a, R> as Link>⟧.seen) 12 places.items) }
+    {
+        let mut doors = Vec::new(alloc);
+        self.put_slots(rt, &mut doors)?;
+        self.put_desks(rt, &mut doors)?;
+        Ok(doors)
+    }
+
+    // Two doors for each router.
+    fn put_slots<R: Net<Listener = TcpListener, Stream = TcpStream> + Clock>(
+        &'a self,
+        rt: &'a R,
+        doors: &mut Vec<Option<TcpDialer<'a, R>>>,
+    ) -> Result<(), Memory>
+        requires { doors.old.items ≡ [] }
+        ensures { OnOk result (AreUnused (⟦<TcpDialer<'a, R> as Link>⟧.seen) 8 doors.new.items) }
+    {
+        for listener in &self.routers {
+            put(rt, listener, u64::MAX, doors)?;
+            put(rt, listener, u64::MAX, doors)?;
+        }
+        Ok(())
+    }
+
+    // The doors of four desks, after those of the slots.
+    fn put_desks<R: Net<Listener = TcpListener, Stream = TcpStream> + Clock>(
+        &'a self,
+        rt: &'a R,
+        doors: &mut Vec<Option<TcpDialer<'a, R>>>,
+    ) -> Result<(), Memory>
+        requires { AreUnused (⟦<TcpDialer<'a, R> as Link>⟧.seen) 8 doors.old.items }
+        ensures { OnOk result (AreUnused (⟦<TcpDialer<'a, R> as Link>⟧.seen) 12 doors.new.items) }
+    {
+        for _ in 0..DESKS {
+            put(rt, &self.desks, SILENT_CLIENT, doors)?;
+        }
+        Ok(())
+    }
+}
+
+// Puts a dialer that was not used yet into the next place.
+fn put<'a, R: Net<Listener = TcpListener, Stream = TcpStream> + Clock>(
+    rt: &'a R,
+    listener: &'a SharedListener<'a>,
+    most_silent: u64,
+    places: &mut Vec<Option<TcpDialer<'a, R>>>,
+) -> Result<(), Memory>
+    ensures { OnOk result ((n : ℕ) → AreUnused (⟦<TcpDialer<'a, R> as Link>⟧.seen) n places.old.items → AreUnused (⟦<TcpDialer<'a, R> as Link>⟧.seen) (n + 1) places.new.items) }
+{
+    places.push(Some(TcpDialer::new(rt, listener, most_silent)))?;
+    Ok(())
+}
+
+// So many listeners at this address.
+fn at<'a>(alloc: Global, count: usize, host: &'a str) -> Result<Vec<SharedListener<'a>>, Memory>
+    ensures { IfOk result (λ all. length all.items ≡ count) }
+{
+    let mut all = Vec::new(alloc);
+    for _ in 0..count {
+        all.push(SharedListener::new(host))?;
+    }
+    Ok(all)
+}
+
+#[cfg(test)]
+mod tests;
