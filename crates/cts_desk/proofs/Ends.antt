@@ -1,26 +1,18 @@
 -- The clients of a desk's door, one after another, and the end of the desk.
-use Rattle.std.proofs.Common.{◌≡◌, ℕ, Bool, true, false, List, [], ◌∷◌, ◌++◌, sym, refl, ap, ◌∙◌, append_assoc, Option}
-use Rattle.std.specs.Prelude.{◌&&◌, ◌||◌, not}
-use Rattle.cts_def.specs.declared.time.Time.{Time}
+use Rattle.std.proofs.Common.{◌≡◌, ℕ, Bool, true, false, List, [], sym, refl, ap, ◌∙◌, Option}
 use Rattle.cts_entry.specs.declared.entry.Entry.{Entry}
-use Rattle.cts_entry.specs.declared.what.What.TheVariants.{Ended}
 use Rattle.cts_entry.specs.Histories.{is_stopped}
-use Rattle.cts_entry.proofs.Appending.{stopped-append}
 use Rattle.cts_outside.specs.Lines.{Connection, Line, told_after, after_dial}
 use Rattle.cts_outside.specs.declared.link.Dialed.TheVariants.{Linked, Later, Finished, Failed}
 use Rattle.cts_table.specs.declared.basis.Basis.{Basis}
-use Rattle.cts_told.specs.Makers.{LastEnded, of_maker}
 use Rattle.cts_turn.specs.declared.rule.View.{View}
-use Rattle.cts_turn.specs.Lists.{StartsWith}
 use Rattle.cts_desk.specs.declared.ending.DeskWhy.{DeskWhy}
 use Rattle.cts_desk.specs.declared.ending.DeskWhy.TheVariants.{Stopped, Finished as FinishedWhy, DoorFailed, Cancelled}
 use Rattle.cts_desk.specs.Ending.{CausesEnd, may_cut, stopped_if}
-use Rattle.cts_worker.specs.Lasts.{entry_of, last_entries, stop_if}
-use Rattle.cts_worker.specs.Holds.{EndedHold, Hold, Onward}
+use Rattle.cts_worker.specs.Holds.{Hold, Onward}
 use Rattle.cts_desk.specs.Serving.{Begins, Resting}
 use Rattle.cts_desk.proofs.Connections.{dials_failed, dials_finished, dials_later, dials_linked, settled_at}
-use Rattle.cts_desk.proofs.Histories.{of_append, stops_stay}
-use Rattle.cts_worker.proofs.Lasting.{last_own}
+use Rattle.cts_desk.proofs.Histories.{stops_stay}
 use Rattle.cts_desk.proofs.Steps.{resting_looked}
 
 -- ---- dials

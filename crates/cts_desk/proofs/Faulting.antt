@@ -1,5 +1,5 @@
 -- The count of faults rises with the faults that are told.
-use Rattle.std.proofs.Common.{◌≡◌, ℕ, ◌+◌, ◌-◌, ◌≤◌, List, [], ◌∷◌, ◌++◌, length, take, refl, sym, ap, ◌∙◌, subst, append-nil, arith, Option, Some, None, Result, Ok, Err}
+use Rattle.std.proofs.Common.{◌≡◌, ℕ, ◌+◌, ◌-◌, ◌≤◌, List, [], ◌∷◌, ◌++◌, length, take, sym, ap, subst, append-nil, arith, Option, Some, None, Result, Ok, Err}
 use Rattle.std.specs.Prelude.{option_map, option_to_list}
 use Rattle.cts_outside.specs.Causes.{Cause, Rose, TakeCause}
 use Rattle.cts_outside.specs.Lines.{Connection, Line, told_after, at_now, with_put, with_failed_put, after_take, after_dial, hung_up, fresh, LinkPuts}
@@ -9,7 +9,7 @@ use Rattle.cts_outside.specs.declared.link.Taken.TheVariants.{Got, Nothing, End,
 use Rattle.cts_outside.specs.declared.link.Dialed.{Dialed}
 use Rattle.cts_outside.specs.declared.link.Dialed.TheVariants.{Linked, Later, Finished, Failed as DialFailed}
 use Rattle.cts_desk.specs.Faults.{faults_of, faults_in, faults_told, FaultsRise}
-use Rattle.cts_worker.specs.Counts.{RoseBy, one_if}
+use Rattle.cts_worker.specs.Counts.{RoseBy}
 
 -- ---- counts
 

@@ -1,10 +1,10 @@
 -- The history grows: what stands of a desk's exchanges.
 use Rattle.std.proofs.Common.{◌≡◌, ℕ, ◌+◌, ◌==◌, Bool, true, false, cond, List, [], ◌∷◌, ◌++◌, length, sym, refl, ap, ◌∙◌, subst, arith, length-append, append-nil, append_assoc, Option, ⊎_elim, inr}
-use Rattle.std.specs.Prelude.{◌&&◌, ◌||◌, not}
+use Rattle.std.specs.Prelude.{◌&&◌, ◌||◌}
 use Rattle.std.specs.List.{All, list_any}
 use Rattle.std.proofs.lemmas.List.{nil_from_length, map-append}
 use Rattle.std.proofs.lemmas.List.Elements.{filter-append}
-use Rattle.std.proofs.lemmas.List.Elements.{All-head, All-tail, All-nil, All-cons}
+use Rattle.std.proofs.lemmas.List.Elements.{All-head, All-tail}
 use Rattle.std.proofs.lemmas.Bool.Decides.{eqb_tells}
 use Rattle.std.proofs.lemmas.List.Folds.{list_any-append}
 use Rattle.cts_entry.specs.declared.entry.Entry.{Entry}
@@ -23,7 +23,7 @@ use Rattle.cts_desk.specs.Exchanges.{Exchange, Exchanges, IsAnswered, Among}
 use Rattle.cts_told.specs.Makers.{of_maker}
 use Rattle.cts_worker.specs.Lasts.{MayEnd}
 use Rattle.cts_desk.specs.Holds.{AskedHold, IsReady}
-use Rattle.cts_worker.specs.Holds.{Hold, Onward}
+use Rattle.cts_worker.specs.Holds.{Hold}
 use Rattle.cts_desk.specs.Serving.{Going}
 
 pub of_append : (m : ℕ) (xs ys : List Entry) → of_maker m (xs ++ ys) ≡ of_maker m xs ++ of_maker m ys

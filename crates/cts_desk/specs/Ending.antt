@@ -1,9 +1,6 @@
 -- Why a desk ends, and what it leaves.
-use Rattle.std.specs.Prelude.{◌≡◌, ℕ, Bool, true, false, List, [], ◌∷◌, ◌++◌, Option, Some, None, ◌&&◌, not}
-use Rattle.cts_def.specs.declared.time.Time.{Time}
+use Rattle.std.specs.Prelude.{◌≡◌, ℕ, Bool, true, false, List, Option, Some, None}
 use Rattle.cts_entry.specs.declared.entry.Entry.{Entry}
-use Rattle.cts_entry.specs.declared.what.What.{What}
-use Rattle.cts_entry.specs.declared.what.What.TheVariants.{Stop, Ended}
 use Rattle.cts_entry.specs.Histories.{is_stopped}
 use Rattle.cts_outside.specs.Causes.{Rose}
 use Rattle.cts_outside.specs.Lines.{Line}

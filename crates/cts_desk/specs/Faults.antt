@@ -1,5 +1,5 @@
 -- The faults that a door tells, and those that it counts.
-use Rattle.std.specs.Prelude.{ℕ, ◌+◌, ◌-◌, ◌^◌, ◌≤◌, min, Bool, true, false, List, [], ◌∷◌, ◌++◌, Option, Some, None, option_to_list}
+use Rattle.std.specs.Prelude.{ℕ, ◌+◌, ◌-◌, List, [], ◌∷◌, ◌++◌, Option, Some, None, option_to_list}
 use Rattle.cts_outside.specs.Lines.{Connection, Line}
 use Rattle.cts_outside.specs.Seen.{LineSeen}
 use Rattle.cts_worker.specs.Counts.{RoseBy, one_if}

@@ -1,18 +1,16 @@
 -- What one hold leaves in the view of a pass.
-use Rattle.std.specs.Prelude.{◌≡◌, ℕ, Bool, true, false, List, [], ◌∷◌, ◌++◌, length, Option, Some, Result, Ok, Err}
+use Rattle.std.specs.Prelude.{◌≡◌, ℕ, true, false, List, ◌++◌, length, Option, Some, Result, Ok, Err}
 use Rattle.std.specs.List.{All, list_any}
 use Rattle.cts_base.specs.declared.memory.Memory.{Memory}
-use Rattle.cts_def.specs.declared.time.Time.{Time}
 use Rattle.cts_entry.specs.declared.entry.Entry.{Entry}
 use Rattle.cts_entry.specs.Legal.{has_ended, is_ended}
 use Rattle.cts_entry.specs.Workers.{is_desk}
 use Rattle.cts_table.specs.declared.basis.Basis.{Basis}
 use Rattle.cts_table.specs.States.{Shown}
 use Rattle.cts_turn.specs.declared.rule.View.{View}
-use Rattle.cts_turn.specs.Lists.{StartsWith, has}
+use Rattle.cts_turn.specs.Lists.{has}
 use Rattle.cts_api.specs.declared.settling.Answer.{Answer}
 use Rattle.cts_desk.specs.Exchanges.{IsAnswered, out_of_memory}
-use Rattle.cts_told.specs.Makers.{of_maker}
 use Rattle.cts_worker.specs.Holds.{Hold}
 
 -- a desk that may ask for replies

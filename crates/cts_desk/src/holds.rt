@@ -1,14 +1,10 @@
 // Holds of the turn, each for one event.
-ghost use Rattle.std.specs.Prelude.{◌≡◌, [], ◌∷◌, ◌++◌, ◌&&◌, not, true, false};
-ghost use Rattle.cts_entry.specs.declared.what.What.TheVariants.{Ended};
-ghost use Rattle.cts_entry.specs.Histories.{is_connected, is_stopped};
+ghost use Rattle.std.specs.Prelude.{◌≡◌, true, false};
 ghost use Rattle.cts_entry.specs.Legal.{has_ended};
 ghost use Rattle.cts_entry.specs.Workers.{is_desk};
 ghost use Rattle.cts_turn.specs.Passes.{IsPassOf, view};
 ghost use Rattle.cts_worker.specs.Grounds.{ground};
-ghost use Rattle.cts_worker.specs.Lasts.{entry_of, last_entries, stop_if};
 ghost use Rattle.cts_desk.specs.Holds.{Asked, AskedHold, IsReady, text_of};
-ghost use Rattle.cts_worker.specs.Holds.{EndedHold, Hold};
 
 use cts_api::{Answer, replies_are_of_their_desk, reply};
 use cts_base::Memory;

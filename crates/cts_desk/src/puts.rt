@@ -1,6 +1,5 @@
 // What a desk puts.
-ghost use Rattle.std.specs.Prelude.{◌≡◌, ◌++◌, ℕ, Bool, true, Option, Some, IsTrue, option_map};
-ghost use Rattle.cts_outside.specs.Causes.{Cause};
+ghost use Rattle.std.specs.Prelude.{◌≡◌, ◌++◌, true, Option, Some, IsTrue, option_map};
 ghost use Rattle.cts_outside.specs.Lines.{LinkPuts};
 ghost use Rattle.cts_http.specs.Texts.{is_refusal, refusal_text};
 ghost use Rattle.cts_desk.specs.Faults.{FaultsRise};

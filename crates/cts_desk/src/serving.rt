@@ -1,5 +1,5 @@
 // One connection of a desk's door.
-ghost use Rattle.std.specs.Prelude.{◌≡◌, ◌<◌, ◌++◌, ℕ, List, [], true, false, length};
+ghost use Rattle.std.specs.Prelude.{◌≡◌, ◌<◌, List, [], true, false};
 ghost use Rattle.cts_outside.specs.Lines.{Connection};
 ghost use Rattle.cts_entry.specs.Histories.{is_stopped};
 ghost use Rattle.cts_turn.specs.Passes.{IsPassOf, view};
@@ -7,7 +7,7 @@ ghost use Rattle.cts_desk.specs.Faults.{FaultsRise};
 ghost use Rattle.cts_worker.specs.Grounds.{ground};
 ghost use Rattle.cts_desk.specs.Holds.{IsReady};
 ghost use Rattle.cts_worker.specs.Holds.{Hold, Onward};
-ghost use Rattle.cts_desk.specs.Serving.{Begins, Serving, Resting, Reads, Waits, halts_or};
+ghost use Rattle.cts_desk.specs.Serving.{Begins, Serving, Resting, Reads, halts_or};
 
 use crate::Talk;
 use crate::answering::answer_all;

@@ -1,5 +1,5 @@
 // One piece of a desk's connection.
-ghost use Rattle.std.specs.Prelude.{◌≡◌, ◌<◌, ◌++◌, ℕ, List, [], true, false, length};
+ghost use Rattle.std.specs.Prelude.{◌≡◌, ◌<◌, ◌++◌, List, true, false, length};
 ghost use Rattle.cts_outside.specs.Lines.{Connection};
 ghost use Rattle.cts_desk.specs.Faults.{FaultsRise};
 ghost use Rattle.cts_desk.specs.Exchanges.{Exchange, fronts_of};
