@@ -1,5 +1,5 @@
 // The devices of a server: the dialers of its lines, the doors of its routers and desks, and the listeners that these stand at.
-ghost use Rattle.std.specs.Prelude.{◌≡◌, ℕ, ◌+◌, [], length, IfOk, OnOk};
+ghost use Rattle.std.specs.Prelude.{◌≡◌, ℕ, ◌+◌, length, IfOk, OnOk};
 ghost use Rattle.cts_net.specs.Devices.{AreUnused};
 
 use crate::{SharedListener, TcpDialer};
@@ -24,22 +24,22 @@ const SILENT_CLIENT: u64 = 6_000;
 /// The listeners of a server's ports: one for each interface, which opens it where its site says that it serves; one for each router,
 /// whose two slots share it; and one for all desks.
 #[derive(Drop)]
-pub struct Listeners<'a> {
-    interfaces: Vec<SharedListener<'a>>,
-    routers: Vec<SharedListener<'a>>,
-    desks: SharedListener<'a>,
+pub struct Listeners {
+    interfaces: Vec<SharedListener<'static>>,
+    routers: Vec<SharedListener<'static>>,
+    desks: SharedListener<'static>,
     ghost interfaces_are: { length interfaces.items ≡ 16 },
     ghost routers_are: { length routers.items ≡ 4 },
 }
 
-impl<'a> Listeners<'a> {
+impl Listeners {
     /// Listeners that are not open yet. Those of interfaces and routers will be at the one address of this machine, those of desks at
     /// the other.
     pub fn new(
         alloc: Global,
-        streams: &'a str,
-        requests: &'a str,
-    ) -> Result<Listeners<'a>, Memory> {
+        streams: &'static str,
+        requests: &'static str,
+    ) -> Result<Listeners, Memory> {
         Ok(Listeners {
             interfaces: at(alloc, INTERFACES, streams)?,
             routers: at(alloc, ROUTERS, streams)?,
@@ -48,7 +48,7 @@ impl<'a> Listeners<'a> {
     }
 
     /// A dialer for each interface that a site may have, in its place.
-    pub fn lines<R: Net<Listener = TcpListener, Stream = TcpStream> + Clock>(
+    pub fn lines<'a, R: Net<Listener = TcpListener, Stream = TcpStream> + Clock>(
         &'a self,
         rt: &'a R,
         alloc: Global,
@@ -63,7 +63,7 @@ impl<'a> Listeners<'a> {
     }
 
     /// A door for each slot that a site may have, those of a router side by side, and then one for each desk, in their places.
-    pub fn doors<R: Net<Listener = TcpListener, Stream = TcpStream> + Clock>(
+    pub fn doors<'a, R: Net<Listener = TcpListener, Stream = TcpStream> + Clock>(
         &'a self,
         rt: &'a R,
         alloc: Global,
@@ -71,40 +71,14 @@ impl<'a> Listeners<'a> {
         ensures { IfOk result (λ places. AreUnused (⟦<TcpDialer<'a, R> as Link>⟧.seen) 12 places.items) }
     {
         let mut doors = Vec::new(alloc);
-        self.put_slots(rt, &mut doors)?;
-        self.put_desks(rt, &mut doors)?;
-        Ok(doors)
-    }
-
-    // Two doors for each router.
-    fn put_slots<R: Net<Listener = TcpListener, Stream = TcpStream> + Clock>(
-        &'a self,
-        rt: &'a R,
-        doors: &mut Vec<Option<TcpDialer<'a, R>>>,
-    ) -> Result<(), Memory>
-        requires { doors.old.items ≡ [] }
-        ensures { OnOk result (AreUnused (⟦<TcpDialer<'a, R> as Link>⟧.seen) 8 doors.new.items) }
-    {
         for listener in &self.routers {
-            put(rt, listener, u64::MAX, doors)?;
-            put(rt, listener, u64::MAX, doors)?;
+            put(rt, listener, u64::MAX, &mut doors)?;
+            put(rt, listener, u64::MAX, &mut doors)?;
         }
-        Ok(())
-    }
-
-    // The doors of four desks, after those of the slots.
-    fn put_desks<R: Net<Listener = TcpListener, Stream = TcpStream> + Clock>(
-        &'a self,
-        rt: &'a R,
-        doors: &mut Vec<Option<TcpDialer<'a, R>>>,
-    ) -> Result<(), Memory>
-        requires { AreUnused (⟦<TcpDialer<'a, R> as Link>⟧.seen) 8 doors.old.items }
-        ensures { OnOk result (AreUnused (⟦<TcpDialer<'a, R> as Link>⟧.seen) 12 doors.new.items) }
-    {
         for _ in 0..DESKS {
-            put(rt, &self.desks, SILENT_CLIENT, doors)?;
+            put(rt, &self.desks, SILENT_CLIENT, &mut doors)?;
         }
-        Ok(())
+        Ok(doors)
     }
 }
 
@@ -122,7 +96,11 @@ fn put<'a, R: Net<Listener = TcpListener, Stream = TcpStream> + Clock>(
 }
 
 // So many listeners at this address.
-fn at<'a>(alloc: Global, count: usize, host: &'a str) -> Result<Vec<SharedListener<'a>>, Memory>
+fn at(
+    alloc: Global,
+    count: usize,
+    host: &'static str,
+) -> Result<Vec<SharedListener<'static>>, Memory>
     ensures { IfOk result (λ all. length all.items ≡ count) }
 {
     let mut all = Vec::new(alloc);

@@ -228,4 +228,4 @@ fn millis_of(delay: Decimal) -> u64
 }
 
 #[cfg(test)]
-mod tests;
+pub(crate) mod tests;

@@ -1,15 +1,12 @@
 // The devices of a server over the machine's loopback.
 use crate::devices::Listeners;
 use crate::dialer::TcpDialer;
-use crate::listener::SharedListener;
-use cts_base::{Bytes, Decimal, Memory};
-use cts_outside::{Aim, Dialed, Dialer};
+use crate::dialer::tests::{HOST, aim_of, dials, ends_so};
+use cts_outside::Dialer;
 use std::alloc::Global;
 use std::net::{Net, TcpListener, TcpStream};
 use std::test::Fail;
 use std::time::Clock;
-
-const HOST: &str = "127.0.0.1";
 
 /// Doors by their places, which are aimed at a port of the system's choice: the first of them opens it, and where the second accepts a
 /// client of that port both stand at one listener.
@@ -21,33 +18,12 @@ const ROWS: &str = "\
 1 2|Linked Later
 7 8|Linked Later";
 
-fn aim_of(alloc: Global, port: u16, serves: bool) -> Result<Aim, Memory> {
-    Ok(Aim {
-        host: Bytes::copy(alloc, HOST.as_bytes())?,
-        port,
-        serves,
-        delay: Decimal { parts: 0 },
-    })
-}
-
-// The listener at which the door in this place stands.
-fn listener_of<'a>(listeners: &'a Listeners<'a>, place: usize) -> &'a SharedListener<'a> {
+// The port of the listener at which the door in this place stands, once it is open.
+fn port_of(listeners: &Listeners, place: usize) -> Option<u16> {
     match listeners.routers.get(place / 2) {
-        Some(router) => router,
-        None => &listeners.desks,
+        Some(router) => router.port(),
+        None => listeners.desks.port(),
     }
-}
-
-fn dials<R: Net<Listener = TcpListener, Stream = TcpStream> + Clock>(
-    dialer: &mut TcpDialer<'_, R>,
-) -> Dialed {
-    let mut dialed = Dialed::Later;
-    for _ in 0..20 {
-        if dialed == Dialed::Later {
-            dialed = dialer.dial();
-        }
-    }
-    dialed
 }
 
 fn at<'b, 'a, R>(
@@ -60,43 +36,56 @@ fn at<'b, 'a, R>(
     }
 }
 
-fn row_holds<R: Net<Listener = TcpListener, Stream = TcpStream> + Clock + Print>(
-    rt: &R,
+// What a line to this port is answered, and then the door in this place.
+fn meet<'a, R: Net<Listener = TcpListener, Stream = TcpStream> + Clock>(
     alloc: Global,
+    port: u16,
+    lines: &mut Vec<Option<TcpDialer<'a, R>>>,
+    doors: &mut Vec<Option<TcpDialer<'a, R>>>,
+    place: usize,
+) -> Result<String, Fail> {
+    at(doors, place)?.aim(aim_of(alloc, 'x', 0)?);
+    at(lines, 15)?.aim(aim_of(alloc, 'a', port)?);
+    let asked = dials(alloc, at(lines, 15)?, 20)?;
+    let found = dials(alloc, at(doors, place)?, 20)?;
+    Ok(format!(in alloc; "{asked} {found}")?)
+}
+
+fn row_holds<'a, R: Net<Listener = TcpListener, Stream = TcpStream> + Clock + Print>(
+    rt: &'a R,
+    alloc: Global,
+    listeners: &'a Listeners,
     row: &str,
 ) -> Result<(), Fail> {
     let (places, wanted) = row.split_once('|').unwrap_or((row, ""));
     let (first, second) = places.split_once(' ').unwrap_or((places, ""));
     let first = first.parse::<usize>().unwrap_or(99);
     let second = second.parse::<usize>().unwrap_or(99);
-    let listeners = Listeners::new(alloc, HOST, HOST)?;
     let mut lines = listeners.lines(rt, alloc)?;
     let mut doors = listeners.doors(rt, alloc)?;
-    if (lines.len(), doors.len()) != (16, 12) {
-        return Err(Fail::new("other counts"));
+    at(&mut doors, first)?.aim(aim_of(alloc, 'x', 0)?);
+    match port_of(listeners, first) {
+        Some(port) => {
+            let found = meet(alloc, port, &mut lines, &mut doors, second)?;
+            ends_so(found.as_str(), wanted)
+        }
+        None => Ok(println!(rt; "no sockets here")?),
     }
-    at(&mut doors, first)?.aim(aim_of(alloc, 0, true)?);
-    let Some(port) = listener_of(&listeners, first).port() else {
-        println!(rt; "no sockets here")?;
-        return Ok(());
-    };
-    at(&mut doors, second)?.aim(aim_of(alloc, 0, true)?);
-    let line = at(&mut lines, 15)?;
-    line.aim(aim_of(alloc, port, false)?);
-    let asked = dials(line);
-    let found = dials(at(&mut doors, second)?);
-    let found = format!(in alloc; "{asked:?} {found:?}")?;
-    if found.as_str() == wanted {
-        Ok(())
-    } else {
-        Err(Fail::new(found.as_str()))
-    }
+}
+
+fn row_over<R: Net<Listener = TcpListener, Stream = TcpStream> + Clock + Print>(
+    rt: &R,
+    alloc: Global,
+    row: &str,
+) -> Result<(), Fail> {
+    let listeners = Listeners::new(alloc, HOST, HOST)?;
+    row_holds(rt, alloc, &listeners, row)
 }
 
 #[test]
 fn doors_of_one_port_share_their_listener(rt: HostRuntime) -> Result<(), Fail> {
     for row in ROWS.split('\n') {
-        row_holds(&rt, rt.alloc(), row)?;
+        row_over(&rt, rt.alloc(), row)?;
     }
     Ok(())
 }

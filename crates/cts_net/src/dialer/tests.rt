@@ -9,7 +9,7 @@ use std::net::{Net, TcpListener, TcpStream};
 use std::test::Fail;
 use std::time::Clock;
 
-const HOST: &str = "127.0.0.1";
+pub(crate) const HOST: &str = "127.0.0.1";
 
 /// The dialers of a row: three doors of one port, the last of which is patient for two takes; two lines that dial it; a line to a port
 /// where nobody listens, with a delay; one without an aim; and a door of another listener, whose port is taken.
@@ -27,7 +27,7 @@ ad xd xpabc ar xt xc|Linked;Linked;Ok;;Failed [45, 45, 45, 45];(1, 0);
 ad zd zn zn zn zc|Linked;Linked;Nothing;Nothing;Failed [45, 45, 45, 45];(1, 0);
 ul uc tl to tl tc nl nl nl nl nl nc|Failed;(0, 1);Failed;(0, 1);Later;(0, 1);Failed;Later;Later;Failed;Later;(0, 2);";
 
-fn aim_of(alloc: Global, name: char, port: u16) -> Result<Aim, Memory> {
+pub(crate) fn aim_of(alloc: Global, name: char, port: u16) -> Result<Aim, Memory> {
     let (port, serves, parts) = match name {
         'a' | 'b' => (port, false, 0),
         'n' => (1, false, 200_000_000_000),
@@ -102,7 +102,7 @@ fn answer<R: Net<Listener = TcpListener, Stream = TcpStream> + Clock>(
     }
 }
 
-fn dials<R: Net<Listener = TcpListener, Stream = TcpStream> + Clock>(
+pub(crate) fn dials<R: Net<Listener = TcpListener, Stream = TcpStream> + Clock>(
     alloc: Global,
     dialer: &mut TcpDialer<'_, R>,
     most: u32,
@@ -191,7 +191,7 @@ fn row_holds<R: Net<Listener = TcpListener, Stream = TcpStream> + Clock + Print>
     ends_so(found.as_str(), wanted)
 }
 
-fn ends_so(found: &str, wanted: &str) -> Result<(), Fail> {
+pub(crate) fn ends_so(found: &str, wanted: &str) -> Result<(), Fail> {
     if found == wanted {
         Ok(())
     } else {
