@@ -1,6 +1,6 @@
 -- A server up to the end of its workers: its phases, its counts and its shelf.
 use Rattle.std.proofs.Common.{◌≡◌, ◌≢◌, ℕ, zero, suc, false, List, [], ◌∷◌, ◌++◌, length, take, Option, Some, None, IfSome, Result, Ok, Err, refl, sym, ◌∙◌, ap, subst, arith, inl, inr}
-use Rattle.std.specs.Prelude.{IfErr, OnOk, OnErr}
+use Rattle.std.specs.Prelude.{IfErr, IfOk, OnOk, OnErr}
 use Rattle.std.specs.List.{AllByRecursion}
 use Rattle.cts_chain.specs.Builds.{Taken}
 use Rattle.cts_core.specs.LineChains.{line_uses}
@@ -34,56 +34,55 @@ module _ (stock : List Meaning) (definitions site : List ℕ) where
   abbrev shelf : (List ℕ → Option (List ℕ)) → List Phase
   shelf all = shelf_phase stock (site_asked all definitions site) ∷ []
 
-  module _ {T : Type 0} (site_of : T → SiteData) (digest_of : T → List ℕ) where
-    abbrev Asked : (List ℕ → Option (List ℕ)) → T → Type 0
-    Asked all p = (site_of p ≡ site_asked all definitions site) × (digest_of p ≡ digest_asked all definitions)
+  abbrev Asked : (List ℕ → Option (List ℕ)) → SiteData → List ℕ → Type 0
+  Asked all x digest = (x ≡ site_asked all definitions site) × (digest ≡ digest_asked all definitions)
 
-    pub plan_finds : (told : Option (List ℕ → Option (List ℕ))) (x : SiteData × List ℕ) (result : Result T Halt) → IfSome told (λ all. TakesSite all definitions site (Ok x))
-        → Gives (shelf_phase stock x.0 ∷ []) (λ p. (site_of p ≡ x.0) × (digest_of p ≡ x.1)) result → IfSome told (λ all. Finds (first_phases stock all definitions site) (Asked all) result)
-    plan_finds None x result s g = tt
-    plan_finds (Some all) x (Ok p) s g = (
-      first_past (begins all) (shelf all) s.0 ∙ subst (λ (y : SiteData × List ℕ). first_halt (shelf_phase stock y.0 ∷ []) ≡ None) s.1 g.0,
-      g.1.0 ∙ ap (λ (y : SiteData × List ℕ). y.0) s.1,
-      g.1.1 ∙ ap (λ (y : SiteData × List ℕ). y.1) s.1,
-    )
-    plan_finds (Some all) x (Err h) s g = past (begins all) (shelf all) h s.0 (subst (λ (y : SiteData × List ℕ). HaltsIn (shelf_phase stock y.0 ∷ []) h) s.1 g.0)
+  pub plan_finds : {T : Type 0} (result : Result T Halt) (site_of : T → SiteData) (digest_of : T → List ℕ) (told : Option (List ℕ → Option (List ℕ))) (x : SiteData × List ℕ) → IfSome told (λ all. TakesSite all definitions site (Ok x))
+      → Gives (shelf_phase stock x.0 ∷ []) (λ p. (site_of p ≡ x.0) × (digest_of p ≡ x.1)) result → IfSome told (λ all. Finds (first_phases stock all definitions site) (λ p. Asked all (site_of p) (digest_of p)) result)
+  plan_finds result site_of digest_of None x s g = tt
+  plan_finds (Ok p) site_of digest_of (Some all) x s g = (
+    first_past (begins all) (shelf all) s.0 ∙ subst (λ (y : SiteData × List ℕ). first_halt (shelf_phase stock y.0 ∷ []) ≡ None) s.1 g.0,
+    (g.1.0 ∙ ap (λ (y : SiteData × List ℕ). y.0) s.1, g.1.1 ∙ ap (λ (y : SiteData × List ℕ). y.1) s.1),
+  )
+  plan_finds (Err h) site_of digest_of (Some all) x s g = past (begins all) (shelf all) h s.0 (subst (λ (y : SiteData × List ℕ). HaltsIn (shelf_phase stock y.0 ∷ []) h) s.1 g.0)
 
-    pub unloaded_finds : (told : Option (List ℕ → Option (List ℕ))) (h : Halt) → IfSome told (λ all. TakesSite all definitions site (Err h)) → IfSome told (λ all. Finds (first_phases stock all definitions site) (Asked all) (Err h))
-    unloaded_finds None h k = tt
-    unloaded_finds (Some all) h k = front (begins all) (shelf all) h k
+  pub unloaded_finds : (told : Option (List ℕ → Option (List ℕ))) (h : Halt) → IfSome told (λ all. TakesSite all definitions site (Err h)) → IfSome told (λ all. HaltsIn (first_phases stock all definitions site) h)
+  unloaded_finds None h k = tt
+  unloaded_finds (Some all) h k = front (begins all) (shelf all) h k
 
-    -- the site and the digest are those that the files say
-    pub planned : (told : Option (List ℕ → Option (List ℕ))) (p : T) → IfSome told (λ all. Finds (first_phases stock all definitions site) (Asked all) (Ok p)) → IsPlanned told (Some (definitions, site)) (site_of p) (digest_of p)
-    planned None p k = tt
-    planned (Some all) p k = k.1
+  -- the site and the digest are those that the files say
+  pub planned : (told : Option (List ℕ → Option (List ℕ))) (x : SiteData) (digest : List ℕ) → IfSome told (λ all. (first_halt (first_phases stock all definitions site) ≡ None) × Asked all x digest) → IsPlanned told (Some (definitions, site)) x digest
+  planned None x digest k = tt
+  planned (Some all) x digest k = k.1
 
-    pub phases_past : (told : Option (List ℕ → Option (List ℕ))) (p : T) → IfSome told (λ all. Finds (first_phases stock all definitions site) (Asked all) (Ok p)) → IfSome told (λ all. first_halt (first_phases stock all definitions site) ≡ None)
-    phases_past None p k = tt
-    phases_past (Some all) p k = k.0
+  pub phases_past : (told : Option (List ℕ → Option (List ℕ))) (x : SiteData) (digest : List ℕ) → IfSome told (λ all. (first_halt (first_phases stock all definitions site) ≡ None) × Asked all x digest)
+      → IfSome told (λ all. first_halt (first_phases stock all definitions site) ≡ None)
+  phases_past None x digest k = tt
+  phases_past (Some all) x digest k = k.0
 
-    pub halts_early : (told : Option (List ℕ → Option (List ℕ))) (h : Halt) (out : SinkSeen) → IfSome told (λ all. Finds (first_phases stock all definitions site) (Asked all) (Err h)) → IfSome told (λ all. UnstartedBy (first_phases stock all definitions site) h out out)
-    halts_early None h out k = tt
-    halts_early (Some all) h out k = early (first_phases stock all definitions site) h k
-      where
-        early : (ps : List Phase) (h : Halt) → HaltsIn ps h → UnstartedBy ps h out out
-        early ps halt.Memory k = inl refl
-        early ps (halt.ReadFault name) k = (k, refl)
-        early ps (halt.Absent name) k = (k, refl)
-        early ps halt.WriteFault k = absurd k
-        early ps halt.LogFault k = absurd k
-        early ps (halt.Refused name kind line cause) k = (k, refl)
-        early ps (halt.ShelfEmpty kind needed stocked) k = (k, refl)
-        early ps (halt.HistoryFull entries bytes) k = (k, refl)
-        early ps (halt.LogRefused place) k = (k, refl)
+  pub halts_early : (told : Option (List ℕ → Option (List ℕ))) (h : Halt) (out : SinkSeen) → IfSome told (λ all. HaltsIn (first_phases stock all definitions site) h) → IfSome told (λ all. UnstartedBy (first_phases stock all definitions site) h out out)
+  halts_early None h out k = tt
+  halts_early (Some all) h out k = early (first_phases stock all definitions site) h k
+    where
+      early : (ps : List Phase) (h : Halt) → HaltsIn ps h → UnstartedBy ps h out out
+      early ps halt.Memory k = inl refl
+      early ps (halt.ReadFault name) k = (k, refl)
+      early ps (halt.Absent name) k = (k, refl)
+      early ps halt.WriteFault k = absurd k
+      early ps halt.LogFault k = absurd k
+      early ps (halt.Refused name kind line cause) k = (k, refl)
+      early ps (halt.ShelfEmpty kind needed stocked) k = (k, refl)
+      early ps (halt.HistoryFull entries bytes) k = (k, refl)
+      early ps (halt.LogRefused place) k = (k, refl)
 
-pub plan_counts : {T : Type 0} (ps : List Phase) (holds : T → Type 0) (result : Result T Halt) (files mid : FilesSeen) → Gives ps holds result → IsFound files mid → LoadCounts result files mid
-plan_counts ps holds (Ok p) files mid g f = f
-plan_counts ps holds (Err h) files mid g f = load_stays h files mid g.1 f
+pub plan_counts : {T : Type 0} (result : Result T Halt) (ps : List Phase) (holds : T → Type 0) (files mid : FilesSeen) → Gives ps holds result → IsFound files mid → LoadCounts result files mid
+plan_counts (Ok p) ps holds files mid g f = f
+plan_counts (Err h) ps holds files mid g f = load_stays h files mid g.1 f
 
-pub plan_boxes : {T : Type 0} (stock new : List Meaning) (definitions site : List ℕ) (told : Option (List ℕ → Option (List ℕ))) (x : SiteData × List ℕ) (holds : T → Type 0) (result : Result T Halt) → IfSome told (λ all. TakesSite all definitions site (Ok x))
+pub plan_boxes : {T : Type 0} (result : Result T Halt) (stock new : List Meaning) (definitions site : List ℕ) (told : Option (List ℕ → Option (List ℕ))) (x : SiteData × List ℕ) (holds : T → Type 0) → IfSome told (λ all. TakesSite all definitions site (Ok x))
     → Gives (shelf_phase stock x.0 ∷ []) holds result → OnOk result (Taken stock (line_uses x.0) new) → OnErr result (new ≡ stock) → IfSome told (λ all. LeavesShelf all definitions site (done_as result) stock new)
-plan_boxes stock new definitions site told x holds (Ok p) s g taken kept = made_shelf stock new definitions site told x (Ok tt) s g.0 taken
-plan_boxes stock new definitions site told x holds (Err h) s g taken kept = unmade_shelf stock new definitions site told x h s g.0 kept
+plan_boxes (Ok p) stock new definitions site told x holds s g taken kept = made_shelf stock new definitions site told x (Ok tt) s g.0 taken
+plan_boxes (Err h) stock new definitions site told x holds s g taken kept = unmade_shelf stock new definitions site told x h s g.0 kept
 
 -- ---- its workers
 
@@ -168,3 +167,27 @@ unserved_logs (halt.LogRefused place) e = refl
 pub unserved_status : (h : Halt) (status : Status) (old new : SinkSeen) → serves_on (halt_status h) ≡ false → EndsHalted h status old new → serves_on status ≡ false
 unserved_status h status old new e (inl k) = ap serves_on k.0 ∙ e
 unserved_status h status old new e (inr k) = ap serves_on k.1
+
+-- ---- by what the workers answer
+
+module _ {T : Type 0} where
+  pub work_files : (result : Result T Halt) (old new : SinkSeen) (files files' : FilesSeen) → IfErr result (λ h. UnstartedBy [] h old new) → IsFound files files' → FileCounts result files files'
+  work_files (Ok w) old new files files' u f = f
+  work_files (Err h) old new files files' u f = work_counts h old new files files' u f
+
+  pub work_halts : (result : Result T Halt) (stock : List Meaning) (definitions site : List ℕ) (told : Option (List ℕ → Option (List ℕ))) (old new : SinkSeen) → IfSome told (λ all. first_halt (first_phases stock all definitions site) ≡ None)
+      → IfErr result (λ h. UnstartedBy [] h old new) → IfErr result (λ h. IfSome told (λ all. UnstartedBy (first_phases stock all definitions site) h old new))
+  work_halts (Ok w) stock definitions site told old new e u = tt
+  work_halts (Err h) stock definitions site told old new e u = halts_late_told stock definitions site told h old new e u
+
+  pub on_ok : (result : Result T Halt) (P : Type 0) → P → OnOk result P
+  on_ok (Ok w) P p = p
+  on_ok (Err h) P p = tt
+
+  pub on_err_as : (result : Result T Halt) (P Q : Type 0) → (P → Q) → OnErr result P → OnErr result Q
+  on_err_as (Ok w) P Q f p = tt
+  on_err_as (Err h) P Q f p = f p
+
+  pub if_ok_as : (result : Result T Halt) (P Q : T → Type 0) → ((w : T) → P w → Q w) → IfOk result P → IfOk result Q
+  if_ok_as (Ok w) P Q f p = f w p
+  if_ok_as (Err h) P Q f p = tt

@@ -1,7 +1,7 @@
 -- The clauses of a server, by whether it was started.
 use Rattle.std.proofs.Common.{◌≡◌, ◌≢◌, ℕ, ◌<◌, ◌≤◌, true, false, List, [], ◌∷◌, ◌++◌, length, Option, Some, None, IfSome, Result, Ok, Err, refl, sym, ◌∙◌, ap, subst, arith, ◌⊎◌, inl, inr}
 use Rattle.std.specs.Option.{option_or}
-use Rattle.std.specs.Prelude.{IsSome, IsSomeAnd, option_map}
+use Rattle.std.specs.Prelude.{IsSome, IsSomeAnd, is_some, option_map}
 use Rattle.cts_chain.specs.Builds.{Taken}
 use Rattle.cts_core.specs.LineChains.{line_uses}
 use Rattle.cts_def.specs.Sites.{SiteData}
@@ -15,33 +15,24 @@ use Rattle.cts_entry.specs.declared.entry.Entry.{Entry}
 use Rattle.cts_outside.specs.Causes.{Rose, Steady, raised}
 use Rattle.cts_outside.specs.Seen.{LineSeen, SinkSeen, VaultSeen}
 use Rattle.cts_proto.specs.Meaning.{Meaning}
+use Rattle.cts_scribe.specs.declared.ending.ScribeWhy.{ScribeWhy}
 use Rattle.cts_serve.specs.Acts.{Act}
 use Rattle.cts_serve.specs.Command.{IsDueOf, LeavesShelf, ShelfAt, ShelfBy, first_phases}
 use Rattle.cts_serve.specs.Endings.{EndsHalted, halt_status}
 use Rattle.cts_serve.specs.Laws.{IsShortOf}
 use Rattle.cts_serve.specs.Load.{site_asked, site_phases}
 use Rattle.cts_serve.specs.Phases.{Phase, first_halt}
-use Rattle.cts_serve.specs.Served.{DialFailedIn, VaultIsSteady, VaultRose, trouble_status}
+use Rattle.cts_serve.specs.Served.{DialFailedIn, LeftNothing, VaultIsSteady, VaultRose, serves_on, trouble_status}
 use Rattle.cts_serve.specs.Serving.{HaltsServing, UnstartedBy}
 use Rattle.cts_serve.specs.Start.{shelf_phase, short_halt, short_kind}
 use Rattle.cts_serve.specs.declared.halt.Halt.{Halt}
 use Rattle.cts_serve.specs.declared.halt.Halt.TheVariants as halt
 use Rattle.cts_serve.specs.declared.halt.status.Status.{Status}
+use Rattle.cts_serve.specs.declared.serving.ended.Ended.{Ended}
 use Rattle.cts_serve.specs.declared.halt.status.Status.TheVariants as is
 use Rattle.cts_serve.proofs.CommandLemmas.{halts_so, never_some, shelf_status, steady_rose}
 use Rattle.cts_serve.proofs.LawLemmas.{short_where}
 use Rattle.cts_serve.proofs.PhaseLemmas.{first_past}
-
--- ---- of what is asked
-
-pub of_asked : {T : Type 0} (o : Option T) (x : T) (P : T → Type 0) → o ≡ Some x → P x → IfSome o P
-of_asked o x P e k = subst (λ (p : _). IfSome p P) (sym e) k
-
-pub is_asked : {T : Type 0} (o : Option T) (x : T) (P : T → Type 0) → o ≡ Some x → P x → IsSomeAnd o P
-is_asked o x P e k = subst (λ (p : _). IsSomeAnd p P) (sym e) k
-
-pub is_there : {T : Type 0} (o : Option T) (x : T) → o ≡ Some x → IsSome o
-is_there o x e = subst (λ (p : _). IsSome p) (sym e) tt
 
 -- ---- it was not started
 
@@ -155,3 +146,69 @@ module _ {Q V : Type 0} (door_seen : Q → LineSeen) (vault_seen : V → VaultSe
     | inl c ↦ absurd (cc (sym c ∙ closed))
     | inr e ↦ absurd (omega (arith, e, room))
   ]
+
+-- ---- what a server leaves that was not started
+
+module _ (e : Ended) (off : serves_on e.status ≡ false) (nothing : LeftNothing e) where
+  pub un_status : {A : Type 0} (s : Status) → serves_on s ≡ true → e.status ≡ s → A
+  un_status s on same = absurd (cc (sym off ∙ (ap serves_on same ∙ on)))
+
+  pub un_started : serves_on e.status ≡ true → IsSome e.scribe
+  un_started on = absurd (cc (sym off ∙ on))
+
+  pub un_there : {A : Type 0} → IsSome e.scribe → A
+  un_there some = none_there e.scribe nothing.scribe some
+    where
+      none_there : {A : Type 0} (o : Option ScribeWhy) → o ≡ None → IsSome o → A
+      none_there None same some = absurd (cc some)
+      none_there (Some x) same some = absurd (cc same)
+
+  pub un_if : (P : ScribeWhy → Type 0) → IfSome e.scribe P
+  un_if P = subst (λ (o : Option ScribeWhy). IfSome o P) (sym nothing.scribe) tt
+
+  pub un_full : {A : Type 0} → has_closed trouble.HistoryFull e.history ≡ true → A
+  un_full closed = absurd (cc (sym closed ∙ ap (has_closed trouble.HistoryFull) nothing.history))
+
+-- ---- what one leaves whose workers have worked
+
+module _ (e : Ended) (scribe : ScribeWhy) (there : e.scribe ≡ Some scribe) where
+  pub in_there : IsSome e.scribe
+  in_there = ap is_some there
+
+  pub in_if : (P : ScribeWhy → Type 0) → P scribe → IfSome e.scribe P
+  in_if P p = subst (λ (o : Option ScribeWhy). IfSome o P) (sym there) p
+
+  pub in_none : {A : Type 0} → e.scribe ≡ None → A
+  in_none none = absurd (cc (sym there ∙ none))
+
+-- ---- of the files that are told and of the words
+
+module _ (told : Option (List ℕ → Option (List ℕ))) (asked : Option (List ℕ × List ℕ)) (names : List ℕ × List ℕ) (is : asked ≡ Some names) where
+  abbrev Of : Type 1
+  Of = (List ℕ → Option (List ℕ)) → List ℕ × List ℕ → Type 0
+
+  pub told_asked : (P : Of) → IfSome told (λ all. P all names) → IfSome told (λ all. IfSome asked (P all))
+  told_asked P k = subst (λ (o : Option (List ℕ × List ℕ)). IfSome told (λ all. IfSome o (P all))) (sym is) k
+
+  pub told_is_asked : (P : Of) → IfSome told (λ all. P all names) → IfSome told (λ all. IsSomeAnd asked (P all))
+  told_is_asked P k = subst (λ (o : Option (List ℕ × List ℕ)). IfSome told (λ all. IsSomeAnd o (P all))) (sym is) k
+
+  pub asked_not : {A : Type 0} → asked ≡ None → A
+  asked_not none = absurd (cc (sym is ∙ none))
+
+pub told_unasked : (told : Option (List ℕ → Option (List ℕ))) (asked : Option (List ℕ × List ℕ)) (P : (List ℕ → Option (List ℕ)) → List ℕ × List ℕ → Type 0) → asked ≡ None → IfSome told (λ all. IfSome asked (P all))
+told_unasked None asked P none = tt
+told_unasked (Some all) asked P none = subst (λ (o : Option (List ℕ × List ℕ)). IfSome o (P all)) (sym none) tt
+
+-- what holds of all files that are told, by what else does
+pub told_both : (told : Option (List ℕ → Option (List ℕ))) (P Q R : (List ℕ → Option (List ℕ)) → Type 0) → ((all : List ℕ → Option (List ℕ)) → P all → Q all → R all) → IfSome told P → IfSome told Q → IfSome told R
+told_both None P Q R f p q = tt
+told_both (Some all) P Q R f p q = f all p q
+
+pub told_one : (told : Option (List ℕ → Option (List ℕ))) (P R : (List ℕ → Option (List ℕ)) → Type 0) → ((all : List ℕ → Option (List ℕ)) → P all → R all) → IfSome told P → IfSome told R
+told_one None P R f p = tt
+told_one (Some all) P R f p = f all p
+
+-- what a server halts for, and how it ends then
+pub halts_serving : (ps : List Phase) (h : Halt) (status : Status) (old mid new : SinkSeen) → UnstartedBy ps h old mid → EndsHalted h status mid new → HaltsServing ps status old new
+halts_serving ps h status old mid new u e = record { halt = h; mid = mid; halts = u; ends = e }

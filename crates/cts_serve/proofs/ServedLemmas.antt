@@ -1,14 +1,14 @@
 -- What holds of a server whose workers have worked, by its status.
 use Rattle.std.proofs.Common.{◌≡◌, ◌≢◌, ℕ, ◌+◌, ◌<◌, ◌≤◌, Bool, true, false, not, ◌||◌, List, [], ◌++◌, length, take, drop, Option, Some, None, IfSome, refl, sym, ◌∙◌, ap, subst, arith, ◌⊎◌, inl, inr}
 use Rattle.std.specs.Prelude.{IsSome, IsSomeAnd, count_by}
-use Rattle.std.specs.List.{list_any}
+use Rattle.std.specs.List.{AllByRecursion, list_any}
 use Rattle.std.proofs.lemmas.List.{take-append-drop}
 use Rattle.std.proofs.lemmas.List.Folds.{list_any-append}
 use Rattle.cts_def.specs.Makers.{first_desk, first_slot}
 use Rattle.cts_def.specs.Sites.{InterfaceData, SiteData}
 use Rattle.cts_desk.specs.declared.ending.DeskWhy.{DeskWhy}
 use Rattle.cts_ending.proofs.Telling.{plain_where_none, tells_first}
-use Rattle.cts_ending.specs.Laws.{IsPlain}
+use Rattle.cts_ending.specs.Laws.{IsPlain, is_plain_desk, is_plain_line}
 use Rattle.cts_ending.specs.Troubles.{Left, closed_shows, desk_shows, has_closed, has_desk, line_shows, scribe_shows, shows, trouble_of}
 use Rattle.cts_ending.specs.declared.trouble.Trouble.{Trouble}
 use Rattle.cts_ending.specs.declared.trouble.Trouble.TheVariants as trouble
@@ -62,7 +62,7 @@ module _ (lines : List LineWhy) (desks : List DeskNote) (scribe : ScribeWhy) (hi
     lost = λ same. f.0;
     status_is = s ∙ ap trouble_status e;
     printed = printed_part text (trouble_line (trouble_of (At false)) history) old new f;
-    steady = λ none. absurd (cc (sym (IsPlain.written (plain_where_none (At false) none))));
+    steady = λ none. absurd (cc (sym ((plain_where_none (At false) none).written)));
   }
 
   -- after it was said that the server is ready
@@ -170,6 +170,10 @@ never_shelf (Some trouble.DoorFault) = λ e. absurd (cc e)
 
 -- ---- what the statuses say
 
+not_true : (b : Bool) → not b ≡ true → b ≡ false
+not_true true e = absurd (cc e)
+not_true false e = refl
+
 module _ {D Q V : Type 0} (line_seen : D → LineSeen) (door_seen : Q → LineSeen) (vault_seen : V → VaultSeen) (site : SiteData) (digest : List ℕ) (w : Worked) (dialers dialers' : List (Option D)) (doors doors' : List (Option Q)) (vault vault' : Option V) (crew crew' : CrewSeen)
     (served : HasServed line_seen door_seen vault_seen site digest w dialers dialers' doors doors' vault vault' crew crew') (status : Status) (old new : SinkSeen) (ends : EndsServing ready_line w.lines w.desks w.scribe w.history status old new) where
   abbrev told : Left
@@ -185,10 +189,6 @@ module _ {D Q V : Type 0} (line_seen : D → LineSeen) (door_seen : Q → LineSe
 
   pub served_write : status ≡ is.WriteFault → Rose old.faults new.faults
   served_write e = ends.lost (not_true ends.written (shown trouble.WriteFault (trouble_write (trouble_of told) (sym ends.status_is ∙ e))))
-    where
-      not_true : (b : Bool) → not b ≡ true → b ≡ false
-      not_true true e = absurd (cc e)
-      not_true false e = refl
 
   pub served_log : status ≡ is.LogFault → VaultRose vault_seen vault vault'
   served_log e = vault_failed vault_seen site digest w.history vault vault' w.scribe (log_shown told (shown trouble.LogFault (trouble_log (trouble_of told) (sym ends.status_is ∙ e)))) served.scribe
@@ -237,8 +237,8 @@ module _ {D Q V : Type 0} (line_seen : D → LineSeen) (door_seen : Q → LineSe
         put = ends.steady none;
         kept = vault_still vault_seen site digest w.history vault vault' w.scribe plain.scribe served.scribe;
         jobs = raised_never (count_by is_set (cancellations w)) crew.faults crew'.faults (none_cancelled w plain.lines plain.desks plain.scribe) (ap (λ (c : CrewSeen). c.faults) served.jobs);
-        lines = subst (λ (x : List LineWhy). _) (sym ls) plain.lines;
-        desks = subst (λ (x : List DeskNote). _) (sym ds) plain.desks;
+        lines = subst (λ (x : List LineWhy). AllByRecursion (λ (why : LineWhy). is_plain_line why ≡ true) x) (sym ls) plain.lines;
+        desks = subst (λ (x : List DeskNote). AllByRecursion (λ (n : DeskNote). is_plain_desk n.why ≡ true) x) (sym ds) plain.desks;
         scribe = sc ∙ ap (λ (y : ScribeWhy). Some y) plain.scribe;
         memory = ap (has_closed trouble.Memory) hs ∙ plain.memory;
         room = ap (has_closed trouble.HistoryFull) hs ∙ plain.room;

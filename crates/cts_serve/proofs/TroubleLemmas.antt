@@ -4,6 +4,7 @@ use Rattle.std.specs.Prelude.{count_by, nat_lt, sum_by}
 use Rattle.std.specs.List.{AllByRecursion, list_any}
 use Rattle.std.proofs.lemmas.Bool.Decides.{nat_tests}
 use Rattle.std.proofs.lemmas.List.Folds.{list_any-append}
+use Rattle.std.proofs.lemmas.List.Sums.{sum_by-append, sum_by-cons}
 use Rattle.std.proofs.lemmas.List.{length-map, take-append-drop}
 use Rattle.cts_def.specs.Makers.{first_desk, first_slot}
 use Rattle.cts_def.specs.Sites.{SiteData}
@@ -54,16 +55,20 @@ module _ {X : Type 0} where
 
   any_implies : (p q : X → Bool) (implies : (x : X) → p x ≡ true → q x ≡ true) (xs : List X) → list_any p xs ≡ true → list_any q xs ≡ true
   any_implies p q implies [] e = absurd (cc e)
-  any_implies p q implies (x ∷ xs) e = by_head (p x) (q x) refl refl e
+  any_implies p q implies (x ∷ xs) e = by_head (p x) (q x) refl refl (any_implies p q implies xs) e
     where
-      by_head : (a b : Bool) → p x ≡ a → q x ≡ b → (a || list_any p xs) ≡ true → (b || list_any q xs) ≡ true
-      by_head true b h k e = ap (λ (c : Bool). c || list_any q xs) (sym k ∙ implies x h)
-      by_head false true h k e = refl
-      by_head false false h k e = any_implies p q implies xs e
+      by_head : (a b : Bool) → p x ≡ a → q x ≡ b → (list_any p xs ≡ true → list_any q xs ≡ true) → (a || list_any p xs) ≡ true → (b || list_any q xs) ≡ true
+      by_head true b h k more e = ap (λ (c : Bool). c || list_any q xs) (sym k ∙ implies x h)
+      by_head false true h k more e = refl
+      by_head false false h k more e = more e
 
 or_cases : (a b : Bool) → (a || b) ≡ true → (a ≡ true) ⊎ (b ≡ true)
 or_cases true b e = inl refl
 or_cases false b e = inr e
+
+or_later : (a b : Bool) → b ≡ true → (a || b) ≡ true
+or_later true b e = refl
+or_later false b e = e
 
 false_not : {A : Type 0} (b : Bool) → b ≡ true → b ≡ false → A
 false_not b e f = absurd (cc (sym e ∙ f))
@@ -134,8 +139,7 @@ closed_later t seen rest e =
     list_any-append p seen rest ∙ ap (λ (b : Bool). b || list_any p rest) e
 
 entries_later : (seen rest : List Entry) → entries_in seen ≤ entries_in (seen ++ rest)
-entries_later [] rest = omega arith
-entries_later (x ∷ seen) rest = let m = entries_later seen rest in omega (arith, m)
+entries_later seen rest = let both = sum_by-append (λ (e : Entry). entries_for e.what) seen rest in omega (arith, both)
 
 -- ---- what a line, a desk and the scribe owe by why they ended
 
@@ -285,19 +289,18 @@ module _ {V : Type 0} (seen : V → VaultSeen) (site : SiteData) (digest : List 
 
 -- ---- how many workers were cancelled
 
-flags_by : (b : Bool) (n : ℕ) → 1 ≤ n → 1 ≤ cond b 1 0 + n
-flags_by true n l = omega arith
-flags_by false n l = omega (arith, l)
+abbrev flag : Bool → ℕ
+flag b = cond (is_set b) 1 0
 
 some_set : (flags : List Bool) → list_any is_set flags ≡ true → 1 ≤ count_by is_set flags
 some_set [] e = absurd (cc e)
-some_set (true ∷ flags) e = omega arith
-some_set (false ∷ flags) e = let m = some_set flags e in omega (arith, m)
+some_set (true ∷ flags) e = let sum = sum_by-cons flag true flags in omega (arith, sum)
+some_set (false ∷ flags) e = let sum = sum_by-cons flag false flags in let m = some_set flags e in omega (arith, sum, m)
 
 none_set : (flags : List Bool) → AllByRecursion (λ (b : Bool). b ≡ false) flags → count_by is_set flags ≡ 0
 none_set [] k = refl
 none_set (true ∷ flags) k = absurd (cc (k.0))
-none_set (false ∷ flags) k = none_set flags k.1
+none_set (false ∷ flags) k = let sum = sum_by-cons flag false flags in let m = none_set flags k.1 in omega (arith, sum, m)
 
 line_cancelled : (why : LineWhy) → line_shows trouble.NoWorker why ≡ is_cancelled why
 line_cancelled line.Stopped = refl
@@ -329,10 +332,6 @@ set_in p q same (x ∷ xs) e = elim (or_cases (p x) (list_any p xs) e) [
   | inl here ↦ ap (λ (b : Bool). b || list_any is_set (map q xs)) (sym (same x) ∙ here)
   | inr there ↦ or_later (q x) (list_any is_set (map q xs)) (set_in p q same xs there)
 ]
-  where
-    or_later : (a b : Bool) → b ≡ true → (a || b) ≡ true
-    or_later true b e = refl
-    or_later false b e = e
 
 set_first : (xs ys : List Bool) → list_any is_set xs ≡ true → list_any is_set (xs ++ ys) ≡ true
 set_first xs ys e = list_any-append is_set xs ys ∙ ap (λ (b : Bool). b || list_any is_set ys) e
@@ -393,10 +392,6 @@ pub raised_never : (n faults now : ℕ) → n ≡ 0 → now ≡ raised_by n faul
 raised_never n faults now z e = omega (arith, z, e)
 
 -- ---- what shows a trouble, by its parts
-
-or_later : (a b : Bool) → b ≡ true → (a || b) ≡ true
-or_later true b e = refl
-or_later false b e = e
 
 no_line_log : (why : LineWhy) → line_shows trouble.LogFault why ≡ false
 no_line_log why = refl
@@ -463,4 +458,4 @@ module _ (l : Left) where
 
 -- each interface has one aim
 pub aims_fit : (site : SiteData) → 0 + length (line_aims site) ≤ length site.interfaces
-aims_fit site = let m = length-map interface_aim site.interfaces in omega (arith, m)
+aims_fit site = let m = length-map site.interfaces interface_aim in omega (arith, m)

@@ -1,5 +1,5 @@
 -- How a server ends whose workers have worked: its status, and what it puts last.
-use Rattle.std.specs.Prelude.{◌≡◌, ◌≤◌, ◌⊎◌, ℕ, Bool, true, false, List, [], ◌++◌, length, Option, Some, None}
+use Rattle.std.specs.Prelude.{◌≡◌, ◌≤◌, ◌⊎◌, ℕ, Bool, true, false, List, [], ◌∷◌, ◌++◌, length, Option, Some, None}
 use Rattle.std.specs.List.{AllByRecursion}
 use Rattle.cts_ending.specs.Laws.{is_plain_desk, is_plain_line}
 use Rattle.cts_ending.specs.Troubles.{Left, has_closed, trouble_of}

@@ -1,6 +1,5 @@
 // Texts that are put, and why something is not done outside.
 ghost use Rattle.std.specs.Prelude.{◌≡◌};
-ghost use Rattle.std.specs.List.{flat_map};
 ghost use Rattle.cts_serve.specs.Acts.{TakesNoMemory};
 ghost use Rattle.cts_serve.specs.Causes.{put_answer};
 ghost use Rattle.cts_serve.specs.Putting.{PutsText};
@@ -41,21 +40,6 @@ pub fn put_text<O: Sink>(out: &mut O, text: &[u8]) -> Result<(), Undone>
         Ok(()) => Ok(()),
         Err(_) => Err(Undone::WriteFault),
     }
-}
-
-/// Puts pieces of a text one after another, until one can't be put.
-pub(crate) fn put_pieces<O: Sink>(out: &mut O, pieces: &[&[u8]]) -> Result<(), Undone>
-    ensures puts { PutsText (flat_map (λ p. p.now) pieces.now) result (O.seen out.old) (O.seen out.new) }
-    ensures memory { TakesNoMemory result }
-{
-    let mut left = pieces;
-    'left: while let Some((first, after)) = left.split_first() {
-        match put_text(out, *first) {
-            Ok(()) => left = after,
-            Err(why) => return Err(why),
-        }
-    }
-    Ok(())
 }
 
 /// What a command answers where its last act was done, or not.

@@ -1,5 +1,5 @@
 // The server: its words, its workers and its end.
-ghost use Rattle.std.specs.Prelude.{◌≡◌, ◌≤◌, ◌<◌, ◌↔◌, ◌⊎◌, ⊥, [], drop, false, map, true, IfSome, IsSome, IsSomeAnd, None, Some};
+ghost use Rattle.std.specs.Prelude.{◌≡◌, ◌≤◌, ◌<◌, ◌↔◌, ◌⊎◌, [], drop, false, map, true, IfSome, IsSome, IsSomeAnd, None, Some};
 ghost use Rattle.std.specs.List.{AllByRecursion};
 ghost use Rattle.cts_def.specs.Sites.{SiteData};
 ghost use Rattle.cts_ending.specs.Troubles.{has_closed};

@@ -166,9 +166,9 @@ fn work<
     ensures sink { SinkCounts result (O.seen out.old) (O.seen out.new) }
     ensures halts { IfErr result (λ h. UnstartedBy [] h (O.seen out.old) (O.seen out.new)) }
     ensures unserved { IfErr result (λ h. serves_on (halt_status h) ≡ false) }
-    ensures idle { OnErr result (HasIdled D.seen Q.seen V.seen (arc_value plan.entry.site) lines.old.items lines.new.items doors.old.items doors.new.items vault.old vault.new (W.seen crew.old) (W.seen crew.new)) }
+    ensures idle { OnErr result (HasIdled D.seen Q.seen V.seen (arc_value plan.site) lines.old.items lines.new.items doors.old.items doors.new.items vault.old vault.new (W.seen crew.old) (W.seen crew.new)) }
     ensures ready { OnOk result (IsPut ready_line (O.seen out.old) (O.seen out.new)) }
-    ensures served { IfOk result (λ w. HasServed D.seen Q.seen V.seen (arc_value plan.entry.site) plan.entry.digest w lines.old.items lines.new.items doors.old.items doors.new.items vault.old vault.new (W.seen crew.old) (W.seen crew.new)) }
+    ensures served { IfOk result (λ w. HasServed D.seen Q.seen V.seen (arc_value plan.site) plan.digest w lines.old.items lines.new.items doors.old.items doors.new.items vault.old vault.new (W.seen crew.old) (W.seen crew.new)) }
     ensures back { AreThere 16 lines.new.items × AreThere 12 doors.new.items × IsSome vault.new }
 {
     let Plan {

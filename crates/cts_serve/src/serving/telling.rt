@@ -1,5 +1,6 @@
 // The end of a server whose workers have worked: what it puts, and its status. It takes no memory.
-ghost use Rattle.std.specs.Prelude.{◌≡◌, ◌≤◌, [], List, None, Some};
+ghost use Rattle.std.specs.Prelude.{◌≡◌, ◌≤◌, ◌++◌, [], List, None, Some};
+ghost use Rattle.std.specs.Fmt.{decimal};
 ghost use Rattle.cts_ending.specs.declared.trouble.Trouble.TheVariants.{HistoryFull};
 ghost use Rattle.cts_entry.specs.Histories.{bytes_in, entries_in};
 ghost use Rattle.cts_entry.specs.Legal.{most_bytes, most_entries};
@@ -11,7 +12,7 @@ ghost use Rattle.cts_serve.specs.Served.{EndsServing, trouble_line, trouble_stat
 use crate::halt::ending::put_last;
 use crate::halt::lines;
 use crate::halt::status::Status;
-use crate::putting::put_pieces;
+use crate::putting::put_text;
 use crate::serving::ended::Ended;
 use cts_ending::{Counted, Trouble, count_history, first_trouble};
 use cts_line::LineWhy;
@@ -25,11 +26,11 @@ use itoa::Buffer;
 pub(crate) fn finish<O: Sink>(worked: Worked, out: &mut O) -> Ended
     requires entries { entries_in worked.history ≤ most_entries }
     requires bytes { bytes_in worked.history ≤ most_bytes }
-    ensures history { result.history ≡ worked.entry.history }
-    ensures lines { result.lines ≡ worked.entry.lines }
-    ensures desks { result.desks ≡ worked.entry.desks }
-    ensures scribe { result.scribe ≡ Some worked.entry.scribe }
-    ensures ends { EndsServing [] worked.entry.lines worked.entry.desks worked.entry.scribe worked.entry.history result.status (O.seen out.old) (O.seen out.new) }
+    ensures history { result.history ≡ worked.history }
+    ensures lines { result.lines ≡ worked.lines }
+    ensures desks { result.desks ≡ worked.desks }
+    ensures scribe { result.scribe ≡ Some worked.scribe }
+    ensures ends { EndsServing [] worked.lines worked.desks worked.scribe worked.history result.status (O.seen out.old) (O.seen out.new) }
 {
     let Worked {
         history,
@@ -87,13 +88,28 @@ fn status_of(trouble: Option<Trouble>) -> Status
 fn put_count<O: Sink>(out: &mut O, entries: u64) -> bool
     ensures { PutsWhole (end_line entries) result (O.seen out.old) (O.seen out.new) }
 {
+    put_numbered(out, b"END ", entries, b"\n")
+}
+
+// Puts a text, a number and another text, and says whether all that was put. It takes no memory.
+fn put_numbered<O: Sink>(out: &mut O, first: &[u8], number: u64, last: &[u8]) -> bool
+    ensures { PutsWhole (first.now ++ (decimal number ++ last.now)) result (O.seen out.old) (O.seen out.new) }
+{
     let mut digits = Buffer::new();
-    let word: &[u8] = b"END ";
-    let feed: &[u8] = b"\n";
-    match put_pieces(out, &[word, digits.format(entries).as_bytes(), feed]) {
-        Ok(()) => true,
-        Err(_) => false,
+    if !put_whole(out, first) {
+        return false;
     }
+    if !put_whole(out, digits.format(number).as_bytes()) {
+        return false;
+    }
+    put_whole(out, last)
+}
+
+// Puts a text, and says whether it was put.
+fn put_whole<O: Sink>(out: &mut O, text: &[u8]) -> bool
+    ensures { PutsWhole text.now result (O.seen out.old) (O.seen out.new) }
+{
+    put_text(out, text).is_ok()
 }
 
 // Puts the last line of a trouble, if it has one.
@@ -128,12 +144,7 @@ fn known_line(trouble: Trouble) -> &'static [u8]
 fn put_full<O: Sink>(out: &mut O, counted: Counted)
     ensures { Printed (O.seen out.old) (O.seen out.new) (full_line counted.entries counted.bytes) }
 {
-    let mut entries = Buffer::new();
-    let mut bytes = Buffer::new();
-    let full: &[u8] = b"history full: ";
-    let and: &[u8] = b" entries, ";
-    let end: &[u8] = b" bytes\n";
-    let first = entries.format(counted.entries).as_bytes();
-    let second = bytes.format(counted.bytes).as_bytes();
-    let _ = put_pieces(out, &[full, first, and, second, end]);
+    if put_numbered(out, b"history full: ", counted.entries, b" entries, ") {
+        let _ = put_numbered(out, b"", counted.bytes, b" bytes\n");
+    }
 }
