@@ -1,11 +1,16 @@
 // The chains of a site's lines.
-ghost use Rattle.std.specs.Prelude.{◌≡◌, ◌<◌, ◌≤◌, [], length, map, slice_index_or, take};
-ghost use Rattle.cts_chain.specs.Builds.{AllCanBeBuilt, CanBeBuilt};
+ghost use Rattle.std.specs.Prelude.{◌≡◌, ◌<◌, ◌≤◌, [], IfErr, IfOk, None, OnErr, OnOk, length, map, slice_index_or, take};
+ghost use Rattle.cts_chain.specs.Builds.{AllCanBeBuilt, AreFresh, CanBeBuilt, FaultIs, Taken, use_specs};
+ghost use Rattle.cts_chain.specs.Stocking.{first_short};
 ghost use Rattle.cts_connection.specs.LinePlaces.{line_count};
-ghost use Rattle.cts_core.specs.LineChains.{line_chains};
+ghost use Rattle.cts_core.specs.LineChains.{line_chains, line_uses};
 ghost use Rattle.cts_def.specs.Sites.{IsSoundSite};
 
+use crate::supplier::Supplier;
+use cts_chain::ChainFault;
+use cts_connection::Framer;
 use cts_def::{ProtoUse, Site};
+use std::alloc::Global;
 
 /// How many lines a site may have: sixteen interfaces, and two slots for each of four routers.
 const MOST_LINES: usize = 24;
@@ -17,6 +22,27 @@ pub(crate) fn count_of(site: &Site) -> usize
     ensures sound { IsSoundSite site.now }
 {
     site.interfaces.as_slice().len() + 2 * site.routers.as_slice().len()
+}
+
+/// The chains of all lines of a site, one for each interface and two for each router, in order of their places. The boxes of their
+/// protocols are taken from the shelf, and after a refusal the shelf is as it was.
+///
+/// # Errors
+///
+/// `ShelfEmpty` with the first kind, in their order, of which all these chains together need more boxes than the shelf holds, and
+/// `Memory`, where no kind is short.
+pub fn build_chains<C: Framer, B: Supplier<C>>(
+    alloc: Global,
+    site: &Site,
+    shelf: &mut B,
+) -> Result<Vec<C>, ChainFault>
+    ensures fresh { IfOk result (λ chains. AreFresh (line_chains site.now) (map C.shape chains.items)) }
+    ensures enough { OnOk result (first_short (B.stock shelf.old) (use_specs (line_uses site.now)) ≡ None) }
+    ensures taken { OnOk result (Taken (B.stock shelf.old) (line_uses site.now) (B.stock shelf.new)) }
+    ensures fault { IfErr result (λ e. FaultIs (B.stock shelf.old) (line_uses site.now) e) }
+    ensures kept { OnErr result (B.stock shelf.new ≡ B.stock shelf.old) }
+{
+    shelf.build_all(alloc, &chains_of(site)[..count_of(site)])
 }
 
 /// The uses of the chain of each line, in order of their places, and then none.

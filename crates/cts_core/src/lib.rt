@@ -11,6 +11,7 @@ mod running;
 mod supplier;
 mod world;
 
+pub use chains::build_chains;
 pub use cts_connection::Framer;
 pub use enabling::takes_room;
 pub use fault::WorldFault;

@@ -4,7 +4,7 @@ ghost use Rattle.std.specs.Arc.{arc_value};
 ghost use Rattle.cts_core.specs.Endings.{lasting};
 ghost use Rattle.cts_core.specs.Runs.{drained};
 
-use crate::chains::{chains_of, count_of};
+use crate::chains::{build_chains, chains_of, count_of};
 use crate::fault::WorldFault;
 use crate::running::Running;
 use crate::supplier::Supplier;
@@ -104,7 +104,7 @@ impl<C: Framer> World<C> {
         let Ok(hall) = Hall::with_limits(alloc, site, entries, bytes) else {
             return Err(ChainFault::Memory);
         };
-        let chains = shelf.build_all(alloc, &chains_of(hall.site())[..count])?;
+        let chains = build_chains(alloc, hall.site(), shelf)?;
         Ok(World {
             running: Running::new(alloc, hall, chains, connections),
             ended: None,

@@ -69,7 +69,7 @@ is_due : (ps : List Phase) (done : List Act → Result (Unit {0}) Halt → Type 
     → MatchOption first (done acts due) (λ x. (acts ≡ []) × (due ≡ Err x)) → IsDueOf ps done acts due
 is_due ps done acts due first e m = subst (λ (o : Option Halt). MatchOption o (done acts due) (λ x. (acts ≡ []) × (due ≡ Err x))) (sym e) m
 
-halts_so : (ps : List Phase) (done : List Act → Result (Unit {0}) Halt → Type 0) (h : Halt) → first_halt ps ≡ Some h → IsDueOf ps done [] (Err h)
+pub halts_so : (ps : List Phase) (done : List Act → Result (Unit {0}) Halt → Type 0) (h : Halt) → first_halt ps ≡ Some h → IsDueOf ps done [] (Err h)
 halts_so ps done h e = is_due ps done [] (Err h) (Some h) e (refl, refl)
 
 goes_so : (ps : List Phase) (done : List Act → Result (Unit {0}) Halt → Type 0) (acts : List Act) (due : Result (Unit {0}) Halt) → first_halt ps ≡ None → done acts due → IsDueOf ps done acts due
@@ -167,7 +167,7 @@ check_faults text put old new p = sink_of (puts text) (Ok tt) (put_answer put) (
 pub check_logs : (text : List ℕ) (put : Result (Unit {0}) Undone) (old new : SinkSeen) (vault : VaultSeen) → PutsText text put old new → VaultCounts (put_answer put) vault vault
 check_logs text put old new vault p = vault_of (puts text) (Ok tt) (put_answer put) (outside old vault) (outside new vault) (check_does text put old new vault p)
 
-abbrev TakesSite : (List ℕ → Option (List ℕ)) → List ℕ → List ℕ → Result (SiteData × List ℕ) Halt → Type 0
+abbrev pub TakesSite : (List ℕ → Option (List ℕ)) → List ℕ → List ℕ → Result (SiteData × List ℕ) Halt → Type 0
 TakesSite all definitions site answer = Takes (site_phases all definitions site) (site_asked all definitions site, digest_asked all definitions) answer
 
 some_check : (all : List ℕ → Option (List ℕ)) (definitions site : List ℕ) → Some_due (IsDone all (Check definitions site))
@@ -477,8 +477,10 @@ status_of stock files asked o is.ShelfEmpty old new a b c h = inl (sym h.0)
 status_of stock files asked o is.ScriptRefused old new a b c h = inl (sym h.0)
 status_of stock files asked o is.HistoryFull old new a b c h = inl (sym h.0)
 status_of stock files asked o is.LogRefused old new a b c h = inl (sym h.0)
+status_of stock files asked o is.NoWorker old new a b c h = inl (sym h.0)
+status_of stock files asked o is.DoorFault old new a b c h = inl (sym h.0)
 
-steady_rose : (before now : ℕ) → Steady before now → Rose before now → ⊥
+pub steady_rose : (before now : ℕ) → Steady before now → Rose before now → ⊥
 steady_rose before now s r = omega (arith, s, r.1)
 
 pub completes : (stock : List Meaning) (told : Option (List ℕ → Option (List ℕ))) (asked : Option Command) (status : Status) (old new : Outside) (faults faults_now : ℕ)
@@ -495,7 +497,7 @@ completes stock (Some all) asked status old new f f' read write log sf so sv h =
 -- ---- the shelf
 
 -- the phases had no reason, and the world was made
-begun_shelf : (site : SiteData) (answer : Result (Unit {0}) Halt) (old new : List Meaning) → Taken old (line_uses site) new → ShelfBy site None answer old new
+pub begun_shelf : (site : SiteData) (answer : Result (Unit {0}) Halt) (old new : List Meaning) → Taken old (line_uses site) new → ShelfBy site None answer old new
 begun_shelf site (Ok done) old new t = t
 begun_shelf site (Err halt.Memory) old new t = inr t
 begun_shelf site (Err (halt.ReadFault name)) old new t = inr t
@@ -507,11 +509,11 @@ begun_shelf site (Err (halt.ShelfEmpty kind needed stocked)) old new t = t
 begun_shelf site (Err (halt.HistoryFull entries bytes)) old new t = t
 begun_shelf site (Err (halt.LogRefused place)) old new t = t
 
-never_some : {A : Type 0} (ps : List Phase) (h : Halt) → first_halt ps ≡ None → first_halt ps ≡ Some h → A
+pub never_some : {A : Type 0} (ps : List Phase) (h : Halt) → first_halt ps ≡ None → first_halt ps ≡ Some h → A
 never_some ps h e k = absurd (cc (sym e ∙ k))
 
 -- no world was made
-unbegun_by : (site : SiteData) (ps : List Phase) (h : Halt) (first : Option Halt) (old new : List Meaning) → first_halt ps ≡ first → HaltsIn ps h → new ≡ old → ShelfBy site first (Err h) old new
+pub unbegun_by : (site : SiteData) (ps : List Phase) (h : Halt) (first : Option Halt) (old new : List Meaning) → first_halt ps ≡ first → HaltsIn ps h → new ≡ old → ShelfBy site first (Err h) old new
 unbegun_by site ps h (Some x) old new e k same = same
 unbegun_by site ps halt.Memory None old new e k same = inl same
 unbegun_by site ps (halt.ReadFault name) None old new e k same = inl same
@@ -546,7 +548,7 @@ module _ (stock new : List Meaning) (definitions site : List ℕ) where
       subst (λ (o : Option Halt). ShelfBy (site_asked all definitions site) o answer stock new) (sym none) (begun_shelf (site_asked all definitions site) answer stock new (subst (λ (y : SiteData × List ℕ). Taken stock (line_uses y.0) new) s.1 t))
 
 -- the same by the status, with which want of memory may have come
-shelf_status : (site : SiteData) (first : Option Halt) (answer : Result (Unit {0}) Halt) (status : Status) (old new : List Meaning) (out out' : SinkSeen) → ShelfBy site first answer old new → Ends answer status out out' → ShelfAt site first status old new
+pub shelf_status : (site : SiteData) (first : Option Halt) (answer : Result (Unit {0}) Halt) (status : Status) (old new : List Meaning) (out out' : SinkSeen) → ShelfBy site first answer old new → Ends answer status out out' → ShelfAt site first status old new
 shelf_status site (Some x) answer status old new out out' k h = k
 shelf_status site None (Ok done) status old new out out' k h = rw h.0 k
 shelf_status site None (Err halt.Memory) status old new out out' k (inl h) = rw h.0 k

@@ -266,7 +266,7 @@ module _ (stock : List Meaning) (files : List ℕ → Option (List ℕ)) (defini
           let m' = subst (λ (o : Option Halt). MatchOption o (done acts due) (λ y. (acts ≡ []) × (due ≡ Err y))) (first_front before rest f e) m in
           sym (ap (λ (d : Result (Unit {0}) Halt). (outcome_of [] d).status) m'.1) ∙ h
 
-  short_where : (acts : List Act) (due : Result (Unit {0}) Halt) → Due (before ++ rest) acts due → (outcome_of [] due).status ≡ is.ShelfEmpty → IsShortOf stock files definitions site
+  pub short_where : (acts : List Act) (due : Result (Unit {0}) Halt) → Due (before ++ rest) acts due → (outcome_of [] due).status ≡ is.ShelfEmpty → IsShortOf stock files definitions site
   short_where acts due m h = by_first (first_halt before) acts due refl (of_site is.ShelfEmpty shelf_is_other files definitions site) m h
 
   short_told : (acts : List Act) (due : Result (Unit {0}) Halt) (o : Outcome) → o ≡ outcome_of acts due → Due (before ++ rest) acts due → IsShortOf stock files definitions site → o.status ≡ is.ShelfEmpty

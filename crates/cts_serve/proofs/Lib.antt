@@ -10,3 +10,8 @@ pub mod LogLemmas
 pub mod DumpLemmas
 pub mod CommandLemmas
 pub mod LawLemmas
+pub mod PieceLemmas
+pub mod TroubleLemmas
+pub mod ServedLemmas
+pub mod HostLemmas
+pub mod ServeLemmas

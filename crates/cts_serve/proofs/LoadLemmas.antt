@@ -54,7 +54,7 @@ halts_at p reason halt.WriteFault e f k = absurd (cc f)
 halts_at p reason halt.LogFault e f k = absurd (cc f)
 halts_at p reason (halt.Refused name kind line cause) e f k = e ∙ k
 halts_at p reason (halt.ShelfEmpty kind needed stocked) e f k = e ∙ k
-halts_at p reason (halt.HistoryFull entries bytes) e f k = e ∙ k
+halts_at p reason (halt.HistoryFull entries bytes) e f k = absurd (cc f)
 halts_at p reason (halt.LogRefused place) e f k = e ∙ k
 
 -- a file that was read, and whose statements are refused

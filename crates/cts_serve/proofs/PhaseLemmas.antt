@@ -115,7 +115,7 @@ load_after halt.WriteFault files mid files' f k = absurd k
 load_after halt.LogFault files mid files' f k = absurd k
 load_after (halt.Refused name kind line cause) files mid files' f k = (k.0 ∙ f.0, k.1 ∙ f.1)
 load_after (halt.ShelfEmpty kind needed stocked) files mid files' f k = (k.0 ∙ f.0, k.1 ∙ f.1)
-load_after (halt.HistoryFull entries bytes) files mid files' f k = (k.0 ∙ f.0, k.1 ∙ f.1)
+load_after (halt.HistoryFull entries bytes) files mid files' f k = absurd k
 load_after (halt.LogRefused place) files mid files' f k = (k.0 ∙ f.0, k.1 ∙ f.1)
 
 pub loads_after : {T : Type 0} (answer : Result T Halt) (files mid files' : FilesSeen) → IsFound files mid → LoadCounts answer mid files' → LoadCounts answer files files'
@@ -131,7 +131,7 @@ load_counts halt.WriteFault files files' k = absurd k
 load_counts halt.LogFault files files' k = absurd k
 load_counts (halt.Refused name kind line cause) files files' k = k
 load_counts (halt.ShelfEmpty kind needed stocked) files files' k = k
-load_counts (halt.HistoryFull entries bytes) files files' k = k
+load_counts (halt.HistoryFull entries bytes) files files' k = absurd k
 load_counts (halt.LogRefused place) files files' k = k
 
 pub load_faults : (h : Halt) (files files' : FilesSeen) (out : SinkSeen) → LoadHalts h files files' → HaltFaults h out out
@@ -142,7 +142,7 @@ load_faults halt.WriteFault files files' out k = absurd k
 load_faults halt.LogFault files files' out k = absurd k
 load_faults (halt.Refused name kind line cause) files files' out k = refl
 load_faults (halt.ShelfEmpty kind needed stocked) files files' out k = refl
-load_faults (halt.HistoryFull entries bytes) files files' out k = refl
+load_faults (halt.HistoryFull entries bytes) files files' out k = absurd k
 load_faults (halt.LogRefused place) files files' out k = refl
 
 pub load_logs : (h : Halt) (files files' : FilesSeen) (vault : VaultSeen) → LoadHalts h files files' → HaltLogs h vault vault
@@ -153,7 +153,7 @@ load_logs halt.WriteFault files files' vault k = absurd k
 load_logs halt.LogFault files files' vault k = absurd k
 load_logs (halt.Refused name kind line cause) files files' vault k = refl
 load_logs (halt.ShelfEmpty kind needed stocked) files files' vault k = refl
-load_logs (halt.HistoryFull entries bytes) files files' vault k = refl
+load_logs (halt.HistoryFull entries bytes) files files' vault k = absurd k
 load_logs (halt.LogRefused place) files files' vault k = refl
 
 -- files that never fail and have every name
@@ -165,7 +165,7 @@ sure_counts halt.WriteFault told files k = absurd k
 sure_counts halt.LogFault told files k = absurd k
 sure_counts (halt.Refused name kind line cause) told files k = (refl, refl)
 sure_counts (halt.ShelfEmpty kind needed stocked) told files k = (refl, refl)
-sure_counts (halt.HistoryFull entries bytes) told files k = (refl, refl)
+sure_counts (halt.HistoryFull entries bytes) told files k = absurd k
 sure_counts (halt.LogRefused place) told files k = (refl, refl)
 
 -- what is no fault of the outside leaves all counts
@@ -177,7 +177,7 @@ load_stays halt.WriteFault files mid f k = absurd (cc f)
 load_stays halt.LogFault files mid f k = absurd (cc f)
 load_stays (halt.Refused name kind line cause) files mid f k = k
 load_stays (halt.ShelfEmpty kind needed stocked) files mid f k = k
-load_stays (halt.HistoryFull entries bytes) files mid f k = k
+load_stays (halt.HistoryFull entries bytes) files mid f k = absurd (cc f)
 load_stays (halt.LogRefused place) files mid f k = k
 
 pub faults_stay : (h : Halt) (out : SinkSeen) → is_fault h ≡ false → HaltFaults h out out
@@ -188,7 +188,7 @@ faults_stay halt.WriteFault out f = absurd (cc f)
 faults_stay halt.LogFault out f = absurd (cc f)
 faults_stay (halt.Refused name kind line cause) out f = refl
 faults_stay (halt.ShelfEmpty kind needed stocked) out f = refl
-faults_stay (halt.HistoryFull entries bytes) out f = refl
+faults_stay (halt.HistoryFull entries bytes) out f = absurd (cc f)
 faults_stay (halt.LogRefused place) out f = refl
 
 pub logs_stay : (h : Halt) (vault : VaultSeen) → is_fault h ≡ false → HaltLogs h vault vault
@@ -199,5 +199,5 @@ logs_stay halt.WriteFault vault f = absurd (cc f)
 logs_stay halt.LogFault vault f = absurd (cc f)
 logs_stay (halt.Refused name kind line cause) vault f = refl
 logs_stay (halt.ShelfEmpty kind needed stocked) vault f = refl
-logs_stay (halt.HistoryFull entries bytes) vault f = refl
+logs_stay (halt.HistoryFull entries bytes) vault f = absurd (cc f)
 logs_stay (halt.LogRefused place) vault f = refl

@@ -16,3 +16,5 @@ pub mod Rehearsal
 pub mod Dump
 pub mod Command
 pub mod Laws
+pub mod Served
+pub mod Serving

@@ -21,6 +21,12 @@ absent_line name = codes "absent: " ++ name ++ 10 ∷ []
 abbrev pub log_fault_line : List ℕ
 log_fault_line = codes "log fault\n"
 
+abbrev pub no_worker_line : List ℕ
+no_worker_line = codes "no worker\n"
+
+abbrev pub door_fault_line : List ℕ
+door_fault_line = codes "door fault\n"
+
 -- a file, a line of it and a cause
 abbrev pub refused_line : List ℕ → ℕ → List ℕ → List ℕ
 refused_line name line cause = codes "refused: " ++ name ++ codes " line " ++ decimal line ++ codes ": " ++ cause ++ 10 ∷ []

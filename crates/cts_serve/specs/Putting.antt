@@ -1,5 +1,5 @@
 -- What puts leave of a sink, and appends and syncs of a vault's count.
-use Rattle.std.specs.Prelude.{◌≡◌, ◌≢◌, ℕ, ◌≤◌, List, [], take, Result, Ok, Err}
+use Rattle.std.specs.Prelude.{◌≡◌, ◌≢◌, ℕ, ◌≤◌, Bool, true, false, List, [], take, Result, Ok, Err}
 use Rattle.cts_outside.specs.Causes.{Rose, Steady}
 use Rattle.cts_outside.specs.Contents.{appended, IsPartPut}
 use Rattle.cts_outside.specs.Seen.{SinkSeen, VaultSeen}
@@ -22,6 +22,11 @@ PutsText text (Ok done) old new = IsPut text old new
 PutsText text (Err WriteFault) old new = FailsWithin text old new
 PutsText text (Err LogFault) old new = ⊥
 PutsText text (Err Memory) old new = new ≡ old
+
+-- a text was put, or a put failed within it
+abbrev pub PutsWhole : List ℕ → Bool → SinkSeen → SinkSeen → Type 0
+PutsWhole text true old new = IsPut text old new
+PutsWhole text false old new = FailsWithin text old new
 
 -- the count of a sink rises at a put that failed, and stays where a command halts otherwise
 abbrev pub HaltFaults : Halt → SinkSeen → SinkSeen → Type 0

@@ -1,7 +1,7 @@
 -- The exit status of each status.
 use Rattle.std.specs.Prelude.{ℕ}
 use Rattle.cts_serve.specs.declared.halt.status.Status.{Status}
-use Rattle.cts_serve.specs.declared.halt.status.Status.TheVariants.{Ok as Fine, Memory, Usage, ReadFault, Absent, WriteFault, ConfigRefused, ShelfEmpty, ScriptRefused, HistoryFull, LogFault, LogRefused}
+use Rattle.cts_serve.specs.declared.halt.status.Status.TheVariants.{Ok as Fine, Memory, Usage, ReadFault, Absent, WriteFault, ConfigRefused, ShelfEmpty, ScriptRefused, HistoryFull, LogFault, LogRefused, NoWorker, DoorFault}
 
 abbrev pub exit_status : Status → ℕ
 exit_status Fine = 0
@@ -16,3 +16,5 @@ exit_status ScriptRefused = 7
 exit_status HistoryFull = 8
 exit_status LogFault = 9
 exit_status LogRefused = 10
+exit_status NoWorker = 11
+exit_status DoorFault = 12

@@ -32,3 +32,8 @@ asked (command ∷ word ∷ []) =
 asked (command ∷ definitions ∷ site ∷ []) = if is_word command (codes "check") then Some (Check definitions site) else None
 asked (command ∷ definitions ∷ site ∷ script ∷ []) = if is_word command (codes "replay") then Some (Replay definitions site script) else None
 asked words = None
+
+-- the names of the definitions and of the site, where the words ask for a server
+abbrev pub asked_to_serve : List (List ℕ) → Option (List ℕ × List ℕ)
+asked_to_serve (command ∷ definitions ∷ site ∷ []) = if is_word command (codes "serve") then Some (definitions, site) else None
+asked_to_serve words = None

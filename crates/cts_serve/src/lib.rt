@@ -14,9 +14,12 @@ mod load;
 mod putting;
 mod rehearse;
 mod replay;
+mod serving;
 mod story;
 mod words;
 
 pub use command::run;
 pub use halt::status::Status;
 pub use laws::{acts, outcomes};
+pub use serving::ended::Ended;
+pub use serving::serve;

@@ -1,6 +1,6 @@
 // What the words of the command line ask for.
 ghost use Rattle.std.specs.Prelude.{◌≡◌, ◌∷◌, [], map};
-ghost use Rattle.cts_serve.specs.Words.{asked, rehearsal_number};
+ghost use Rattle.cts_serve.specs.Words.{asked, asked_to_serve, rehearsal_number};
 
 use crate::file_name::FileName;
 use cts_base::read_whole;
@@ -44,6 +44,18 @@ pub fn read_words<'a>(words: &[&'a str]) -> Option<Command<'a>>
             site: FileName::of(*site),
             script: FileName::of(*script),
         }),
+        _ => None,
+    }
+}
+
+/// The names of the definitions and of the site, if the words ask for a server over them.
+pub(crate) fn read_serving<'a>(words: &[&'a str]) -> Option<(FileName<'a>, FileName<'a>)>
+    ensures { result ≡ asked_to_serve (map (λ w. w.now) words.now) }
+{
+    match words {
+        [command, definitions, site] if *command == "serve" => {
+            Some((FileName::of(*definitions), FileName::of(*site)))
+        }
         _ => None,
     }
 }

@@ -121,8 +121,8 @@ fn last_line(alloc: Global, halt: &Halt<'_>) -> Result<LastLine, Memory>
     }
 }
 
-// Puts a last line, if there is one.
-fn put_last<O: Sink>(out: &mut O, line: &[u8])
+/// Puts a last line, if there is one.
+pub(crate) fn put_last<O: Sink>(out: &mut O, line: &[u8])
     ensures { Printed (O.seen out.old) (O.seen out.new) line.now }
 {
     if !line.is_empty() {

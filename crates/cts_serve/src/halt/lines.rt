@@ -1,6 +1,6 @@
 // The lines that a command prints for itself.
 ghost use Rattle.std.specs.Prelude.{◌≡◌, ◌≤◌, ◌++◌, ◌∷◌, [], IfOk};
-ghost use Rattle.cts_serve.specs.Lines.{usage_line, memory_line, read_fault_line, absent_line, log_fault_line, refused_line, kind_name, shelf_line, full_line, log_line, end_line, numbers_line, counts_line};
+ghost use Rattle.cts_serve.specs.Lines.{usage_line, memory_line, read_fault_line, absent_line, log_fault_line, no_worker_line, door_fault_line, refused_line, kind_name, shelf_line, full_line, log_line, end_line, numbers_line, counts_line};
 ghost use Rattle.cts_def.specs.Packets.{items_in};
 
 use cts_base::Memory;
@@ -40,6 +40,20 @@ pub(crate) fn log_fault_text() -> &'static [u8]
     ensures { result.now ≡ log_fault_line }
 {
     b"log fault\n"
+}
+
+/// The line for a worker that was not started. It takes no memory.
+pub(crate) fn no_worker_text() -> &'static [u8]
+    ensures { result.now ≡ no_worker_line }
+{
+    b"no worker\n"
+}
+
+/// The line for a door that failed. It takes no memory.
+pub(crate) fn door_fault_text() -> &'static [u8]
+    ensures { result.now ≡ door_fault_line }
+{
+    b"door fault\n"
 }
 
 /// The line for a line of a file that is refused for a cause.

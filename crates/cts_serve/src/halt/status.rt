@@ -28,6 +28,10 @@ pub enum Status {
     LogFault,
     /// A log is not a head with whole entries alone after it, or is too large.
     LogRefused,
+    /// A worker of the server was not started.
+    NoWorker,
+    /// A door of the server failed.
+    DoorFault,
 }
 
 impl Status {
@@ -50,6 +54,8 @@ impl Status {
             Status::HistoryFull => 8,
             Status::LogFault => 9,
             Status::LogRefused => 10,
+            Status::NoWorker => 11,
+            Status::DoorFault => 12,
         }
     }
 }

@@ -1,0 +1,191 @@
+// A server up to the end of its workers.
+ghost use Rattle.std.specs.Prelude.{◌≡◌, ◌∷◌, [], false, map, take, drop, IfErr, IfOk, IfSome, IsSome, IsSomeAnd, None, OnErr, OnOk, Some};
+ghost use Rattle.std.specs.Arc.{arc_value};
+ghost use Rattle.std.specs.List.{AllByRecursion};
+ghost use Rattle.cts_chain.specs.Builds.{AreFresh, Taken};
+ghost use Rattle.cts_core.specs.LineChains.{line_chains, line_uses};
+ghost use Rattle.cts_def.specs.Sites.{SiteData};
+ghost use Rattle.cts_scribe.specs.Vaults.{AreBlank};
+ghost use Rattle.cts_server.specs.Places.{AreThere, IsStill};
+ghost use Rattle.cts_server.specs.Ready.{ready_line};
+ghost use Rattle.cts_serve.specs.Command.{LeavesShelf, first_phases};
+ghost use Rattle.cts_serve.specs.Load.{digest_asked, site_asked};
+ghost use Rattle.cts_serve.specs.Phases.{FileCounts, Gives, LoadCounts, first_halt};
+ghost use Rattle.cts_serve.specs.Putting.{IsPut, SinkCounts};
+ghost use Rattle.cts_serve.specs.Served.{serves_on};
+ghost use Rattle.cts_serve.specs.Serving.{Finds, HasIdled, HasServed, IsPlanned, UnstartedBy, done_as};
+ghost use Rattle.cts_serve.specs.Start.{shelf_phase};
+ghost use Rattle.cts_serve.specs.Endings.{halt_status};
+
+use crate::digest::Digest;
+use crate::file_name::FileName;
+use crate::halt::Halt;
+use crate::load::load_site;
+use cts_core::{Framer, Supplier, build_chains};
+use cts_def::Site;
+use cts_outside::{Clock, Crew, Dialer, Files, Gate, Sink, Vault};
+use cts_server::{NotStarted, Shared, Worked, serve_site};
+use std::alloc::Global;
+use std::sync::{Arc, Wait};
+use std::thread::Threads;
+
+// What a server is started from.
+#[derive(Drop)]
+struct Plan<C> {
+    site: Arc<Site>,
+    digest: Digest,
+    // The chains of its lines, in the order of their numbers.
+    chains: Vec<C>,
+}
+
+/// Reads definitions and a site, takes the boxes of its chains from the shelf, and lets the workers of the site work.
+pub(crate) fn host<
+    'a,
+    R: Threads + Wait + Sync,
+    C: Framer + Send,
+    B: Supplier<C>,
+    F: Files,
+    O: Sink,
+    D: Dialer + Send,
+    Q: Dialer + Send,
+    V: Vault + Send,
+    K: Clock + Sync,
+    W: Crew,
+    G: Gate + Sync,
+>(
+    rt: &R,
+    alloc: Global,
+    definitions: &FileName<'a>,
+    site: &FileName<'a>,
+    shelf: &mut B,
+    files: &mut F,
+    out: &mut O,
+    lines: &mut Vec<Option<D>>,
+    doors: &mut Vec<Option<Q>>,
+    vault: &mut Option<V>,
+    clock: &K,
+    crew: &mut W,
+    gate: &G,
+) -> Result<Worked, Halt<'a>>
+    requires lines { AreThere 16 lines.old.items }
+    requires doors { AreThere 12 doors.old.items }
+    requires still { AllByRecursion (IsStill Q.seen) (drop 8 doors.old.items) }
+    requires vault { IsSomeAnd vault.old (λ v. AreBlank (V.seen v).told) }
+    ensures stays { (F.seen files.new).told ≡ (F.seen files.old).told }
+    ensures files { FileCounts result (F.seen files.old) (F.seen files.new) }
+    ensures sink { SinkCounts result (O.seen out.old) (O.seen out.new) }
+    ensures halts { IfErr result (λ h. IfSome (F.seen files.old).told (λ all. UnstartedBy (first_phases (B.stock shelf.old) all definitions.now site.now) h (O.seen out.old) (O.seen out.new))) }
+    ensures unserved { IfErr result (λ h. serves_on (halt_status h) ≡ false) }
+    ensures idle { OnErr result ((s : SiteData) × (digest : _) × IsPlanned (F.seen files.old).told (Some (definitions.now, site.now)) s digest × HasIdled D.seen Q.seen V.seen s lines.old.items lines.new.items doors.old.items doors.new.items vault.old vault.new (W.seen crew.old) (W.seen crew.new)) }
+    ensures planned { OnOk result (IfSome (F.seen files.old).told (λ all. first_halt (first_phases (B.stock shelf.old) all definitions.now site.now) ≡ None)) }
+    ensures ready { OnOk result (IsPut ready_line (O.seen out.old) (O.seen out.new)) }
+    ensures served { IfOk result (λ w. (s : SiteData) × (digest : _) × IsPlanned (F.seen files.old).told (Some (definitions.now, site.now)) s digest × HasServed D.seen Q.seen V.seen s digest w lines.old.items lines.new.items doors.old.items doors.new.items vault.old vault.new (W.seen crew.old) (W.seen crew.new)) }
+    ensures boxes { IfSome (F.seen files.old).told (λ all. LeavesShelf all definitions.now site.now (done_as result) (B.stock shelf.old) (B.stock shelf.new)) }
+    ensures back { AreThere 16 lines.new.items × AreThere 12 doors.new.items × IsSome vault.new }
+{
+    match prepare(alloc, definitions, site, shelf, files) {
+        Ok(plan) => work(rt, alloc, plan, out, lines, doors, vault, clock, crew, gate),
+        Err(halt) => Err(halt),
+    }
+}
+
+// Reads definitions and a site, and takes the boxes of its chains from the shelf.
+fn prepare<'a, C: Framer + Send, B: Supplier<C>, F: Files>(
+    alloc: Global,
+    definitions: &FileName<'a>,
+    site: &FileName<'a>,
+    shelf: &mut B,
+    files: &mut F,
+) -> Result<Plan<C>, Halt<'a>>
+    ensures stays { (F.seen files.new).told ≡ (F.seen files.old).told }
+    ensures counts { LoadCounts result (F.seen files.old) (F.seen files.new) }
+    ensures finds { IfSome (F.seen files.old).told (λ all. Finds (first_phases (B.stock shelf.old) all definitions.now site.now) (λ plan. (arc_value plan.site ≡ site_asked all definitions.now site.now) × (plan.digest ≡ digest_asked all definitions.now)) result) }
+    ensures fresh { IfOk result (λ plan. AreFresh (line_chains (arc_value plan.site)) (map C.shape plan.chains.items)) }
+    ensures boxes { IfSome (F.seen files.old).told (λ all. LeavesShelf all definitions.now site.now (done_as result) (B.stock shelf.old) (B.stock shelf.new)) }
+{
+    match load_site(alloc, files, definitions, site) {
+        Ok((site, digest)) => plan_of(alloc, site, digest, shelf),
+        Err(halt) => Err(halt),
+    }
+}
+
+// What a server of a site is started from. Where it halts the shelf is as it was.
+fn plan_of<'a, C: Framer + Send, B: Supplier<C>>(
+    alloc: Global,
+    site: Site,
+    digest: Digest,
+    shelf: &mut B,
+) -> Result<Plan<C>, Halt<'a>>
+    ensures gives { Gives (shelf_phase (B.stock shelf.old) site ∷ []) (λ plan. (arc_value plan.site ≡ site) × (plan.digest ≡ digest)) result }
+    ensures fresh { IfOk result (λ plan. AreFresh (line_chains (arc_value plan.site)) (map C.shape plan.chains.items)) }
+    ensures taken { OnOk result (Taken (B.stock shelf.old) (line_uses site) (B.stock shelf.new)) }
+    ensures kept { OnErr result (B.stock shelf.new ≡ B.stock shelf.old) }
+{
+    match Arc::new(alloc, site) {
+        Ok(site) => match build_chains(alloc, &site, shelf) {
+            Ok(chains) => Ok(Plan {
+                site,
+                digest,
+                chains,
+            }),
+            Err(why) => Err(Halt::from(why)),
+        },
+        Err(_) => Err(Halt::Memory),
+    }
+}
+
+// Lets the workers of a site work.
+fn work<
+    'a,
+    R: Threads + Wait + Sync,
+    C: Framer + Send,
+    O: Sink,
+    D: Dialer + Send,
+    Q: Dialer + Send,
+    V: Vault + Send,
+    K: Clock + Sync,
+    W: Crew,
+    G: Gate + Sync,
+>(
+    rt: &R,
+    alloc: Global,
+    plan: Plan<C>,
+    out: &mut O,
+    lines: &mut Vec<Option<D>>,
+    doors: &mut Vec<Option<Q>>,
+    vault: &mut Option<V>,
+    clock: &K,
+    crew: &mut W,
+    gate: &G,
+) -> Result<Worked, Halt<'a>>
+    requires fresh { AreFresh (line_chains (arc_value plan.site)) (map C.shape plan.chains.items) }
+    requires lines { AreThere 16 lines.old.items }
+    requires doors { AreThere 12 doors.old.items }
+    requires still { AllByRecursion (IsStill Q.seen) (drop 8 doors.old.items) }
+    requires vault { IsSomeAnd vault.old (λ v. AreBlank (V.seen v).told) }
+    ensures sink { SinkCounts result (O.seen out.old) (O.seen out.new) }
+    ensures halts { IfErr result (λ h. UnstartedBy [] h (O.seen out.old) (O.seen out.new)) }
+    ensures unserved { IfErr result (λ h. serves_on (halt_status h) ≡ false) }
+    ensures idle { OnErr result (HasIdled D.seen Q.seen V.seen (arc_value plan.site) lines.old.items lines.new.items doors.old.items doors.new.items vault.old vault.new (W.seen crew.old) (W.seen crew.new)) }
+    ensures ready { OnOk result (IsPut ready_line (O.seen out.old) (O.seen out.new)) }
+    ensures served { IfOk result (λ w. HasServed D.seen Q.seen V.seen (arc_value plan.site) plan.digest w lines.old.items lines.new.items doors.old.items doors.new.items vault.old vault.new (W.seen crew.old) (W.seen crew.new)) }
+    ensures back { AreThere 16 lines.new.items × AreThere 12 doors.new.items × IsSome vault.new }
+{
+    let Plan {
+        site,
+        digest,
+        chains,
+    } = plan;
+    let shared = Shared {
+        digest: digest.bytes(),
+        clock,
+        gate,
+    };
+    match serve_site(
+        rt, alloc, site, &shared, chains, out, lines, doors, vault, crew,
+    ) {
+        Ok(worked) => Ok(worked),
+        Err(NotStarted::Memory) => Err(Halt::Memory),
+        Err(NotStarted::WriteFault) => Err(Halt::WriteFault),
+    }
+}
