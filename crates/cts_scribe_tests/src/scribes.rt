@@ -1,10 +1,12 @@
 // Scribes over histories and vaults in memory.
+ghost use Rattle.cts_scribe.specs.Vaults.{AreBlank};
+
 use crate::adding::history;
 use crate::logs::{counted, of_log, of_vault};
 use crate::narrow::Narrow;
 use crate::over::{cancel_scribe, run_beside, run_scribe};
 use crate::words::{entries_of, site_of};
-use cts_outside::{LogKind, MemVault};
+use cts_outside::{LogKind, MemVault, Vault};
 use cts_rows::{digits_of, field, number, same};
 use std::alloc::Global;
 use std::sync::{Arc, Wait};
@@ -58,11 +60,24 @@ fn failing(alloc: Global, text: &str) -> Result<Vec<u64>, Fail> {
     Ok(found)
 }
 
+/// What a scribe leaves of a history that has these entries before all others have ended, over a site with these texts.
+fn logged<R: Wait, V: Vault>(
+    rt: &R,
+    alloc: Global,
+    texts: (&str, &str),
+    words: &str,
+    vault: &mut V,
+) -> Result<String, Fail>
+    requires blank { AreBlank (V.seen vault.old).told }
+{
+    let site = Arc::new(alloc, site_of(alloc, texts.0, texts.1)?)?;
+    let hall = history(alloc, site.clone()?, words, 0)?;
+    run_scribe(rt, alloc, &site, hall, vault)
+}
+
 fn told<R: Wait>(rt: &R, alloc: Global, row: &str) -> Result<String, Fail> {
-    let site = Arc::new(alloc, site_of(alloc, DEFINITIONS, SITE)?)?;
-    let hall = history(alloc, site.clone()?, field(row, 0), 0)?;
     let mut vault = MemVault::new(alloc, failing(alloc, field(row, 1))?);
-    let told = run_scribe(rt, alloc, &site, hall, &mut vault)?;
+    let told = logged(rt, alloc, (DEFINITIONS, SITE), field(row, 0), &mut vault)?;
     Ok(format!(in alloc; "{told} {}", of_vault(alloc, &vault)?)?)
 }
 
@@ -120,10 +135,8 @@ const ROOMS: &str = "\
 
 fn at_room<R: Wait>(rt: &R, alloc: Global, room: usize) -> Result<String, Fail> {
     let words = "open:0 packet:0:0:0105 command:24:0:03 packet:0:0:0207";
-    let site = Arc::new(alloc, site_of(alloc, DEFINITIONS, SITE)?)?;
-    let hall = history(alloc, site.clone()?, words, 0)?;
     let mut vault = Narrow::new(alloc, room);
-    let told = run_scribe(rt, alloc, &site, hall, &mut vault)?;
+    let told = logged(rt, alloc, (DEFINITIONS, SITE), words, &mut vault)?;
     let tlm = of_log(alloc, &vault.tlm, 0)?;
     let cmd = of_log(alloc, &vault.cmd, 0)?;
     Ok(format!(in alloc; "{told} T {tlm} C {cmd}")?)
@@ -208,10 +221,8 @@ const DEMO_LOGS: &str = "\
 #[test]
 fn the_demo_is_logged(rt: HostRuntime) -> Result<(), Fail> {
     let alloc = rt.alloc();
-    let site = Arc::new(alloc, site_of(alloc, DEMO_DEFINITIONS, DEMO_SITE)?)?;
-    let hall = history(alloc, site.clone()?, DEMO, 0)?;
     let mut vault = MemVault::new(alloc, Vec::new(alloc));
-    let told = run_scribe(&rt, alloc, &site, hall, &mut vault)?;
+    let told = logged(&rt, alloc, (DEMO_DEFINITIONS, DEMO_SITE), DEMO, &mut vault)?;
     let logs = of_vault(alloc, &vault)?;
     let tlm = after_head(alloc, vault.bytes(LogKind::Tlm))?;
     let cmd = after_head(alloc, vault.bytes(LogKind::Cmd))?;
