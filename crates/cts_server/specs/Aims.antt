@@ -1,7 +1,6 @@
 -- Where the devices of a site are to connect to, or to accept clients.
-use Rattle.std.specs.Prelude.{ℕ, pos, true, List, [], ◌∷◌, map, replicate, Some}
+use Rattle.std.specs.Prelude.{ℕ, pos, true, List, [], ◌∷◌, map, replicate}
 use Rattle.std.specs.List.{flat_map}
-use Rattle.cts_base.specs.declared.decimal.Decimal.{Decimal}
 use Rattle.cts_def.specs.Sites.{InterfaceData, RouterData, SiteData}
 use Rattle.cts_outside.specs.Lines.{aimed, told_after}
 use Rattle.cts_outside.specs.Seen.{LineSeen}

@@ -1,8 +1,8 @@
 pub mod Aims
-pub mod Chains
 pub mod Places
 pub mod Owed
 pub mod Ready
 pub mod Cancelled
+pub mod Kinds
 pub mod Tasks
-pub mod Notes
+pub mod Homes

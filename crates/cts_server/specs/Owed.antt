@@ -1,5 +1,5 @@
 -- What the workers of a site owe at their ends, over the one history.
-use Rattle.std.specs.Prelude.{◌≡◌, ℕ, List, Option, Some, None}
+use Rattle.std.specs.Prelude.{ℕ, List, Option, Some, None}
 use Rattle.cts_def.specs.Makers.{scribe}
 use Rattle.cts_def.specs.Sites.{SiteData}
 use Rattle.cts_duties.specs.Desks.{OwesDesk}

@@ -1,5 +1,5 @@
 -- The places of devices: what stands in them when a server starts, and what stands there when it has ended.
-use Rattle.std.specs.Prelude.{◌≡◌, ◌⊎◌, ℕ, ◌+◌, false, List, [], ◌∷◌, length, Option, Some, None}
+use Rattle.std.specs.Prelude.{◌≡◌, ◌⊎◌, ℕ, ◌+◌, false, List, [], ◌∷◌, ◌++◌, drop, length, map, Option, Some, None}
 use Rattle.std.specs.List.{AllByRecursion}
 use Rattle.cts_desk.specs.Told.{IsIdle}
 use Rattle.cts_outside.specs.Seen.{LineSeen}
@@ -20,6 +20,10 @@ module _ {X : Type 0} where
   abbrev pub IsStill : (X → LineSeen) → Option X → Type 0
   IsStill seen (Some x) = ((seen x).linked ≡ false) × IsIdle (seen x).told
   IsStill seen None = Unit {0}
+
+  -- the first places with these devices in them, and the places after them as they were
+  abbrev pub filled : List X → List (Option X) → List (Option X)
+  filled xs places = map Some xs ++ drop (length xs) places
 
   -- From a worker's number on: for each aim the device that stood in the place was aimed so, and a device stands there again, of which this holds with the note of
   -- the worker. The places after them, which no worker needs, are as they were.

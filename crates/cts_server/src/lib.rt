@@ -2,7 +2,12 @@
 //! owes holds of the one history and of what its device shows then. The rules of this crate are the project's own.
 #![tactic(auto)]
 
+mod aims;
+mod notes;
+mod places;
 mod serving;
+mod tasks;
+mod undone;
 mod worked;
 
 pub use serving::{Shared, serve_site};

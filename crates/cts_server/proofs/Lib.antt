@@ -1,0 +1,10 @@
+mod Taking
+mod Homing
+mod Coming
+mod Order
+mod Whole
+mod Returned
+mod Fits
+mod Parts
+mod Owing
+mod Site
