@@ -1,7 +1,11 @@
-//! The program: it takes the words of the command line, a shelf of blank protocols, the files of the system, standard output and the
-//! files of the packet logs, and ends with the status of the command that the words ask for. All else stands in the crates below.
+//! The program: it takes the words of the command line, a shelf of blank protocols, the files of the system, standard output, the files
+//! of the packet logs, and for a server sockets, threads and the clock too, and ends with the status of the command that the words ask
+//! for. All else stands in the crates below.
 #![tactic(auto)]
 
+mod server;
+
+use crate::server::serve_words;
 use cts_adapters::{Console, DiskFiles, DiskVault, Opening};
 use cts_base::Memory;
 use cts_chain::Chain;
@@ -11,10 +15,13 @@ use cts_proto::Shelf;
 use cts_serve::{Status, run};
 use cts_stream::{Burst, Length, Terminated};
 use std::fs::File;
-use std::io::ErrorKind;
+use std::io::{ErrorKind, Read};
+use std::net::{Net, TcpListener, TcpStream};
 use std::process::ExitCode;
 use std::rt::{Env, Files};
-use std::{env, io};
+use std::sync::Wait;
+use std::thread::Threads;
+use std::{env, io, time};
 
 /// How many boxes of each kind of protocol there are.
 const BOXES: u32 = 32;
@@ -31,7 +38,18 @@ fn main(rt: HostRuntime) -> ExitCode {
 
 // Runs the command that the words ask for, over a shelf with so many blank boxes of each kind, which are made here, since a
 // function that makes boxes may not hand them out. Where no memory is found for its own objects nothing is printed.
-fn perform<R: Env + Print + AllocGlobal + Files<File = File>>(rt: &R) -> Result<Status, Memory> {
+fn perform<
+    N: Read + Drop + Send,
+    R: Env
+        + Print
+        + AllocGlobal
+        + Files<File = File, Dir = N>
+        + Net<Listener = TcpListener, Stream = TcpStream>
+        + Threads
+        + Wait
+        + time::Clock
+        + Sync,
+>(rt: &R) -> Result<Status, Memory> {
     let owned = words_of(rt)?;
     let words = owned
         .iter()
@@ -53,11 +71,22 @@ fn perform<R: Env + Print + AllocGlobal + Files<File = File>>(rt: &R) -> Result<
             return Err(Memory);
         }
     }
+    let words = words.as_slice();
     let mut files = DiskFiles::new(rt);
     let mut out = Console::new(io::writer(rt));
+    if asks_to_serve(words) {
+        return serve_words::<Chain, Shelf, _, _, _, _>(rt, words, &mut shelf, &mut files, &mut out);
+    }
     let mut vault = DiskVault::new(rt, Opening::Replaced, TLM, CMD);
-    let words = words.as_slice();
     Ok(run::<Chain, Shelf, _, _, _>(alloc, words, &mut shelf, &mut files, &mut out, &mut vault))
+}
+
+// Whether the first word is that of a server.
+fn asks_to_serve(words: &[&str]) -> bool {
+    match words {
+        [command, ..] => *command == "serve",
+        [] => false,
+    }
 }
 
 // The words after the program's name. Where one of them is not UTF-8 there are none, which no command takes.
