@@ -1,5 +1,5 @@
 -- Dialers that were not used yet stand in their places, and none of them has a connection.
-use Rattle.std.proofs.Common.{◌≡◌, ℕ, zero, suc, List, [], ◌∷◌, drop, Option, Some, None, absurd, tt, ap, sym, subst}
+use Rattle.std.proofs.Common.{◌≡◌, ℕ, zero, suc, List, [], ◌∷◌, drop, Option, Some, None, ap, sym, subst}
 use Rattle.std.specs.List.{AllByRecursion}
 use Rattle.cts_desk.specs.Told.{IsIdle}
 use Rattle.cts_net.specs.Devices.{AreUnused, IsUnused}

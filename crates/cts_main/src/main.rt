@@ -15,7 +15,7 @@ use cts_proto::Shelf;
 use cts_serve::{Status, run};
 use cts_stream::{Burst, Length, Terminated};
 use std::fs::File;
-use std::io::ErrorKind;
+use std::io::{ErrorKind, Read};
 use std::net::{Net, TcpListener, TcpStream};
 use std::process::ExitCode;
 use std::rt::{Env, Files};
@@ -39,10 +39,11 @@ fn main(rt: HostRuntime) -> ExitCode {
 // Runs the command that the words ask for, over a shelf with so many blank boxes of each kind, which are made here, since a
 // function that makes boxes may not hand them out. Where no memory is found for its own objects nothing is printed.
 fn perform<
+    N: Read + Drop + Send,
     R: Env
         + Print
         + AllocGlobal
-        + Files<File = File>
+        + Files<File = File, Dir = N>
         + Net<Listener = TcpListener, Stream = TcpStream>
         + Threads
         + Wait
@@ -74,7 +75,7 @@ fn perform<
     let mut files = DiskFiles::new(rt);
     let mut out = Console::new(io::writer(rt));
     if asks_to_serve(words) {
-        return serve_words::<Chain, Shelf, _, _, _>(rt, words, &mut shelf, &mut files, &mut out);
+        return serve_words::<Chain, Shelf, _, _, _, _>(rt, words, &mut shelf, &mut files, &mut out);
     }
     let mut vault = DiskVault::new(rt, Opening::Replaced, TLM, CMD);
     Ok(run::<Chain, Shelf, _, _, _>(alloc, words, &mut shelf, &mut files, &mut out, &mut vault))

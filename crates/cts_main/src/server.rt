@@ -6,6 +6,7 @@ use cts_net::{Listeners, SystemClock};
 use cts_outside::{Clock, Files, OpenGate, Sink, ThreadCrew};
 use cts_serve::{Status, serve};
 use std::fs::File;
+use std::io::Read;
 use std::net::{Net, TcpListener, TcpStream};
 use std::sync::Wait;
 use std::thread::Threads;
@@ -22,8 +23,9 @@ const REQUESTS: &str = "127.0.0.1";
 pub fn serve_words<
     C: Framer + Send,
     B: Supplier<C>,
+    N: Read + Drop + Send,
     R: AllocGlobal
-        + rt::Files<File = File>
+        + rt::Files<File = File, Dir = N>
         + Net<Listener = TcpListener, Stream = TcpStream>
         + Threads
         + Wait
@@ -35,7 +37,7 @@ pub fn serve_words<
     let (seconds, _) = SystemClock::new(rt).now();
     let names = LogNames::of_second(rt.alloc(), seconds)?;
     let listeners = Listeners::new(rt.alloc(), STREAMS, REQUESTS)?;
-    serve_over::<C, B, R, F, O>(rt, &listeners, &names, words, shelf, files, out)
+    serve_over::<C, B, N, R, F, O>(rt, &listeners, &names, words, shelf, files, out)
 }
 
 // The same over these listeners and files of this name.
@@ -43,8 +45,9 @@ fn serve_over<
     'a,
     C: Framer + Send,
     B: Supplier<C>,
+    N: Read + Drop + Send,
     R: AllocGlobal
-        + rt::Files<File = File>
+        + rt::Files<File = File, Dir = N>
         + Net<Listener = TcpListener, Stream = TcpStream>
         + Threads
         + Wait
