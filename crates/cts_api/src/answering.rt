@@ -1,5 +1,6 @@
 //! What is asked, and who answers it.
 
+ghost use Rattle.std.specs.Prelude.{◌≡◌, ◌<◌};
 ghost use Rattle.cts_api.specs.Answers.{appended, told};
 ghost use Rattle.cts_api.specs.Points.{Point};
 ghost use Rattle.cts_api.specs.Seen.{asking_data, item_name, limits_asked, order_data};
@@ -22,9 +23,10 @@ use crate::sending::{Done, nothing, send, stop};
 use crate::values::{command_count, item_value, packet_count, packet_values};
 use cts_cmd::Checks;
 use cts_entry::What;
-use cts_table::Hall;
+use cts_table::{Hall, Steps};
 use serde_json::Value;
 use std::alloc::Global;
+use std::sync::ledger::{Blank, Ledger};
 
 // A result, with nothing to append.
 fn told(said: Result<Value, Refusal>) -> Result<Done, Refusal>
@@ -97,13 +99,22 @@ fn commanded(alloc: Global, hall: &Hall, checks: Checks, order: Order<'_>) -> Re
     send(alloc, hall, checks, &request)
 }
 
-/// What is answered to what is asked, and what is to be appended.
-pub(crate) fn asked(alloc: Global, hall: &Hall, asking: Asking<'_>) -> Result<Done, Refusal>
+/// What is answered to what is asked, and what is to be appended. Looks at the history for a value are counted over the blank ledger.
+pub(crate) fn asked<L: Ledger>(
+    alloc: Global,
+    hall: &Hall,
+    asking: Asking<'_>,
+    blank: Blank,
+) -> Result<Done, Refusal>
+    requires name { blank.name ≡ L.name }
+    requires parts { blank.parts ≡ L.parts }
+    requires some { 0 < L.parts }
     ensures answered { HasAnswered (point hall.now) (asking_data asking.entry) result }
     ensures persistent { LimitsPersist (asking_data asking.entry) result }
 {
+    let mut steps: Steps<L> = Steps::begin(blank);
     match asking {
-        Asking::Value(kind, names) => told(item_value(alloc, hall, kind, names)),
+        Asking::Value(kind, names) => told(item_value(alloc, hall, kind, names, &mut steps)),
         Asking::Packet(names, kind) => told(packet_values(alloc, hall, names, kind)),
         Asking::Received(names) => counted(packet_count(hall, names)),
         Asking::Sent(names) => counted(command_count(hall, names)),

@@ -24,6 +24,8 @@ use cts_rpc::{Call, RpcFault, calls_are_whole, read};
 use cts_table::Hall;
 use serde_json::Value;
 use std::alloc::Global;
+use std::marker::Brand;
+use std::sync::ledger::Blank;
 
 // A response with an error, which appends nothing.
 fn error_answer(
@@ -132,7 +134,7 @@ pub fn answer(
     };
     hall.is_kept();
     recall_few_sets(hall.site());
-    let said = asked(alloc, hall, asking);
+    let said = asked::<Brand>(alloc, hall, asking, Blank::new(1));
     ended(alloc, hall, by, time, id, said)
 }
 

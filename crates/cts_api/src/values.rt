@@ -1,6 +1,6 @@
 //! Values, packets and counts.
 
-ghost use Rattle.std.specs.Prelude.{◌≡◌, ◌<◌, ◌++◌, ◌∷◌, [], IfOk, OnOk, length, map, slice_get, Some};
+ghost use Rattle.std.specs.Prelude.{◌≡◌, ◌+◌, ◌<◌, ◌≤◌, ◌++◌, ◌∷◌, [], IfOk, OnOk, length, map, slice_get, Some};
 ghost use Rattle.std.specs.List.{Contains};
 ghost use Rattle.cts_conv.specs.Kinds.{value_of};
 ghost use Rattle.serde_json.specs.View.{view};
@@ -17,10 +17,11 @@ use crate::shown::{color, push_text, shown};
 use cts_base::{Memory, spells};
 use cts_conv::{Value as Held, ValueKind, value_of};
 use cts_def::{Ident, Item, Packet};
-use cts_table::{Hall, Lookup};
+use cts_table::{Hall, Lookup, Steps};
 use cts_watch::is_watched;
 use serde_json::Value;
 use std::alloc::Global;
+use std::sync::ledger::Ledger;
 
 // A value that is needed no more, as JSON.
 fn shown_once(alloc: Global, value: Held) -> Result<Value, Memory>
@@ -41,20 +42,22 @@ fn lookup_text(refusal: Lookup) -> &'static [u8]
     }
 }
 
-/// The value of an item, a whole number or a text.
+/// The value of an item, a whole number or a text, by one look at the history at most.
 ///
 /// # Errors
 ///
 /// `NoSuch`: `Unknown target`, `Unknown packet`, `Unknown item`, `Never received`, the first that holds. `Memory` where none was found.
-pub(crate) fn item_value(
+pub(crate) fn item_value<L: Ledger>(
     alloc: Global,
     hall: &Hall,
     kind: ValueKind,
     names: ItemWords<'_>,
+    steps: &mut Steps<L>,
 ) -> Result<Value, Refusal>
-    ensures { Tells view result (value_answer (point hall.now) kind (item_name names.entry)) }
+    ensures told { Tells view result (value_answer (point hall.now) kind (item_name names.entry)) }
+    ensures cost { steps.new ≤ steps.old + 1 }
 {
-    match hall.value(alloc, names.target, names.packet, names.item, kind) {
+    match hall.value(alloc, names.target, names.packet, names.item, kind, steps) {
         Ok(value) => Ok(shown_once(alloc, value)?),
         Err(Lookup::Memory) => Err(Refusal::Memory),
         Err(refusal) => Err(Refusal::NoSuch(lookup_text(refusal))),

@@ -5,7 +5,7 @@ ghost use Rattle.cts_entry.specs.Legal.{has_ended};
 use crate::hall::hall_of;
 use cts_api::{Answer, answer, reply};
 use cts_def::{FIRST_DESK, Time};
-use cts_entry::{Entry, What};
+use cts_entry::{Stands, What};
 use cts_rows::{Answers, as_text, cut, number, readable_of, rows_end_so, same};
 use cts_rpc::{Call, read};
 use cts_script::entry_lines;
@@ -19,15 +19,20 @@ const NOW: Time = Time {
     micros: 7,
 };
 
-fn is_over(entries: &[Entry], by: u32) -> bool
-    ensures { result ≡ has_ended by entries.now }
+fn is_over(hall: &Hall, by: u32) -> bool
+    ensures { result ≡ has_ended by hall.now.entries }
 {
-    entries.iter().any(|entry| entry.by == by && matches!(entry.what, What::Ended))
+    let mut over = false;
+    for n in 0..hall.count() {
+        let entry = hall.lend(n);
+        over |= entry.by == by && matches!(entry.what, What::Ended);
+    }
+    over
 }
 
 /// What desk 0 replies to a body.
 pub fn asked(alloc: Global, hall: &mut Hall, body: &[u8]) -> Result<Answer, Fail> {
-    if hall.site().desks == 0 || is_over(hall.entries(), FIRST_DESK) {
+    if hall.site().desks == 0 || is_over(hall, FIRST_DESK) {
         return Err(Fail::new("no desk"));
     }
     match reply(alloc, hall, FIRST_DESK, NOW, body) {
@@ -155,7 +160,8 @@ fn told_of_change(alloc: Global, body: &[u8]) -> Result<String, Fail> {
     if count == 0 {
         return Err(Fail::new("no entry"));
     }
-    let lines = entry_lines(alloc, hall.site(), count - 1, hall.entry(count - 1), &[])?;
+    let last = hall.lend(count - 1);
+    let lines = entry_lines(alloc, hall.site(), count - 1, last, &[])?;
     let line = as_text(lines.as_slice())?.trim_end();
     readable_of(alloc, &(answer.text, answer.appended, line))
 }
@@ -372,7 +378,7 @@ fn a_65th_set_is_too_many(rt: HostRuntime) -> Result<(), Fail> {
 
 /// What desk 0 answers to a call that was read before.
 fn answered(alloc: Global, hall: &mut Hall, call: &Call) -> Result<String, Fail> {
-    if hall.site().desks == 0 || is_over(hall.entries(), FIRST_DESK) {
+    if hall.site().desks == 0 || is_over(hall, FIRST_DESK) {
         return Err(Fail::new("no desk"));
     }
     match answer(alloc, hall, FIRST_DESK, NOW, call) {

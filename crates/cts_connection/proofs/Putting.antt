@@ -1,6 +1,6 @@
 -- What is put of the next entries of a history.
-use Rattle.std.proofs.Common.{◌≡◌, ℕ, zero, suc, ◌+◌, ◌<◌, ◌≤◌, Bool, true, false, List, [], ◌∷◌, ◌++◌, length, take, drop, sym, ◌∙◌, ap, subst, arith, append_assoc, Option, Some, None}
-use Rattle.std.specs.Prelude.{MatchOption, if◌then◌else◌}
+use Rattle.std.proofs.Common.{◌≡◌, ℕ, zero, suc, ◌+◌, ◌-◌, ◌<◌, ◌≤◌, Bool, true, false, List, [], ◌∷◌, ◌++◌, length, take, drop, sym, ◌∙◌, ap, subst, arith, append_assoc, Option, Some, None}
+use Rattle.std.specs.Prelude.{MatchOption, if◌then◌else◌, slice_get}
 use Rattle.std.proofs.lemmas.List.{length-take-le}
 use Rattle.cts_def.specs.Protocols.{SpecData}
 use Rattle.cts_def.specs.Sites.{SiteData}
@@ -8,7 +8,8 @@ use Rattle.cts_entry.specs.declared.entry.Entry.{Entry}
 use Rattle.cts_entry.specs.Queues.{refused, spelled}
 use Rattle.cts_entry.proofs.Queuing.{spelled-append, refused-append}
 use Rattle.cts_entry.specs.Workers.{is_interface}
-use Rattle.cts_table.specs.Keeping.{AllOfSite}
+use Rattle.cts_entry.proofs.Walks.{drop_lent}
+use Rattle.cts_table.specs.Keeping.{AllOfSite, IsOfSite}
 use Rattle.cts_told.specs.Routing.{queue, walk}
 use Rattle.cts_told.proofs.Walks.{queue-append}
 use Rattle.cts_connection.specs.Connections.{HoldsNext}
@@ -27,7 +28,17 @@ of_site_take site zero before es h = tt
 of_site_take site (suc n) before [] h = tt
 of_site_take site (suc n) before (e ∷ es) h = (h.0, of_site_take site n (before ++ e ∷ []) es h.1)
 
+-- what is lent at a place is of the site
+pub of_site_at : (site : SiteData) (n : ℕ) (h : List Entry) (e : Entry) → AllOfSite site [] h → slice_get h n ≡ Some e → (b : List Entry) × IsOfSite site b e
+of_site_at site n h e all is = let rest = of_site_drop site n [] h all in (rest.0, (subst (AllOfSite site rest.0) (drop_lent h n e is) rest.1).0)
+
 -- ---- entries one after another
+
+-- of the entries up to a place, what is lent stands first
+pub stretch_lent : (h : List Entry) (n until : ℕ) (e : Entry) → n < until → slice_get h n ≡ Some e → take (until - n) (drop n h) ≡ e ∷ take (until - (n + 1)) (drop (n + 1) h)
+stretch_lent h n until e below is =
+    let one : until - n ≡ suc (until - (n + 1)) = omega arith in
+    ap (λ (k : ℕ). take k (drop n h)) one ∙ ap (λ (l : List Entry). take (suc (until - (n + 1))) l) (drop_lent h n e is)
 
 module _ (site : SiteData) (specs : List SpecData) (by : ℕ) where
   -- the next entry is put, and the others follow

@@ -85,8 +85,7 @@ impl<C: Framer> Connection<C> {
     pub fn waiting(&self, hall: &Hall, by: u32) -> u64
         ensures { result ≡ waiting hall.now.basis.site by hall.now.entries self.now.cursor }
     {
-        let left = queued(hall.site(), by, behind(hall.entries(), self.place));
-        (self.refused as u64).saturating_add(left as u64)
+        (self.refused as u64).saturating_add(queued(hall, by, self.place))
     }
 
     /// No more entries were refused than it has passed.
@@ -109,7 +108,7 @@ impl<C: Framer> Connection<C> {
     {
         hall.room(1, 0)?;
         hall.opened(by, time);
-        self.begin(hall.entries().len());
+        self.begin(hall.count() as usize);
         Ok(())
     }
 
@@ -236,9 +235,7 @@ impl<C: Framer> Connection<C> {
     ) -> Result<Vec<Option<Bytes>>, Memory>
         ensures { IfOk result (λ v. v.items ≡ map (spell_by hall.now.basis.site (writers self.now.chain)) (queue (site_routing hall.now.basis.site) by (entries_ahead self.now hall.now.entries))) }
     {
-        hall.is_kept();
-        let entries = behind(hall.entries(), self.place);
-        spell_queue(alloc, hall.site(), by, &self.chain, entries)
+        spell_queue(alloc, hall, by, &self.chain, self.place)
     }
 
     /// It has passed the history up to this place. So many of the entries for its peer that it passed then were not put whole.
@@ -269,17 +266,9 @@ impl<C: Framer> Connection<C> {
     {
         hall.is_kept();
         let mut bytes = Vec::new(alloc);
-        let entries = &behind(hall.entries(), self.place)[..next];
-        let refused = put_queue(alloc, hall.site(), by, &self.chain, entries, &mut bytes)?;
+        let refused = put_queue(alloc, hall, by, &self.chain, self.place, next, &mut bytes)?;
         self.place += next;
         self.refused += refused;
         Ok(bytes)
     }
-}
-
-// The entries from a place on.
-fn behind(history: &[Entry], place: usize) -> &[Entry]
-    ensures { result.now ≡ drop place history.now }
-{
-    &history[place.min(history.len())..]
 }

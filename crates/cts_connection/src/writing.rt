@@ -1,12 +1,12 @@
 // What the history has for the peer of a line, and its spellings, one after the other.
-ghost use Rattle.std.specs.Prelude.{◌≡◌, ◌≤◌, ◌<◌, ◌==◌, ◌∷◌, [], List, cond, drop, length, map, true, IfOk, MatchOption};
+ghost use Rattle.std.specs.Prelude.{◌≡◌, ◌≤◌, ◌<◌, ◌==◌, ◌∷◌, [], List, cond, drop, length, map, take, true, IfOk, MatchOption};
 ghost use Rattle.std.specs.List.{list_any};
 ghost use Rattle.cts_chain.specs.Shapes.{IsChain, writers};
 ghost use Rattle.cts_chain.specs.Writing.{chain_spelling};
 ghost use Rattle.cts_entry.specs.declared.entry.Entry.{Entry as EntryData};
 ghost use Rattle.cts_entry.specs.Histories.{is_packet};
 ghost use Rattle.cts_spell.specs.Spellings.{heading_of};
-ghost use Rattle.cts_table.specs.Keeping.{AllOfSite, IsOfSite};
+ghost use Rattle.cts_table.specs.Keeping.{IsOfSite};
 ghost use Rattle.cts_told.specs.Routing.{is_for, queue};
 ghost use Rattle.cts_connection.specs.Connections.{HoldsNext};
 ghost use Rattle.cts_connection.specs.Routings.{is_routed, site_routing};
@@ -22,20 +22,18 @@ use cts_proto::EncodeFault;
 use cts_table::Hall;
 use std::alloc::Global;
 
-/// How many of these entries are for the peer of a line.
-pub(crate) fn queued(site: &Site, by: u32, entries: &[Entry]) -> usize
-    ensures { result ≡ length (queue (site_routing site.now) by entries.now) }
+/// How many of the entries from a place on are for the peer of a line.
+pub(crate) fn queued(hall: &Hall, by: u32, place: usize) -> u64
+    ensures { result ≡ length (queue (site_routing hall.now.basis.site) by (drop place hall.now.entries)) }
 {
     let mut count = 0;
-    let mut left = entries;
-    'left: while let Some((entry, after)) = left.split_first() {
-        count += one_if(is_for(site, by, entry));
-        left = after;
+    for n in place as u64..hall.count() {
+        count += one_if(is_for(hall.site(), by, hall.lend(n)));
     }
     count
 }
 
-fn one_if(test: bool) -> usize
+fn one_if(test: bool) -> u64
     ensures { result ≡ cond test 1 0 }
 {
     if test { 1 } else { 0 }
@@ -63,49 +61,48 @@ fn first_of(ahead: u64, count: u64) -> Option<usize>
     Some(count as usize)
 }
 
-/// Appends the spellings of what of these entries is for the peer of a line, in order, and says how many were refused: these are
-/// passed over.
+/// Appends the spellings of what is for the peer of a line among the next so many entries from a place on, in order, and says how many
+/// were refused: these are passed over.
 pub(crate) fn put_queue<C: Framer>(
     alloc: Global,
-    site: &Site,
+    hall: &Hall,
     by: u32,
     chain: &C,
-    entries: &[Entry],
+    place: usize,
+    next: usize,
     out: &mut Vec<u8>,
 ) -> Result<usize, Memory>
     requires chain { IsChain (C.shape chain.now) }
-    requires of_site { (before : List EntryData) × AllOfSite site.now before entries.now }
-    ensures ok { IfOk result (λ count. Puts site.now (writers (C.shape chain.now)) by entries.now out.old.items out.new.items count) }
-    ensures few { IfOk result (λ count. count ≤ length entries.now) }
+    requires within { next ≤ length (drop place hall.now.entries) }
+    ensures ok { IfOk result (λ count. Puts hall.now.basis.site (writers (C.shape chain.now)) by (take next (drop place hall.now.entries)) out.old.items out.new.items count) }
+    ensures few { IfOk result (λ count. count ≤ next) }
 {
+    hall.is_kept();
     let mut refused = 0;
-    let mut left = entries;
-    'left: while let Some((entry, after)) = left.split_first() {
-        refused += put_entry(alloc, site, by, chain, entry, out)?;
-        left = after;
+    for n in place..place + next {
+        refused += put_entry(alloc, hall.site(), by, chain, hall.lend(n as u64), out)?;
     }
     Ok(refused)
 }
 
-/// The spellings of what of these entries is for the peer of a line, in order; none where one is refused.
+/// The spellings of what is for the peer of a line among the entries from a place on, in order; none where one is refused.
 pub(crate) fn spell_queue<C: Framer>(
     alloc: Global,
-    site: &Site,
+    hall: &Hall,
     by: u32,
     chain: &C,
-    entries: &[Entry],
+    place: usize,
 ) -> Result<Vec<Option<Bytes>>, Memory>
     requires chain { IsChain (C.shape chain.now) }
-    requires of_site { (before : List EntryData) × AllOfSite site.now before entries.now }
-    ensures { IfOk result (λ v. v.items ≡ map (spell_by site.now (writers (C.shape chain.now))) (queue (site_routing site.now) by entries.now)) }
+    ensures { IfOk result (λ v. v.items ≡ map (spell_by hall.now.basis.site (writers (C.shape chain.now))) (queue (site_routing hall.now.basis.site) by (drop place hall.now.entries))) }
 {
+    hall.is_kept();
     let mut spellings = Vec::new(alloc);
-    let mut left = entries;
-    'left: while let Some((entry, after)) = left.split_first() {
-        if is_for(site, by, entry) {
-            spellings.push(spelling(alloc, site, by, chain, entry)?)?;
+    for n in place as u64..hall.count() {
+        let entry = hall.lend(n);
+        if is_for(hall.site(), by, entry) {
+            spellings.push(spelling(alloc, hall.site(), by, chain, entry)?)?;
         }
-        left = after;
     }
     Ok(spellings)
 }

@@ -1,15 +1,11 @@
 // What the logs take of a history.
-ghost use Rattle.std.specs.Prelude.{◌≡◌, ◌+◌, ◌<◌, ◌++◌, ◌^◌, IfOk, List, OnOk, drop};
-ghost use Rattle.cts_entry.specs.declared.entry.Entry.{Entry as EntryData};
+ghost use Rattle.std.specs.Prelude.{◌≡◌, ◌+◌, ◌<◌, ◌≤◌, ◌++◌, ◌^◌, IfOk, OnOk, drop, length, take};
 ghost use Rattle.cts_entry.specs.declared.event.Effect.TheVariants.{Logged};
-ghost use Rattle.cts_entry.specs.Histories.{bytes_in};
 ghost use Rattle.cts_core.specs.Drainings.{Drains, site_commands_log, site_packets_log};
-ghost use Rattle.cts_table.specs.Keeping.{AllOfSite};
 
 use crate::fault::WorldFault;
 use cts_base::{Bytes, Memory};
-use cts_def::Site;
-use cts_entry::{Effect, Entry};
+use cts_entry::{Effect, Stands};
 use cts_laying::Batch;
 use cts_table::Hall;
 use std::alloc::Global;
@@ -28,22 +24,19 @@ pub(crate) fn drain(
     ensures drains { Drains hall.now.basis.site hall.now.entries place count result }
     ensures within { OnOk result (place + count < 2 ^ 64) }
 {
-    hall.is_kept();
-    let ahead = behind(hall.entries(), place);
-    if (ahead.len() as u64) < count {
+    if hall.count().saturating_sub(place as u64) < count {
         return Err(WorldFault::NotEnabled);
     }
-    let effect = logs_of(alloc, hall.site(), &ahead[..count as usize])?;
+    let effect = logs_of(alloc, hall, place, count)?;
     Ok(effect)
 }
 
-fn logs_of(alloc: Global, site: &Site, entries: &[Entry]) -> Result<Effect, Memory>
-    requires of_site { (before : List EntryData) × AllOfSite site.now before entries.now }
-    requires small { bytes_in entries.now < 2 ^ 32 }
-    ensures { IfOk result (λ effect. effect ≡ Logged (site_packets_log site.now entries.now) (site_commands_log site.now entries.now)) }
+fn logs_of(alloc: Global, hall: &Hall, place: usize, count: u64) -> Result<Effect, Memory>
+    requires { count ≤ length (drop place hall.now.entries) }
+    ensures { IfOk result (λ effect. effect ≡ Logged (site_packets_log hall.now.basis.site (take count (drop place hall.now.entries))) (site_commands_log hall.now.basis.site (take count (drop place hall.now.entries)))) }
 {
     let mut batch = Batch::empty(alloc);
-    put_logs(alloc, site, entries, &mut batch)?;
+    put_logs(alloc, hall, place, count, &mut batch)?;
     let Batch { tlm, cmd } = batch;
     Ok(Effect::Logged {
         tlm: Bytes::of(tlm),
@@ -51,24 +44,21 @@ fn logs_of(alloc: Global, site: &Site, entries: &[Entry]) -> Result<Effect, Memo
     })
 }
 
-// Adds what these entries give to the logs. Where no memory is found, a part of it may have been added.
-fn put_logs(alloc: Global, site: &Site, entries: &[Entry], batch: &mut Batch) -> Result<(), Memory>
-    requires of_site { (before : List EntryData) × AllOfSite site.now before entries.now }
-    requires small { bytes_in entries.now < 2 ^ 32 }
-    ensures tlm { OnOk result (batch.new.tlm.items ≡ batch.old.tlm.items ++ site_packets_log site.now entries.now) }
-    ensures cmd { OnOk result (batch.new.cmd.items ≡ batch.old.cmd.items ++ site_commands_log site.now entries.now) }
+// Adds what the next so many entries after a place give to the logs. Where no memory is found, a part of it may have been added.
+fn put_logs(
+    alloc: Global,
+    hall: &Hall,
+    place: usize,
+    count: u64,
+    batch: &mut Batch,
+) -> Result<(), Memory>
+    requires { count ≤ length (drop place hall.now.entries) }
+    ensures tlm { OnOk result (batch.new.tlm.items ≡ batch.old.tlm.items ++ site_packets_log hall.now.basis.site (take count (drop place hall.now.entries))) }
+    ensures cmd { OnOk result (batch.new.cmd.items ≡ batch.old.cmd.items ++ site_commands_log hall.now.basis.site (take count (drop place hall.now.entries))) }
 {
-    let mut left = entries;
-    'left: while let Some((entry, after)) = left.split_first() {
-        batch.add(alloc, site, entry)?;
-        left = after;
+    hall.is_kept();
+    for n in place as u64..place as u64 + count {
+        batch.add(alloc, hall.site(), hall.lend(n))?;
     }
     Ok(())
-}
-
-// The entries from a place on.
-fn behind(history: &[Entry], place: usize) -> &[Entry]
-    ensures { result.now ≡ drop place history.now }
-{
-    &history[place.min(history.len())..]
 }

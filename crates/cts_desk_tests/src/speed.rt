@@ -8,7 +8,7 @@ use crate::over::{desk_over, hall_of};
 use cts_api::reply;
 use cts_base::Bytes;
 use cts_def::Time;
-use cts_entry::{Entry, What};
+use cts_entry::{Stands, What};
 use cts_http::{HttpStep, Reader, response};
 use cts_outside::{Aim, Dialed, Dialer, Link, PutFailed, Taken};
 use cts_table::Hall;
@@ -134,15 +134,20 @@ fn tlm_pipelined(rt: HostRuntime) -> Result<(), Fail> {
     calls(&rt, rt.alloc(), TLM, AT_ONCE)
 }
 
-fn is_over(entries: &[Entry], by: u32) -> bool
-    ensures { result ≡ has_ended by entries.now }
+fn is_over(hall: &Hall, by: u32) -> bool
+    ensures { result ≡ has_ended by hall.now.entries }
 {
-    entries.iter().any(|entry| entry.by == by && matches!(entry.what, What::Ended))
+    let mut over = false;
+    for n in 0..hall.count() {
+        let entry = hall.lend(n);
+        over |= entry.by == by && matches!(entry.what, What::Ended);
+    }
+    over
 }
 
 // The length of what the first desk replies.
 fn replied(alloc: Global, hall: &mut Hall, body: &[u8]) -> Result<u64, Fail> {
-    if hall.site().desks == 0 || is_over(hall.entries(), 24) {
+    if hall.site().desks == 0 || is_over(hall, 24) {
         return Err(Fail::new("no desk"));
     }
     let time = Time {

@@ -76,7 +76,7 @@ pub(crate) fn see<C: Framer>(
     let spellings = connection.spellings(alloc, hall, by)?;
     Ok(Sight {
         spellings,
-        place: hall.entries().len(),
+        place: hall.count() as usize,
         stop: hall.stopped(),
     })
 }

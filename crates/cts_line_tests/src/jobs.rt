@@ -141,7 +141,7 @@ fn told_of_end<R: Wait>(
         why,
     } = end;
     let held = turn.enter(rt, pass);
-    let told = said(alloc, held.state().entries(), by);
+    let told = said(alloc, held.state(), by);
     turn.leave(held);
     let mut text = told?;
     text.push_str(&format!(in alloc; "{:?}", (why, connections))?)?;

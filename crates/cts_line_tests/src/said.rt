@@ -1,15 +1,17 @@
 // What is told of lines: their entries in short, and what was put to their peers.
 use cts_base::Memory;
-use cts_entry::{Entry, What};
+use cts_entry::{Stands, What};
 use cts_outside::MemDialer;
+use cts_table::Hall;
 use std::alloc::Global;
 
 /// Each entry of a maker in short: O for Opened, P for a packet and its length, C for Closed and why, the bytes that the first stage held, and
 /// how many packets were not posted and how many entries for the peer not put; K for a command and its interface, number and bytes, U for an Unrouted entry,
 /// why it is one and its bytes; S for Stop and E for Ended.
-pub fn said(alloc: Global, entries: &[Entry], by: u32) -> Result<String, Memory> {
+pub fn said(alloc: Global, hall: &Hall, by: u32) -> Result<String, Memory> {
     let mut text = String::new(alloc);
-    for entry in entries {
+    for n in 0..hall.count() {
+        let entry = hall.lend(n);
         if entry.by == by {
             tell(&mut text, &word(alloc, &entry.what)?)?;
         }

@@ -5,7 +5,7 @@ use cts_base::Bytes;
 use cts_chain::Chain;
 use cts_core::{Framer, Supplier, World};
 use cts_def::{Site, Time};
-use cts_entry::{Effect, Entry, Event, Why};
+use cts_entry::{Effect, Entry, Event, Stands, Why};
 use cts_proto::Shelf;
 use cts_rows::{Answers, as_text, bytes_of, cut, debug_of, readable_of, rows_end_so};
 use cts_script::entry_lines;
@@ -114,8 +114,8 @@ pub fn tell_lines<C: Framer>(
     out: &mut String,
 ) -> Result<(), Fail> {
     let hall = world.hall();
-    for (n, entry) in hall.entries().iter().enumerate() {
-        tell_line(alloc, hall.site(), n as u64, entry, out)?;
+    for n in 0..hall.count() {
+        tell_line(alloc, hall.site(), n, hall.lend(n), out)?;
     }
     Ok(())
 }

@@ -7,6 +7,7 @@ use crate::progress::Progress;
 use crate::sight::Sight;
 use cts_base::Memory;
 use cts_def::{Site, Time};
+use cts_entry::Stands;
 use cts_laying::Batch;
 use cts_table::Hall;
 use std::alloc::Global;
@@ -68,7 +69,7 @@ fn lay_out(
     let mut progress = from;
     let mut batch = Batch::empty(alloc);
     'entries: while progress.place < end {
-        let entry = hall.entry(progress.place);
+        let entry = hall.lend(progress.place);
         batch.add(alloc, site, entry)?;
         progress.follow(entry);
     }

@@ -7,7 +7,7 @@ ghost use Rattle.cts_scribe.specs.Logs.{logged_as};
 ghost use Rattle.cts_table.specs.Keeping.{IsOfSite};
 
 use cts_def::{Ident, Packet, Site, Time};
-use cts_entry::{Entry, What};
+use cts_entry::{Entry, Stands, What};
 use cts_table::Hall;
 
 // A name has at most 255 bytes.
@@ -54,7 +54,7 @@ pub(crate) fn recall_entries(hall: &Hall)
     hall.is_kept();
     let mut place = 0;
     'entries: while place < hall.count() {
-        recall_entry(hall.site(), hall.entry(place));
+        recall_entry(hall.site(), hall.lend(place));
         place += 1;
     }
 }

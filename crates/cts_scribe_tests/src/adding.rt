@@ -10,7 +10,7 @@ ghost use Rattle.cts_table.specs.Routes.{route_of};
 use crate::words::{closed, entries_of};
 use cts_connection::{is_interface, is_line, is_slot};
 use cts_def::{FIRST_DESK, Ident, SCRIBE, SERVER, Site, Time};
-use cts_entry::{Entry, What, Why, bytes_for, entries_for};
+use cts_entry::{Entry, Stands, What, Why, bytes_for, entries_for};
 use cts_table::Hall;
 use std::alloc::Global;
 use std::sync::Arc;
@@ -23,10 +23,14 @@ fn ends(entry: &Entry, by: u32) -> bool
     entry.by == by && matches!(entry.what, What::Ended)
 }
 
-fn is_over(entries: &[Entry], by: u32) -> bool
-    ensures { result ≡ has_ended by entries.now }
+fn is_over(hall: &Hall, by: u32) -> bool
+    ensures { result ≡ has_ended by hall.now.entries }
 {
-    entries.iter().any(|entry| ends(entry, by))
+    let mut over = false;
+    for n in 0..hall.count() {
+        over |= ends(hall.lend(n), by);
+    }
+    over
 }
 
 fn is_desk(site: &Site, by: u32) -> bool
@@ -113,7 +117,7 @@ fn may_add(hall: &Hall, entry: &Entry) -> bool
     ensures allowed { result ≡ true → IsAllowed (rules_of hall.now.basis) hall.now.entries entry.now }
     ensures of_site { result ≡ true → IsOfSite hall.now.basis.site hall.now.entries entry.now }
 {
-    !is_over(hall.entries(), entry.by)
+    !is_over(hall, entry.by)
         && is_maker(hall.site(), entry.by)
         && may_say(hall, entry.by, &entry.what)
 }

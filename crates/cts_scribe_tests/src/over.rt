@@ -6,7 +6,7 @@ ghost use Rattle.cts_scribe.specs.Vaults.{AreBlank};
 
 use crate::beside::Beside;
 use cts_def::{SCRIBE, Site};
-use cts_entry::{Entry, What};
+use cts_entry::{Entry, Stands, What};
 use cts_log::digest_of;
 use cts_outside::{MemVault, Vault};
 use cts_rows::debug_of;
@@ -17,17 +17,22 @@ use std::alloc::Global;
 use std::sync::Wait;
 use std::test::Fail;
 
-/// Whether a maker has entries.
-pub fn has_made(entries: &[Entry], by: u32) -> bool
-    ensures { result ≡ list_any (λ (e : EntryData). e.by == by) entries.now }
+// Whether a maker has entries.
+fn has_made(hall: &Hall, by: u32) -> bool
+    ensures { result ≡ list_any (λ (e : EntryData). e.by == by) hall.now.entries }
 {
-    entries.iter().any(|entry| entry.by == by)
+    let mut made = false;
+    for n in 0..hall.count() {
+        made |= hall.lend(n).by == by;
+    }
+    made
 }
 
 /// The entries of the scribe, each a letter.
 pub fn own(alloc: Global, hall: &Hall) -> Result<String, Fail> {
     let mut text = String::new(alloc);
-    for entry in hall.entries() {
+    for n in 0..hall.count() {
+        let entry = hall.lend(n);
         if entry.by == SCRIBE {
             text.push_str(letter(&entry.what))?;
         }
@@ -55,7 +60,7 @@ pub fn run_scribe<R: Wait, V: Vault>(
     requires site { site.now ≡ hall.basis.site }
     requires blank { AreBlank (V.seen vault.old).told }
 {
-    if has_made(hall.entries(), SCRIBE) {
+    if has_made(&hall, SCRIBE) {
         return Err(Fail::new("the scribe has entries"));
     }
     let (turn, pass) = Turn::new(alloc, hall)?;
@@ -69,7 +74,7 @@ pub fn run_scribe<R: Wait, V: Vault>(
 
 /// Cancels a scribe: why it ended, its cursor, and its entries.
 pub fn cancel_scribe<R: Wait>(rt: &R, alloc: Global, hall: Hall) -> Result<String, Fail> {
-    if has_made(hall.entries(), SCRIBE) {
+    if has_made(&hall, SCRIBE) {
         return Err(Fail::new("the scribe has entries"));
     }
     let (turn, pass) = Turn::new(alloc, hall)?;
@@ -91,7 +96,7 @@ pub fn run_beside<R: Wait>(
 ) -> Result<(String, MemVault), Fail>
     requires site { site.now ≡ hall.basis.site }
 {
-    if has_made(hall.entries(), SCRIBE) {
+    if has_made(&hall, SCRIBE) {
         return Err(Fail::new("the scribe has entries"));
     }
     let (turn, mut pass) = Turn::new(alloc, hall)?;

@@ -31,14 +31,13 @@ use Rattle.cts_serve.specs.Putting.{PutsText}
 use Rattle.cts_serve.specs.Rehearsal.{Halts, IsFar, IsSummary, Rehearses, is_command, is_packet, is_refusal, ones, refusals_in, rehearsal_acts, rehearsal_answer, rehearsal_name, rehearsal_text}
 use Rattle.cts_rehearsal.specs.Summaries.{summary_text}
 use Rattle.cts_serve.specs.Replay.{event_halt, not_enabled}
-use Rattle.cts_serve.specs.Story.{Drains, Goes, Moves, Stands, StoryData, site_told}
+use Rattle.cts_serve.specs.Story.{Drains, Moves, Stands, StoryData, site_told}
 use Rattle.cts_serve.specs.declared.halt.Halt.{Halt}
 use Rattle.cts_serve.specs.declared.halt.Halt.TheVariants as halt
 use Rattle.cts_serve.specs.declared.putting.Undone.{Undone}
 use Rattle.cts_table.specs.declared.basis.Basis.{Basis}
 use Rattle.cts_watch.specs.Events.{events}
 use Rattle.cts_serve.proofs.ActLemmas.{all_of, put_done}
-use Rattle.cts_serve.proofs.StoryLemmas.{goes_of}
 
 -- ---- how many events there are
 
@@ -72,7 +71,7 @@ pub begun : (site : SiteData) (n : ℕ) (story : StoryData) → n < 2 ^ 32 → S
 begun site n story small h = record {
   state = opening;
   prior = [];
-  goes = goes_of site opening story h;
+  goes = h;
   history = refl;
   runs = λ dids ending r. r;
   refusals = refl;

@@ -1,4 +1,4 @@
--- What a story tells of an event, from what the world and the follower say.
+-- What a story tells of an event, from what the world says.
 use Rattle.std.proofs.Common.{◌≡◌, ℕ, ◌-◌, ◌≤◌, nat_le, true, ◌++◌, List, [], ◌∷◌, length, take, drop, filter, None, Result, Ok, Err, refl, sym, ◌∙◌, ap, subst, arith, length-append, length-drop}
 use Rattle.std.proofs.Math.Seq.{drop-append_seam, take-append_seam, take-length}
 use Rattle.std.proofs.lemmas.Bool.Decides.{nat_tests}
@@ -16,11 +16,10 @@ use Rattle.cts_entry.specs.declared.event.Effect.TheVariants.{Logged}
 use Rattle.cts_entry.specs.declared.event.Event.{Event}
 use Rattle.cts_entry.specs.declared.event.Event.TheVariants.{DrainLog}
 use Rattle.cts_script.specs.Effects.{effect_line}
-use Rattle.cts_serve.specs.Story.{Drains, Goes, Moves, Stands, StoryData, Tells}
+use Rattle.cts_serve.specs.Story.{Drains, Moves, Stands, StoryData, Tells}
 use Rattle.cts_serve.specs.Transcript.{event_text, lines_of}
 use Rattle.cts_table.specs.declared.basis.Basis.{Basis}
 use Rattle.cts_watch.specs.Events.{is_from}
-use Rattle.cts_watch.specs.Following.{FollowerData, Follows}
 use Rattle.cts_watch.specs.declared.types.LimitsEvent.{LimitsEvent as Change}
 
 -- the site of the basis that a story stands on is its site
@@ -34,13 +33,9 @@ all_from (c ∷ changes) =
     let below : nat_le 0 c.at ≡ true = grind (arith, nat_tests) in
     rw below (ap (λ (t : List Change). c ∷ t) (all_from changes))
 
--- a story whose history is followed goes on
-pub goes_of : (site : SiteData) (s : State) (story : StoryData) → Stands site s story → Goes site s story
-goes_of site s story h = record { represents = h.represents; going = h.going; passed = h.passed }
-
 -- an event was done without its text, or not
 pub moved : (site : SiteData) (s : State) (event : Event) (old : StoryData) (world : WorldData) (result : Result Effect WorldFault)
-    → Steps (basis_of site) s event (held_in old.world) result (held_in world) → LogPasses s event result world → world.ended ≡ lasting result → Moves site s event result (record { world = world; follower = old.follower })
+    → Steps (basis_of site) s event (held_in old.world) result (held_in world) → LogPasses s event result world → world.ended ≡ lasting result → Moves site s event result (record { world = world })
 moved site s event old world (Ok effect) k p e = (k.0, k.1, k.2, record { represents = k.3; going = e; passed = p })
 moved site s event old world (Err fault.NotEnabled) k p e = k.0
 moved site s event old world (Err (fault.Full entries bytes)) k p e = (k.0, k.1, k.2)
@@ -48,8 +43,8 @@ moved site s event old world (Err fault.Memory) k p e = tt
 
 -- nothing was done
 pub refused_tells : (site : SiteData) (s : State) (event : Event) (old : StoryData) (world : WorldData) (why : WorldFault)
-    → Stands site s old → Steps (basis_of site) s event (held_in old.world) (Err why) (held_in world) → LogPasses s event (Err why) world → world.ended ≡ lasting (Err why) → Tells site s event (Err why) (record { world = world; follower = old.follower })
-refused_tells site s event old world fault.NotEnabled h k p e = (k.0, record { represents = k.2; going = e; passed = p; follows = h.follows })
+    → Stands site s old → Steps (basis_of site) s event (held_in old.world) (Err why) (held_in world) → LogPasses s event (Err why) world → world.ended ≡ lasting (Err why) → Tells site s event (Err why) (record { world = world })
+refused_tells site s event old world fault.NotEnabled h k p e = (k.0, record { represents = k.2; going = e; passed = p })
 refused_tells site s event old world (fault.Full entries bytes) h k p e = (k.0, k.1, k.2)
 refused_tells site s event old world fault.Memory h k p e = tt
 
@@ -71,13 +66,6 @@ module _ (site : SiteData) (s : State) (event : Event) (did : Did) (old : StoryD
   on_site : basis.site ≡ site
   on_site = ap (λ (b : Basis). b.site) (on ∙ k.basis)
 
-  pub within_new : n ≤ length entries
-  within_new = omega (arith, count_is, ap length all_is, length-append s.history did.entries)
-
-  -- what followed the history before follows the front
-  pub follows_front : Follows basis.site (take n entries) old.follower
-  follows_front = subst (λ (l : List Entry). Follows basis.site l old.follower) (sym front_is) (subst (λ (t : SiteData). Follows t s.history old.follower) (sym on_site) h.follows)
-
   text_is : (effect : Effect) → effect ≡ did.effect → lines_of basis.site (take n entries) (drop n entries) ++ effect_line basis.site effect ≡ event_text site s.history did
   text_is effect gives =
       ap (λ (t : List Entry). lines_of basis.site t (drop n entries) ++ effect_line basis.site effect) front_is
@@ -85,26 +73,18 @@ module _ (site : SiteData) (s : State) (event : Event) (did : Did) (old : StoryD
       ∙ ap (λ (t : SiteData). lines_of t s.history did.entries ++ effect_line t effect) on_site
       ∙ ap (λ (f : Effect). lines_of site s.history did.entries ++ effect_line site f) gives
 
-  stands_on : (follower : FollowerData) → world.ended ≡ None → HasPassed world (after s event did) → Follows basis.site entries follower → Stands site (after s event did) (record { world = world; follower = follower })
-  stands_on follower e p f = record {
-    represents = k;
-    going = e;
-    passed = p;
-    follows = subst (λ (l : List Entry). Follows site l follower) all_is (subst (λ (t : SiteData). Follows t entries follower) on_site f);
-  }
-
 -- its text is told, and what it gave besides
-pub done_tells : (site : SiteData) (s : State) (event : Event) (old : StoryData) (world : WorldData) (follower : FollowerData) (effect : Effect)
+pub done_tells : (site : SiteData) (s : State) (event : Event) (old : StoryData) (world : WorldData) (effect : Effect)
     → Stands site s old → Steps (basis_of site) s event (held_in old.world) (Ok effect) (held_in world) → LogPasses s event (Ok effect) world → world.ended ≡ lasting (Ok effect)
     → (n : ℕ) (entries : List Entry) (basis : Basis) (text : List ℕ) → n ≡ length (held_in old.world).history → entries ≡ (held_in world).history → basis ≡ (held_in world).basis
-    → text ≡ lines_of basis.site (take n entries) (drop n entries) ++ effect_line basis.site effect → Follows basis.site entries follower
-    → Tells site s event (Ok (text, effect)) (record { world = world; follower = follower })
-done_tells site s event old world follower effect h k p e n entries basis text number there on t f = (
+    → text ≡ lines_of basis.site (take n entries) (drop n entries) ++ effect_line basis.site effect
+    → Tells site s event (Ok (text, effect)) (record { world = world })
+done_tells site s event old world effect h k p e n entries basis text number there on t = (
   k.0,
   k.1,
   t ∙ text_is site s event k.0 old world h k.3 n entries basis number there on effect k.2,
   k.2,
-  stands_on site s event k.0 old world h k.3 n entries basis number there on follower e p f,
+  record { represents = k.3; going = e; passed = p },
 )
 
 -- ---- the rest for the logs

@@ -19,7 +19,7 @@ use Rattle.cts_rehearsal.specs.declared.tally.Tally.{Tally}
 use Rattle.cts_rehearsal.specs.Walks.{Walks}
 use Rattle.cts_serve.specs.Acts.{Act, DoesAll, Outside, puts}
 use Rattle.cts_serve.specs.Replay.{not_enabled}
-use Rattle.cts_serve.specs.Story.{Goes, StoryData}
+use Rattle.cts_serve.specs.Story.{Stands, StoryData}
 use Rattle.cts_serve.specs.declared.halt.Halt.{Halt}
 use Rattle.cts_serve.specs.declared.halt.Halt.TheVariants as halt
 use Rattle.cts_watch.specs.Events.{events}
@@ -129,7 +129,7 @@ pub record IsRehearsal (site : SiteData) (n : ℕ) (acts : List Act) (due : Resu
 pub record IsFar (site : SiteData) (n : ℕ) (left : List Event) (refused : ℕ) (story : StoryData) : Type 0 where
   pub state : State
   pub prior : List Did
-  pub goes : Goes site state story
+  pub goes : Stands site state story
   pub history : state.history ≡ history_of prior
   pub runs : (dids : List Did) (ending : Ending) → Runs (site_environment site) state left dids ending → Runs (site_environment site) opening (generated n) (prior ++ dids) ending
   pub refusals : refused ≡ refusals_in prior

@@ -1,4 +1,4 @@
--- A story: a world and what follows its history, and what it tells of an event.
+-- A story: a world, and what it tells of an event.
 use Rattle.std.specs.Prelude.{◌≡◌, ℕ, List, Result, Ok, Err}
 use Rattle.cts_core.specs.Endings.{GoesOn, HasPassed, WorldData, held_in}
 use Rattle.cts_core.specs.Environments.{site_environment}
@@ -13,32 +13,23 @@ use Rattle.cts_entry.specs.declared.event.Effect.{Effect}
 use Rattle.cts_entry.specs.declared.event.Effect.TheVariants.{Logged}
 use Rattle.cts_entry.specs.declared.event.Event.{Event}
 use Rattle.cts_serve.specs.Transcript.{event_text}
-use Rattle.cts_watch.specs.Following.{FollowerData, Follows}
 
 pub record StoryData : Type 0 where
   pub world : WorldData
-  pub follower : FollowerData
 
 -- the site of a story
 abbrev pub site_told : StoryData → SiteData
 site_told story = (held_in story.world).basis.site
 
--- The world represents this state and has not ended, its logs have passed as many entries as the state's, and its whole history is followed.
+-- The world represents this state and has not ended, and its logs have passed as many entries as the state's.
 pub record Stands (site : SiteData) (s : State) (story : StoryData) : Type 0 where
-  pub represents : Represents site (held_in story.world) s
-  pub going : GoesOn story.world
-  pub passed : HasPassed story.world s
-  pub follows : Follows site s.history story.follower
-
--- The same of the world alone: what follows its history may stay behind.
-pub record Goes (site : SiteData) (s : State) (story : StoryData) : Type 0 where
   pub represents : Represents site (held_in story.world) s
   pub going : GoesOn story.world
   pub passed : HasPassed story.world s
 
 -- What an event gives that is done without its text, or why it is not done.
 abbrev pub Moves : SiteData → State → Event → Result Effect WorldFault → StoryData → Type 0
-Moves site s event (Ok effect) story = (did : Did) × Does (site_environment site) s event did × (effect ≡ did.effect) × Goes site (after s event did) story
+Moves site s event (Ok effect) story = (did : Did) × Does (site_environment site) s event did × (effect ≡ did.effect) × Stands site (after s event did) story
 Moves site s event (Err RefusedEvent) story = Refuses (site_environment site) s event NotEnabled
 Moves site s event (Err (Full entries bytes)) story = Refuses (site_environment site) s event HistoryFull × (entries ≡ entries_in s.history) × (bytes ≡ bytes_in s.history)
 Moves site s event (Err Memory) story = Unit {0}

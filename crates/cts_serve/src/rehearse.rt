@@ -149,8 +149,8 @@ fn told_summary<C: Framer>(
 {
     let entries = story.count();
     let events = story.limits_events(alloc)?;
-    let packets = packets_in(story.history());
-    let commands = commands_in(story.history());
+    let packets = packets_in(story.hall());
+    let commands = commands_in(story.hall());
     match story.drain() {
         Ok(Effect::Logged { tlm, .. }) => {
             let tally = Tally {

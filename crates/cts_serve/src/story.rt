@@ -1,22 +1,21 @@
-// A story: a world, and what follows its limits states. Events go in, and the text of what each did comes out.
+// A story: a world. Events go in, and the text of what each did comes out.
 pub mod text;
 
 use cts_base::{Bytes, Memory};
 use cts_chain::ChainFault;
 use cts_core::{Framer, Supplier, World, WorldFault};
 use cts_def::Site;
-use cts_entry::{Effect, Entry, Event};
-use cts_watch::Follower;
+use cts_entry::{Effect, Event};
+use cts_table::Hall;
 use std::alloc::Global;
 use std::marker::Model;
 use std::sync::Arc;
-use text::{changes_from, event_text};
+use text::event_text;
 
-/// The world of a site, and what follows its history.
+/// The world of a site.
 #[derive(Drop)]
 pub struct Story<C: Framer> {
     world: World<C>,
-    follower: Follower,
 }
 
 impl<C: Framer> Model for Story<C> {
@@ -24,20 +23,19 @@ impl<C: Framer> Model for Story<C> {
 
     ghost Value = { StoryData };
 
-    ghost view = { λ s. record { world = s.world; follower = s.follower } };
+    ghost view = { λ s. record { world = s.world } };
 }
 
 impl<C: Framer> Story<C> {
-    ghost use Rattle.std.specs.Prelude.{◌≡◌, [], length, true, IfErr, IfOk, None, OnErr, OnOk};
+    ghost use Rattle.std.specs.Prelude.{◌≡◌, length, true, IfErr, IfOk, None, OnErr, OnOk};
     ghost use Rattle.cts_chain.specs.Builds.{FaultIs, Taken};
     ghost use Rattle.cts_core.specs.LineChains.{line_uses};
     ghost use Rattle.cts_core.specs.Endings.{held_in};
     ghost use Rattle.cts_core.specs.States.{State, opening};
     ghost use Rattle.cts_def.specs.Sites.{IsSoundSite, SiteData};
     ghost use Rattle.cts_serve.specs.Start.{short_kind};
-    ghost use Rattle.cts_serve.specs.Story.{Drains, Goes, Moves, Stands, Tells, site_told};
+    ghost use Rattle.cts_serve.specs.Story.{Drains, Moves, Stands, Tells, site_told};
     ghost use Rattle.cts_watch.specs.Events.{events};
-    ghost use Rattle.cts_watch.specs.Following.{Follows};
 
     /// A story of a site before anything has happened. The boxes of its chains are taken from the shelf.
     ///
@@ -59,21 +57,16 @@ impl<C: Framer> Story<C> {
         if let Some(fault) = World::<C>::shortage(&site, shelf) {
             return Err(fault);
         }
-        match Follower::begin(alloc, &site) {
-            Ok(follower) => Story::over(alloc, site, follower, shelf),
-            Err(Memory) => Err(ChainFault::Memory),
-        }
+        Story::over(alloc, site, shelf)
     }
 
-    // The same with what follows a history in which nothing has happened. No kind is short.
+    // The same where no kind is short.
     fn over<B: Supplier<C>>(
         alloc: Global,
         site: Site,
-        follower: Follower,
         shelf: &mut B,
     ) -> Result<Story<C>, ChainFault>
-        requires follows { Follows site [] follower }
-        requires stocked { short_kind (B.stock shelf.old) site ≡ None }
+        requires { short_kind (B.stock shelf.old) site ≡ None }
         ensures stands { IfOk result (λ story. Stands site opening story) }
         ensures taken { OnOk result (Taken (B.stock shelf.old) (line_uses site) (B.stock shelf.new)) }
         ensures fault { IfErr result (λ e. FaultIs (B.stock shelf.old) (line_uses site) e) }
@@ -81,7 +74,7 @@ impl<C: Framer> Story<C> {
     {
         match Arc::new(alloc, site) {
             Ok(site) => match World::new(alloc, site, shelf) {
-                Ok(world) => Ok(Story { world, follower }),
+                Ok(world) => Ok(Story { world }),
                 Err(why) => Err(why),
             },
             Err(_) => Err(ChainFault::Memory),
@@ -102,7 +95,7 @@ impl<C: Framer> Story<C> {
     pub fn count(&self) -> usize
         ensures { result ≡ length (held_in self.now.world).history }
     {
-        self.world.hall().entries().len()
+        self.world.hall().count() as usize
     }
 
     /// Does an event, and tells its text: the lines of its entries, each with its limits events after it, and then that of what the
@@ -115,11 +108,11 @@ impl<C: Framer> Story<C> {
         requires { (site : SiteData) × (s : State) × Stands site s self.old }
         ensures { (site : SiteData) (s : State) → Stands site s self.old → Tells site s event.now result self.new }
     {
-        let before = self.world.hall().entries().len();
+        let before = self.world.hall().count();
         match self.world.step(event) {
             Ok(effect) => {
                 let hall = self.world.hall();
-                let told = event_text(alloc, hall, &mut self.follower, before, &effect);
+                let told = event_text(alloc, hall, before, &effect);
                 match told {
                     Ok(text) => Ok((Bytes::of(text), effect)),
                     Err(Memory) => {
@@ -132,33 +125,30 @@ impl<C: Framer> Story<C> {
         }
     }
 
-    /// Does an event without its text, and gives what it gives besides. What follows the history stays behind, so that no text can be
-    /// told after it.
+    /// Does an event without its text, and gives what it gives besides.
     ///
     /// # Errors
     ///
     /// As `step` of `cts_core`.
     pub fn step(&mut self, event: &Event) -> Result<Effect, WorldFault>
-        requires { (site : SiteData) × (s : State) × Goes site s self.old }
-        ensures { (site : SiteData) (s : State) → Goes site s self.old → Moves site s event.now result self.new }
+        requires { (site : SiteData) × (s : State) × Stands site s self.old }
+        ensures { (site : SiteData) (s : State) → Stands site s self.old → Moves site s event.now result self.new }
     {
         self.world.step(event)
     }
 
-    /// Its history.
-    pub fn history(&self) -> &[Entry]
-        ensures { result.now ≡ (held_in self.now.world).history }
+    /// The hall of its history.
+    pub fn hall(&self) -> &Hall
+        ensures { result.now.entries ≡ (held_in self.now.world).history }
     {
-        self.world.hall().entries()
+        self.world.hall()
     }
 
     /// How many limits events the entries of its history have.
     pub fn limits_events(&self, alloc: Global) -> Result<usize, Memory>
         ensures { IfOk result (λ n. n ≡ length (events (site_told self.now) (held_in self.now.world).history)) }
     {
-        let hall = self.world.hall();
-        let mut follower = Follower::begin(alloc, hall.site())?;
-        let changes = changes_from(alloc, hall, &mut follower, 0)?;
+        let changes = self.world.hall().events(alloc, 0)?;
         Ok(changes.as_slice().len())
     }
 
@@ -168,10 +158,10 @@ impl<C: Framer> Story<C> {
     ///
     /// `Memory` alone, since this is always enabled and appends nothing.
     pub fn drain(&mut self) -> Result<Effect, WorldFault>
-        requires { (site : SiteData) × (s : State) × Goes site s self.old }
-        ensures { (site : SiteData) (s : State) → Goes site s self.old → Drains site s result }
+        requires { (site : SiteData) × (s : State) × Stands site s self.old }
+        ensures { (site : SiteData) (s : State) → Stands site s self.old → Drains site s result }
     {
-        let count = self.world.hall().entries().len() as u64;
+        let count = self.world.hall().count();
         let rest = count.saturating_sub(self.world.log_cursor());
         let event = Event::DrainLog(rest);
         let done = self.world.step(&event);

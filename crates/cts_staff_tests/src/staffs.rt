@@ -1,7 +1,7 @@
 // Staffs of two toys on both crews: what they leave in the history, and what their notes say.
 use crate::crews::{employ_two, empty_hall};
 use crate::{Toy, ToyNote};
-use cts_entry::{Entry, What};
+use cts_entry::{Entry, Stands, What};
 use cts_outside::{ThreadCrew, TurnCrew};
 use cts_rows::{debug_of, field, number, same};
 use cts_table::Hall;
@@ -59,8 +59,8 @@ fn push_entry(alloc: Global, text: &mut String, entry: &Entry) -> Result<(), Fai
 
 fn entries_of(alloc: Global, hall: &Hall) -> Result<String, Fail> {
     let mut text = String::new(alloc);
-    for entry in hall.entries() {
-        push_entry(alloc, &mut text, entry)?;
+    for n in 0..hall.count() {
+        push_entry(alloc, &mut text, hall.lend(n))?;
     }
     Ok(text)
 }

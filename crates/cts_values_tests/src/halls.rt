@@ -1,13 +1,17 @@
 // A hall over a site that was read: what is appended to it, looked up in it, and when it is full.
+ghost use Rattle.std.specs.Prelude.{◌≡◌, ◌<◌};
+
 use crate::read::site_of;
 use cts_base::Bytes;
-use cts_conv::ValueKind;
+use cts_conv::{Value, ValueKind};
 use cts_def::{Ident, Loss, SERVER, Site, Time};
 use cts_entry::Why;
 use cts_rows::{Answers, bytes_of, debug_of, field, number, rows_end_so, same};
-use cts_table::{Hall, HallFault};
+use cts_table::{Hall, HallFault, Lookup, Steps};
 use std::alloc::Global;
+use std::marker::Brand;
 use std::sync::Arc;
+use std::sync::ledger::{Blank, Ledger};
 use std::test::Fail;
 
 const DEFINITIONS: &str = "\
@@ -111,25 +115,72 @@ fn ident_of(text: &str) -> Result<Ident, Fail> {
 /// Packets A of two and of four bytes, and two that nothing defines.
 const RECEIVED: &str = "0:0105 0:01050607 ?:02 ?:";
 
+/// The raw value of an item by the names of a row, and a count of looks of its own.
+fn looked_up(alloc: Global, hall: &Hall, asked: &str) -> Result<Value, Lookup> {
+    counted::<Brand>(alloc, hall, asked, Blank::new(1))
+}
+
+fn counted<L: Ledger>(
+    alloc: Global,
+    hall: &Hall,
+    asked: &str,
+    blank: Blank,
+) -> Result<Value, Lookup>
+    requires name { blank.name ≡ L.name }
+    requires parts { blank.parts ≡ L.parts }
+    requires some { 0 < L.parts }
+{
+    let mut steps: Steps<L> = Steps::begin(blank);
+    let names = (field(asked, 0), field(asked, 1), field(asked, 2));
+    hall.value(
+        alloc,
+        names.0.as_bytes(),
+        names.1.as_bytes(),
+        names.2.as_bytes(),
+        ValueKind::Raw,
+        &mut steps,
+    )
+}
+
 struct Lookups;
 
 impl Answers for Lookups {
     fn answer(alloc: Global, asked: &str) -> Result<String, Fail> {
         let hall = hall_after(alloc, 100, 100, RECEIVED)?;
-        let found = hall.value(
-            alloc,
-            field(asked, 0).as_bytes(),
-            field(asked, 1).as_bytes(),
-            field(asked, 2).as_bytes(),
-            ValueKind::Raw,
-        );
-        debug_of(alloc, &found)
+        debug_of(alloc, &looked_up(alloc, &hall, asked))
     }
 }
 
 #[test]
 fn values_are_looked_up(rt: HostRuntime) -> Result<(), Fail> {
     rows_end_so::<Lookups>(rt.alloc(), LOOKUPS)
+}
+
+/// How many packets A came, by what value they are known, how many were counted, and how many entries stand: a history of one block
+/// less one, of one block, of one more, and of some blocks.
+const LONG: &str = "\
+4094|Ok(Whole(1280)) Ok(Whole(4094)) 4095
+4095|Ok(Whole(1280)) Ok(Whole(4095)) 4096
+4096|Ok(Whole(1280)) Ok(Whole(4096)) 4097
+10000|Ok(Whole(1280)) Ok(Whole(10000)) 10001";
+
+struct Longer;
+
+impl Answers for Longer {
+    fn answer(alloc: Global, asked: &str) -> Result<String, Fail> {
+        let mut hall = connected(alloc, 20_000, 100_000)?;
+        for _ in 0..number::<u32>(asked, 0)? {
+            receives(alloc, &mut hall, Ident::Known(0), "010500")?;
+        }
+        let value = looked_up(alloc, &hall, "T|A|V");
+        let count = looked_up(alloc, &hall, "T|A|RECEIVED_COUNT");
+        Ok(format!(in alloc; "{value:?} {count:?} {}", hall.count())?)
+    }
+}
+
+#[test]
+fn a_value_is_found_in_a_long_history(rt: HostRuntime) -> Result<(), Fail> {
+    rows_end_so::<Longer>(rt.alloc(), LONG)
 }
 
 /// The last packet of each definition that was received.

@@ -16,7 +16,7 @@ use crate::types::LimitsEvent;
 use crate::watching::watches;
 use cts_base::Memory;
 use cts_def::{Ident, Packet, Site};
-use cts_entry::{Entry, What};
+use cts_entry::{Entry, Stands, What};
 use std::alloc::Global;
 use std::marker::Model;
 
@@ -108,51 +108,51 @@ impl Grid {
     }
 
     // Takes bytes of a packet that the entry of this place, the last one, brings.
-    fn bring(&mut self, site: &Site, entries: &[Entry], at: usize, number: u32, bytes: &[u8])
-        requires place { at + 1 ≡ length entries.now }
-        requires few { length entries.now < 2 ^ 32 - 1 }
-        requires brought { ForSome (slice_get entries.now at) (λ e. brings e.what ≡ Some (Known number, bytes.now)) }
+    fn bring<H: Stands>(&mut self, site: &Site, history: &H, at: u64, number: u32, bytes: &[u8])
+        requires place { at + 1 ≡ length (H.list history.now) }
+        requires few { length (H.list history.now) < 2 ^ 32 - 1 }
+        requires brought { ForSome (slice_get (H.list history.now) at) (λ e. brings e.what ≡ Some (Known number, bytes.now)) }
         requires free { width_of site.now ≤ self.old.free }
-        requires tells { GridTells site.now (take at entries.now) self.old }
-        ensures tells { GridTells site.now entries.now self.new }
+        requires tells { GridTells site.now (take at (H.list history.now)) self.old }
+        ensures tells { GridTells site.now (H.list history.now) self.new }
         ensures free { self.old.free ≤ self.new.free + width_of site.now }
     {
         if (number as usize) < self.rows.len() {
             let packet = &site.definitions.telemetry.as_slice()[number as usize];
-            self.take(at as u64, number, packet, bytes);
+            self.take(at, number, packet, bytes);
         }
     }
 
     // Keeps of each item what counts after the entry of this place, the last one, which brings no bytes.
-    fn reset(&mut self, site: &Site, places: &Places, entries: &[Entry], at: usize)
-        requires place { at + 1 ≡ length entries.now }
-        requires quiet { ForSome (slice_get entries.now at) (λ e. brings e.what ≡ None) }
-        requires places { PlacesTell site.now entries.now places.now }
-        requires tells { GridTells site.now (take at entries.now) self.old }
-        ensures tells { GridTells site.now entries.now self.new }
+    fn reset<H: Stands>(&mut self, site: &Site, places: &Places, history: &H, at: u64)
+        requires place { at + 1 ≡ length (H.list history.now) }
+        requires quiet { ForSome (slice_get (H.list history.now) at) (λ e. brings e.what ≡ None) }
+        requires places { PlacesTell site.now (H.list history.now) places.now }
+        requires tells { GridTells site.now (take at (H.list history.now)) self.old }
+        ensures tells { GridTells site.now (H.list history.now) self.new }
         ensures free { self.new.free ≡ self.old.free }
     {
         for p in 0..self.rows.len() {
             let packet = &site.definitions.telemetry.as_slice()[p];
-            self.rows[p].reset_all(packet, p as u32, places, site, entries, at);
+            self.rows[p].reset_all(packet, p as u32, places, site, history, at);
         }
     }
 
     /// Notes the entry of this place, the last one. It takes no memory.
-    pub(crate) fn note(&mut self, site: &Site, places: &Places, entries: &[Entry], at: usize)
-        requires place { at + 1 ≡ length entries.now }
-        requires few { length entries.now < 2 ^ 32 - 1 }
-        requires free { width_of site.now * room_at entries.now at ≤ self.old.free }
-        requires places { PlacesTell site.now entries.now places.now }
-        requires tells { GridTells site.now (take at entries.now) self.old }
-        ensures tells { GridTells site.now entries.now self.new }
-        ensures free { self.old.free ≤ self.new.free + width_of site.now * room_at entries.now at }
+    pub(crate) fn note<H: Stands>(&mut self, site: &Site, places: &Places, history: &H, at: u64)
+        requires place { at + 1 ≡ length (H.list history.now) }
+        requires few { length (H.list history.now) < 2 ^ 32 - 1 }
+        requires free { width_of site.now * room_at (H.list history.now) at ≤ self.old.free }
+        requires places { PlacesTell site.now (H.list history.now) places.now }
+        requires tells { GridTells site.now (take at (H.list history.now)) self.old }
+        ensures tells { GridTells site.now (H.list history.now) self.new }
+        ensures free { self.old.free ≤ self.new.free + width_of site.now * room_at (H.list history.now) at }
     {
-        let entry = &entries[at];
+        let entry = history.lend(at);
         if is_setting(entry) {
-            self.reset(site, places, entries, at);
+            self.reset(site, places, history, at);
         } else if let Some((number, bytes)) = brought_known(entry) {
-            self.bring(site, entries, at, number, bytes);
+            self.bring(site, history, at, number, bytes);
         }
     }
 

@@ -1,7 +1,7 @@
 // Where the entries stand that set limits, so that what counts is found without the others.
 ghost use Rattle.std.specs.Prelude.{◌≡◌, ◌+◌, ◌-◌, ◌<◌, ◌≤◌, ◌^◌, ◌||◌, length, max, slice_get, take, IfOk, OnOk, OnErr, Some};
 ghost use Rattle.std.specs.List.{flat_map, list_any};
-ghost use Rattle.std.specs.Option.{ForSome};
+ghost use Rattle.std.specs.Option.{ForSome, option_copied};
 ghost use Rattle.cts_base.specs.Names.{in_upper_case};
 ghost use Rattle.cts_def.specs.Most.{most_sets};
 ghost use Rattle.cts_entry.specs.Histories.{latest};
@@ -14,7 +14,7 @@ use crate::known::{is_among, names_set, set_named};
 use crate::settings::{limits_in, limits_told};
 use cts_base::{Memory, Name};
 use cts_def::{Limits, LimitsSetup, Site};
-use cts_entry::Entry;
+use cts_entry::{Entry, Stands};
 use std::alloc::Global;
 use std::marker::Model;
 
@@ -42,19 +42,30 @@ impl Model for Places {
     ghost invariant = { λ p. (vec_len p.given + p.free ≤ vec_capacity p.given) × (64 ≤ vec_capacity p.sets) };
 }
 
-fn names_at(entries: &[Entry], set: &[u8], n: u64) -> bool
-    ensures { result ≡ names_at entries.now (in_upper_case set.now) n }
+// The entry at a place, where there is one.
+fn entry_at<H: Stands>(history: &H, n: u64) -> Option<&Entry>
+    ensures { option_copied result ≡ slice_get (H.list history.now) n }
 {
-    match entries.get(n as usize) {
+    if n < history.count() {
+        Some(history.lend(n))
+    } else {
+        None
+    }
+}
+
+fn names_at<H: Stands>(history: &H, set: &[u8], n: u64) -> bool
+    ensures { result ≡ names_at (H.list history.now) (in_upper_case set.now) n }
+{
+    match entry_at(history, n) {
         Some(entry) => names_set(entry, set),
         None => false,
     }
 }
 
-fn limits_at(entries: &[Entry], set: &[u8], packet: u32, item: u32, n: u64) -> Option<Limits>
-    ensures { result ≡ limits_at entries.now (in_upper_case set.now) packet item n }
+fn limits_at<H: Stands>(history: &H, set: &[u8], packet: u32, item: u32, n: u64) -> Option<Limits>
+    ensures { result ≡ limits_at (H.list history.now) (in_upper_case set.now) packet item n }
 {
-    match entries.get(n as usize) {
+    match entry_at(history, n) {
         Some(entry) => limits_told(entry, packet, item, set),
         None => None,
     }
@@ -88,101 +99,107 @@ impl Places {
     }
 
     /// The current set.
-    pub(crate) fn current<'a>(&self, site: &'a Site, entries: &'a [Entry]) -> &'a Name
-        requires { IsChoiceAt entries.now self.now.chosen }
-        ensures { result.now ≡ current_set entries.now }
+    pub(crate) fn current<'a, H: Stands>(&self, site: &'a Site, history: &'a H) -> &'a Name
+        requires { IsChoiceAt (H.list history.now) self.now.chosen }
+        ensures { result.now ≡ current_set (H.list history.now) }
     {
         let Some(n) = self.chosen else {
             return default_name(site);
         };
-        match set_chosen(&entries[n as usize]) {
+        match set_chosen(history.lend(n)) {
             Some(set) => set,
             None => default_name(site),
         }
     }
 
-    fn is_named(&self, entries: &[Entry], set: &[u8]) -> bool
-        ensures { result ≡ list_any (names_at entries.now (in_upper_case set.now)) self.now.sets }
+    fn is_named<H: Stands>(&self, history: &H, set: &[u8]) -> bool
+        ensures { result ≡ list_any (names_at (H.list history.now) (in_upper_case set.now)) self.now.sets }
     {
-        self.sets.iter().any(|n| names_at(entries, set, *n))
+        self.sets.iter().any(|n| names_at(history, set, *n))
     }
 
     // Whether the site has the set, or the entry at one of the places names it.
-    fn is_known(&self, site: &Site, entries: &[Entry], set: &Name) -> bool
-        ensures { result ≡ (is_among site.now.definitions.set_names set.now || list_any (names_at entries.now set.now) self.now.sets) }
+    fn is_known<H: Stands>(&self, site: &Site, history: &H, set: &Name) -> bool
+        ensures { result ≡ (is_among site.now.definitions.set_names set.now || list_any (names_at (H.list history.now) set.now) self.now.sets) }
     {
         is_among(site.definitions.set_names.as_slice(), set.as_slice())
-            || self.is_named(entries, set.as_slice())
+            || self.is_named(history, set.as_slice())
     }
 
     /// Whether a limits set is known, by its name in any case.
-    pub(crate) fn set_known(&self, site: &Site, entries: &[Entry], set: &[u8]) -> bool
-        requires { SetsTell site.now entries.now self.now.sets }
-        ensures { result ≡ is_set_known site.now entries.now (in_upper_case set.now) }
+    pub(crate) fn set_known<H: Stands>(&self, site: &Site, history: &H, set: &[u8]) -> bool
+        requires { SetsTell site.now (H.list history.now) self.now.sets }
+        ensures { result ≡ is_set_known site.now (H.list history.now) (in_upper_case set.now) }
     {
-        is_among(site.definitions.set_names.as_slice(), set) || self.is_named(entries, set)
+        is_among(site.definitions.set_names.as_slice(), set) || self.is_named(history, set)
     }
 
     /// How many limits sets are known.
-    pub(crate) fn sets_known(&self, site: &Site, entries: &[Entry]) -> u32
-        requires tells { SetsTell site.now entries.now self.now.sets }
-        requires few { sets_known site.now entries.now ≤ most_sets }
-        ensures { result ≡ sets_known site.now entries.now }
+    pub(crate) fn sets_known<H: Stands>(&self, site: &Site, history: &H) -> u32
+        requires tells { SetsTell site.now (H.list history.now) self.now.sets }
+        requires few { sets_known site.now (H.list history.now) ≤ most_sets }
+        ensures { result ≡ sets_known site.now (H.list history.now) }
     {
         (site.definitions.set_names.len() + self.sets.len()) as u32
     }
 
-    fn limits_given(&self, entries: &[Entry], packet: u32, item: u32, set: &[u8]) -> Option<Limits>
-        ensures { result ≡ latest (limits_at entries.now (in_upper_case set.now) packet item) self.now.given }
+    fn limits_given<H: Stands>(
+        &self,
+        history: &H,
+        packet: u32,
+        item: u32,
+        set: &[u8],
+    ) -> Option<Limits>
+        ensures { result ≡ latest (limits_at (H.list history.now) (in_upper_case set.now) packet item) self.now.given }
     {
         let mut found = None;
         for n in self.given.as_slice() {
-            found = limits_at(entries, set, packet, item, *n).or(found);
+            found = limits_at(history, set, packet, item, *n).or(found);
         }
         found
     }
 
     /// The limits of an item in a set, as they stand after the entries.
-    pub(crate) fn limits(
+    pub(crate) fn limits<H: Stands>(
         &self,
         setup: &Option<LimitsSetup>,
         packet: u32,
         item: u32,
         set: &[u8],
-        entries: &[Entry],
+        history: &H,
     ) -> Option<Limits>
-        requires { GivenTells entries.now self.now.given }
-        ensures { result ≡ limits_in (in_upper_case set.now) (sets_with setup.now (flat_map (sets_told packet item) entries.now)) }
+        requires { GivenTells (H.list history.now) self.now.given }
+        ensures { result ≡ limits_in (in_upper_case set.now) (sets_with setup.now (flat_map (sets_told packet item) (H.list history.now))) }
     {
         match setup {
             None => None,
             Some(setup) => self
-                .limits_given(entries, packet, item, set)
+                .limits_given(history, packet, item, set)
                 .or(limits_in(set, setup.sets.as_slice())),
         }
     }
 
     /// Notes the entry of this place, the last one. It takes no memory.
-    pub(crate) fn note(&mut self, site: &Site, entries: &[Entry], at: usize)
-        requires place { at + 1 ≡ length entries.now }
-        requires tells { PlacesTell site.now (take at entries.now) self.old }
-        requires free { room_at entries.now at ≤ self.old.free }
-        requires few { sets_known site.now entries.now ≤ most_sets }
-        ensures tells { PlacesTell site.now entries.now self.new }
-        ensures free { self.old.free ≤ self.new.free + room_at entries.now at }
+    pub(crate) fn note<H: Stands>(&mut self, site: &Site, history: &H, at: u64)
+        requires place { at + 1 ≡ length (H.list history.now) }
+        requires tells { PlacesTell site.now (take at (H.list history.now)) self.old }
+        requires free { room_at (H.list history.now) at ≤ self.old.free }
+        requires few { sets_known site.now (H.list history.now) ≤ most_sets }
+        ensures tells { PlacesTell site.now (H.list history.now) self.new }
+        ensures free { self.old.free ≤ self.new.free + room_at (H.list history.now) at }
     {
-        let entry = &entries[at];
+        let entry = history.lend(at);
         let Some(set) = set_named(entry) else {
             if set_chosen(entry).is_some() {
-                self.chosen = Some(at as u64);
+                self.chosen = Some(at);
             }
             return;
         };
-        let known = self.is_known(site, entries, set);
-        self.given.push_reserved(at as u64);
+        let known = self.is_known(site, history, set);
+        self.given.push_reserved(at);
         self.free -= 1;
         if !known {
-            self.sets.push_reserved(at as u64);
+            self.sets.push_reserved(at);
         }
     }
 }

@@ -19,7 +19,7 @@ use crate::types::{LimitsEvent, LimitsUsed, Setting};
 use crate::watching::watches;
 use cts_base::{Memory, Name};
 use cts_def::{Color, Item, Packet, Site};
-use cts_entry::{Entry, entries_for};
+use cts_entry::{Stands, entries_for};
 use std::alloc::Global;
 use std::marker::Model;
 
@@ -70,7 +70,7 @@ fn recall_few_sets(site: &Site)
     let _packets = site.definitions.telemetry.as_slice();
 }
 
-fn limits_used_of(
+fn limits_used_of<H: Stands>(
     held: &Packet,
     found: &Item,
     packet: u32,
@@ -78,15 +78,15 @@ fn limits_used_of(
     set: &[u8],
     setting: Setting,
     places: &Places,
-    entries: &[Entry],
+    history: &H,
 ) -> Option<LimitsUsed>
-    requires given { GivenTells entries.now places.now.given }
-    requires setting { setting ≡ setting_of (watched held.now found.now packet item) entries.now }
-    ensures used { result ≡ limits_used_of (watched held.now found.now packet item) (in_upper_case set.now) entries.now }
+    requires given { GivenTells (H.list history.now) places.now.given }
+    requires setting { setting ≡ setting_of (watched held.now found.now packet item) (H.list history.now) }
+    ensures used { result ≡ limits_used_of (watched held.now found.now packet item) (in_upper_case set.now) (H.list history.now) }
     ensures none { is_none result ≡ is_none found.now.limits }
 {
-    let own = places.limits(&found.limits, packet, item, set, entries);
-    let limits = own.or(places.limits(&found.limits, packet, item, DEFAULT, entries))?;
+    let own = places.limits(&found.limits, packet, item, set, history);
+    let limits = own.or(places.limits(&found.limits, packet, item, DEFAULT, history))?;
     Some(LimitsUsed {
         own: own.is_some(),
         limits,
@@ -128,58 +128,58 @@ impl Watcher {
     }
 
     /// Takes the entry of this place, the last one, for which there is room: then it stands for the history with it. It takes no memory.
-    pub fn note(&mut self, site: &Site, entries: &[Entry], at: usize)
-        requires place { at + 1 ≡ length entries.now }
-        requires few { length entries.now < 2 ^ 32 - 1 }
-        requires sets { sets_known site.now entries.now ≤ most_sets }
-        requires spare { room_at entries.now at ≤ self.old.spare }
-        requires tells { WatcherTells site.now (take at entries.now) self.old }
-        ensures tells { WatcherTells site.now entries.now self.new }
-        ensures spare { self.new.spare ≡ self.old.spare - room_at entries.now at }
+    pub fn note<H: Stands>(&mut self, site: &Site, history: &H, at: u64)
+        requires place { at + 1 ≡ length (H.list history.now) }
+        requires few { length (H.list history.now) < 2 ^ 32 - 1 }
+        requires sets { sets_known site.now (H.list history.now) ≤ most_sets }
+        requires spare { room_at (H.list history.now) at ≤ self.old.spare }
+        requires tells { WatcherTells site.now (take at (H.list history.now)) self.old }
+        ensures tells { WatcherTells site.now (H.list history.now) self.new }
+        ensures spare { self.new.spare ≡ self.old.spare - room_at (H.list history.now) at }
     {
-        let room = entries_for(&entries[at].what);
-        self.places.note(site, entries, at);
-        self.grid.note(site, &self.places, entries, at);
+        let room = entries_for(&history.lend(at).what);
+        self.places.note(site, history, at);
+        self.grid.note(site, &self.places, history, at);
         self.spare -= room;
     }
 
     /// The current limits set.
-    pub fn limits_set<'a>(&self, site: &'a Site, entries: &'a [Entry]) -> &'a Name
-        requires { WatcherTells site.now entries.now self.now }
-        ensures { result.now ≡ current_set entries.now }
+    pub fn limits_set<'a, H: Stands>(&self, site: &'a Site, history: &'a H) -> &'a Name
+        requires { WatcherTells site.now (H.list history.now) self.now }
+        ensures { result.now ≡ current_set (H.list history.now) }
     {
-        self.places.current(site, entries)
+        self.places.current(site, history)
     }
 
     /// Whether a limits set is known, by its name in any case.
-    pub fn set_known(&self, site: &Site, entries: &[Entry], set: &[u8]) -> bool
-        requires { WatcherTells site.now entries.now self.now }
-        ensures { result ≡ is_set_known site.now entries.now (in_upper_case set.now) }
+    pub fn set_known<H: Stands>(&self, site: &Site, history: &H, set: &[u8]) -> bool
+        requires { WatcherTells site.now (H.list history.now) self.now }
+        ensures { result ≡ is_set_known site.now (H.list history.now) (in_upper_case set.now) }
     {
-        self.places.set_known(site, entries, set)
+        self.places.set_known(site, history, set)
     }
 
     /// How many limits sets are known.
-    pub fn sets_known(&self, site: &Site, entries: &[Entry]) -> u32
-        requires tells { WatcherTells site.now entries.now self.now }
-        requires few { sets_known site.now entries.now ≤ most_sets }
-        ensures { result ≡ sets_known site.now entries.now }
+    pub fn sets_known<H: Stands>(&self, site: &Site, history: &H) -> u32
+        requires tells { WatcherTells site.now (H.list history.now) self.now }
+        requires few { sets_known site.now (H.list history.now) ≤ most_sets }
+        ensures { result ≡ sets_known site.now (H.list history.now) }
     {
-        self.places.sets_known(site, entries)
+        self.places.sets_known(site, history)
     }
 
     /// The limits of an item of the site that count where a set is asked for, by its name in any case: `own` says whether the item
     /// has limits in that set, and else they are those of DEFAULT as they are now. `None` exactly where the item has no limits.
-    pub fn limits_of(
+    pub fn limits_of<H: Stands>(
         &self,
         site: &Site,
-        entries: &[Entry],
+        history: &H,
         packet: u32,
         item: u32,
         set: &[u8],
     ) -> Option<LimitsUsed>
-        requires { WatcherTells site.now entries.now self.now }
-        ensures used { result ≡ limits_of site.now packet item (in_upper_case set.now) entries.now }
+        requires { WatcherTells site.now (H.list history.now) self.now }
+        ensures used { result ≡ limits_of site.now packet item (in_upper_case set.now) (H.list history.now) }
         ensures none { is_none result ≡ not (has_limits (item_at site.now packet item)) }
     {
         let (held, found) = watched_at(site, packet, item)?;
@@ -192,14 +192,14 @@ impl Watcher {
             set,
             cell.setting,
             &self.places,
-            entries,
+            history,
         )
     }
 
     /// The limits state of an item of the site, and Stale where there is no such item.
-    pub fn state_of(&self, site: &Site, entries: &[Entry], packet: u32, item: u32) -> Color
-        requires { WatcherTells site.now entries.now self.now }
-        ensures { result ≡ state_at site.now packet item entries.now }
+    pub fn state_of<H: Stands>(&self, site: &Site, history: &H, packet: u32, item: u32) -> Color
+        requires { WatcherTells site.now (H.list history.now) self.now }
+        ensures { result ≡ state_at site.now packet item (H.list history.now) }
     {
         match self.grid.cell(packet, item) {
             Some(cell) => cell.state.color,
@@ -209,15 +209,15 @@ impl Watcher {
 
     /// The changes of limits states at the entries from this one on, in the order of the entries, and at one entry in the order of the
     /// items. `Memory` where none was found for them.
-    pub fn events(
+    pub fn events<H: Stands>(
         &self,
         alloc: Global,
         site: &Site,
-        entries: &[Entry],
+        history: &H,
         from: u64,
     ) -> Result<Vec<LimitsEvent>, Memory>
-        requires { WatcherTells site.now entries.now self.now }
-        ensures { IfOk result (λ found. found.items ≡ events_from site.now entries.now from) }
+        requires { WatcherTells site.now (H.list history.now) self.now }
+        ensures { IfOk result (λ found. found.items ≡ events_from site.now (H.list history.now) from) }
     {
         self.grid.events_from(alloc, from)
     }

@@ -3,28 +3,28 @@ ghost use Rattle.std.specs.Prelude.{◌≡◌, Some, length};
 ghost use Rattle.std.specs.List.{filter};
 ghost use Rattle.cts_serve.specs.Rehearsal.{is_command, is_packet, is_refusal, ones, text_refuses};
 
-use cts_entry::{Effect, Entry, What};
+use cts_entry::{Effect, Entry, Stands, What};
 
-/// How many packets there are among entries.
-pub fn packets_in(entries: &[Entry]) -> u64
-    ensures { result ≡ length (filter is_packet entries.now) }
+/// How many packets there are in a history.
+pub fn packets_in<H: Stands>(history: &H) -> u64
+    ensures { result ≡ length (filter is_packet (H.list history.now)) }
 {
     let mut count = 0;
-    for entry in entries {
-        if is_packet(entry) {
+    for n in 0..history.count() {
+        if is_packet(history.lend(n)) {
             count += 1;
         }
     }
     count
 }
 
-/// How many commands there are among entries.
-pub fn commands_in(entries: &[Entry]) -> u64
-    ensures { result ≡ length (filter is_command entries.now) }
+/// How many commands there are in a history.
+pub fn commands_in<H: Stands>(history: &H) -> u64
+    ensures { result ≡ length (filter is_command (H.list history.now)) }
 {
     let mut count = 0;
-    for entry in entries {
-        if is_command(entry) {
+    for n in 0..history.count() {
+        if is_command(history.lend(n)) {
             count += 1;
         }
     }

@@ -11,22 +11,22 @@ use Rattle.cts_scribe.proofs.bounds.recall_entries.Goals as goal
 pub recall_entry-requires-clause-of_site : goal.recall_entry-requires-clause-of_site
 recall_entry-requires-clause-of_site c =
     let h = c.args.hall.now in
-    let found = of_site_get h.basis.site [] h.entries c.entries.place c.entry.result.now c.is_kept.ensures.kept.of_site c.entry.ensures in
-    (found.0, subst (λ (s : SiteData). IsOfSite s found.0 c.entry.result.now) (sym c.site.ensures) found.1)
+    let found = of_site_get h.basis.site [] h.entries c.entries.place c.lend.result.now c.is_kept.ensures.kept.of_site c.lend.ensures in
+    (found.0, subst (λ (s : SiteData). IsOfSite s found.0 c.lend.result.now) (sym c.site.ensures) found.1)
 
 pub recall_entry-requires-clause-small : goal.recall_entry-requires-clause-small
 recall_entry-requires-clause-small c =
     let es = c.args.hall.now.entries in
     let whole : bytes_in es < 2 ^ 32 = omega (arith, c.is_kept.ensures.kept.legal.bytes, c.is_kept.ensures.bytes) in
-    small_get es c.entries.place c.entry.result.now (2 ^ 32) c.entry.ensures whole
+    small_get es c.entries.place c.lend.result.now (2 ^ 32) c.lend.ensures whole
 
 pub entries-preserved : goal.entries-preserved
 entries-preserved c =
     let h = c.args.hall.now in
-    let e = c.entry.result.now in
+    let e = c.lend.result.now in
     let more : c.entries.place + 1 ≤ length h.entries = search rules in
     let this = subst (λ (s : SiteData). Fits s e) c.site.ensures c.recall_entry.ensures in
-    record { within = more; fits = fits_next h.basis.site h.entries c.entries.place e c.entry.ensures c.entries.invariant.fits this }
+    record { within = more; fits = fits_next h.basis.site h.entries c.entries.place e c.lend.ensures c.entries.invariant.fits this }
 
 pub returns : goal.returns
 returns c =

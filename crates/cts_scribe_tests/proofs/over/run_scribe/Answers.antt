@@ -13,7 +13,7 @@ run-end-requires-clause-by g c = ap (has 28) c.in_ok-turn.ensures.makers ∙ has
 
 pub run-end-requires-clause-new : goal.run-end-requires-clause-new
 run-end-requires-clause-new g c =
-    let none : list_any (λ (e : Entry). e.by == 28) c.args.hall.entries ≡ false = sym (ap (list_any (λ (e : Entry). e.by == 28)) c.entries.ensures) ∙ sym c.has_made.ensures ∙ c.if-has_made.false in
+    let none : list_any (λ (e : Entry). e.by == 28) c.args.hall.entries ≡ false = sym c.has_made.ensures ∙ c.if-has_made.false in
     ap (of_maker 28) c.in_ok-turn.ensures.seen.0 ∙ silent 28 c.args.hall.entries none
 
 pub run-end-requires-clause-site : goal.run-end-requires-clause-site

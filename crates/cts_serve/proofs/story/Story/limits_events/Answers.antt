@@ -9,10 +9,10 @@ use Rattle.cts_serve.proofs.story.Story.limits_events.Goals as goal
 
 pub returns : goal.returns
 returns g c =
-    let hall = c.hall-hall.result.now in
+    let hall = c.hall.result.now in
     subst (λ (t : StoryData). length c.as_slice.result.now ≡ length (events (site_told t) (held_in t.world).history)) c.self.view_is
     (ap length
     (c.as_slice.ensures.value
-    ∙ (c.in_ok-changes.ensures.changes
+    ∙ (c.in_ok-changes.ensures
     ∙ (all_from (events hall.basis.site hall.entries)
-    ∙ (ap (λ (b : Basis). events b.site hall.entries) c.hall-hall.ensures.basis ∙ ap (λ (h : List Entry). events (held_in c.self.inside.world).basis.site h) c.hall-hall.ensures.entries)))))
+    ∙ (ap (λ (b : Basis). events b.site hall.entries) c.hall.ensures.basis ∙ ap (λ (h : List Entry). events (held_in c.self.inside.world).basis.site h) c.hall.ensures.entries)))))

@@ -1,8 +1,8 @@
-use Rattle.std.proofs.Common.{◌≡◌, ◌+◌, take, drop}
+use Rattle.std.proofs.Common.{◌≡◌, take, drop}
 use Rattle.cts_serve.specs.Transcript.{lines_of}
 use Rattle.cts_serve.proofs.story.text.lines_from.Given as goal
 
-abbrev pub invariant-entries : goal.invariant-entries
-invariant-entries l =
-    (l.n ≡ l.initial.n + l.entry-index)
-    × (l.lines.items ≡ lines_of l.site (take l.from l.history) (take l.entry-index (drop l.from l.history)))
+abbrev pub invariant-loop-i : goal.invariant-loop-i
+invariant-loop-i g l =
+    let history = g.H.Stands.list l.history in
+    l.lines.items ≡ lines_of l.site (take l.from history) (take l.i (drop l.from history))

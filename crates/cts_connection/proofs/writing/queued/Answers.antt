@@ -1,0 +1,20 @@
+use Rattle.std.proofs.Common.{arith}
+use Rattle.std.proofs.lemmas.Grind.{common_steps}
+use Rattle.cts_entry.proofs.Walks.{drop_lent}
+use Rattle.cts_connection.proofs.writing.queued.Goals as goal
+
+pub loop-n-preserved : goal.loop-n-preserved
+loop-n-preserved c =
+    let next = drop_lent c.args.hall.now.entries c.loop-n.n c.lend.result.now c.lend.ensures in
+    let before = c.loop-n.invariant.counted in
+    let few = c.loop-n.invariant.few in
+    let test = c.is_for.ensures in
+    let site = c.site.ensures in
+    let one = c.one_if-count.ensures in
+    grind (arith, common_steps)
+
+pub returns : goal.returns
+returns c =
+    let end = c.count-n-end.ensures in
+    let before = c.loop-n.invariant.counted in
+    grind (arith, common_steps)
