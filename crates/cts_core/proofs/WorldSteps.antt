@@ -27,7 +27,8 @@ use Rattle.cts_frame.specs.Cuts.{Pieces}
 use Rattle.cts_frame.specs.Packets.{IsPackets, loss_of, Fault, fault_of}
 use Rattle.cts_core.specs.States.{State, is_piece, is_enabled, has_room, takes_memory, takes_room, unsent, may_close, opening}
 use Rattle.cts_core.specs.Runs.{Did, Does, silent, Appends, Receives, after, pieces_for, closed_entry, closing}
-use Rattle.cts_core.proofs.Chaining.{all_renewed, begins, begins_anew, plain_more, same_framings}
+use Rattle.cts_chain.proofs.Anew.{all_renewed, same_framings}
+use Rattle.cts_core.proofs.Chaining.{begins, begins_anew, plain_more}
 use Rattle.cts_core.proofs.CursorSteps.{PassesOn, passes, passed_opened, waits, waiting_kept}
 use Rattle.cts_core.proofs.Keeping.{pieces_turned, pieces_grow, pieces_stay, cursor_turned}
 use Rattle.cts_told.proofs.Walks.{packets_connect}

@@ -42,7 +42,7 @@ use Rattle.cts_line.specs.declared.ending.LineWhy.{LineWhy}
 use Rattle.cts_line.specs.declared.ending.LineWhy.TheVariants.{Stopped, Finished, NoReconnect, DoorFailed, Full, NoMemory, Cancelled}
 use Rattle.cts_line.specs.declared.opening.Opening.{Opening}
 use Rattle.cts_line.specs.declared.opening.Opening.TheVariants.{Opened, Stopped as StoppedThere, Full as NoRoom, NoMemory as NoMemoryThere}
-use Rattle.cts_line.proofs.Chaining.{anew}
+use Rattle.cts_chain.proofs.Anew.{anew}
 use Rattle.cts_line.proofs.Growing.{Grows, said_grown}
 use Rattle.cts_line.proofs.Keeping.{Quiet, counted_none, faults_quiet, keeps_quiet, opened_quiet, quiet_none, quiet_others, stop_both, stop_opened, stop_strange}
 use Rattle.cts_line.proofs.Boarding.{quiet_stop}

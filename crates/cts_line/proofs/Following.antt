@@ -4,6 +4,7 @@ use Rattle.std.specs.Prelude.{take, ◌≢◌, sum_by, nat_le, option_to_list, d
 use Rattle.std.proofs.lemmas.Bool.Decides.{nat_tests}
 use Rattle.std.proofs.lemmas.List.{length-drop, length-map}
 use Rattle.std.proofs.lemmas.List.Sums.{sum_by-append}
+use Rattle.cts_chain.proofs.Anew.{same_framings}
 use Rattle.cts_chain.specs.Chains.{last_fault, loss_in}
 use Rattle.cts_chain.specs.Shapes.{writers}
 use Rattle.cts_connection.specs.Connections.{HeldConnection, HeldCursor, entries_ahead, waiting}
@@ -42,7 +43,7 @@ use Rattle.cts_line.proofs.Bodies.{packets_shown}
 use Rattle.cts_line.proofs.Closing.{Closing, closes}
 use Rattle.cts_line.proofs.Growing.{Grows}
 use Rattle.cts_line.proofs.Keeping.{Quiet, keeps_closed, keeps_quiet, packets_bytes, quiet_both, quiet_none, quiet_others, quiet_packets, stop_both, stop_closed, stop_packets, stop_same, stop_strange}
-use Rattle.cts_line.proofs.Pieces.{Feeds, blames_full, blames_memory, by_memory, by_room, goes_on, last_by, last_closing, refused_closing, same_framings, takes_piece, unfed_closing}
+use Rattle.cts_line.proofs.Pieces.{Feeds, blames_full, blames_memory, by_memory, by_room, goes_on, last_by, last_closing, refused_closing, takes_piece, unfed_closing}
 use Rattle.cts_line.proofs.Steps.{ends_closing, looks_not, looks_talk, stopped_talks, takes_end, takes_failed, takes_nothing, talks_map, talks_step}
 
 -- ---- room

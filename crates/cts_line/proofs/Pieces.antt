@@ -6,7 +6,6 @@ use Rattle.std.proofs.lemmas.List.{nil_from_length, map-append}
 use Rattle.cts_chain.specs.Chains.{StagesStand, AllSettled, Reserved, framings_of, last_fault}
 use Rattle.cts_chain.specs.Laws.{AreOf}
 use Rattle.cts_chain.specs.Shapes.{ChainData, IsSameChain}
-use Rattle.cts_chain.proofs.Planning.{framings_are}
 use Rattle.cts_chain.proofs.Rising.{reserved_stand}
 use Rattle.cts_chain.proofs.Settled.{settled_gives_all}
 use Rattle.cts_connection.specs.Postings.{end_of}
@@ -106,9 +105,6 @@ pub goes_on : (n : ℕ) (failed : Option Why) (lost : List Output) (fault : Opti
 goes_on n failed lost fault e is count = let h = goes_if (n == 0) n failed e in (none_lost n lost count h.0, unblamed fault (sym h.1 ∙ is))
 
 -- ---- the chain
-
-pub same_framings : (old new : ChainData) → IsSameChain old new → framings_of new.stages ≡ framings_of old.stages
-same_framings old new same = framings_are new.stages ∙ (ap (map framing_of) same.stages ∙ sym (framings_are old.stages))
 
 pub reserved_settled : (old new : List Meaning) → Reserved old new → AllSettled old → AllSettled new
 reserved_settled [] [] r s = tt
