@@ -1,12 +1,12 @@
 // What is kept of all items and the events, as the history grows.
-ghost use Rattle.std.specs.Prelude.{◌≡◌, ◌+◌, ◌-◌, ◌*◌, ◌<◌, ◌≤◌, ◌^◌, length, max, option_map, slice_get, take, IfOk, OnOk, OnErr, None, Some};
+ghost use Rattle.std.specs.Prelude.{◌≡◌, ◌+◌, ◌-◌, ◌*◌, ◌<◌, ◌≤◌, ◌^◌, drop, length, max, option_map, slice_get, take, IfOk, OnOk, OnErr, None, Some};
 ghost use Rattle.std.specs.List.{filter};
 ghost use Rattle.std.specs.Option.{ForSome};
 ghost use Rattle.cts_def.specs.declared.ident.Ident.TheVariants.{Known};
 ghost use Rattle.cts_watch.specs.Brought.{brings};
 ghost use Rattle.cts_watch.specs.Cells.{Fit};
 ghost use Rattle.cts_watch.specs.Events.{is_from};
-ghost use Rattle.cts_watch.specs.Grid.{GridTells, begun_grid, cell_in, cells_at, is_setting, known_part, sampled_packet};
+ghost use Rattle.cts_watch.specs.Grid.{GridTells, IsPartedAt, begun_grid, cell_in, cells_at, is_setting, known_part, sampled_packet};
 ghost use Rattle.cts_watch.specs.Places.{PlacesTell, room_at};
 ghost use Rattle.cts_watch.specs.Widest.{width_of};
 
@@ -61,6 +61,19 @@ fn brought_known(entry: &Entry) -> Option<(u32, &[u8])>
         What::Injected { packet, bytes } => Some((*packet, bytes.as_slice())),
         _ => None,
     }
+}
+
+// How many events stand before those at entries from this one on.
+fn first_from(events: &[LimitsEvent], from: u64) -> usize
+    requires { IsPartedAt from events.now }
+    ensures within { result ≤ length events.now }
+    ensures found { drop result events.now ≡ filter (is_from from) events.now }
+{
+    let mut first = events.len();
+    while first > 0 && from <= events[first - 1].at {
+        first -= 1;
+    }
+    first
 }
 
 impl Grid {
@@ -156,16 +169,13 @@ impl Grid {
         }
     }
 
-    /// The events at entries from this one on.
+    /// The events at entries from this one on. Of the others it looks at the last alone.
     pub(crate) fn events_from(&self, alloc: Global, from: u64) -> Result<Vec<LimitsEvent>, Memory>
+        requires { IsPartedAt from self.now.events }
         ensures { IfOk result (λ found. found.items ≡ filter (is_from from) self.now.events) }
     {
-        let found = self
-            .events
-            .iter()
-            .filter(|event| from <= event.at)
-            .copied()
-            .collect(alloc)?;
+        let first = first_from(self.events.as_slice(), from);
+        let found = self.events[first..].iter().copied().collect(alloc)?;
         Ok(found)
     }
 
