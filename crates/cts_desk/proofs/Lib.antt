@@ -7,3 +7,4 @@ pub mod Replying
 pub mod Ends
 pub mod Streaming
 pub mod Faulting
+pub mod Aiming

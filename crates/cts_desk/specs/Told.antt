@@ -1,6 +1,7 @@
 -- What a desk's door tells of it.
-use Rattle.std.specs.Prelude.{◌≡◌, ℕ, Bool, true, List, [], ◌∷◌, ◌++◌, Option, Some, None}
+use Rattle.std.specs.Prelude.{◌≡◌, ℕ, Bool, true, List, [], ◌∷◌, ◌++◌, Option, Some, None, option_map}
 use Rattle.cts_outside.specs.Lines.{Connection, Line}
+use Rattle.cts_outside.specs.declared.link.Aim.{Aim}
 use Rattle.cts_entry.specs.declared.entry.Entry.{Entry}
 use Rattle.cts_entry.specs.Histories.{is_stopped}
 use Rattle.cts_table.specs.declared.basis.Basis.{Basis}
@@ -36,6 +37,10 @@ past_of (Some line) = line.past
 abbrev pub Settled : Bool → List Connection → List Exchange → Option Line → Type 0
 Settled stop was xs None = Unit {0}
 Settled stop was xs (Some line) = (line.now ≡ None) × (gone : List Connection) × (line.past ≡ was ++ gone) × Serves stop [] gone xs
+
+-- the last aim of a door, where it is told
+abbrev pub aim_of : Option Line → Option (Option Aim)
+aim_of told = option_map (λ (line : Line). line.aim) told
 
 abbrev pub IsIdle : Option Line → Type 0
 IsIdle None = Unit {0}

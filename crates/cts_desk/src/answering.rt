@@ -3,6 +3,7 @@ ghost use Rattle.std.specs.Prelude.{◌≡◌, ◌<◌, ℕ, List, None, Some, t
 ghost use Rattle.cts_outside.specs.Lines.{Connection};
 ghost use Rattle.cts_turn.specs.Passes.{IsPassOf, view};
 ghost use Rattle.cts_desk.specs.Faults.{FaultsRise};
+ghost use Rattle.cts_desk.specs.Told.{aim_of};
 ghost use Rattle.cts_worker.specs.Grounds.{ground};
 ghost use Rattle.cts_desk.specs.Holds.{IsReady, text_of};
 ghost use Rattle.cts_worker.specs.Holds.{Onward};
@@ -91,6 +92,7 @@ fn reply_to<W: Wait, R: Dialer, K: Clock, G: Gate>(
     ensures linked { (R.seen door.new).linked ≡ true }
     ensures dials { (R.seen door.new).failed_dials ≡ (R.seen door.old).failed_dials }
     ensures faults { FaultsRise (R.seen door.old) (R.seen door.new) }
+    ensures aim { aim_of (R.seen door.new).told ≡ aim_of (R.seen door.old).told }
     ensures last { result.1 ≡ true → last ≡ false }
     ensures serves { (was : List Connection) (body : List ℕ) → Some body ≡ reader.now.given
         → Serving (ground turn.now) by was (Asks body) talk.fronts.items (view talk.pass) reader.now (R.seen door.old).told
@@ -136,6 +138,7 @@ fn answer<W: Wait, R: Dialer, K: Clock, G: Gate>(
     ensures linked { (R.seen door.new).linked ≡ true }
     ensures dials { (R.seen door.new).failed_dials ≡ (R.seen door.old).failed_dials }
     ensures faults { FaultsRise (R.seen door.old) (R.seen door.new) }
+    ensures aim { aim_of (R.seen door.new).told ≡ aim_of (R.seen door.old).told }
     ensures last { result.1 ≡ true → last ≡ false }
     ensures serves { (was : List Connection) (body : List ℕ) → Some body ≡ reader.now.given
         → Serving (ground turn.now) by was (Asks body) talk.fronts.items (view talk.pass) reader.now (R.seen door.old).told
@@ -166,6 +169,7 @@ pub(crate) fn answer_all<W: Wait, R: Dialer, K: Clock, G: Gate>(
     ensures linked { (R.seen door.new).linked ≡ true }
     ensures dials { (R.seen door.new).failed_dials ≡ (R.seen door.old).failed_dials }
     ensures faults { FaultsRise (R.seen door.old) (R.seen door.new) }
+    ensures aim { aim_of (R.seen door.new).told ≡ aim_of (R.seen door.old).told }
     ensures open { result.1 ≡ true → reader.new.closed ≡ false }
     ensures serves { (was : List Connection)
         → Serving (ground turn.now) by was Reads talk.fronts.items (view talk.pass) reader.old (R.seen door.old).told

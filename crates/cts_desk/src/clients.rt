@@ -4,6 +4,7 @@ ghost use Rattle.cts_entry.specs.Histories.{is_stopped};
 ghost use Rattle.cts_outside.specs.Lines.{Connection};
 ghost use Rattle.cts_turn.specs.Passes.{IsPassOf, view};
 ghost use Rattle.cts_desk.specs.Faults.{FaultsRise};
+ghost use Rattle.cts_desk.specs.Told.{aim_of};
 ghost use Rattle.cts_desk.specs.Ending.{CausesEnd, CausesEndIf, may_cut, stopped_if};
 ghost use Rattle.cts_worker.specs.Grounds.{ground};
 ghost use Rattle.cts_desk.specs.Holds.{IsReady};
@@ -35,6 +36,7 @@ fn attempt<W: Wait, R: Dialer, K: Clock, G: Gate>(
     ensures onward { Onward (view talk.pass) (view result.0.pass) }
     ensures idle { (R.seen door.new).linked ≡ false }
     ensures faults { FaultsRise (R.seen door.old) (R.seen door.new) }
+    ensures aim { aim_of (R.seen door.new).told ≡ aim_of (R.seen door.old).told }
     ensures cause { CausesEndIf (view result.0.pass).seen (R.seen door.new).told (R.seen door.old).failed_dials (R.seen door.new).failed_dials result.1 }
     ensures serves { (was : List Connection)
         → Resting (ground turn.now) by was false talk.fronts.items (view talk.pass) (R.seen door.old).told
@@ -77,6 +79,7 @@ pub(crate) fn clients<W: Wait, R: Dialer, K: Clock, G: Gate>(
     ensures onward { Onward (view talk.pass) (view result.0.pass) }
     ensures idle { (R.seen door.new).linked ≡ false }
     ensures faults { FaultsRise (R.seen door.old) (R.seen door.new) }
+    ensures aim { aim_of (R.seen door.new).told ≡ aim_of (R.seen door.old).told }
     ensures cause { CausesEnd (view result.0.pass).seen (R.seen door.new).told (R.seen door.old).failed_dials (R.seen door.new).failed_dials result.1 }
     ensures serves { (was : List Connection)
         → Resting (ground turn.now) by was false talk.fronts.items (view talk.pass) (R.seen door.old).told

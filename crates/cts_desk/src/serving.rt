@@ -4,6 +4,7 @@ ghost use Rattle.cts_outside.specs.Lines.{Connection};
 ghost use Rattle.cts_entry.specs.Histories.{is_stopped};
 ghost use Rattle.cts_turn.specs.Passes.{IsPassOf, view};
 ghost use Rattle.cts_desk.specs.Faults.{FaultsRise};
+ghost use Rattle.cts_desk.specs.Told.{aim_of};
 ghost use Rattle.cts_worker.specs.Grounds.{ground};
 ghost use Rattle.cts_desk.specs.Holds.{IsReady};
 ghost use Rattle.cts_worker.specs.Holds.{Hold, Onward};
@@ -54,6 +55,7 @@ fn talk_on<W: Wait, R: Dialer, K: Clock, G: Gate>(
     ensures linked { (R.seen door.new).linked ≡ true }
     ensures dials { (R.seen door.new).failed_dials ≡ (R.seen door.old).failed_dials }
     ensures faults { FaultsRise (R.seen door.old) (R.seen door.new) }
+    ensures aim { aim_of (R.seen door.new).told ≡ aim_of (R.seen door.old).told }
     ensures stop { result.1 ≡ true → is_stopped (view result.0.pass).seen ≡ true }
     ensures serves { (was : List Connection)
         → Serving (ground turn.now) by was Reads talk.fronts.items (view talk.pass) reader.old (R.seen door.old).told
@@ -96,6 +98,7 @@ pub(crate) fn serve<W: Wait, R: Dialer, K: Clock, G: Gate>(
     ensures idle { (R.seen door.new).linked ≡ false }
     ensures dials { (R.seen door.new).failed_dials ≡ (R.seen door.old).failed_dials }
     ensures faults { FaultsRise (R.seen door.old) (R.seen door.new) }
+    ensures aim { aim_of (R.seen door.new).told ≡ aim_of (R.seen door.old).told }
     ensures stop { result.1 ≡ true → is_stopped (view result.0.pass).seen ≡ true }
     ensures serves { (was : List Connection)
         → Begins (ground turn.now) by was talk.fronts.items (view talk.pass) (R.seen door.old).told

@@ -2,6 +2,7 @@
 ghost use Rattle.std.specs.Prelude.{◌≡◌, ◌<◌, ◌++◌, List, true, false, length};
 ghost use Rattle.cts_outside.specs.Lines.{Connection};
 ghost use Rattle.cts_desk.specs.Faults.{FaultsRise};
+ghost use Rattle.cts_desk.specs.Told.{aim_of};
 ghost use Rattle.cts_desk.specs.Exchanges.{Exchange, fronts_of};
 ghost use Rattle.cts_desk.specs.Serving.{Talks, Waits, Reads, goes_on};
 
@@ -22,6 +23,7 @@ pub(crate) fn take_piece<R: Dialer>(
     ensures linked { (R.seen door.new).linked ≡ true }
     ensures dials { (R.seen door.new).failed_dials ≡ (R.seen door.old).failed_dials }
     ensures faults { FaultsRise (R.seen door.old) (R.seen door.new) }
+    ensures aim { aim_of (R.seen door.new).told ≡ aim_of (R.seen door.old).told }
     ensures open { reader.new.closed ≡ false }
     ensures takes { (was : List Connection) (earlier mine : List Exchange) → fronts.now ≡ fronts_of (earlier ++ mine)
         → Talks was Waits reader.old earlier mine (R.seen door.old).told

@@ -11,7 +11,7 @@ ghost use Rattle.cts_desk.specs.Ending.{CausesEnd, stops_all};
 ghost use Rattle.cts_worker.specs.Lasts.{first_moment, last_entries};
 ghost use Rattle.cts_worker.specs.Grounds.{ground};
 ghost use Rattle.cts_worker.specs.Holds.{Onward};
-ghost use Rattle.cts_desk.specs.Told.{Ends, IsIdle, past_of};
+ghost use Rattle.cts_desk.specs.Told.{Ends, IsIdle, aim_of, past_of};
 
 use crate::Talk;
 use crate::answering::time_of;
@@ -58,6 +58,7 @@ impl DeskWorker {
         ensures cause { CausesEnd (view result.pass).seen (R.seen door.new).told (R.seen door.old).failed_dials (R.seen door.new).failed_dials result.why }
         ensures stops { stops_all result.why ≡ true → is_stopped (view result.pass).seen ≡ true }
         ensures faults { FaultsRise (R.seen door.old) (R.seen door.new) }
+        ensures aim { aim_of (R.seen door.new).told ≡ aim_of (R.seen door.old).told }
         ensures idle { (R.seen door.new).linked ≡ false }
     {
         gate.pass(rt, by, GateStage::Started);

@@ -76,6 +76,7 @@ module _ (basis : Basis) (by : ℕ) (found : List ℕ) (old new : LineSeen) (fro
     cause = r.cause;
     stops = r.stops;
     faults = r.faults;
+    aim = r.aim;
     idle = r.idle;
   }
 

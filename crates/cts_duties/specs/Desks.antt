@@ -3,7 +3,7 @@ use Rattle.std.specs.Prelude.{◌≡◌, ℕ, ◌⊎◌, Bool, true, false, List
 use Rattle.cts_def.specs.declared.time.Time.{Time}
 use Rattle.cts_desk.specs.Ending.{CausesEnd, stops_all}
 use Rattle.cts_desk.specs.Faults.{FaultsRise}
-use Rattle.cts_desk.specs.Told.{IsIdle, Told, past_of}
+use Rattle.cts_desk.specs.Told.{IsIdle, Told, aim_of, past_of}
 use Rattle.cts_desk.specs.declared.ending.DeskWhy.{DeskWhy}
 use Rattle.cts_desk.specs.declared.ending.DeskWhy.TheVariants.{Stopped, Finished, DoorFailed, Cancelled}
 use Rattle.cts_entry.specs.declared.entry.Entry.{Entry}
@@ -36,7 +36,7 @@ pub record EndedDesk (basis : Basis) (by : ℕ) (stops : Bool) (fronts found : L
   pub told_so : Told basis by fronts found seen (last_entries stops by time before) was told
 
 -- What a desk that ran leaves, by what its door showed before and shows now. Whether a Stop stands is said of what it saw at its last look, since others may
--- stop the server later. Its exchanges stand in the whole history too.
+-- stop the server later. Its exchanges stand in the whole history too. Its door has the same aim.
 pub record RanDesk (basis : Basis) (by : ℕ) (found : List ℕ) (history : List Entry) (old new : LineSeen) (fronts : List ℕ) (why : DeskWhy) : Type 0 where
   pub seen : List Entry
   pub look : LastLook by seen history
@@ -46,6 +46,7 @@ pub record RanDesk (basis : Basis) (by : ℕ) (found : List ℕ) (history : List
   pub cause : CausesEnd seen new.told old.failed_dials new.failed_dials why
   pub stops : stops_all why ≡ true → is_stopped seen ≡ true
   pub faults : FaultsRise old new
+  pub aim : aim_of new.told ≡ aim_of old.told
   pub idle : new.linked ≡ false
 
 -- A desk that was not started: its door is as it was.

@@ -6,6 +6,7 @@ use Rattle.cts_worker.specs.Grounds.{ground}
 use Rattle.cts_desk.specs.Serving.{Serving, Reads, Asks, Over, goes_on}
 use Rattle.cts_desk.specs.Streams.{NoMemory, last_put, last_front}
 use Rattle.cts_desk.proofs.Steps.{serving_unasked}
+use Rattle.cts_desk.proofs.Aiming.{aim_put}
 use Rattle.cts_desk.proofs.answering.answer.Goals as goal
 
 pub returns-in-Ok-clause-serves : goal.returns-in-Ok-clause-serves
@@ -24,3 +25,6 @@ returns-in-Err-clause-serves g c = λ was body given s.
     let there = subst (λ (l : List ℕ). Serving (ground c.args.turn.now) c.args.by was Over l (view c.args.talk.pass) c.args.reader.now new) (sym c.in-Err.ensures.items) over in
     subst (λ (t : Talk). Serving (ground c.args.turn.now) c.args.by was (goes_on c.tell_memory.result.1 Reads) t.fronts.items (view t.pass) c.args.reader.now new) (sym c.tell_memory.ensures.talk)
     (subst (λ (x : Bool). Serving (ground c.args.turn.now) c.args.by was (goes_on x Reads) c.reserve.new.self.items (view c.args.talk.pass) c.args.reader.now new) (sym c.tell_memory.ensures.goes) there)
+
+pub returns-in-Err-clause-aim : goal.returns-in-Err-clause-aim
+returns-in-Err-clause-aim g c = let puts = c.tell_memory.ensures.content in aim_put _ _ _ puts.0 puts.1

@@ -5,6 +5,7 @@ use Rattle.cts_worker.specs.Grounds.{ground}
 use Rattle.cts_worker.proofs.Onwards.{onward_then}
 use Rattle.cts_desk.proofs.Steps.{serving_more, serving_refused, serving_asks, given_of}
 use Rattle.cts_desk.proofs.Faulting.{rise_then}
+use Rattle.cts_desk.proofs.Aiming.{aim_put}
 use Rattle.cts_desk.proofs.answering.answer_all.Goals as goal
 
 pub returns-in-More-clause-serves : goal.returns-in-More-clause-serves
@@ -34,6 +35,7 @@ requests-preserved g c =
       linked = c.answer-next.ensures.linked;
       dials = c.answer-next.ensures.dials ∙ c.requests.invariant.dials;
       faults = rise_then (g.R.Link.seen c.args.door.now) (g.R.Link.seen c.requests.door) (g.R.Link.seen c.answer-next.new.door) c.requests.invariant.faults c.answer-next.ensures.faults;
+      aim = c.answer-next.ensures.aim ∙ c.requests.invariant.aim;
       open_still = r.3 ∙ c.answer-next.ensures.last goes;
       serves = λ was s.
           let asks = serving_asks (ground c.args.turn.now) c.args.by was c.requests.reader c.next-step.new.self c.requests.talk.fronts.items (view c.requests.talk.pass) (g.R.Link.seen c.requests.door).told (c.requests.invariant.serves was s)
@@ -47,3 +49,9 @@ returns-in-Refuse-clause-faults g c = rise_then (g.R.Link.seen c.args.door.now) 
 
 pub returns-then-not-goes-clause-faults : goal.returns-then-not-goes-clause-faults
 returns-then-not-goes-clause-faults g c = rise_then (g.R.Link.seen c.args.door.now) (g.R.Link.seen c.requests.door) (g.R.Link.seen c.answer-next.new.door) c.requests.invariant.faults c.answer-next.ensures.faults
+
+pub returns-in-Refuse-clause-aim : goal.returns-in-Refuse-clause-aim
+returns-in-Refuse-clause-aim g c = aim_put _ _ _ c.put_refusal-put.result c.put_refusal-put.ensures.content ∙ c.requests.invariant.aim
+
+pub returns-then-not-goes-clause-aim : goal.returns-then-not-goes-clause-aim
+returns-then-not-goes-clause-aim g c = c.answer-next.ensures.aim ∙ c.requests.invariant.aim

@@ -2,6 +2,7 @@ use Rattle.std.proofs.Common.{◌≡◌, true, false, List}
 use Rattle.cts_outside.specs.Lines.{Connection}
 use Rattle.cts_turn.specs.Passes.{IsPassOf, view}
 use Rattle.cts_desk.specs.Faults.{FaultsRise}
+use Rattle.cts_desk.specs.Told.{aim_of}
 use Rattle.cts_worker.specs.Grounds.{ground}
 use Rattle.cts_desk.specs.Holds.{IsReady}
 use Rattle.cts_worker.specs.Holds.{Onward}
@@ -16,6 +17,7 @@ invariant-requests g l = record {
   linked : (g.R.Link.seen l.door).linked ≡ true;
   dials : (g.R.Link.seen l.door).failed_dials ≡ (g.R.Link.seen l.initial.door).failed_dials;
   faults : FaultsRise (g.R.Link.seen l.initial.door) (g.R.Link.seen l.door);
+  aim : aim_of (g.R.Link.seen l.door).told ≡ aim_of (g.R.Link.seen l.initial.door).told;
   open_still : l.reader.closed ≡ false;
   serves : (was : List Connection) → Serving (ground l.turn) l.by was Reads l.initial.talk.fronts.items (view l.initial.talk.pass) l.initial.reader (g.R.Link.seen l.initial.door).told
       → Serving (ground l.turn) l.by was Reads l.talk.fronts.items (view l.talk.pass) l.reader (g.R.Link.seen l.door).told;

@@ -8,6 +8,7 @@ use Rattle.cts_desk.specs.Serving.{Serving, Reads, Over, goes_on}
 use Rattle.cts_http.specs.Streams.{response_with}
 use Rattle.cts_desk.proofs.Histories.{ready_hold}
 use Rattle.cts_desk.proofs.Steps.{serving_put, serving_part}
+use Rattle.cts_desk.proofs.Aiming.{aim_now}
 use Rattle.cts_desk.proofs.answering.reply_to.Goals as goal
 
 pub returns-in-Ok-clause-ready : goal.returns-in-Ok-clause-ready
@@ -47,3 +48,20 @@ returns-in-Err-clause-serves g c = λ was body given s.
     let puts = subst (λ (t : Option (List ℕ)). (n : ℕ) × (n ≤ length (response_with front t)) × (new ≡ told_after (at_now (with_failed_put (take n (response_with front t)))) old)) c.text_of.ensures c.in-Err.ensures.content in
     subst (λ (l : List ℕ). Serving b c.args.by was Over l w c.args.reader.now new) (sym c.push_reserved.ensures.items)
     (serving_part b c.args.by was c.args.reader.now body c.args.talk.fronts.items front text v w old new c.requires.open asked s puts)
+
+pub returns-in-Ok-clause-aim : goal.returns-in-Ok-clause-aim
+returns-in-Ok-clause-aim g c =
+    let old = (g.R.Link.seen c.args.door.now).told in
+    let new = (g.R.Link.seen c.put_response-put.new.door).told in
+    let front = c.ask-pass.result.1 in
+    let text : Option (List ℕ) = text_of c.ask-pass.result.2 in
+    aim_now (with_put (response_with front text)) old new (subst (λ (t : Option (List ℕ)). new ≡ told_after (at_now (with_put (response_with front t))) old) c.text_of.ensures c.in-Ok.ensures.content)
+
+pub returns-in-Err-clause-aim : goal.returns-in-Err-clause-aim
+returns-in-Err-clause-aim g c =
+    let old = (g.R.Link.seen c.args.door.now).told in
+    let new = (g.R.Link.seen c.put_response-put.new.door).told in
+    let front = c.ask-pass.result.1 in
+    let text : Option (List ℕ) = text_of c.ask-pass.result.2 in
+    let puts = subst (λ (t : Option (List ℕ)). (n : ℕ) × (n ≤ length (response_with front t)) × (new ≡ told_after (at_now (with_failed_put (take n (response_with front t)))) old)) c.text_of.ensures c.in-Err.ensures.content in
+    aim_now (with_failed_put (take puts.0 (response_with front text))) old new puts.2

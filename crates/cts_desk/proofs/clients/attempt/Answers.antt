@@ -1,4 +1,4 @@
-use Rattle.std.proofs.Common.{Bool, subst, sym}
+use Rattle.std.proofs.Common.{Bool, subst, sym, ◌∙◌}
 use Rattle.cts_turn.specs.Passes.{view}
 use Rattle.cts_desk.specs.Ending.{may_cut}
 use Rattle.cts_worker.specs.Grounds.{ground}
@@ -7,6 +7,7 @@ use Rattle.cts_desk.proofs.Ends.{cut_for, failed_rests, finished_rests, later_re
 use Rattle.cts_entry.specs.Histories.{is_stopped}
 use Rattle.cts_outside.specs.declared.link.Dialed.TheVariants.{Linked, Later, Finished, Failed}
 use Rattle.cts_desk.proofs.Faulting.{dial_rises, rise_then}
+use Rattle.cts_desk.proofs.Aiming.{aim_dial}
 use Rattle.cts_desk.proofs.clients.attempt.Goals as goal
 
 pub returns-in-Linked-clause-serves : goal.returns-in-Linked-clause-serves
@@ -46,3 +47,15 @@ returns-in-Finished-clause-faults g c = dial_rises Finished (g.R.Link.seen c.arg
 
 pub returns-in-Failed-clause-faults : goal.returns-in-Failed-clause-faults
 returns-in-Failed-clause-faults g c = dial_rises Failed (g.R.Link.seen c.args.door.now) (g.R.Link.seen c.dial.new.self) c.in-Failed.ensures.content c.in-Failed.ensures.faults
+
+pub returns-in-Linked-clause-aim : goal.returns-in-Linked-clause-aim
+returns-in-Linked-clause-aim g c = c.serve-talk.ensures.aim ∙ aim_dial Linked _ _ c.in-Linked.ensures.content
+
+pub returns-in-Later-clause-aim : goal.returns-in-Later-clause-aim
+returns-in-Later-clause-aim g c = aim_dial Later _ _ c.in-Later.ensures.content
+
+pub returns-in-Finished-clause-aim : goal.returns-in-Finished-clause-aim
+returns-in-Finished-clause-aim g c = aim_dial Finished _ _ c.in-Finished.ensures.content
+
+pub returns-in-Failed-clause-aim : goal.returns-in-Failed-clause-aim
+returns-in-Failed-clause-aim g c = aim_dial Failed _ _ c.in-Failed.ensures.content

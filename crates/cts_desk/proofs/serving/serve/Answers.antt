@@ -1,7 +1,9 @@
+use Rattle.std.proofs.Common.{◌∙◌}
 use Rattle.cts_turn.specs.Passes.{view}
 use Rattle.cts_worker.specs.Grounds.{ground}
 use Rattle.cts_desk.proofs.Steps.{serving_begins, serving_ends}
 use Rattle.cts_desk.proofs.Faulting.{hang_rises, rise_then}
+use Rattle.cts_desk.proofs.Aiming.{aim_hung}
 use Rattle.cts_desk.proofs.serving.serve.Goals as goal
 
 pub returns-clause-serves : goal.returns-clause-serves
@@ -11,3 +13,6 @@ returns-clause-serves g c = λ was s.
 
 pub returns-clause-faults : goal.returns-clause-faults
 returns-clause-faults g c = rise_then (g.R.Link.seen c.args.door.now) (g.R.Link.seen c.talk_on-talk.new.door) (g.R.Link.seen c.hang_up.new.self) c.talk_on-talk.ensures.faults (hang_rises (g.R.Link.seen c.talk_on-talk.new.door) (g.R.Link.seen c.hang_up.new.self) c.hang_up.ensures.content c.hang_up.ensures.faults)
+
+pub returns-clause-aim : goal.returns-clause-aim
+returns-clause-aim g c = aim_hung _ _ c.hang_up.ensures.content ∙ c.talk_on-talk.ensures.aim

@@ -39,6 +39,7 @@ rounds-preserved g c = record {
   linked = c.take_piece-more.ensures.linked;
   dials = c.take_piece-more.ensures.dials ∙ c.answer_all-next.ensures.dials ∙ c.rounds.invariant.dials;
   faults = rise_then (g.R.Link.seen c.args.door.now) (g.R.Link.seen c.answer_all-next.new.door) (g.R.Link.seen c.take_piece-more.new.door) (rise_then (g.R.Link.seen c.args.door.now) (g.R.Link.seen c.rounds.door) (g.R.Link.seen c.answer_all-next.new.door) c.rounds.invariant.faults c.answer_all-next.ensures.faults) c.take_piece-more.ensures.faults;
+  aim = c.take_piece-more.ensures.aim ∙ c.answer_all-next.ensures.aim ∙ c.rounds.invariant.aim;
   open_still = c.take_piece-more.ensures.open;
   room = search rules;
   serves = λ was s.
@@ -64,3 +65,12 @@ pub returns-then-not-more-clause-faults : goal.returns-then-not-more-clause-faul
 returns-then-not-more-clause-faults g c = rise_then (g.R.Link.seen c.args.door.now) (g.R.Link.seen c.answer_all-next.new.door) (g.R.Link.seen c.take_piece-more.new.door)
     (rise_then (g.R.Link.seen c.args.door.now) (g.R.Link.seen c.rounds.door) (g.R.Link.seen c.answer_all-next.new.door) c.rounds.invariant.faults c.answer_all-next.ensures.faults)
     c.take_piece-more.ensures.faults
+
+pub returns-then-not-goes-clause-aim : goal.returns-then-not-goes-clause-aim
+returns-then-not-goes-clause-aim g c = c.answer_all-next.ensures.aim ∙ c.rounds.invariant.aim
+
+pub returns-then-stop-clause-aim : goal.returns-then-stop-clause-aim
+returns-then-stop-clause-aim g c = c.answer_all-next.ensures.aim ∙ c.rounds.invariant.aim
+
+pub returns-then-not-more-clause-aim : goal.returns-then-not-more-clause-aim
+returns-then-not-more-clause-aim g c = c.take_piece-more.ensures.aim ∙ c.answer_all-next.ensures.aim ∙ c.rounds.invariant.aim

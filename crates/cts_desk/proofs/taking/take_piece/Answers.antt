@@ -1,4 +1,4 @@
-use Rattle.std.proofs.Common.{subst, ◌++◌}
+use Rattle.std.proofs.Common.{subst, ◌++◌, ◌∙◌}
 use Rattle.cts_outside.specs.Lines.{LinkPuts}
 use Rattle.cts_outside.specs.Lines.{after_take}
 use Rattle.cts_outside.specs.declared.link.Taken.TheVariants.{Got, Nothing, End, Failed}
@@ -7,6 +7,7 @@ use Rattle.cts_desk.specs.Exchanges.{fronts_of}
 use Rattle.cts_desk.specs.Serving.{StageSo, Waits, Reads, Over}
 use Rattle.cts_desk.proofs.Stages.{talks_at, talks_put, HasTaken, has_taken, took_piece, took_nothing, took_end, take_failed, unfed_whole, unfed_part}
 use Rattle.cts_desk.proofs.Faulting.{rise_then, take_rises}
+use Rattle.cts_desk.proofs.Aiming.{aim_now, aim_put}
 use Rattle.cts_desk.proofs.taking.take_piece.Goals as goal
 
 pub returns-in-Ok-clause-takes : goal.returns-in-Ok-clause-takes
@@ -54,3 +55,18 @@ returns-in-End-clause-faults g c = take_rises End c.take.new.buffer (g.R.Link.se
 
 pub returns-in-Failed-clause-faults : goal.returns-in-Failed-clause-faults
 returns-in-Failed-clause-faults g c = take_rises Failed c.take.new.buffer (g.R.Link.seen c.args.door.now) (g.R.Link.seen c.take.new.self) c.in-Failed.ensures.content c.in-Failed.ensures.cause
+
+pub returns-in-Ok-clause-aim : goal.returns-in-Ok-clause-aim
+returns-in-Ok-clause-aim g c = aim_now (after_take (Got c.in-Got.count) c.take.new.buffer) _ _ c.in-Got.ensures.content
+
+pub returns-in-Err-clause-aim : goal.returns-in-Err-clause-aim
+returns-in-Err-clause-aim g c = aim_put _ _ _ c.put_memory.result c.put_memory.ensures.content ∙ aim_now (after_take (Got c.in-Got.count) c.take.new.buffer) _ _ c.in-Got.ensures.content
+
+pub returns-in-Nothing-clause-aim : goal.returns-in-Nothing-clause-aim
+returns-in-Nothing-clause-aim g c = aim_now (after_take Nothing c.take.new.buffer) _ _ c.in-Nothing.ensures.content
+
+pub returns-in-End-clause-aim : goal.returns-in-End-clause-aim
+returns-in-End-clause-aim g c = aim_now (after_take End c.take.new.buffer) _ _ c.in-End.ensures.content
+
+pub returns-in-Failed-clause-aim : goal.returns-in-Failed-clause-aim
+returns-in-Failed-clause-aim g c = aim_now (after_take Failed c.take.new.buffer) _ _ c.in-Failed.ensures.content

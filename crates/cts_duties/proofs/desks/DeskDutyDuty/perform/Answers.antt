@@ -25,6 +25,7 @@ returns-clause-does g c =
       cause = e.cause;
       stops = e.stops;
       faults = e.faults;
+      aim = e.aim;
       idle = e.idle;
     })
 
