@@ -3,6 +3,7 @@ ghost use Rattle.std.specs.Prelude.{◌≡◌, ◌==◌};
 ghost use Rattle.std.specs.List.{list_any};
 ghost use Rattle.cts_entry.specs.declared.entry.Entry.{Entry as EntryData};
 ghost use Rattle.cts_scribe.specs.Vaults.{AreBlank};
+ghost use Rattle.cts_turn.specs.Passes.{IsPassOf};
 
 use crate::beside::Beside;
 use cts_def::{SCRIBE, Site};
@@ -85,6 +86,25 @@ pub fn cancel_scribe<R: Wait>(rt: &R, alloc: Global, hall: Hall) -> Result<Strin
     Ok(format!(in alloc; "{told} {own}")?)
 }
 
+// Why a scribe ended, its cursor, its entries, and how many entries stand.
+fn told_of<R: Wait>(
+    rt: &R,
+    alloc: Global,
+    turn: &Turn<Hall>,
+    end: ScribeEnd,
+) -> Result<String, Fail>
+    requires { IsPassOf turn.now end.pass }
+{
+    let ScribeEnd { pass, cursor, why } = end;
+    let held = turn.enter(rt, pass);
+    let own = own(alloc, held.state());
+    let count = held.state().count();
+    turn.leave(held);
+    let own = own?;
+    let told = debug_of(alloc, &(why, cursor, count))?;
+    Ok(format!(in alloc; "{told} {own}")?)
+}
+
 /// Runs a scribe over a hall of this site in which every other worker but the first interface has ended. The next entries of that interface, the last one first
 /// here, come at the vault's appends. Why the scribe ended, its cursor, its entries, and how many entries stand then.
 pub fn run_beside<R: Wait>(
@@ -105,12 +125,6 @@ pub fn run_beside<R: Wait>(
     let mut vault = Beside::new(rt, &turn, first, entries, vault);
     let digest = digest_of(b"");
     let end = Scribe::run(rt, alloc, site, SCRIBE, &turn, pass, &digest, &mut vault);
-    let ScribeEnd { pass, cursor, why } = end;
-    let held = turn.enter(rt, pass);
-    let own = own(alloc, held.state());
-    let count = held.state().count();
-    turn.leave(held);
-    let own = own?;
-    let told = debug_of(alloc, &(why, cursor, count))?;
-    Ok((format!(in alloc; "{told} {own}")?, vault.into_vault()))
+    let told = told_of(rt, alloc, &turn, end)?;
+    Ok((told, vault.into_vault()))
 }

@@ -1,4 +1,4 @@
-use Rattle.std.proofs.Common.{◌≡◌, ◌==◌, ◌∷◌, [], false, ap, append-nil, arith, ◌∙◌, rules, sym}
+use Rattle.std.proofs.Common.{◌≡◌, ◌==◌, ◌∷◌, [], false, ap, arith, ◌∙◌, rules, sym}
 use Rattle.std.specs.List.{list_any}
 use Rattle.cts_entry.specs.declared.entry.Entry.{Entry}
 use Rattle.cts_table.specs.declared.basis.Basis.{Basis}
@@ -25,6 +25,3 @@ run-end-requires-clause-new g c =
 
 pub run-end-requires-clause-site : goal.run-end-requires-clause-site
 run-end-requires-clause-site g c = c.requires.site ∙ sym (ap (λ (b : Basis). b.site) c.in_ok-turn.ensures.basis)
-
-pub leave-requires-clause-new : goal.leave-requires-clause-new
-leave-requires-clause-new g c = ([], sym (ap (λ v. v.seen) c.enter-held.ensures.view) ∙ sym (append-nil _), tt)
