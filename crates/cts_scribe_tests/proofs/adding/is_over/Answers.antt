@@ -5,7 +5,7 @@ use Rattle.cts_scribe_tests.proofs.adding.is_over.Goals as goal
 
 pub loop-n-preserved : goal.loop-n-preserved
 loop-n-preserved c =
-    let next = drop_lent c.args.hall.now.entries c.loop-n.n c.lend-entry.result.now c.lend-entry.ensures in
+    let next = drop_lent c.args.hall.now.entries c.loop-n.n c.lend.result.now c.lend.ensures in
     let before = c.loop-n.invariant in
     grind (arith, common_steps)
 
