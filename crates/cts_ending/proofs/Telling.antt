@@ -1,5 +1,5 @@
 -- Which trouble is told.
-use Rattle.std.proofs.Common.{◌≡◌, ℕ, ◌<◌, Bool, true, false, not, ◌||◌, cond, List, [], ◌∷◌, Option, Some, None, find, refl, sym, ◌∙◌, ap, subst, arith}
+use Rattle.std.proofs.Common.{◌≡◌, ◌<◌, Bool, true, false, not, ◌||◌, cond, List, [], ◌∷◌, Option, Some, None, find, refl, subst, arith}
 use Rattle.std.specs.List.{AllByRecursion, list_any}
 use Rattle.cts_desk.specs.declared.ending.DeskWhy.{DeskWhy}
 use Rattle.cts_desk.specs.declared.ending.DeskWhy.TheVariants as desk
@@ -8,8 +8,8 @@ use Rattle.cts_line.specs.declared.ending.LineWhy.TheVariants as line
 use Rattle.cts_scribe.specs.declared.ending.ScribeWhy.{ScribeWhy}
 use Rattle.cts_scribe.specs.declared.ending.ScribeWhy.TheVariants as scribe
 use Rattle.cts_server.specs.declared.worked.DeskNote.{DeskNote}
-use Rattle.cts_ending.specs.Laws.{IsPlain, PlainWhereNoneIsTold, TellsTheFirst, is_plain_desk, is_plain_line, number}
-use Rattle.cts_ending.specs.Troubles.{Left, desk_shows, has_closed, has_desk, line_shows, order, scribe_shows, shows, trouble_of}
+use Rattle.cts_ending.specs.Laws.{PlainWhereNoneIsTold, TellsTheFirst, is_plain_desk, is_plain_line, number}
+use Rattle.cts_ending.specs.Troubles.{Left, desk_shows, has_closed, has_desk, line_shows, order, scribe_shows, shows}
 use Rattle.cts_ending.specs.declared.trouble.Trouble.{Trouble}
 use Rattle.cts_ending.specs.declared.trouble.Trouble.TheVariants.{Memory, WriteFault, HistoryFull, LogFault, NoWorker, DoorFault}
 

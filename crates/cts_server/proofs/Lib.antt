@@ -8,3 +8,5 @@ mod Fits
 mod Parts
 mod Owing
 mod Site
+mod Once
+mod Complete

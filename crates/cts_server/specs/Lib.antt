@@ -6,3 +6,5 @@ pub mod Cancelled
 pub mod Kinds
 pub mod Tasks
 pub mod Homes
+pub mod Once
+pub mod Complete

@@ -3,6 +3,7 @@
 #![tactic(auto)]
 
 mod aims;
+mod laws;
 mod notes;
 mod places;
 mod serving;
@@ -10,5 +11,6 @@ mod tasks;
 mod undone;
 mod worked;
 
+pub use laws::{last_ended_is_only, sites_are_complete};
 pub use serving::{Shared, serve_site};
 pub use worked::{DeskNote, NotStarted, Worked};

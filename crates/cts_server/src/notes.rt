@@ -1,5 +1,5 @@
 // The notes of a site's workers, of which the devices go back to their places.
-ghost use Rattle.std.specs.Prelude.{◌≡◌, ◌+◌, ◌≤◌, ◌++◌, [], List, Some, drop, length, map, vec_capacity, vec_len};
+ghost use Rattle.std.specs.Prelude.{◌≡◌, ◌+◌, ◌≤◌, ◌++◌, List, Some, drop, length, map, vec_capacity, vec_len};
 ghost use Rattle.cts_duties.specs.declared.any.AnyNote.TheVariants.{Desk, Line, Scribe, Slot};
 ghost use Rattle.cts_server.specs.Homes.{AllHome, CameHome, FirstAre};
 ghost use Rattle.cts_server.specs.Kinds.{IsDeskNote, IsLineNote, IsScribeNote, IsSlotNote};
