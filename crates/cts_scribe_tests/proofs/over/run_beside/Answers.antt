@@ -1,4 +1,4 @@
-use Rattle.std.proofs.Common.{◌≡◌, ◌==◌, ◌∷◌, [], false, ap, arith, ◌∙◌, rules, sym}
+use Rattle.std.proofs.Common.{◌≡◌, ◌==◌, ◌∷◌, [], false, ap, arith, ◌∙◌, sym}
 use Rattle.std.specs.List.{list_any}
 use Rattle.cts_entry.specs.declared.entry.Entry.{Entry}
 use Rattle.cts_table.specs.declared.basis.Basis.{Basis}

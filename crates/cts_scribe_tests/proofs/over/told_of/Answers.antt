@@ -1,4 +1,4 @@
-use Rattle.std.proofs.Common.{ap, append-nil, ◌∙◌, sym}
+use Rattle.std.proofs.Common.{[], ap, append-nil, ◌∙◌, sym}
 use Rattle.cts_scribe_tests.proofs.over.told_of.Goals as goal
 
 pub leave-requires-clause-new : goal.leave-requires-clause-new
