@@ -115,15 +115,26 @@ fn ident_of(text: &str) -> Result<Ident, Fail> {
 /// Packets A of two and of four bytes, and two that nothing defines.
 const RECEIVED: &str = "0:0105 0:01050607 ?:02 ?:";
 
-/// The raw value of an item by the names of a row, and a count of looks of its own.
+/// The raw value of an item by the names of a row.
 fn looked_up(alloc: Global, hall: &Hall, asked: &str) -> Result<Value, Lookup> {
-    counted::<Brand>(alloc, hall, asked, Blank::new(1))
+    let names = (field(asked, 0), field(asked, 1), field(asked, 2));
+    raw_value::<Brand>(
+        alloc,
+        hall,
+        names.0.as_bytes(),
+        names.1.as_bytes(),
+        names.2.as_bytes(),
+        Blank::new(1),
+    )
 }
 
-fn counted<L: Ledger>(
+// The raw value of an item, with a count of looks of its own.
+fn raw_value<L: Ledger>(
     alloc: Global,
     hall: &Hall,
-    asked: &str,
+    target: &[u8],
+    packet: &[u8],
+    item: &[u8],
     blank: Blank,
 ) -> Result<Value, Lookup>
     requires name { blank.name ≡ L.name }
@@ -131,15 +142,7 @@ fn counted<L: Ledger>(
     requires some { 0 < L.parts }
 {
     let mut steps: Steps<L> = Steps::begin(blank);
-    let names = (field(asked, 0), field(asked, 1), field(asked, 2));
-    hall.value(
-        alloc,
-        names.0.as_bytes(),
-        names.1.as_bytes(),
-        names.2.as_bytes(),
-        ValueKind::Raw,
-        &mut steps,
-    )
+    hall.value(alloc, target, packet, item, ValueKind::Raw, &mut steps)
 }
 
 struct Lookups;
