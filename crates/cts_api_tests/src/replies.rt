@@ -1,11 +1,8 @@
 // What desks reply to whole bodies, and what they append.
-ghost use Rattle.std.specs.Prelude.{◌≡◌};
-ghost use Rattle.cts_entry.specs.Legal.{has_ended};
-
 use crate::hall::hall_of;
 use cts_api::{Answer, answer, reply};
 use cts_def::{FIRST_DESK, Time};
-use cts_entry::{Stands, What};
+use cts_entry::{Stands, has_ended};
 use cts_rows::{Answers, as_text, cut, number, readable_of, rows_end_so, same};
 use cts_rpc::{Call, read};
 use cts_script::entry_lines;
@@ -19,20 +16,9 @@ const NOW: Time = Time {
     micros: 7,
 };
 
-fn is_over(hall: &Hall, by: u32) -> bool
-    ensures { result ≡ has_ended by hall.now.entries }
-{
-    let mut over = false;
-    for n in 0..hall.count() {
-        let entry = hall.lend(n);
-        over |= entry.by == by && matches!(entry.what, What::Ended);
-    }
-    over
-}
-
 /// What desk 0 replies to a body.
 pub fn asked(alloc: Global, hall: &mut Hall, body: &[u8]) -> Result<Answer, Fail> {
-    if hall.site().desks == 0 || is_over(hall, FIRST_DESK) {
+    if hall.site().desks == 0 || has_ended(hall, FIRST_DESK) {
         return Err(Fail::new("no desk"));
     }
     match reply(alloc, hall, FIRST_DESK, NOW, body) {
@@ -378,7 +364,7 @@ fn a_65th_set_is_too_many(rt: HostRuntime) -> Result<(), Fail> {
 
 /// What desk 0 answers to a call that was read before.
 fn answered(alloc: Global, hall: &mut Hall, call: &Call) -> Result<String, Fail> {
-    if hall.site().desks == 0 || is_over(hall, FIRST_DESK) {
+    if hall.site().desks == 0 || has_ended(hall, FIRST_DESK) {
         return Err(Fail::new("no desk"));
     }
     match answer(alloc, hall, FIRST_DESK, NOW, call) {

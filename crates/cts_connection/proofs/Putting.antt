@@ -23,11 +23,6 @@ of_site_drop site zero before es h = (before, h)
 of_site_drop site (suc n) before [] h = (before, tt)
 of_site_drop site (suc n) before (e ∷ es) h = of_site_drop site n (before ++ e ∷ []) es h.1
 
-pub of_site_take : (site : SiteData) (n : ℕ) (before es : List Entry) → AllOfSite site before es → AllOfSite site before (take n es)
-of_site_take site zero before es h = tt
-of_site_take site (suc n) before [] h = tt
-of_site_take site (suc n) before (e ∷ es) h = (h.0, of_site_take site n (before ++ e ∷ []) es h.1)
-
 -- what is lent at a place is of the site
 pub of_site_at : (site : SiteData) (n : ℕ) (h : List Entry) (e : Entry) → AllOfSite site [] h → slice_get h n ≡ Some e → (b : List Entry) × IsOfSite site b e
 of_site_at site n h e all is = let rest = of_site_drop site n [] h all in (rest.0, (subst (AllOfSite site rest.0) (drop_lent h n e is) rest.1).0)
@@ -68,13 +63,13 @@ walk_queue site by entries on = ap (λ (b : Bool). if b then queue (site_routing
 pub walk_all : (site : SiteData) (by : ℕ) (entries : List Entry) → is_interface site by ≡ false → walk (site_routing site) by entries ≡ entries
 walk_all site by entries off = ap (λ (b : Bool). if b then queue (site_routing site) by entries else entries) off
 
--- so many commands of an interface
+-- a number of commands of an interface
 pub next_command : (site : SiteData) (by : ℕ) (entries : List Entry) (count : ℕ) (next : Option ℕ) → is_interface site by ≡ true
     → MatchOption next (length (queue (site_routing site) by entries) < count) (λ n. (n ≤ length entries) × (length (queue (site_routing site) by (take n entries)) ≡ count)) → HoldsNext site by entries count next
 next_command site by entries count None on h = subst (λ (l : List Entry). length l < count) (sym (walk_queue site by entries on)) h
 next_command site by entries count (Some n) on h = (h.0, ap length (walk_queue site by (take n entries) on) ∙ h.1)
 
--- so many entries of a slot
+-- a number of entries of a slot
 pub next_entry : (site : SiteData) (by : ℕ) (entries : List Entry) (count : ℕ) (next : Option ℕ) → is_interface site by ≡ false
     → MatchOption next (length entries < count) (λ n. (n ≡ count) × (n ≤ length entries)) → HoldsNext site by entries count next
 next_entry site by entries count None off h = subst (λ (l : List Entry). length l < count) (sym (walk_all site by entries off)) h

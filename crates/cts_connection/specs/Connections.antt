@@ -52,7 +52,7 @@ entries_ahead c history = drop c.cursor.place history
 abbrev pub waiting : SiteData → ℕ → List Entry → HeldCursor → ℕ
 waiting site by history cursor = capped (cursor.refused + length (queue (site_routing site) by (drop cursor.place history)))
 
--- So many of these entries hold the next so many of those through which a line goes; none where there are fewer of them.
+-- How many of these entries hold the next `count` of those through which a line goes; none where there are fewer of them.
 abbrev pub HoldsNext : SiteData → ℕ → List Entry → ℕ → Option ℕ → Type 0
 HoldsNext site by entries count next =
     MatchOption next (length (walk (site_routing site) by entries) < count) (λ n. (n ≤ length entries) × (length (walk (site_routing site) by (take n entries)) ≡ count))

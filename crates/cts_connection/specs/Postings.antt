@@ -36,7 +36,7 @@ pub record Grown (old : Shown) (es : List Entry) (new : Shown) : Type 0 where
   pub basis : new.basis ≡ old.basis
   pub entries : new.entries ≡ old.entries ++ es
 
--- Room is wanted for so many entries with so many bytes in them, and this is refused: nothing is changed. Memory may be wanting only where
+-- Room is wanted for a number of entries and the bytes in them, and this is refused: nothing is changed. Memory may be wanting only where
 -- there was room.
 abbrev pub Refuses : Shown → HeldConnection → ℕ → ℕ → HallFault → Shown → HeldConnection → Type 0
 Refuses s c entries bytes (Full counted size) new d =
@@ -80,7 +80,7 @@ pub record Closes (by : ℕ) (now : Time) (s : Shown) (c : HeldConnection) (why 
 
 -- ---- packets are posted
 
--- why a connection is to be closed after the packets of a piece, where so many have no entry and its chain has failed so: for want of
+-- why a connection is to be closed after the packets of a piece, where a number of them have no entry and its chain has failed so: for want of
 -- memory, where any has none, and else for the failure
 abbrev pub end_of : ℕ → Option Why → Option End
 end_of unposted why = if unposted == 0 then option_map (λ (w : Why). record { why = w; unposted = 0 }) why else Some (record { why = NoMemory; unposted = unposted })

@@ -27,7 +27,7 @@ SaysOf site history by ident bytes what = (o : Output) → ident_of site by o �
 abbrev pub entries_of : SiteData → List Entry → ℕ → Time → List Output → List Entry
 entries_of site history by now packets = posted_entries (site_routing site) history now by packets
 
--- A chain gave up so many packets, and then no more: so it closes its connection, or not.
+-- A chain gave up a number of packets, and then no more: so it closes its connection, or not.
 pub record GivesUp (old : ChainData) (unposted : ℕ) (why : Option Why) (new : ChainData) : Type 0 where
   pub lost : List Output
   pub stands : (ins given : List Output) → StagesStand old.stages ins given → StagesStand new.stages ins (given ++ lost)
@@ -36,7 +36,7 @@ pub record GivesUp (old : ChainData) (unposted : ℕ) (why : Option Why) (new : 
   pub count : unposted ≡ capped (length lost)
   pub why_is : why ≡ blamed (last_fault 1 new.stages)
 
--- A chain gave packets, of which these are the entries after some others, and then so many for which no memory was found, and then no
+-- A chain gave packets, of which these are the entries after some others, and then a number of packets for which no memory was found, and then no
 -- more: so it closes its connection, or not.
 pub record Gathers (site : SiteData) (history : List Entry) (by : ℕ) (now : Time) (old : ChainData) (before entries : List Entry) (unposted : ℕ) (why : Option Why) (new : ChainData) : Type 0 where
   pub packets : List Output

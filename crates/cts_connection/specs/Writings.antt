@@ -20,12 +20,12 @@ pub record PutsOne (spelling : Option (List ℕ)) (old new : List ℕ) (count : 
   pub bytes : new ≡ old ++ bytes_or_none spelling
   pub count_is : count ≡ cond (is_refused spelling) 1 0
 
--- what of these entries is for a line's peer was put after old bytes, and so many of it were refused
+-- what of these entries is for a line's peer was put after old bytes, and how many of it were refused
 pub record Puts (site : SiteData) (specs : List SpecData) (by : ℕ) (entries : List Entry) (old new : List ℕ) (count : ℕ) : Type 0 where
   pub bytes : new ≡ old ++ spelled (spell_by site specs) (queue (site_routing site) by entries)
   pub count_is : count ≡ refused (spell_by site specs) (queue (site_routing site) by entries)
 
--- A connection has put what is for its peer among the next so many entries of a history, and has passed these.
+-- A connection has put what is for its peer among the next entries of a history, and has passed these.
 pub record Wrote (site : SiteData) (by : ℕ) (old : HeldConnection) (history : List Entry) (next : ℕ) (bytes : List ℕ) (new : HeldConnection) : Type 0 where
   pub bytes_are : bytes ≡ spelled (spell_by site (writers old.chain)) (queue (site_routing site) by (take next (entries_ahead old history)))
   pub new_is : new ≡ record old {

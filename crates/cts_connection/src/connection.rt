@@ -214,7 +214,7 @@ impl<C: Framer> Connection<C> {
 
     // ---- what goes out
 
-    /// How many of the entries that it has not passed hold the next so many of those through which the line goes: an interface goes from
+    /// How many of the entries that it has not passed hold the next `count` of those through which the line goes: an interface goes from
     /// one of its commands to the next, a slot through all entries. None where there are fewer.
     pub fn next(&self, hall: &Hall, by: u32, count: u64) -> Option<usize>
         ensures { HoldsNext hall.now.basis.site by (entries_ahead self.now hall.now.entries) count result }
@@ -247,7 +247,7 @@ impl<C: Framer> Connection<C> {
         self.refused += unsent;
     }
 
-    /// Puts what is for the line's peer among the next so many entries into the frames of its chain, one after the other, and passes these
+    /// Puts what is for the line's peer among the next `next` entries into the frames of its chain, one after the other, and passes these
     /// entries. What its chain refuses is passed over and counted.
     ///
     /// # Errors

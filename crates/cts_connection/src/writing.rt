@@ -39,7 +39,7 @@ fn one_if(test: bool) -> u64
     if test { 1 } else { 0 }
 }
 
-/// How many of the entries from a place on hold the next so many of those through which a line goes: an interface goes from one of its
+/// How many of the entries from a place on hold the next `count` of those through which a line goes: an interface goes from one of its
 /// commands to the next, a slot through all entries. None where there are fewer.
 pub(crate) fn next_of(hall: &Hall, by: u32, place: usize, count: u64) -> Option<usize>
     ensures { HoldsNext hall.now.basis.site by (drop place hall.now.entries) count result }
@@ -51,7 +51,7 @@ pub(crate) fn next_of(hall: &Hall, by: u32, place: usize, count: u64) -> Option<
     first_of(hall.count().saturating_sub(place as u64), count)
 }
 
-// The first so many of the entries ahead.
+// The first `count` of the entries ahead.
 fn first_of(ahead: u64, count: u64) -> Option<usize>
     ensures { MatchOption result (ahead < count) (λ n. (n ≡ count) × (n ≤ ahead)) }
 {
@@ -61,7 +61,7 @@ fn first_of(ahead: u64, count: u64) -> Option<usize>
     Some(count as usize)
 }
 
-/// Appends the spellings of what is for the peer of a line among the next so many entries from a place on, in order, and says how many
+/// Appends the spellings of what is for the peer of a line among the next `next` entries from a place on, in order, and says how many
 /// were refused: these are passed over.
 pub(crate) fn put_queue<C: Framer>(
     alloc: Global,

@@ -1,5 +1,5 @@
 -- The logs of entries, one after the other.
-use Rattle.std.proofs.Common.{◌≡◌, ℕ, ◌<◌, ◌≤◌, List, [], ◌∷◌, ◌++◌, take, drop, zero, suc, sym, ◌∙◌, ap, arith, append_assoc}
+use Rattle.std.proofs.Common.{◌≡◌, ℕ, ◌<◌, List, [], ◌∷◌, ◌++◌, drop, zero, suc, sym, ◌∙◌, ap, arith, append_assoc}
 use Rattle.std.proofs.lemmas.List.Sums.{sum_by-cons}
 use Rattle.cts_core.specs.Drainings.{site_commands_log, site_packets_log}
 use Rattle.cts_def.specs.Sites.{SiteData}
@@ -28,11 +28,3 @@ pub small_drop : (k n : ℕ) (es : List Entry) → bytes_in es < n → bytes_in 
 small_drop zero n es h = h
 small_drop (suc k) n [] h = h
 small_drop (suc k) n (e ∷ es) h = small_drop k n es (rest_small e es n h)
-
-pub small_take : (k n : ℕ) (es : List Entry) → bytes_in es < n → bytes_in (take k es) < n
-small_take k n es h = let within = taken_within k es in omega (arith, within, h)
-  where
-    taken_within : (k : ℕ) (es : List Entry) → bytes_in (take k es) ≤ bytes_in es
-    taken_within zero es = omega arith
-    taken_within (suc k) [] = omega arith
-    taken_within (suc k) (e ∷ es) = omega (arith, taken_within k es, sum_by-cons (λ (x : Entry). bytes_for x.what) e es, sum_by-cons (λ (x : Entry). bytes_for x.what) e (take k es))

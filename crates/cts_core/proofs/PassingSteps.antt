@@ -37,7 +37,7 @@ use Rattle.cts_core.proofs.WorldSteps.{connection_kept, connections_set, not_ena
 use Rattle.cts_table.specs.declared.basis.Basis.{Basis}
 use Rattle.cts_told.specs.Routing.{queue, walk}
 
--- An event by which a line passes so many of the entries through which it goes, and which gives what of them is for its peer.
+-- An event by which a line passes `count` of the entries through which it goes, and which gives what of them is for its peer.
 pub record IsPassing (base : Basis) (s : State) (event : Event) (by count : ℕ) (gives : List ℕ → Effect) : Type 0 where
   line : is_line base.site by ≡ true
   enabled : is_enabled (environment_of base) s event ≡ (is_connected by s.history && nat_le count (length (ahead (environment_of base) s by)))
@@ -207,7 +207,7 @@ module _ (base : Basis) (w : Held) (s : State) (n place : ℕ) (at : s.log_curso
   log_did : Did
   log_did = record { entries = []; effect = effect_of (environment_of base) s (DrainLog n) silent }
 
-  -- the logs have passed so many entries more
+  -- the logs have passed `n` entries more
   logs_passed : RepresentsWithin base w (after s (DrainLog n) log_did)
   unfolding log_did
   logs_passed =

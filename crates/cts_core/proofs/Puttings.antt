@@ -29,7 +29,7 @@ and_same : (a b c : Bool) → (a ≡ true → b ≡ c) → (a && b) ≡ (a && c)
 and_same true b c h = h refl
 and_same false b c h = refl
 
--- a line may pass so many of its entries where the event that passes them is enabled
+-- a line may pass `count` of its entries where the event that passes them is enabled
 pub can_pass_is : (base : Basis) (w : Held) (s : State) (by count : ℕ) → RepresentsWithin base w s → is_line base.site by ≡ true → can_pass w by count ≡ (is_connected by s.history && nat_le count (length (ahead (environment_of base) s by)))
 can_pass_is base w s by count h line =
     let c = connection_of w by in
@@ -56,7 +56,7 @@ put_is site s by count next k p many =
     let first : take count (ahead (site_environment site) s by) ≡ walk g by some = ap (take count) (ahead_is (site_environment site) s by k.place k.refused p) ∙ next_walked g by count next (drop k.place s.history) many in
     ap (λ (l : List Entry). spelled (spell g by) (queue g by l)) first ∙ ap (spelled (spell g by)) (queue_walk g by some)
 
--- the maker has passed so many entries more
+-- the maker has passed that number of entries more
 pub passed_next : (site : SiteData) (s t : State) (by count next : ℕ) (k : HeldCursor) → IsPassed (site_environment site) s by k.place k.refused → next ≤ length (drop k.place s.history) → length (walk (site_routing site) by (take next (drop k.place s.history))) ≡ count
     → t.history ≡ s.history → t.cursor by ≡ s.cursor by + count → IsPassed (site_environment site) t by (k.place + next) (k.refused + refused (spell_by site (writers_at site by)) (queue (site_routing site) by (take next (drop k.place s.history))))
 passed_next site s t by count next k p within many same on =

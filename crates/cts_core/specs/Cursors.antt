@@ -6,7 +6,7 @@ use Rattle.cts_entry.specs.Queues.{refused}
 use Rattle.cts_told.specs.Routing.{spell, queue, walk}
 use Rattle.cts_core.specs.States.{Environment, State}
 
--- A maker has passed the history up to a place; so many entries of its queue that it passed were refused.
+-- A maker has passed the history up to a place; of the entries of its queue that it passed, a number was refused.
 pub record IsPassed (env : Environment) (s : State) (by place count : ℕ) : Type 0 where
   pub behind : List Entry
   pub beyond : List Entry

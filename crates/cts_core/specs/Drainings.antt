@@ -16,7 +16,7 @@ site_packets_log site entries = packets_log (site_environment site) entries
 abbrev pub site_commands_log : SiteData → List Entry → List ℕ
 site_commands_log site entries = commands_log (site_environment site) entries
 
--- What the logs take of the next so many entries after a place: nothing exactly where fewer stand there.
+-- What the logs take of the next `n` entries after a place: nothing exactly where fewer stand there.
 abbrev pub Drains : SiteData → List Entry → ℕ → ℕ → Result Effect WorldFault → Type 0
 Drains site history place n (Ok effect) =
     (n ≤ length (drop place history)) × (effect ≡ Logged (site_packets_log site (take n (drop place history))) (site_commands_log site (take n (drop place history))))

@@ -56,7 +56,7 @@ passed env s by = take (s.cursor by) (walk env.routing by (since by s.history))
 abbrev pub ahead : Environment → State → ℕ → List Entry
 ahead env s by = drop (s.cursor by) (walk env.routing by (since by s.history))
 
--- what a maker puts for its next entries, so many
+-- what a maker puts for a number of its next entries
 abbrev pub put_next : Environment → State → ℕ → ℕ → List ℕ
 put_next env s by count = spelled (spell env.routing by) (queue env.routing by (take count (ahead env s by)))
 

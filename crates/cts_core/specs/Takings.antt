@@ -32,7 +32,7 @@ IsOpened by w new =
 abbrev pub IsClosed : ℕ → Held → Why → Held → Type 0
 IsClosed by w why new = (c : HeldConnection) × IsRenewed false (connection_of w by) c × (new ≡ changed by w (lost w.basis.site by w.time w.history (connection_of w by) why ∷ []) c)
 
--- A piece went through the chain of a connection. These are the entries of its packets, but for so many; they are not posted yet.
+-- A piece went through the chain of a connection. These are the entries of its packets, but for a number of the last ones; they are not posted yet.
 abbrev pub Takes : ℕ → Held → List ℕ → List Entry → ℕ → Option Why → Held → Type 0
 Takes by w piece entries unposted why new =
     (c : HeldConnection) × (c.connected ≡ (connection_of w by).connected) × (c.cursor ≡ (connection_of w by).cursor) × TakesPiece w.basis.site w.history by w.time (connection_of w by).chain piece entries unposted why c.chain × (new ≡ with_connection by w c)

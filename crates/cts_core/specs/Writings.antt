@@ -17,21 +17,21 @@ ahead_in w by = entries_ahead (connection_of w by) w.history
 abbrev pub walk_in : Held → ℕ → List Entry → List Entry
 walk_in w by entries = walk (site_routing w.basis.site) by entries
 
--- a line is connected, and so many of the entries through which it goes stand ahead
+-- a line is connected, and `count` of the entries through which it goes stand ahead
 abbrev pub can_pass : Held → ℕ → ℕ → Bool
 can_pass w by count = (connection_of w by).connected && nat_le count (length (walk_in w by (ahead_in w by)))
 
--- the next so many entries through which a line goes are those among the next so many entries
+-- the next `count` entries through which a line goes are those among the next `next` entries
 pub record IsNext (w : Held) (by count next : ℕ) : Type 0 where
   pub enabled : can_pass w by count ≡ true
   pub within : next ≤ length (ahead_in w by)
   pub count_is : length (walk_in w by (take next (ahead_in w by))) ≡ count
 
--- the connection of a line has put what is for its peer among its next so many entries
+-- the connection of a line has put what is for its peer among its next `next` entries
 abbrev pub PutsNext : ℕ → Held → ℕ → List ℕ → Held → Type 0
 PutsNext by w next bytes new = (c : HeldConnection) × Wrote w.basis.site by (connection_of w by) w.history next bytes c × (new ≡ with_connection by w c)
 
--- a line passes the next so many entries through which it goes, and puts what of them is for its peer; or nothing is done
+-- a line passes the next `count` entries through which it goes, and puts what of them is for its peer; or nothing is done
 abbrev pub Puts : ℕ → Held → ℕ → Result (List ℕ) WorldFault → Held → Type 0
 Puts by w count (Ok bytes) new = (next : ℕ) × IsNext w by count next × PutsNext by w next bytes new
 Puts by w count (Err NotEnabled) new = (can_pass w by count ≡ false) × (new ≡ w)

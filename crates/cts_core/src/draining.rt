@@ -10,7 +10,7 @@ use cts_laying::Batch;
 use cts_table::Hall;
 use std::alloc::Global;
 
-/// What the logs take of the next so many entries after a place.
+/// What the logs take of the next `count` entries after a place.
 ///
 /// # Errors
 ///
@@ -44,7 +44,7 @@ fn logs_of(alloc: Global, hall: &Hall, place: usize, count: u64) -> Result<Effec
     })
 }
 
-// Adds what the next so many entries after a place give to the logs. Where no memory is found, a part of it may have been added.
+// Adds what the next `count` entries after a place give to the logs. Where no memory is found, a part of it may have been added.
 fn put_logs(
     alloc: Global,
     hall: &Hall,

@@ -12,7 +12,7 @@ use std::alloc::{AllocError, AllocFailed};
 pub enum WorldFault {
     /// It is not enabled.
     NotEnabled,
-    /// Its entries would pass a limit of the history, in which so many entries and bytes count.
+    /// Its entries would pass a limit of the history. The numbers are of the entries and bytes that count in it.
     Full { entries: u64, bytes: u64 },
     /// Memory ran out.
     Memory,

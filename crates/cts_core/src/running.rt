@@ -85,7 +85,7 @@ impl<C: Framer> Running<C> {
         &self.hall
     }
 
-    /// Does one event, where the logs have passed so many entries. Where it is not done, nothing is changed.
+    /// Does one event, where the logs have passed the first `logged` entries. Where it is not done, nothing is changed.
     pub fn step(&mut self, event: &Event, logged: usize) -> Result<Effect, WorldFault>
         ensures step { (base : Basis) (s : State) → s.log_cursor ≡ logged → RepresentsWithin base self.old s → Steps base s event.now self.old result self.new }
         ensures within { OnOk result (logged + drained event.now < 2 ^ 64) }
@@ -217,7 +217,7 @@ impl<C: Framer> Running<C> {
         Ok(Effect::Routed { slot: by, bytes })
     }
 
-    // Puts what is for a line's peer of the next so many entries through which the line goes. Nothing is changed where it is not connected,
+    // Puts what is for a line's peer of the next `count` entries through which the line goes. Nothing is changed where it is not connected,
     // or where fewer stand ahead of it, and where no memory is found.
     fn put_next(&mut self, by: u32, count: u64) -> Result<Bytes, WorldFault>
         requires { is_line self.old.basis.site by ≡ true }
@@ -230,7 +230,7 @@ impl<C: Framer> Running<C> {
         Ok(Bytes::of(bytes))
     }
 
-    // How many of the next entries hold the next so many through which a line goes; none where it is not connected, or fewer stand ahead
+    // How many of the next entries hold the next `count` through which a line goes; none where it is not connected, or fewer stand ahead
     // of it.
     fn next(&self, by: u32, count: u64) -> Option<usize>
         requires { is_line self.now.basis.site by ≡ true }
@@ -243,7 +243,7 @@ impl<C: Framer> Running<C> {
         connection.next(&self.hall, by, count)
     }
 
-    // Puts what is for a line's peer among the next so many entries. Where no memory is found for it, nothing is changed.
+    // Puts what is for a line's peer among the `next` entries that come next. Where no memory is found for it, nothing is changed.
     fn put(&mut self, by: u32, next: usize) -> Result<Vec<u8>, Memory>
         requires line { is_line self.old.basis.site by ≡ true }
         requires within { next ≤ length (ahead_in self.old by) }
@@ -255,7 +255,7 @@ impl<C: Framer> Running<C> {
         connection.write(self.alloc, &self.hall, by, next)
     }
 
-    // Gives the logs the next so many entries after those that they have passed.
+    // Gives the logs the next `count` entries after those that they have passed.
     fn drain_log(&self, logged: usize, count: u64) -> Result<Effect, WorldFault>
         ensures step { (base : Basis) (s : State) → s.log_cursor ≡ logged → RepresentsWithin base self.now s → Steps base s (event.DrainLog count) self.now result self.now }
         ensures within { OnOk result (logged + count < 2 ^ 64) }

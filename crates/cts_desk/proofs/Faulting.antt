@@ -47,7 +47,7 @@ module _ (f : Connection → Connection) (k : ℕ) (le : (c : Connection) → fa
       let b = in_append line.past (option_to_list line.now) in
       let c = now_more line.now in omega (arith, a, b, c)
 
--- a call that acts on the connection that stands, and after which so many faults more are told of it at most
+-- a call that acts on the connection that stands, and after which at most `k` faults more are told of it
 acts : (f : Connection → Connection) (k : ℕ) → ((c : Connection) → faults_of (f c) ≤ faults_of c + k) → (old new : LineSeen) → new.told ≡ told_after (at_now f) old.told → RoseBy k old.faults new.faults → FaultsRise old new
 acts f k le old new e r = rise_by k old new (subst (λ o. faults_told o ≤ faults_told old.told + k) (sym e) (told_more f k le old.told)) r
 

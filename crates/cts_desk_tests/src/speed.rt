@@ -1,6 +1,5 @@
 // What `bench/desk` takes the time of: the calls of one client on one connection, over a door that tells nothing, and what they are made of.
 ghost use Rattle.std.specs.Prelude.{◌≡◌, false, length, None, OnOk};
-ghost use Rattle.cts_entry.specs.Legal.{has_ended};
 ghost use Rattle.cts_outside.specs.Causes.{TakeCause};
 ghost use Rattle.cts_outside.specs.Lines.{TakeFits};
 
@@ -8,7 +7,7 @@ use crate::over::{desk_over, hall_of};
 use cts_api::reply;
 use cts_base::Bytes;
 use cts_def::Time;
-use cts_entry::{Stands, What};
+use cts_entry::has_ended;
 use cts_http::{HttpStep, Reader, response};
 use cts_outside::{Aim, Dialed, Dialer, Link, PutFailed, Taken};
 use cts_table::Hall;
@@ -134,20 +133,9 @@ fn tlm_pipelined(rt: HostRuntime) -> Result<(), Fail> {
     calls(&rt, rt.alloc(), TLM, AT_ONCE)
 }
 
-fn is_over(hall: &Hall, by: u32) -> bool
-    ensures { result ≡ has_ended by hall.now.entries }
-{
-    let mut over = false;
-    for n in 0..hall.count() {
-        let entry = hall.lend(n);
-        over |= entry.by == by && matches!(entry.what, What::Ended);
-    }
-    over
-}
-
 // The length of what the first desk replies.
 fn replied(alloc: Global, hall: &mut Hall, body: &[u8]) -> Result<u64, Fail> {
-    if hall.site().desks == 0 || is_over(hall, 24) {
+    if hall.site().desks == 0 || has_ended(hall, 24) {
         return Err(Fail::new("no desk"));
     }
     let time = Time {

@@ -1,4 +1,4 @@
--- What a line's calls leave of what its dialer tells, also of the connections after the first so many.
+-- What a line's calls leave of what its dialer tells, also of the connections after the first ones.
 use Rattle.std.proofs.Common.{◌≡◌, ℕ, ◌≤◌, List, [], ◌∷◌, ◌++◌, length, drop, suc, zero, refl, sym, ◌∙◌, ap, subst, arith, length-append, append-nil, append_assoc, Option, Some, None}
 use Rattle.std.specs.Prelude.{option_to_list}
 use Rattle.cts_outside.specs.Lines.{Connection, Line, after_dial, at_now, hung_up, told_after}
@@ -8,7 +8,7 @@ use Rattle.cts_turn.specs.Lists.{StartsWith}
 use Rattle.cts_line.specs.Ending.{IsUndialed}
 use Rattle.cts_line.specs.Telling.{Has, Retells, made_by, since}
 
--- ---- the connections after the first so many
+-- ---- the connections after the first ones
 
 pub since_now : (k : ℕ) (f : Connection → Connection) (old new : Option Line) → new ≡ told_after (at_now f) old → since k new ≡ told_after (at_now f) (since k old)
 since_now k f None new e = ap (since k) e

@@ -131,7 +131,7 @@ LookedSo Caught mine place takes = (takes + 1 ≤ length mine) × IsLast mine pl
 LookedSo Takes mine place takes = (takes + 1 ≤ length mine) × IsLast mine place
 LookedSo (Ends why) mine place takes = (takes ≤ length mine) × PutsAll why (IsLast mine place)
 
--- A connection that stands, of a line that has put, or is putting, what it saw up to a place, so many of which were not put whole. All packets
+-- A connection that stands, of a line that has put, or is putting, what it saw up to a place, some of which were not put whole. All packets
 -- of what was fed are posted, and no stage of its chain has failed.
 pub record Talking (g : Routing) (room : Capacity) (m : ℕ) (phase : Phase) (stages : List Meaning) (place unsent : ℕ) (found : List ℕ) (history : List Entry) (line : Line) : Type 0 where
   pub connection : Connection

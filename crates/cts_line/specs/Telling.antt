@@ -3,11 +3,11 @@ use Rattle.std.specs.Prelude.{◌≡◌, ℕ, ◌≤◌, drop, length, Option, S
 use Rattle.cts_outside.specs.Lines.{Line, told_after}
 use Rattle.cts_turn.specs.Lists.{StartsWith}
 
--- the line without its first so many connections
+-- the line without its first `k` connections
 abbrev pub without : ℕ → Line → Line
 without k line = record line { past = drop k line.past }
 
--- what is told of the connections after the first so many
+-- what is told of the connections after the first `k`
 abbrev pub since : ℕ → Option Line → Option Line
 since k told = told_after (without k) told
 
@@ -16,7 +16,7 @@ abbrev pub made_by : Option Line → ℕ
 made_by None = 0
 made_by (Some line) = length (line.past ++ option_to_list line.now)
 
--- so many connections were hung up
+-- a number of connections were hung up
 abbrev pub Has : ℕ → Option Line → Type 0
 Has k None = Unit {0}
 Has k (Some line) = k ≤ length line.past

@@ -27,7 +27,7 @@ short m n h = grind (arith, nat_tests)
 pub take_beyond : (n : ℕ) (xs ys : List ℕ) → length xs ≤ n → take n (xs ++ ys) ≡ xs ++ take (n - length xs) ys
 take_beyond n xs ys h = ap (λ k. take k (xs ++ ys)) (omega (arith, h)) ∙ take_more_of xs ys (n - length xs)
 
--- what is cut within so many bytes: whole entries, and a rest that begins with none
+-- what is cut at `room` bytes: whole entries, and a rest that begins with none
 pub record IsCutWithin (room : ℕ) (es : List Logged) : Type 0 where
   pub rest : List ℕ
   pub taken : take room (flat_map entry_bytes es) ≡ flat_map entry_bytes (whole_within room es) ++ rest

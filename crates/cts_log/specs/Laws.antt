@@ -47,7 +47,7 @@ LogsAreReadOnce = (file : List ℕ) (kind other : LogKind) (es fs : List Logged)
 abbrev pub NoHeadNoRead : Type 0
 NoHeadNoRead = (file : List ℕ) (kind : LogKind) (es : List Logged) (place : ℕ) → HasNoHead file → IsLogRead file kind es place → ⊥
 
--- the first of these entries, as long as they lie whole within so many bytes
+-- the first of these entries, as long as they lie whole within `room` bytes
 abbrev pub whole_within : ℕ → List Logged → List Logged
 whole_within room [] = []
 whole_within room (e ∷ es) = if nat_le (length (entry_bytes e)) room then e ∷ whole_within (room - length (entry_bytes e)) es else []

@@ -36,7 +36,7 @@ fn main(rt: HostRuntime) -> ExitCode {
     ExitCode::from(status.code())
 }
 
-// Runs the command that the words ask for, over a shelf with so many blank boxes of each kind, which are made here, since a
+// Runs the command that the words ask for, over a shelf with blank boxes of each kind, which are made here, since a
 // function that makes boxes may not hand them out. Where no memory is found for its own objects nothing is printed.
 fn perform<
     N: Read + Drop + Send,

@@ -117,7 +117,7 @@ impl<'a, R: Net<Listener = TcpListener, Stream = TcpStream> + Clock> Link for Tc
         ensures cause { TakeCause result self.old.faults self.new.faults }
         ensures dials { self.new.failed_dials ≡ self.old.failed_dials }
 
-        // Only so many takes in a row find nothing.
+        // There is a bound on the takes in a row that find nothing.
         ensures heard { IsHeard result self.old.silent self.new.silent self.old.most_silent }
     {
         let taken = match &self.stream {

@@ -19,7 +19,7 @@ pub struct Tally {
     pub log: Bytes,
 }
 
-/// The eight lines of a rehearsal with so many entries and limits events.
+/// The eight lines of a rehearsal, by its entries and limits events.
 ///
 /// # Errors
 ///

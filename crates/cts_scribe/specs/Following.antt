@@ -31,7 +31,7 @@ IsDone site but m history = is_worker site m ≡ true → m ≢ but → has_ende
 abbrev pub HaveEnded : SiteData → ℕ → List Entry → Type 0
 HaveEnded site but history = (m : ℕ) → IsDone site but m history
 
--- so many entries were followed, and these makers have ended in them
+-- a number of entries were followed, and these makers have ended in them
 pub record Follows (p : Progress) (history : List Entry) : Type 0 where
   pub within : p.place ≤ length history
   pub ended : EndedTell p.ended (take p.place history)

@@ -29,7 +29,7 @@ pub record IsAfterStop (l : Log) (left : List ℕ) : Type 0 where
   pub beginning : StartsWith l.bytes left
   pub synced : StartsWith left l.synced
 
--- the entries of a log that lie whole in so many bytes of it
+-- the entries of a log that lie whole in the first bytes of it
 abbrev pub logged_within : LogKind → SiteData → List Entry → ℕ → List Logged
 logged_within kind site entries n = whole_within (n - log_head_len) (logged kind site entries)
 

@@ -1,8 +1,8 @@
 // Entries that are appended to a hall where its rules allow them.
-ghost use Rattle.std.specs.Prelude.{◌≡◌, ◌<◌, ◌∷◌, ◌++◌, ◌==◌, ◌&&◌, [], length, true, IfOk, MatchBool, Ok};
+ghost use Rattle.std.specs.Prelude.{◌≡◌, ◌<◌, ◌∷◌, ◌++◌, [], length, true, IfOk, MatchBool, Ok};
 ghost use Rattle.std.specs.Arc.{arc_value};
 ghost use Rattle.cts_entry.specs.declared.what.What.TheVariants.{Opened};
-ghost use Rattle.cts_entry.specs.Legal.{Allows, IsAllowed, IsOn, has_ended, is_ended};
+ghost use Rattle.cts_entry.specs.Legal.{Allows, IsAllowed, IsOn};
 ghost use Rattle.cts_entry.specs.Workers.{is_desk, is_interface, is_maker, is_worker};
 ghost use Rattle.cts_table.specs.Keeping.{IsIdent, IsOfSite, IsSaid, rules_of};
 ghost use Rattle.cts_table.specs.Routes.{route_of};
@@ -10,28 +10,11 @@ ghost use Rattle.cts_table.specs.Routes.{route_of};
 use crate::words::{closed, entries_of};
 use cts_connection::{is_interface, is_line, is_slot};
 use cts_def::{FIRST_DESK, Ident, SCRIBE, SERVER, Site, Time};
-use cts_entry::{Entry, Stands, What, Why, bytes_for, entries_for};
+use cts_entry::{Entry, What, Why, bytes_for, entries_for, has_ended};
 use cts_table::Hall;
 use std::alloc::Global;
 use std::sync::Arc;
 use std::test::Fail;
-
-// Whether a maker says with this entry that it has ended.
-fn ends(entry: &Entry, by: u32) -> bool
-    ensures { result ≡ (entry.now.by == by && is_ended entry.now.what) }
-{
-    entry.by == by && matches!(entry.what, What::Ended)
-}
-
-fn is_over(hall: &Hall, by: u32) -> bool
-    ensures { result ≡ has_ended by hall.now.entries }
-{
-    let mut over = false;
-    for n in 0..hall.count() {
-        over |= ends(hall.lend(n), by);
-    }
-    over
-}
 
 fn is_desk(site: &Site, by: u32) -> bool
     ensures { result ≡ is_desk site.now by }
@@ -117,7 +100,7 @@ fn may_add(hall: &Hall, entry: &Entry) -> bool
     ensures allowed { result ≡ true → IsAllowed (rules_of hall.now.basis) hall.now.entries entry.now }
     ensures of_site { result ≡ true → IsOfSite hall.now.basis.site hall.now.entries entry.now }
 {
-    !is_over(hall, entry.by)
+    !has_ended(hall, entry.by)
         && is_maker(hall.site(), entry.by)
         && may_say(hall, entry.by, &entry.what)
 }

@@ -4,7 +4,7 @@ ghost use Rattle.std.specs.Prelude.{◌≡◌, None};
 use cts_outside::{LogKind, PutFailed, Vault};
 use std::alloc::Global;
 
-/// A vault with room for so many bytes of both logs together, which does not tell them. An append that finds too little writes what there is room for, and fails.
+/// A vault with room for a number of bytes of both logs together, which does not tell them. An append that finds too little writes what there is room for, and fails.
 #[derive(Drop)]
 pub struct Narrow {
     pub tlm: Vec<u8>,

@@ -89,7 +89,7 @@ done_tells site s event old world effect h k p e n entries basis text number the
 
 -- ---- the rest for the logs
 
--- so many entries are ahead of the logs
+-- a number of entries are ahead of the logs
 enough : (site : SiteData) (s : State) (n count : ℕ) → n ≡ length s.history → count ≡ n - s.log_cursor → nat_le count (length (log_ahead s)) ≡ true
 enough site s n count e f =
     let l = length-drop s.log_cursor s.history in

@@ -125,7 +125,7 @@ pub record IsRehearsal (site : SiteData) (n : ℕ) (acts : List Act) (due : Resu
 
 -- ---- what it does
 
--- Some events of a rehearsal were done, of whose replies so many refuse, and these are left. None of the events gives the logs anything.
+-- Some events of a rehearsal were done, of whose replies a number refuse, and these are left. None of the events gives the logs anything.
 pub record IsFar (site : SiteData) (n : ℕ) (left : List Event) (refused : ℕ) (story : StoryData) : Type 0 where
   pub state : State
   pub prior : List Did

@@ -47,7 +47,7 @@ pub enum Halt<'a> {
         needed: u32,
         stocked: u32,
     },
-    /// An event's entries would pass a limit of the history, which has so many that count.
+    /// An event's entries would pass a limit of the history. The numbers are of the entries and bytes that count in it.
     HistoryFull {
         entries: u64,
         bytes: u64,

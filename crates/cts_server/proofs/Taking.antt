@@ -14,7 +14,7 @@ use Rattle.cts_outside.specs.declared.link.Aim.{Aim}
 use Rattle.cts_server.specs.Aims.{aimed_at}
 use Rattle.cts_server.specs.Tasks.{AreFit, AreTasks, FitsDesk, FitsLine, ReadyDesk, ReadyLine, Taken}
 
--- so many devices have left their places
+-- a number of devices have left their places
 pub record Taking {A X D : Type 0} (Of : ℕ → A → X → D → Type 0) (first : ℕ) (all left : List A) (old new : List (Option X)) (before after : List (Task D)) (place : ℕ) : Type 0 where
   pub aims : List A
   pub devices : List X

@@ -3,7 +3,7 @@ use Rattle.std.specs.Prelude.{◌≡◌, ℕ, zero, suc, List, [], ◌∷◌, �
 use Rattle.std.specs.List.{AllZip}
 use Rattle.cts_server.specs.Places.{filled}
 
--- The first items have these parts, so many, and the devices of the parts stand in the first places.
+-- The first items have these parts, one each, and the devices of the parts stand in the first places.
 pub record CameHome {T N X : Type 0} (Is : T → N → Type 0) (device : N → X) (count : ℕ) (all rest : List T) (old new : List (Option X)) (parts : List N) : Type 0 where
   pub items : List T
   pub all_are : all ≡ items ++ rest
@@ -11,7 +11,7 @@ pub record CameHome {T N X : Type 0} (Is : T → N → Type 0) (device : N → X
   pub many : length parts ≡ count
   pub places : new ≡ filled (map device parts) old
 
--- so many of them, the first, are of a kind
+-- a number of them, the first ones, are of a kind
 abbrev pub FirstAre : {T : Type 0} → (T → Type 0) → ℕ → List T → Type 0
 FirstAre Is zero items = Unit {0}
 FirstAre Is (suc n) [] = ⊥

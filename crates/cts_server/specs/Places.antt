@@ -12,7 +12,7 @@ module _ {X : Type 0} where
   IsThere (Some x) = Unit {0}
   IsThere None = ⊥
 
-  -- so many places, and a device in each of them
+  -- a number of places, and a device in each of them
   abbrev pub AreThere : ℕ → List (Option X) → Type 0
   AreThere n places = (length places ≡ n) × AllByRecursion IsThere places
 

@@ -48,7 +48,7 @@ packet bytes = entry 0 (Packet (Known 0) bytes)
 abbrev pub command : List ℕ → Entry
 command bytes = entry 24 (Command 0 0 bytes)
 
--- this many bytes were in no frame, so many packets were not posted, and so many entries of the queue were not put whole
+-- `held` bytes were in no frame, `unposted` packets were not posted, and `unsent` entries of the queue were not put whole
 abbrev pub closed : ℕ → Why → ℕ → ℕ → ℕ → Entry
 closed by why held unposted unsent = entry by (Closed why (record { held = held ∷ 0 ∷ 0 ∷ 0 ∷ []; skipped = 0; empty = 0 }) unposted unsent)
 
@@ -59,7 +59,7 @@ stop = entry 24 Stop
 abbrev pub ended_after : List (List ℕ) → List ℕ → Connection
 ended_after pieces put = record { pieces = pieces; put = put; takes = suc (length pieces); ended = true; take_failed = false; put_failed = false }
 
--- a history of so many entries at most
+-- a history of at most this number of entries
 abbrev pub most : ℕ → Capacity
 most entries = record { entries = entries; bytes = 1000 }
 

@@ -1,11 +1,8 @@
 // Limits over a hall: events, states, sets and settings after packets and what a desk says.
-ghost use Rattle.std.specs.Prelude.{◌≡◌};
-ghost use Rattle.cts_entry.specs.Legal.{has_ended};
-
 use crate::halls::{NOW, ends, hall_of, receives};
 use cts_base::{Bytes, Decimal, Name};
 use cts_def::{Color, FIRST_DESK, Ident, Limits};
-use cts_entry::{Stands, What};
+use cts_entry::has_ended;
 use cts_rows::{Answers, as_text, bytes_of, cut, debug_of, number, part, rows_end_so, same};
 use cts_table::{Hall, NoRoute};
 use std::alloc::Global;
@@ -54,21 +51,9 @@ fn night() -> Limits {
     }
 }
 
-/// Whether a worker has ended.
-fn is_over(hall: &Hall, by: u32) -> bool
-    ensures { result ≡ has_ended by hall.now.entries }
-{
-    let mut over = false;
-    for n in 0..hall.count() {
-        let entry = hall.lend(n);
-        over |= entry.by == by && matches!(entry.what, What::Ended);
-    }
-    over
-}
-
 /// Desk 0 chooses a set.
 fn choose(hall: &mut Hall, set: Name) {
-    if hall.room(1, 0).is_ok() && hall.site().desks > 0 && !is_over(hall, FIRST_DESK) {
+    if hall.room(1, 0).is_ok() && hall.site().desks > 0 && !has_ended(hall, FIRST_DESK) {
         hall.set_limits_set(FIRST_DESK, NOW, set);
     }
 }
@@ -77,7 +62,7 @@ fn choose(hall: &mut Hall, set: Name) {
 fn turn(hall: &mut Hall, packet: u32, enabled: bool) {
     if hall.room(1, 0).is_ok()
         && hall.site().desks > 0
-        && !is_over(hall, FIRST_DESK)
+        && !has_ended(hall, FIRST_DESK)
         && hall.limits_of(packet, 1, b"DEFAULT").is_some()
     {
         hall.enable(FIRST_DESK, NOW, packet, 1, enabled);
@@ -88,7 +73,7 @@ fn turn(hall: &mut Hall, packet: u32, enabled: bool) {
 fn give(hall: &mut Hall, packet: u32, set: Name) {
     if hall.room(1, 0).is_ok()
         && hall.site().desks > 0
-        && !is_over(hall, FIRST_DESK)
+        && !has_ended(hall, FIRST_DESK)
         && hall.limits_of(packet, 1, b"DEFAULT").is_some()
         && hall.sets_known() < 64
     {
@@ -100,7 +85,7 @@ fn give(hall: &mut Hall, packet: u32, set: Name) {
 fn inject(hall: &mut Hall, packet: u32, bytes: Bytes) {
     if hall.room(1, bytes.as_slice().len() as u64).is_ok()
         && hall.site().desks > 0
-        && !is_over(hall, FIRST_DESK)
+        && !has_ended(hall, FIRST_DESK)
         && (packet as usize) < hall.site().definitions.telemetry.as_slice().len()
     {
         hall.inject(FIRST_DESK, NOW, packet, bytes);

@@ -106,7 +106,7 @@ impl Grid {
         self.free -= packet.items.len() as u64;
     }
 
-    /// Makes the places for events at least so many.
+    /// Takes memory until there are at least that many places for events.
     pub(crate) fn reserve(&mut self, free: u64) -> Result<(), Memory>
         requires { free < 2 ^ 60 }
         ensures ok { OnOk result (self.new ≡ record self.old { free = max self.old.free free }) }

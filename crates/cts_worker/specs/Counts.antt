@@ -2,7 +2,7 @@
 use Rattle.std.specs.Prelude.{◌≡◌, ℕ, ◌+◌, ◌-◌, ◌^◌, ◌≤◌, min, Bool, true, false}
 use Rattle.cts_outside.specs.Causes.{Rose}
 
--- at least so often; a count at its greatest number counts as risen
+-- at least that number of times; a count at its greatest number counts as risen
 abbrev pub RoseBy : ℕ → ℕ → ℕ → Type 0
 RoseBy n before now = (before ≤ now) × (min (before + n) (2 ^ 64 - 1) ≤ now)
 

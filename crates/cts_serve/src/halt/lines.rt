@@ -82,7 +82,7 @@ fn kind_name(kind: Kind) -> &'static str
     }
 }
 
-/// The line for a shelf that holds so many boxes of a kind, of which more are needed.
+/// The line for a shelf that holds fewer boxes of a kind than are needed.
 pub(crate) fn shelf_empty(
     alloc: Global,
     kind: Kind,
