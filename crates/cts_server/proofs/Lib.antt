@@ -1,8 +1,8 @@
 mod Taking
 mod Homing
-mod Coming
 mod Order
 mod Whole
+mod Sorting
 mod Returned
 mod Fits
 mod Parts

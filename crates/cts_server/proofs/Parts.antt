@@ -1,120 +1,92 @@
 -- What the note of a duty of one kind says.
-use Rattle.std.proofs.Common.{◌≡◌, ℕ, List, sym, subst}
+use Rattle.std.proofs.Common.{◌≡◌, ℕ, List, refl, sym, subst}
 use Rattle.cts_duties.specs.Any.{Does, any_can, any_does}
 use Rattle.cts_duties.specs.declared.any.AnyDuty.{AnyDuty}
 use Rattle.cts_duties.specs.declared.any.AnyDuty.TheVariants.{Line, Slot, Desk, Scribe}
 use Rattle.cts_duties.specs.declared.any.AnyNote.{AnyNote}
 use Rattle.cts_duties.specs.declared.any.AnyNote.TheVariants.{Line as LineNote, Slot as SlotNote, Desk as DeskNote, Scribe as ScribeNote}
 use Rattle.cts_entry.specs.declared.entry.Entry.{Entry}
-use Rattle.cts_server.specs.Kinds.{IsDesk, IsDeskDuty, IsDeskNote, IsLine, IsLineDuty, IsLineNote, IsScribe, IsScribeDuty, IsScribeNote, IsSlot, IsSlotDuty, IsSlotNote}
+use Rattle.cts_server.specs.Kinds.{IsDesk, IsLine, IsScribe, IsSlot, as_note}
 
 module _ {L P K C B M O Q R : Type 0} (line : Does L B M) (slot : Does P B O) (desk : Does K B Q) (scribe : Does C B R) where
   module _ {A X : Type 0} (Of : ℕ → A → X → L → Type 0) (n : ℕ) (a : A) (x : X) where
-    -- the duty, what it was made of, and what it did
-    pub line_did : (by : ℕ) (basis : B) (found : List ℕ) (h : List Entry) (duty : AnyDuty L P K C) (note : AnyNote M O Q R) (p : M) → IsLine Of n a x duty → any_does line slot desk scribe duty by basis found h note → note ≡ LineNote p
-        → (d : L) × Of n a x d × line d by basis found h p
-    line_did by basis found h (Line d) note p is did e = (d, is, subst (λ (i : AnyNote M O Q R). any_does line slot desk scribe (Line d) by basis found h i) e did)
-    line_did by basis found h (Slot d) note p is did e = absurd is
-    line_did by basis found h (Desk d) note p is did e = absurd is
-    line_did by basis found h (Scribe d) note p is did e = absurd is
-
-    pub line_noted : (by : ℕ) (basis : B) (found : List ℕ) (h : List Entry) (duty : AnyDuty L P K C) (note : AnyNote M O Q R) → IsLine Of n a x duty → any_does line slot desk scribe duty by basis found h note → IsLineNote note
-    line_noted by basis found h (Line d) (LineNote m) is did = tt
-    line_noted by basis found h (Line d) (SlotNote m) is did = absurd did
-    line_noted by basis found h (Line d) (DeskNote m) is did = absurd did
-    line_noted by basis found h (Line d) (ScribeNote m) is did = absurd did
-    line_noted by basis found h (Slot d) note is did = absurd is
-    line_noted by basis found h (Desk d) note is did = absurd is
-    line_noted by basis found h (Scribe d) note is did = absurd is
-
-    pub line_kind : (duty : AnyDuty L P K C) → IsLine Of n a x duty → IsLineDuty duty
-    line_kind (Line d) is = tt
-    line_kind (Slot d) is = absurd is
-    line_kind (Desk d) is = absurd is
-    line_kind (Scribe d) is = absurd is
-
-    pub line_made : (duty : AnyDuty L P K C) (d : L) → IsLine Of n a x duty → duty ≡ Line d → Of n a x d
-    line_made duty d is e = subst (λ (u : AnyDuty L P K C). IsLine Of n a x u) e is
+    -- the note is of the same kind, and of the duty it is known what it was made of and what it did
+    pub line_did : (by : ℕ) (basis : B) (found : List ℕ) (h : List Entry) (duty : AnyDuty L P K C) (note : AnyNote M O Q R) → IsLine Of n a x duty → any_does line slot desk scribe duty by basis found h note
+        → (p : M) × (note ≡ LineNote p) × (d : L) × Of n a x d × line d by basis found h p
+    line_did by basis found h (Line d) (LineNote p) is did = (p, refl, d, is, did)
+    line_did by basis found h (Line d) (SlotNote p) is did = absurd did
+    line_did by basis found h (Line d) (DeskNote p) is did = absurd did
+    line_did by basis found h (Line d) (ScribeNote p) is did = absurd did
+    line_did by basis found h (Slot d) note is did = absurd is
+    line_did by basis found h (Desk d) note is did = absurd is
+    line_did by basis found h (Scribe d) note is did = absurd is
 
   module _ {A X : Type 0} (Of : ℕ → A → X → P → Type 0) (n : ℕ) (a : A) (x : X) where
-    -- the duty, what it was made of, and what it did
-    pub slot_did : (by : ℕ) (basis : B) (found : List ℕ) (h : List Entry) (duty : AnyDuty L P K C) (note : AnyNote M O Q R) (p : O) → IsSlot Of n a x duty → any_does line slot desk scribe duty by basis found h note → note ≡ SlotNote p
-        → (d : P) × Of n a x d × slot d by basis found h p
-    slot_did by basis found h (Line d) note p is did e = absurd is
-    slot_did by basis found h (Slot d) note p is did e = (d, is, subst (λ (i : AnyNote M O Q R). any_does line slot desk scribe (Slot d) by basis found h i) e did)
-    slot_did by basis found h (Desk d) note p is did e = absurd is
-    slot_did by basis found h (Scribe d) note p is did e = absurd is
-
-    pub slot_noted : (by : ℕ) (basis : B) (found : List ℕ) (h : List Entry) (duty : AnyDuty L P K C) (note : AnyNote M O Q R) → IsSlot Of n a x duty → any_does line slot desk scribe duty by basis found h note → IsSlotNote note
-    slot_noted by basis found h (Line d) note is did = absurd is
-    slot_noted by basis found h (Slot d) (LineNote m) is did = absurd did
-    slot_noted by basis found h (Slot d) (SlotNote m) is did = tt
-    slot_noted by basis found h (Slot d) (DeskNote m) is did = absurd did
-    slot_noted by basis found h (Slot d) (ScribeNote m) is did = absurd did
-    slot_noted by basis found h (Desk d) note is did = absurd is
-    slot_noted by basis found h (Scribe d) note is did = absurd is
-
-    pub slot_kind : (duty : AnyDuty L P K C) → IsSlot Of n a x duty → IsSlotDuty duty
-    slot_kind (Line d) is = absurd is
-    slot_kind (Slot d) is = tt
-    slot_kind (Desk d) is = absurd is
-    slot_kind (Scribe d) is = absurd is
-
-    pub slot_made : (duty : AnyDuty L P K C) (d : P) → IsSlot Of n a x duty → duty ≡ Slot d → Of n a x d
-    slot_made duty d is e = subst (λ (u : AnyDuty L P K C). IsSlot Of n a x u) e is
+    -- the note is of the same kind, and of the duty it is known what it was made of and what it did
+    pub slot_did : (by : ℕ) (basis : B) (found : List ℕ) (h : List Entry) (duty : AnyDuty L P K C) (note : AnyNote M O Q R) → IsSlot Of n a x duty → any_does line slot desk scribe duty by basis found h note
+        → (p : O) × (note ≡ SlotNote p) × (d : P) × Of n a x d × slot d by basis found h p
+    slot_did by basis found h (Line d) note is did = absurd is
+    slot_did by basis found h (Slot d) (LineNote p) is did = absurd did
+    slot_did by basis found h (Slot d) (SlotNote p) is did = (p, refl, d, is, did)
+    slot_did by basis found h (Slot d) (DeskNote p) is did = absurd did
+    slot_did by basis found h (Slot d) (ScribeNote p) is did = absurd did
+    slot_did by basis found h (Desk d) note is did = absurd is
+    slot_did by basis found h (Scribe d) note is did = absurd is
 
   module _ {A X : Type 0} (Of : ℕ → A → X → K → Type 0) (n : ℕ) (a : A) (x : X) where
-    -- the duty, what it was made of, and what it did
-    pub desk_did : (by : ℕ) (basis : B) (found : List ℕ) (h : List Entry) (duty : AnyDuty L P K C) (note : AnyNote M O Q R) (p : Q) → IsDesk Of n a x duty → any_does line slot desk scribe duty by basis found h note → note ≡ DeskNote p
-        → (d : K) × Of n a x d × desk d by basis found h p
-    desk_did by basis found h (Line d) note p is did e = absurd is
-    desk_did by basis found h (Slot d) note p is did e = absurd is
-    desk_did by basis found h (Desk d) note p is did e = (d, is, subst (λ (i : AnyNote M O Q R). any_does line slot desk scribe (Desk d) by basis found h i) e did)
-    desk_did by basis found h (Scribe d) note p is did e = absurd is
-
-    pub desk_noted : (by : ℕ) (basis : B) (found : List ℕ) (h : List Entry) (duty : AnyDuty L P K C) (note : AnyNote M O Q R) → IsDesk Of n a x duty → any_does line slot desk scribe duty by basis found h note → IsDeskNote note
-    desk_noted by basis found h (Line d) note is did = absurd is
-    desk_noted by basis found h (Slot d) note is did = absurd is
-    desk_noted by basis found h (Desk d) (LineNote m) is did = absurd did
-    desk_noted by basis found h (Desk d) (SlotNote m) is did = absurd did
-    desk_noted by basis found h (Desk d) (DeskNote m) is did = tt
-    desk_noted by basis found h (Desk d) (ScribeNote m) is did = absurd did
-    desk_noted by basis found h (Scribe d) note is did = absurd is
-
-    pub desk_kind : (duty : AnyDuty L P K C) → IsDesk Of n a x duty → IsDeskDuty duty
-    desk_kind (Line d) is = absurd is
-    desk_kind (Slot d) is = absurd is
-    desk_kind (Desk d) is = tt
-    desk_kind (Scribe d) is = absurd is
-
-    pub desk_made : (duty : AnyDuty L P K C) (d : K) → IsDesk Of n a x duty → duty ≡ Desk d → Of n a x d
-    desk_made duty d is e = subst (λ (u : AnyDuty L P K C). IsDesk Of n a x u) e is
+    -- the note is of the same kind, and of the duty it is known what it was made of and what it did
+    pub desk_did : (by : ℕ) (basis : B) (found : List ℕ) (h : List Entry) (duty : AnyDuty L P K C) (note : AnyNote M O Q R) → IsDesk Of n a x duty → any_does line slot desk scribe duty by basis found h note
+        → (p : Q) × (note ≡ DeskNote p) × (d : K) × Of n a x d × desk d by basis found h p
+    desk_did by basis found h (Line d) note is did = absurd is
+    desk_did by basis found h (Slot d) note is did = absurd is
+    desk_did by basis found h (Desk d) (LineNote p) is did = absurd did
+    desk_did by basis found h (Desk d) (SlotNote p) is did = absurd did
+    desk_did by basis found h (Desk d) (DeskNote p) is did = (p, refl, d, is, did)
+    desk_did by basis found h (Desk d) (ScribeNote p) is did = absurd did
+    desk_did by basis found h (Scribe d) note is did = absurd is
 
   module _ (Of : C → Type 0) where
-    pub scribe_did : (by : ℕ) (basis : B) (found : List ℕ) (h : List Entry) (duty : AnyDuty L P K C) (note : AnyNote M O Q R) (p : R) → IsScribe Of duty → any_does line slot desk scribe duty by basis found h note → note ≡ ScribeNote p
-        → (d : C) × Of d × scribe d by basis found h p
-    scribe_did by basis found h (Line d) note p is did e = absurd is
-    scribe_did by basis found h (Slot d) note p is did e = absurd is
-    scribe_did by basis found h (Desk d) note p is did e = absurd is
-    scribe_did by basis found h (Scribe d) note p is did e = (d, is, subst (λ (i : AnyNote M O Q R). any_does line slot desk scribe (Scribe d) by basis found h i) e did)
+    -- the note is of the same kind, and of the duty it is known what it was made of and what it did
+    pub scribe_did : (by : ℕ) (basis : B) (found : List ℕ) (h : List Entry) (duty : AnyDuty L P K C) (note : AnyNote M O Q R) → IsScribe Of duty → any_does line slot desk scribe duty by basis found h note
+        → (p : R) × (note ≡ ScribeNote p) × (d : C) × Of d × scribe d by basis found h p
+    scribe_did by basis found h (Line d) note is did = absurd is
+    scribe_did by basis found h (Slot d) note is did = absurd is
+    scribe_did by basis found h (Desk d) note is did = absurd is
+    scribe_did by basis found h (Scribe d) (LineNote p) is did = absurd did
+    scribe_did by basis found h (Scribe d) (SlotNote p) is did = absurd did
+    scribe_did by basis found h (Scribe d) (DeskNote p) is did = absurd did
+    scribe_did by basis found h (Scribe d) (ScribeNote p) is did = (p, refl, d, is, did)
 
-    pub scribe_noted : (by : ℕ) (basis : B) (found : List ℕ) (h : List Entry) (duty : AnyDuty L P K C) (note : AnyNote M O Q R) → IsScribe Of duty → any_does line slot desk scribe duty by basis found h note → IsScribeNote note
-    scribe_noted by basis found h (Line d) note is did = absurd is
-    scribe_noted by basis found h (Slot d) note is did = absurd is
-    scribe_noted by basis found h (Desk d) note is did = absurd is
-    scribe_noted by basis found h (Scribe d) (LineNote m) is did = absurd did
-    scribe_noted by basis found h (Scribe d) (SlotNote m) is did = absurd did
-    scribe_noted by basis found h (Scribe d) (DeskNote m) is did = absurd did
-    scribe_noted by basis found h (Scribe d) (ScribeNote m) is did = tt
+-- ---- what a duty of each kind was made of
 
-    pub scribe_kind : (duty : AnyDuty L P K C) → IsScribe Of duty → IsScribeDuty duty
-    scribe_kind (Line d) is = absurd is
-    scribe_kind (Slot d) is = absurd is
-    scribe_kind (Desk d) is = absurd is
-    scribe_kind (Scribe d) is = tt
+module _ {L P K C : Type 0} where
+  module _ {A X : Type 0} (Of : ℕ → A → X → L → Type 0) (n : ℕ) (a : A) (x : X) where
+    pub line_made : (duty : AnyDuty L P K C) → IsLine Of n a x duty → (d : L) × (as_note duty ≡ LineNote d) × Of n a x d
+    line_made (Line d) is = (d, refl, is)
+    line_made (Slot d) is = absurd is
+    line_made (Desk d) is = absurd is
+    line_made (Scribe d) is = absurd is
 
-    pub scribe_made : (duty : AnyDuty L P K C) (d : C) → IsScribe Of duty → duty ≡ Scribe d → Of d
-    scribe_made duty d is e = subst (λ (u : AnyDuty L P K C). IsScribe Of u) e is
+  module _ {A X : Type 0} (Of : ℕ → A → X → P → Type 0) (n : ℕ) (a : A) (x : X) where
+    pub slot_made : (duty : AnyDuty L P K C) → IsSlot Of n a x duty → (d : P) × (as_note duty ≡ SlotNote d) × Of n a x d
+    slot_made (Line d) is = absurd is
+    slot_made (Slot d) is = (d, refl, is)
+    slot_made (Desk d) is = absurd is
+    slot_made (Scribe d) is = absurd is
+
+  module _ {A X : Type 0} (Of : ℕ → A → X → K → Type 0) (n : ℕ) (a : A) (x : X) where
+    pub desk_made : (duty : AnyDuty L P K C) → IsDesk Of n a x duty → (d : K) × (as_note duty ≡ DeskNote d) × Of n a x d
+    desk_made (Line d) is = absurd is
+    desk_made (Slot d) is = absurd is
+    desk_made (Desk d) is = (d, refl, is)
+    desk_made (Scribe d) is = absurd is
+
+  module _ (Of : C → Type 0) where
+    pub scribe_made : (duty : AnyDuty L P K C) → IsScribe Of duty → (d : C) × (as_note duty ≡ ScribeNote d) × Of d
+    scribe_made (Line d) is = absurd is
+    scribe_made (Slot d) is = absurd is
+    scribe_made (Desk d) is = absurd is
+    scribe_made (Scribe d) is = (d, refl, is)
 
 -- ---- what each kind may do
 

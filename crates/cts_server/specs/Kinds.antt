@@ -1,9 +1,13 @@
 -- Duties and notes of one kind, as those of four kinds.
-use Rattle.std.specs.Prelude.{ℕ}
+use Rattle.std.specs.Prelude.{ℕ, Option, Some, None}
 use Rattle.cts_duties.specs.declared.any.AnyDuty.{AnyDuty}
 use Rattle.cts_duties.specs.declared.any.AnyDuty.TheVariants.{Line, Slot, Desk, Scribe}
 use Rattle.cts_duties.specs.declared.any.AnyNote.{AnyNote}
-use Rattle.cts_duties.specs.declared.any.AnyNote.TheVariants.{Line as LineNote, Slot as SlotNote, Desk as DeskNote, Scribe as ScribeNote}
+use Rattle.cts_duties.specs.declared.any.AnyNote.TheVariants.{Line as LineTold, Slot as SlotTold, Desk as DeskTold, Scribe as ScribeTold}
+use Rattle.cts_duties.specs.declared.desks.DeskNote.{DeskNote as DeskLeft}
+use Rattle.cts_server.specs.declared.worked.DeskNote.{DeskNote}
+use Rattle.cts_duties.specs.declared.lines.LineNote.{LineNote}
+use Rattle.cts_line.specs.declared.ending.LineWhy.{LineWhy}
 
 -- a duty of this kind, of which this holds by its number, its aim and the device that it was made of
 module _ {L P K C A X : Type 0} (Of : ℕ → A → X → L → Type 0) where
@@ -34,54 +38,63 @@ module _ {L P K C : Type 0} (Of : C → Type 0) where
   IsScribe (Desk d) = ⊥
   IsScribe (Scribe d) = Of d
 
--- a duty of this kind
+-- a note, where it is of this kind
 module _ {L P K C : Type 0} where
-  abbrev pub IsLineDuty : AnyDuty L P K C → Type 0
-  IsLineDuty (Line d) = Unit {0}
-  IsLineDuty (Slot d) = ⊥
-  IsLineDuty (Desk d) = ⊥
-  IsLineDuty (Scribe d) = ⊥
+  abbrev pub line_note : AnyNote L P K C → Option L
+  line_note (LineTold n) = Some n
+  line_note (SlotTold n) = None
+  line_note (DeskTold n) = None
+  line_note (ScribeTold n) = None
 
-  abbrev pub IsSlotDuty : AnyDuty L P K C → Type 0
-  IsSlotDuty (Line d) = ⊥
-  IsSlotDuty (Slot d) = Unit {0}
-  IsSlotDuty (Desk d) = ⊥
-  IsSlotDuty (Scribe d) = ⊥
+  abbrev pub slot_note : AnyNote L P K C → Option P
+  slot_note (LineTold n) = None
+  slot_note (SlotTold n) = Some n
+  slot_note (DeskTold n) = None
+  slot_note (ScribeTold n) = None
 
-  abbrev pub IsDeskDuty : AnyDuty L P K C → Type 0
-  IsDeskDuty (Line d) = ⊥
-  IsDeskDuty (Slot d) = ⊥
-  IsDeskDuty (Desk d) = Unit {0}
-  IsDeskDuty (Scribe d) = ⊥
+  abbrev pub desk_note : AnyNote L P K C → Option K
+  desk_note (LineTold n) = None
+  desk_note (SlotTold n) = None
+  desk_note (DeskTold n) = Some n
+  desk_note (ScribeTold n) = None
 
-  abbrev pub IsScribeDuty : AnyDuty L P K C → Type 0
-  IsScribeDuty (Line d) = ⊥
-  IsScribeDuty (Slot d) = ⊥
-  IsScribeDuty (Desk d) = ⊥
-  IsScribeDuty (Scribe d) = Unit {0}
+  abbrev pub scribe_note : AnyNote L P K C → Option C
+  scribe_note (LineTold n) = None
+  scribe_note (SlotTold n) = None
+  scribe_note (DeskTold n) = None
+  scribe_note (ScribeTold n) = Some n
 
--- a note of this kind
+-- a duty, where it is of this kind
 module _ {L P K C : Type 0} where
-  abbrev pub IsLineNote : AnyNote L P K C → Type 0
-  IsLineNote (LineNote n) = Unit {0}
-  IsLineNote (SlotNote n) = ⊥
-  IsLineNote (DeskNote n) = ⊥
-  IsLineNote (ScribeNote n) = ⊥
+  -- it, in the shape of a note
+  abbrev pub as_note : AnyDuty L P K C → AnyNote L P K C
+  as_note (Line d) = LineTold d
+  as_note (Slot d) = SlotTold d
+  as_note (Desk d) = DeskTold d
+  as_note (Scribe d) = ScribeTold d
 
-  abbrev pub IsSlotNote : AnyNote L P K C → Type 0
-  IsSlotNote (LineNote n) = ⊥
-  IsSlotNote (SlotNote n) = Unit {0}
-  IsSlotNote (DeskNote n) = ⊥
-  IsSlotNote (ScribeNote n) = ⊥
+  abbrev pub line_duty : AnyDuty L P K C → Option L
+  line_duty d = line_note (as_note d)
 
-  abbrev pub IsDeskNote : AnyNote L P K C → Type 0
-  IsDeskNote (LineNote n) = ⊥
-  IsDeskNote (SlotNote n) = ⊥
-  IsDeskNote (DeskNote n) = Unit {0}
-  IsDeskNote (ScribeNote n) = ⊥
+  abbrev pub slot_duty : AnyDuty L P K C → Option P
+  slot_duty d = slot_note (as_note d)
 
-  abbrev pub IsScribeNote : AnyNote L P K C → Type 0
-  IsScribeNote (LineNote n) = ⊥
-  IsScribeNote (SlotNote n) = ⊥
-  IsScribeNote (DeskNote n) = ⊥
-  IsScribeNote (ScribeNote n) = Unit {0}
+  abbrev pub desk_duty : AnyDuty L P K C → Option K
+  desk_duty d = desk_note (as_note d)
+
+  abbrev pub scribe_duty : AnyDuty L P K C → Option C
+  scribe_duty d = scribe_note (as_note d)
+
+-- why an interface or a slot ended
+abbrev pub line_why : {X Y K C : Type 0} → AnyNote (LineNote X) (LineNote Y) K C → Option LineWhy
+line_why (LineTold n) = Some n.why
+line_why (SlotTold n) = Some n.why
+line_why (DeskTold n) = None
+line_why (ScribeTold n) = None
+
+-- what a desk left, beside its door
+abbrev pub desk_left : {L P X C : Type 0} → AnyNote L P (DeskLeft X) C → Option DeskNote
+desk_left (LineTold n) = None
+desk_left (SlotTold n) = None
+desk_left (DeskTold n) = Some (record { fronts = n.fronts; why = n.why })
+desk_left (ScribeTold n) = None

@@ -1,5 +1,5 @@
 // Where the devices of a site are to connect to, or to accept clients.
-ghost use Rattle.std.specs.Prelude.{◌≡◌, IfOk, length};
+ghost use Rattle.std.specs.Prelude.{◌≡◌, IfOk};
 ghost use Rattle.cts_server.specs.Aims.{desk_aims, door_aim, interface_aim, line_aims, slot_aims};
 
 use cts_base::{Bytes, Decimal, Memory};
@@ -13,27 +13,6 @@ pub(crate) struct Aims {
     pub lines: Vec<Aim>,
     pub slots: Vec<Aim>,
     pub desks: Vec<Aim>,
-}
-
-/// How many interfaces, slots and desks there are.
-#[derive(Clone, Copy)]
-pub(crate) struct Counts {
-    pub lines: usize,
-    pub slots: usize,
-    pub desks: usize,
-}
-
-impl Aims {
-    /// How many aims of each kind there are.
-    pub fn counts(&self) -> Counts
-        ensures { (result.lines ≡ length self.now.lines.items) × (result.slots ≡ length self.now.slots.items) × (result.desks ≡ length self.now.desks.items) }
-    {
-        Counts {
-            lines: self.lines.len(),
-            slots: self.slots.len(),
-            desks: self.desks.len(),
-        }
-    }
 }
 
 /// The aims of a site's devices.

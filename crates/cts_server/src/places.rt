@@ -26,10 +26,12 @@ pub(crate) fn take_at<X: Drop>(places: &mut [Option<X>], place: usize) -> X
     }
 }
 
-/// A device comes into a place.
-pub(crate) fn put_at<X: Drop>(places: &mut [Option<X>], place: usize, device: X)
-    requires within { place < length places.old }
-    ensures { places.new ≡ slice_set places.old place (Some device) }
+/// A device comes into the place of this number, which is that of the next place then.
+pub(crate) fn put_next<X: Drop>(places: &mut [Option<X>], place: &mut usize, device: X)
+    requires within { place.old < length places.old }
+    ensures places { places.new ≡ slice_set places.old place.old (Some device) }
+    ensures place { place.new ≡ place.old + 1 }
 {
-    places[place] = Some(device);
+    places[*place] = Some(device);
+    *place += 1;
 }

@@ -246,21 +246,18 @@ fn work<
     let Ok(mut tasks) = Vec::with_capacity(means.alloc, MOST_WORKERS) else {
         return Err(NotStarted::Memory);
     };
-    let counts = aims.counts();
     tasks_of(means, aims, chains, lines, slots, desks, vault, &mut tasks);
     if !puts_ready(out) {
-        tasks_back(tasks, counts, lines, slots, desks, vault);
+        tasks_back(tasks, lines, slots, desks, vault);
         return Err(NotStarted::WriteFault);
     }
     match work_site(rt, means.alloc, turn, pass, tasks, crew) {
         Ok((history, notes)) => {
-            let scribe = notes_back(
-                notes, counts, lines, slots, desks, vault, &mut whys, &mut left,
-            );
+            let scribe = notes_back(notes, lines, slots, desks, vault, &mut whys, &mut left);
             Ok(worked(history, whys, left, scribe))
         }
         Err(tasks) => {
-            tasks_back(tasks, counts, lines, slots, desks, vault);
+            tasks_back(tasks, lines, slots, desks, vault);
             Err(NotStarted::Memory)
         }
     }

@@ -1,69 +1,140 @@
-use Rattle.std.proofs.Common.{arith, ◌++◌, drop, map, refl, sym, ◌∙◌, ap, subst, append_assoc}
-use Rattle.cts_server.specs.Homes.{FirstAre}
-use Rattle.cts_server.specs.Kinds.{IsDeskNote, IsScribeNote, IsSlotNote}
-use Rattle.cts_server.proofs.Homing.{firsts_more, firsts_stand}
-use Rattle.cts_server.proofs.Whole.{rest_home, whys_count}
+use Rattle.std.proofs.Common.{arith, map, ap, length, length-append, ◌++◌, sym, ◌∙◌, None, Some}
+use Rattle.std.proofs.lemmas.Grind.{common_steps}
+use Rattle.std.specs.List.{filter_map}
+use Rattle.cts_server.specs.Homes.{last_of}
+use Rattle.cts_server.specs.Kinds.{desk_left, desk_note, line_note, line_why, scribe_note, slot_note}
+use Rattle.cts_server.proofs.Homing.{added_one, added_other, has_place, home_one, home_other, home_place, last_one, last_other, walked, walked_all, walked_len}
 use Rattle.cts_server.proofs.notes.notes_back.Goals as goal
 
-pub slots_back-requires : goal.slots_back-requires
-slots_back-requires g c =
-    let home = c.lines_back.ensures.home in
-    let rest = rest_home _ _ _ _ _ _ _ _ home.1 in
-    let came = whys_count (λ n. n.why) c.args.whys.now.items c.lines_back.new.whys.items home.0 c.args.counts.lines home.2 home.1.many in
+pub put_next-requires : goal.put_next-requires
+put_next-requires g c =
+    let kept = c.loop-note.invariant in
+    let more = walked c.loop-note.yielded _ _ _ c.in-Some.note kept.all c.in-Some.ensures.steps.0 in
+    record { within = home_place line_note (λ n. n.dialer) c.loop-note.yielded c.in-Some.note _ _ c.in-Line.field-0 _ _ _ kept.lines more.0 (ap line_note c.in-Line.is) c.requires.lines }
+
+pub push_reserved-requires : goal.push_reserved-requires
+push_reserved-requires g c =
+    let kept = c.loop-note.invariant in
+    let more = walked c.loop-note.yielded _ _ _ c.in-Some.note kept.all c.in-Some.ensures.steps.0 in
+    let lt = has_place line_why c.loop-note.yielded c.in-Some.note _ _ c.in-Line.field-0.why (length (filter_map line_why c.args.notes.items)) more.0 (ap line_why c.in-Line.is) (omega arith) in
+    let many = ap length kept.whys ∙ length-append c.args.whys.now.items (filter_map line_why c.loop-note.yielded) in
+    let room = c.requires.room.0 in
+    omega (arith, lt, many, room, kept.whys_room)
+
+pub loop-note-preserved-in-Line : goal.loop-note-preserved-in-Line
+loop-note-preserved-in-Line g c =
+    let kept = c.loop-note.invariant in
+    let steps = c.in-Some.ensures.steps in
+    let more = walked c.loop-note.yielded _ _ _ c.in-Some.note kept.all steps.0 in
     record {
-      lines = subst (λ l. FirstAre IsSlotNote c.args.counts.slots l) (sym rest) c.requires.slots;
-      many = c.requires.many.1;
-      room = omega (arith, came, c.requires.room.0, c.lines_back.ensures.room);
+      all = more.1;
+      many = walked_len _ _ c.in-Some.note _ _ steps.0 kept.many steps.1;
+      lines = home_one line_note (λ n. n.dialer) c.loop-note.yielded c.in-Some.note _ _ c.in-Line.field-0 _ _ _ _ _ kept.lines more.0 (ap line_note c.in-Line.is) c.requires.lines c.put_next.ensures.places c.put_next.ensures.place;
+      slots = home_other slot_note (λ n. n.dialer) c.loop-note.yielded c.in-Some.note _ _ _ kept.slots (ap slot_note c.in-Line.is);
+      desks = home_other desk_note (λ n. n.door) c.loop-note.yielded c.in-Some.note _ _ _ kept.desks (ap desk_note c.in-Line.is);
+      vault = kept.vault ∙ last_other scribe_note (λ n. n.vault) c.loop-note.yielded c.in-Some.note c.args.vault.now (ap scribe_note c.in-Line.is);
+      whys = added_one line_why c.loop-note.yielded c.in-Some.note c.in-Line.field-0.why _ _ _ kept.whys (ap line_why c.in-Line.is) c.push_reserved.ensures.items;
+      left = added_other desk_left c.loop-note.yielded c.in-Some.note _ _ kept.left (ap desk_left c.in-Line.is);
+      scribe = kept.scribe ∙ last_other scribe_note (λ n. n.why) c.loop-note.yielded c.in-Some.note None (ap scribe_note c.in-Line.is);
+      whys_room = c.push_reserved.ensures.capacity ∙ kept.whys_room;
+      left_room = kept.left_room;
     }
 
-pub desks_back-requires : goal.desks_back-requires
-desks_back-requires g c =
-    let rest = rest_home _ _ _ _ _ _ _ _ c.lines_back.ensures.home.1 in
-    let later = rest_home _ _ _ _ _ _ _ _ c.slots_back.ensures.home.1 ∙ ap (drop c.args.counts.slots) rest in
+pub put_next-requires-in-Slot : goal.put_next-requires-in-Slot
+put_next-requires-in-Slot g c =
+    let kept = c.loop-note.invariant in
+    let more = walked c.loop-note.yielded _ _ _ c.in-Some.note kept.all c.in-Some.ensures.steps.0 in
+    record { within = home_place slot_note (λ n. n.dialer) c.loop-note.yielded c.in-Some.note _ _ c.in-Slot.field-0 _ _ _ kept.slots more.0 (ap slot_note c.in-Slot.is) c.requires.slots }
+
+pub push_reserved-requires-in-Slot : goal.push_reserved-requires-in-Slot
+push_reserved-requires-in-Slot g c =
+    let kept = c.loop-note.invariant in
+    let more = walked c.loop-note.yielded _ _ _ c.in-Some.note kept.all c.in-Some.ensures.steps.0 in
+    let lt = has_place line_why c.loop-note.yielded c.in-Some.note _ _ c.in-Slot.field-0.why (length (filter_map line_why c.args.notes.items)) more.0 (ap line_why c.in-Slot.is) (omega arith) in
+    let many = ap length kept.whys ∙ length-append c.args.whys.now.items (filter_map line_why c.loop-note.yielded) in
+    let room = c.requires.room.0 in
+    omega (arith, lt, many, room, kept.whys_room)
+
+pub loop-note-preserved-in-Slot : goal.loop-note-preserved-in-Slot
+loop-note-preserved-in-Slot g c =
+    let kept = c.loop-note.invariant in
+    let steps = c.in-Some.ensures.steps in
+    let more = walked c.loop-note.yielded _ _ _ c.in-Some.note kept.all steps.0 in
     record {
-      lines = subst (λ l. FirstAre IsDeskNote c.args.counts.desks l) (sym later) c.requires.desks;
-      many = c.requires.many.2;
-      room = c.requires.room.1;
+      all = more.1;
+      many = walked_len _ _ c.in-Some.note _ _ steps.0 kept.many steps.1;
+      lines = home_other line_note (λ n. n.dialer) c.loop-note.yielded c.in-Some.note _ _ _ kept.lines (ap line_note c.in-Slot.is);
+      slots = home_one slot_note (λ n. n.dialer) c.loop-note.yielded c.in-Some.note _ _ c.in-Slot.field-0 _ _ _ _ _ kept.slots more.0 (ap slot_note c.in-Slot.is) c.requires.slots c.put_next-in-Slot.ensures.places c.put_next-in-Slot.ensures.place;
+      desks = home_other desk_note (λ n. n.door) c.loop-note.yielded c.in-Some.note _ _ _ kept.desks (ap desk_note c.in-Slot.is);
+      vault = kept.vault ∙ last_other scribe_note (λ n. n.vault) c.loop-note.yielded c.in-Some.note c.args.vault.now (ap scribe_note c.in-Slot.is);
+      whys = added_one line_why c.loop-note.yielded c.in-Some.note c.in-Slot.field-0.why _ _ _ kept.whys (ap line_why c.in-Slot.is) c.push_reserved-in-Slot.ensures.items;
+      left = added_other desk_left c.loop-note.yielded c.in-Some.note _ _ kept.left (ap desk_left c.in-Slot.is);
+      scribe = kept.scribe ∙ last_other scribe_note (λ n. n.why) c.loop-note.yielded c.in-Some.note None (ap scribe_note c.in-Slot.is);
+      whys_room = c.push_reserved-in-Slot.ensures.capacity ∙ kept.whys_room;
+      left_room = kept.left_room;
     }
 
-pub take_first-requires : goal.take_first-requires
-take_first-requires g c =
-    let rest = rest_home _ _ _ _ _ _ _ _ c.lines_back.ensures.home.1 in
-    let later = rest_home _ _ _ _ _ _ _ _ c.slots_back.ensures.home.1 ∙ ap (drop c.args.counts.slots) rest in
-    let last = rest_home _ _ _ _ _ _ _ _ c.desks_back.ensures.home.1 ∙ ap (drop c.args.counts.desks) later in
-    let h = firsts_stand IsScribeNote 1 c.desks_back.new.notes.items (subst (λ l. FirstAre IsScribeNote 1 l) (sym last) c.requires.scribe) in
-    omega (arith, h)
+pub put_next-requires-in-Desk : goal.put_next-requires-in-Desk
+put_next-requires-in-Desk g c =
+    let kept = c.loop-note.invariant in
+    let more = walked c.loop-note.yielded _ _ _ c.in-Some.note kept.all c.in-Some.ensures.steps.0 in
+    record { within = home_place desk_note (λ n. n.door) c.loop-note.yielded c.in-Some.note _ _ c.in-Desk.field-0 _ _ _ kept.desks more.0 (ap desk_note c.in-Desk.is) c.requires.desks }
 
-pub scribe_note-kept-requires : goal.scribe_note-kept-requires
-scribe_note-kept-requires g c =
-    let rest = rest_home _ _ _ _ _ _ _ _ c.lines_back.ensures.home.1 in
-    let later = rest_home _ _ _ _ _ _ _ _ c.slots_back.ensures.home.1 ∙ ap (drop c.args.counts.slots) rest in
-    let last = rest_home _ _ _ _ _ _ _ _ c.desks_back.ensures.home.1 ∙ ap (drop c.args.counts.desks) later in
-    (firsts_more IsScribeNote 1 c.desks_back.new.notes.items c.take_first.new.items.items c.take_first.result (subst (λ l. FirstAre IsScribeNote 1 l) (sym last) c.requires.scribe) (omega arith) c.take_first.ensures.items).0
+pub push_reserved-requires-in-Desk : goal.push_reserved-requires-in-Desk
+push_reserved-requires-in-Desk g c =
+    let kept = c.loop-note.invariant in
+    let more = walked c.loop-note.yielded _ _ _ c.in-Some.note kept.all c.in-Some.ensures.steps.0 in
+    let lt = has_place desk_left c.loop-note.yielded c.in-Some.note _ _ (record { fronts = c.in-Desk.field-0.fronts; why = c.in-Desk.field-0.why }) (length (filter_map desk_left c.args.notes.items)) more.0 (ap desk_left c.in-Desk.is) (omega arith) in
+    let many = ap length kept.left ∙ length-append c.args.left.now.items (filter_map desk_left c.loop-note.yielded) in
+    let room = c.requires.room.1 in
+    omega (arith, lt, many, room, kept.left_room)
 
-pub returns-clause-home : goal.returns-clause-home
-returns-clause-home g c =
-    let l = c.lines_back.ensures.home in
-    let s = c.slots_back.ensures.home in
-    let d = c.desks_back.ensures.home in (
-      l.0,
-      s.0,
-      d.0,
-      c.scribe_note-kept.result,
-      record {
-        after_lines = c.lines_back.new.notes.items;
-        after_slots = c.slots_back.new.notes.items;
-        after_desks = c.desks_back.new.notes.items;
-        last = c.take_first.result;
-        more = c.take_first.new.items.items;
-        of_lines = l.1;
-        of_slots = s.1;
-        of_desks = d.1;
-        ends = c.take_first.ensures.items;
-        is_last = c.scribe_note-kept.ensures;
-      },
-      s.2 ∙ ap (λ w. w ++ map (λ n. n.why) s.0) l.2 ∙ append_assoc c.args.whys.now.items (map (λ n. n.why) l.0) (map (λ n. n.why) s.0),
-      d.2,
-      refl,
-      refl,
-    )
+pub loop-note-preserved-in-Desk : goal.loop-note-preserved-in-Desk
+loop-note-preserved-in-Desk g c =
+    let kept = c.loop-note.invariant in
+    let steps = c.in-Some.ensures.steps in
+    let more = walked c.loop-note.yielded _ _ _ c.in-Some.note kept.all steps.0 in
+    record {
+      all = more.1;
+      many = walked_len _ _ c.in-Some.note _ _ steps.0 kept.many steps.1;
+      lines = home_other line_note (λ n. n.dialer) c.loop-note.yielded c.in-Some.note _ _ _ kept.lines (ap line_note c.in-Desk.is);
+      slots = home_other slot_note (λ n. n.dialer) c.loop-note.yielded c.in-Some.note _ _ _ kept.slots (ap slot_note c.in-Desk.is);
+      desks = home_one desk_note (λ n. n.door) c.loop-note.yielded c.in-Some.note _ _ c.in-Desk.field-0 _ _ _ _ _ kept.desks more.0 (ap desk_note c.in-Desk.is) c.requires.desks c.put_next-in-Desk.ensures.places c.put_next-in-Desk.ensures.place;
+      vault = kept.vault ∙ last_other scribe_note (λ n. n.vault) c.loop-note.yielded c.in-Some.note c.args.vault.now (ap scribe_note c.in-Desk.is);
+      whys = added_other line_why c.loop-note.yielded c.in-Some.note _ _ kept.whys (ap line_why c.in-Desk.is);
+      left = added_one desk_left c.loop-note.yielded c.in-Some.note (record { fronts = c.in-Desk.field-0.fronts; why = c.in-Desk.field-0.why }) _ _ _ kept.left (ap desk_left c.in-Desk.is) c.push_reserved-in-Desk.ensures.items;
+      scribe = kept.scribe ∙ last_other scribe_note (λ n. n.why) c.loop-note.yielded c.in-Some.note None (ap scribe_note c.in-Desk.is);
+      whys_room = kept.whys_room;
+      left_room = c.push_reserved-in-Desk.ensures.capacity ∙ kept.left_room;
+    }
+
+pub loop-note-preserved : goal.loop-note-preserved
+loop-note-preserved g c =
+    let kept = c.loop-note.invariant in
+    let steps = c.in-Some.ensures.steps in
+    let more = walked c.loop-note.yielded _ _ _ c.in-Some.note kept.all steps.0 in
+    record {
+      all = more.1;
+      many = walked_len _ _ c.in-Some.note _ _ steps.0 kept.many steps.1;
+      lines = home_other line_note (λ n. n.dialer) c.loop-note.yielded c.in-Some.note _ _ _ kept.lines (ap line_note c.in-Scribe.is);
+      slots = home_other slot_note (λ n. n.dialer) c.loop-note.yielded c.in-Some.note _ _ _ kept.slots (ap slot_note c.in-Scribe.is);
+      desks = home_other desk_note (λ n. n.door) c.loop-note.yielded c.in-Some.note _ _ _ kept.desks (ap desk_note c.in-Scribe.is);
+      vault = sym (last_one scribe_note (λ n. n.vault) c.loop-note.yielded c.in-Some.note c.in-Scribe.field-0 c.args.vault.now (ap scribe_note c.in-Scribe.is));
+      whys = added_other line_why c.loop-note.yielded c.in-Some.note _ _ kept.whys (ap line_why c.in-Scribe.is);
+      left = added_other desk_left c.loop-note.yielded c.in-Some.note _ _ kept.left (ap desk_left c.in-Scribe.is);
+      scribe = sym (last_one scribe_note (λ n. n.why) c.loop-note.yielded c.in-Some.note c.in-Scribe.field-0 None (ap scribe_note c.in-Scribe.is));
+      whys_room = kept.whys_room;
+      left_room = kept.left_room;
+    }
+
+pub returns-clause-vault : goal.returns-clause-vault
+returns-clause-vault g c = c.loop-note.invariant.vault ∙ ap (λ l. last_of c.args.vault.now (map (λ n. n.vault) (filter_map scribe_note l))) (walked_all c.loop-note.yielded _ _ _ c.loop-note.invariant.all c.loop-note.invariant.many c.in-None.ensures.steps.0)
+
+pub returns-clause-whys : goal.returns-clause-whys
+returns-clause-whys g c = c.loop-note.invariant.whys ∙ ap (λ l. c.args.whys.now.items ++ filter_map line_why l) (walked_all c.loop-note.yielded _ _ _ c.loop-note.invariant.all c.loop-note.invariant.many c.in-None.ensures.steps.0)
+
+pub returns-clause-left : goal.returns-clause-left
+returns-clause-left g c = c.loop-note.invariant.left ∙ ap (λ l. c.args.left.now.items ++ filter_map desk_left l) (walked_all c.loop-note.yielded _ _ _ c.loop-note.invariant.all c.loop-note.invariant.many c.in-None.ensures.steps.0)
+
+pub returns-clause-scribe : goal.returns-clause-scribe
+returns-clause-scribe g c = sym (c.loop-note.invariant.scribe ∙ ap (λ l. last_of None (map (λ n. n.why) (filter_map scribe_note l))) (walked_all c.loop-note.yielded _ _ _ c.loop-note.invariant.all c.loop-note.invariant.many c.in-None.ensures.steps.0)) ∙ c.in-Some-scribe.is

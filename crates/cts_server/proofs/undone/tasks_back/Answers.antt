@@ -1,62 +1,114 @@
-use Rattle.std.proofs.Common.{arith, drop, sym, ◌∙◌, ap, subst, Some}
-use Rattle.cts_server.specs.Homes.{FirstAre}
-use Rattle.cts_server.specs.Kinds.{IsDeskDuty, IsScribeDuty, IsSlotDuty}
-use Rattle.cts_server.proofs.Homing.{firsts_more, firsts_stand}
-use Rattle.cts_server.proofs.Whole.{rest_home}
+use Rattle.std.proofs.Common.{map, ap, set, subst, sym, ◌∙◌, Some}
+use Rattle.std.specs.List.{filter_map}
+use Rattle.cts_server.specs.Homes.{CameHome, last_of}
+use Rattle.cts_server.specs.Kinds.{desk_duty, line_duty, scribe_duty, slot_duty}
+use Rattle.cts_server.proofs.Homing.{home_one, home_other, home_place, last_one, last_other, walked, walked_all, walked_len}
 use Rattle.cts_server.proofs.undone.tasks_back.Goals as goal
 
-pub slots_undone-requires : goal.slots_undone-requires
-slots_undone-requires g c =
-    let rest = rest_home _ _ _ _ _ _ _ _ c.lines_undone.ensures.home.1 in
+pub put_next-requires : goal.put_next-requires
+put_next-requires g c =
+    let kept = c.loop-task.invariant in
+    let more = walked c.loop-task.yielded _ _ _ c.in-Some.task kept.all c.in-Some.ensures.steps.0 in
+    record { within = home_place (λ t. line_duty t.duty) (λ d. d.dialer) c.loop-task.yielded c.in-Some.task _ _ c.in-Line.duty _ _ _ kept.lines more.0 (ap line_duty c.in-Line.is) c.requires.lines }
+
+pub loop-task-preserved-in-Line : goal.loop-task-preserved-in-Line
+loop-task-preserved-in-Line g c =
+    let kept = c.loop-task.invariant in
+    let steps = c.in-Some.ensures.steps in
+    let more = walked c.loop-task.yielded _ _ _ c.in-Some.task kept.all steps.0 in
     record {
-      kind = subst (λ l. FirstAre (λ t. IsSlotDuty t.duty) c.args.counts.slots l) (sym rest) c.requires.slots;
-      many = c.requires.many.1;
+      all = more.1;
+      many = walked_len _ _ c.in-Some.task _ _ steps.0 kept.many steps.1;
+      lines = home_one (λ t. line_duty t.duty) (λ d. d.dialer) c.loop-task.yielded c.in-Some.task _ _ c.in-Line.duty _ _ _ _ _ kept.lines more.0 (ap line_duty c.in-Line.is) c.requires.lines (c.put_next.ensures.places ∙ ap (λ d. set c.loop-task.lines c.loop-task.line (Some d)) (c.into_dialer.ensures ∙ ap (λ u. u.dialer) c.in-Line.duty-is)) c.put_next.ensures.place;
+      slots = home_other (λ t. slot_duty t.duty) (λ d. d.dialer) c.loop-task.yielded c.in-Some.task _ _ _ kept.slots (ap slot_duty c.in-Line.is);
+      desks = home_other (λ t. desk_duty t.duty) (λ d. d.door) c.loop-task.yielded c.in-Some.task _ _ _ kept.desks (ap desk_duty c.in-Line.is);
+      vault = kept.vault ∙ last_other (λ t. scribe_duty t.duty) (λ d. d.vault) c.loop-task.yielded c.in-Some.task c.args.vault.now (ap scribe_duty c.in-Line.is);
     }
 
-pub desks_undone-requires : goal.desks_undone-requires
-desks_undone-requires g c =
-    let rest = rest_home _ _ _ _ _ _ _ _ c.lines_undone.ensures.home.1 in
-    let later = rest_home _ _ _ _ _ _ _ _ c.slots_undone.ensures.home.1 ∙ ap (drop c.args.counts.slots) rest in
+pub put_next-requires-in-Slot : goal.put_next-requires-in-Slot
+put_next-requires-in-Slot g c =
+    let kept = c.loop-task.invariant in
+    let more = walked c.loop-task.yielded _ _ _ c.in-Some.task kept.all c.in-Some.ensures.steps.0 in
+    record { within = home_place (λ t. slot_duty t.duty) (λ d. d.dialer) c.loop-task.yielded c.in-Some.task _ _ c.in-Slot.duty _ _ _ kept.slots more.0 (ap slot_duty c.in-Slot.is) c.requires.slots }
+
+pub loop-task-preserved-in-Slot : goal.loop-task-preserved-in-Slot
+loop-task-preserved-in-Slot g c =
+    let kept = c.loop-task.invariant in
+    let steps = c.in-Some.ensures.steps in
+    let more = walked c.loop-task.yielded _ _ _ c.in-Some.task kept.all steps.0 in
     record {
-      kind = subst (λ l. FirstAre (λ t. IsDeskDuty t.duty) c.args.counts.desks l) (sym later) c.requires.desks;
-      many = c.requires.many.2;
+      all = more.1;
+      many = walked_len _ _ c.in-Some.task _ _ steps.0 kept.many steps.1;
+      lines = home_other (λ t. line_duty t.duty) (λ d. d.dialer) c.loop-task.yielded c.in-Some.task _ _ _ kept.lines (ap line_duty c.in-Slot.is);
+      slots = home_one (λ t. slot_duty t.duty) (λ d. d.dialer) c.loop-task.yielded c.in-Some.task _ _ c.in-Slot.duty _ _ _ _ _ kept.slots more.0 (ap slot_duty c.in-Slot.is) c.requires.slots (c.put_next-in-Slot.ensures.places ∙ ap (λ d. set c.loop-task.slots c.loop-task.slot (Some d)) (c.into_dialer-in-Slot.ensures ∙ ap (λ u. u.dialer) c.in-Slot.duty-is)) c.put_next-in-Slot.ensures.place;
+      desks = home_other (λ t. desk_duty t.duty) (λ d. d.door) c.loop-task.yielded c.in-Some.task _ _ _ kept.desks (ap desk_duty c.in-Slot.is);
+      vault = kept.vault ∙ last_other (λ t. scribe_duty t.duty) (λ d. d.vault) c.loop-task.yielded c.in-Some.task c.args.vault.now (ap scribe_duty c.in-Slot.is);
     }
 
-pub take_first-requires : goal.take_first-requires
-take_first-requires g c =
-    let rest = rest_home _ _ _ _ _ _ _ _ c.lines_undone.ensures.home.1 in
-    let later = rest_home _ _ _ _ _ _ _ _ c.slots_undone.ensures.home.1 ∙ ap (drop c.args.counts.slots) rest in
-    let last = rest_home _ _ _ _ _ _ _ _ c.desks_undone.ensures.home.1 ∙ ap (drop c.args.counts.desks) later in
-    let h = firsts_stand (λ t. IsScribeDuty t.duty) 1 c.desks_undone.new.tasks.items (subst (λ l. FirstAre (λ t. IsScribeDuty t.duty) 1 l) (sym last) c.requires.scribe) in
-    omega (arith, h)
+pub put_next-requires-in-Desk : goal.put_next-requires-in-Desk
+put_next-requires-in-Desk g c =
+    let kept = c.loop-task.invariant in
+    let more = walked c.loop-task.yielded _ _ _ c.in-Some.task kept.all c.in-Some.ensures.steps.0 in
+    record { within = home_place (λ t. desk_duty t.duty) (λ d. d.door) c.loop-task.yielded c.in-Some.task _ _ c.in-Desk.duty _ _ _ kept.desks more.0 (ap desk_duty c.in-Desk.is) c.requires.desks }
 
-pub scribe_duty-duty-requires : goal.scribe_duty-duty-requires
-scribe_duty-duty-requires g c =
-    let rest = rest_home _ _ _ _ _ _ _ _ c.lines_undone.ensures.home.1 in
-    let later = rest_home _ _ _ _ _ _ _ _ c.slots_undone.ensures.home.1 ∙ ap (drop c.args.counts.slots) rest in
-    let last = rest_home _ _ _ _ _ _ _ _ c.desks_undone.ensures.home.1 ∙ ap (drop c.args.counts.desks) later in
-    (firsts_more (λ t. IsScribeDuty t.duty) 1 c.desks_undone.new.tasks.items c.take_first.new.items.items c.take_first.result (subst (λ l. FirstAre (λ t. IsScribeDuty t.duty) 1 l) (sym last) c.requires.scribe) (omega arith) c.take_first.ensures.items).0
+pub loop-task-preserved-in-Desk : goal.loop-task-preserved-in-Desk
+loop-task-preserved-in-Desk g c =
+    let kept = c.loop-task.invariant in
+    let steps = c.in-Some.ensures.steps in
+    let more = walked c.loop-task.yielded _ _ _ c.in-Some.task kept.all steps.0 in
+    record {
+      all = more.1;
+      many = walked_len _ _ c.in-Some.task _ _ steps.0 kept.many steps.1;
+      lines = home_other (λ t. line_duty t.duty) (λ d. d.dialer) c.loop-task.yielded c.in-Some.task _ _ _ kept.lines (ap line_duty c.in-Desk.is);
+      slots = home_other (λ t. slot_duty t.duty) (λ d. d.dialer) c.loop-task.yielded c.in-Some.task _ _ _ kept.slots (ap slot_duty c.in-Desk.is);
+      desks = home_one (λ t. desk_duty t.duty) (λ d. d.door) c.loop-task.yielded c.in-Some.task _ _ c.in-Desk.duty _ _ _ _ _ kept.desks more.0 (ap desk_duty c.in-Desk.is) c.requires.desks (c.put_next-in-Desk.ensures.places ∙ ap (λ d. set c.loop-task.desks c.loop-task.desk (Some d)) (c.into_door.ensures ∙ ap (λ u. u.door) c.in-Desk.duty-is)) c.put_next-in-Desk.ensures.place;
+      vault = kept.vault ∙ last_other (λ t. scribe_duty t.duty) (λ d. d.vault) c.loop-task.yielded c.in-Some.task c.args.vault.now (ap scribe_duty c.in-Desk.is);
+    }
 
-pub returns-clause-home : goal.returns-clause-home
-returns-clause-home g c =
-    let l = c.lines_undone.ensures.home in
-    let s = c.slots_undone.ensures.home in
-    let d = c.desks_undone.ensures.home in (
-      l.0,
-      s.0,
-      d.0,
-      c.scribe_duty-duty.result,
-      record {
-        after_lines = c.lines_undone.new.tasks.items;
-        after_slots = c.slots_undone.new.tasks.items;
-        after_desks = c.desks_undone.new.tasks.items;
-        last = c.take_first.result;
-        more = c.take_first.new.items.items;
-        of_lines = l.1;
-        of_slots = s.1;
-        of_desks = d.1;
-        ends = c.take_first.ensures.items;
-        is_last = c.scribe_duty-duty.ensures;
-      },
-      ap Some c.into_vault.ensures,
-    )
+pub loop-task-preserved-in-Scribe : goal.loop-task-preserved-in-Scribe
+loop-task-preserved-in-Scribe g c =
+    let kept = c.loop-task.invariant in
+    let steps = c.in-Some.ensures.steps in
+    let more = walked c.loop-task.yielded _ _ _ c.in-Some.task kept.all steps.0 in
+    record {
+      all = more.1;
+      many = walked_len _ _ c.in-Some.task _ _ steps.0 kept.many steps.1;
+      lines = home_other (λ t. line_duty t.duty) (λ d. d.dialer) c.loop-task.yielded c.in-Some.task _ _ _ kept.lines (ap line_duty c.in-Scribe.is);
+      slots = home_other (λ t. slot_duty t.duty) (λ d. d.dialer) c.loop-task.yielded c.in-Some.task _ _ _ kept.slots (ap slot_duty c.in-Scribe.is);
+      desks = home_other (λ t. desk_duty t.duty) (λ d. d.door) c.loop-task.yielded c.in-Some.task _ _ _ kept.desks (ap desk_duty c.in-Scribe.is);
+      vault = ap Some (c.into_vault.ensures ∙ ap (λ u. u.vault) c.in-Scribe.duty-is) ∙ sym (last_one (λ t. scribe_duty t.duty) (λ d. d.vault) c.loop-task.yielded c.in-Some.task c.in-Scribe.duty c.args.vault.now (ap scribe_duty c.in-Scribe.is));
+    }
+
+pub loop-task-preserved : goal.loop-task-preserved
+loop-task-preserved g c =
+    let kept = c.loop-task.invariant in
+    let steps = c.in-Some.ensures.steps in
+    let more = walked c.loop-task.yielded _ _ _ c.in-Some.task kept.all steps.0 in
+    record {
+      all = more.1;
+      many = walked_len _ _ c.in-Some.task _ _ steps.0 kept.many steps.1;
+      lines = home_other (λ t. line_duty t.duty) (λ d. d.dialer) c.loop-task.yielded c.in-Some.task _ _ _ kept.lines (ap line_duty c.in-Scribe.is);
+      slots = home_other (λ t. slot_duty t.duty) (λ d. d.dialer) c.loop-task.yielded c.in-Some.task _ _ _ kept.slots (ap slot_duty c.in-Scribe.is);
+      desks = home_other (λ t. desk_duty t.duty) (λ d. d.door) c.loop-task.yielded c.in-Some.task _ _ _ kept.desks (ap desk_duty c.in-Scribe.is);
+      vault = ap Some (c.into_vault.ensures ∙ ap (λ u. u.vault) c.in-Scribe.duty-is) ∙ sym (last_one (λ t. scribe_duty t.duty) (λ d. d.vault) c.loop-task.yielded c.in-Some.task c.in-Scribe.duty c.args.vault.now (ap scribe_duty c.in-Scribe.is));
+    }
+
+pub returns-clause-lines : goal.returns-clause-lines
+returns-clause-lines g c =
+    let kept = c.loop-task.invariant in
+    subst (λ l. CameHome (λ t. line_duty t.duty) (λ d. d.dialer) l c.args.lines.now c.loop-task.lines) (walked_all c.loop-task.yielded _ _ _ kept.all kept.many c.in-None.ensures.steps.0) kept.lines.places
+
+pub returns-clause-slots : goal.returns-clause-slots
+returns-clause-slots g c =
+    let kept = c.loop-task.invariant in
+    subst (λ l. CameHome (λ t. slot_duty t.duty) (λ d. d.dialer) l c.args.slots.now c.loop-task.slots) (walked_all c.loop-task.yielded _ _ _ kept.all kept.many c.in-None.ensures.steps.0) kept.slots.places
+
+pub returns-clause-desks : goal.returns-clause-desks
+returns-clause-desks g c =
+    let kept = c.loop-task.invariant in
+    subst (λ l. CameHome (λ t. desk_duty t.duty) (λ d. d.door) l c.args.desks.now c.loop-task.desks) (walked_all c.loop-task.yielded _ _ _ kept.all kept.many c.in-None.ensures.steps.0) kept.desks.places
+
+pub returns-clause-vault : goal.returns-clause-vault
+returns-clause-vault g c =
+    let kept = c.loop-task.invariant in
+    kept.vault ∙ ap (λ l. last_of c.args.vault.now (map (λ d. d.vault) (filter_map (λ t. scribe_duty t.duty) l))) (walked_all c.loop-task.yielded _ _ _ kept.all kept.many c.in-None.ensures.steps.0)
