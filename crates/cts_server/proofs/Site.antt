@@ -293,11 +293,11 @@ module _ (o : Outfit) (site : SiteData) (digest : List ℕ) where
       flags worked el ed ec =
           let p = any_cancelled (λ (n : LineNote o.D). is_cancelled n.why) (λ (n : LineNote o.Q). is_cancelled n.why) (λ (n : DeskLeft o.Q). is_cancelled_desk n.why) (λ (n : ScribeNote o.V). is_cancelled_scribe n.why) in
           let lines : map is_cancelled worked.lines ≡ map p (map Line noted.ls) ++ map p (map Slot noted.ss)
-              = ap (map is_cancelled) (el ∙ noted_whys) ∙ map-append is_cancelled (map (λ (n : LineNote o.D). n.why) noted.ls) (map (λ (n : LineNote o.Q). n.why) noted.ss)
-              ∙ ap (λ (l : List Bool). l ++ map is_cancelled (map (λ (n : LineNote o.Q). n.why) noted.ss)) (map_map is_cancelled (λ (n : LineNote o.D). n.why) noted.ls ∙ sym (map_map p Line noted.ls))
-              ∙ ap (λ (l : List Bool). map p (map Line noted.ls) ++ l) (map_map is_cancelled (λ (n : LineNote o.Q). n.why) noted.ss ∙ sym (map_map p Slot noted.ss)) in
+          = ap (map is_cancelled) (el ∙ noted_whys) ∙ map-append is_cancelled (map (λ (n : LineNote o.D). n.why) noted.ls) (map (λ (n : LineNote o.Q). n.why) noted.ss)
+          ∙ ap (λ (l : List Bool). l ++ map is_cancelled (map (λ (n : LineNote o.Q). n.why) noted.ss)) (map_map is_cancelled (λ (n : LineNote o.D). n.why) noted.ls ∙ sym (map_map p Line noted.ls))
+          ∙ ap (λ (l : List Bool). map p (map Line noted.ls) ++ l) (map_map is_cancelled (λ (n : LineNote o.Q). n.why) noted.ss ∙ sym (map_map p Slot noted.ss)) in
           let desks : map (λ (n : DeskNote). is_cancelled_desk n.why) worked.desks ≡ map p (map Desk noted.ks)
-              = ap (map (λ (n : DeskNote). is_cancelled_desk n.why)) (ed ∙ noted_left) ∙ map_map (λ (n : DeskNote). is_cancelled_desk n.why) left_of noted.ks ∙ sym (map_map p Desk noted.ks) in
+          = ap (map (λ (n : DeskNote). is_cancelled_desk n.why)) (ed ∙ noted_left) ∙ map_map (λ (n : DeskNote). is_cancelled_desk n.why) left_of noted.ks ∙ sym (map_map p Desk noted.ks) in
           let last : is_cancelled_scribe worked.scribe ≡ p (Scribe noted.c) = ap is_cancelled_scribe (sym (some_is noted.c.why worked.scribe (sym scribe_said ∙ ec))) in
           ap (map p) (sym (map-id notes) ∙ noted.are)
           ∙ map-append p (map Line noted.ls) _ ∙ ap (λ (l : List Bool). map p (map Line noted.ls) ++ l) (map-append p (map Slot noted.ss) _ ∙ ap (λ (l : List Bool). map p (map Slot noted.ss) ++ l) (map-append p (map Desk noted.ks) _))

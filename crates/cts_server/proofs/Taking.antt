@@ -102,20 +102,15 @@ rest_is n all cs ds c is cut = ap (drop 1) (sym cut ∙ is) ∙ drop-drop 1 n al
 -- ---- what is ready
 
 -- a dialer that was aimed shows nothing else
-aim_shows : (aim : Aim) (before now : LineSeen) → now.told ≡ told_after (aimed aim) before.told → now.linked ≡ before.linked → now.faults ≡ before.faults → now.failed_dials ≡ before.failed_dials → now ≡ aimed_at aim before
+pub aim_shows : (aim : Aim) (before now : LineSeen) → now.told ≡ told_after (aimed aim) before.told → now.linked ≡ before.linked → now.faults ≡ before.faults → now.failed_dials ≡ before.failed_dials → now ≡ aimed_at aim before
 aim_shows aim before now told linked faults dials =
     ap (λ (t : Option Line). record now { told = t }) told
     ∙ ap (λ (b : Bool). record { told = told_after (aimed aim) before.told; linked = b; faults = now.faults; failed_dials = now.failed_dials }) linked
     ∙ ap (λ (n : ℕ). record { told = told_after (aimed aim) before.told; linked = before.linked; faults = n; failed_dials = now.failed_dials }) faults
     ∙ ap (λ (n : ℕ). record { told = told_after (aimed aim) before.told; linked = before.linked; faults = before.faults; failed_dials = n }) dials
 
-pub line_ready : {D : Type 0} (seen : D → LineSeen) (site : SiteData) (by : ℕ) (aim : Aim) (before now : D) (chain : ChainData) → FitsLine site by chain
-    → (seen now).told ≡ told_after (aimed aim) (seen before).told → (seen now).linked ≡ (seen before).linked → (seen now).faults ≡ (seen before).faults → (seen now).failed_dials ≡ (seen before).failed_dials
-    → ReadyLine site by aim (seen before) (seen now) site chain
-line_ready seen site by aim before now chain fit told linked faults dials = record {
-  aimed = aim_shows aim (seen before) (seen now) told linked faults dials;
-  can = record { same = refl; line = fit.0; fresh = fit.1 };
-}
+pub line_ready : (site own : SiteData) (by : ℕ) (aim : Aim) (before now : LineSeen) (chain : ChainData) → FitsLine site by chain → now ≡ aimed_at aim before → own ≡ site → ReadyLine site by aim before now own chain
+line_ready site own by aim before now chain fit is same = subst (λ (o : SiteData). ReadyLine site by aim before now o chain) (sym same) (record { aimed = is; can = record { same = refl; line = fit.0; fresh = fit.1 } })
 
 idle_aimed : (aim : Aim) (before now : Option Line) → now ≡ told_after (aimed aim) before → IsIdle before → IsIdle now
 idle_aimed aim None now told idle = subst IsIdle (sym told) tt

@@ -52,7 +52,13 @@ pub(crate) fn notes_back<D: Drop, Q: Drop, V: Drop>(
                 put_next(desks, &mut desk, door);
                 left.push_reserved(DeskNote { fronts, why });
             }
-            AnyNote::Scribe(ScribeNote { vault: kept, why, .. }) => {
+            AnyNote::Scribe(
+                ScribeNote {
+                    vault: kept,
+                    why,
+                    ..
+                },
+            ) => {
                 *vault = Some(kept);
                 scribe = Some(why);
             }

@@ -1,8 +1,9 @@
 // The devices of a site go with their workers.
-ghost use Rattle.std.specs.Prelude.{◌≡◌, ◌+◌, ◌≤◌, [], IsSomeAnd, None, drop, length, vec_capacity, vec_len};
+ghost use Rattle.std.specs.Prelude.{◌≡◌, ◌+◌, ◌<◌, ◌≤◌, ◌∷◌, [], IsSomeAnd, None, Some, drop, length, vec_capacity, vec_len};
 ghost use Rattle.std.specs.List.{AllByRecursion};
 ghost use Rattle.cts_def.specs.Makers.{first_desk, first_slot};
 ghost use Rattle.cts_scribe.specs.Vaults.{AreBlank};
+ghost use Rattle.cts_server.specs.Aims.{aimed_at};
 ghost use Rattle.cts_server.specs.Kinds.{IsDesk, IsLine, IsScribe, IsSlot};
 ghost use Rattle.cts_server.specs.Places.{AreThere, IsThere};
 ghost use Rattle.cts_server.specs.Tasks.{AreFit, FitsDesk, FitsLine, ReadyDesk, ReadyLine, ReadyScribe, Staffed, Taken};
@@ -84,6 +85,35 @@ fn scribe_duty<'a, V: Vault, K, G>(
     }
 }
 
+// The duty of a line: its dialer leaves its place and is aimed, and its chain is the next one.
+fn line_duty<'a, D: Dialer, C: Framer, K, G>(
+    means: &Means<'a, K, G>,
+    places: &mut [Option<D>],
+    place: usize,
+    aim: Aim,
+    chains: &mut Vec<C>,
+) -> LineDuty<'a, D, C, K, G>
+    requires within { place < length places.old }
+    requires there { AllByRecursion IsThere (drop place places.old) }
+    requires chain { 0 < vec_len chains.old }
+    ensures dialer { (d : D) × (drop place places.old ≡ Some d ∷ drop (place + 1) places.old) × (D.seen result.dialer ≡ aimed_at aim (D.seen d)) }
+    ensures others { drop (place + 1) places.new ≡ drop (place + 1) places.old }
+    ensures long { length places.new ≡ length places.old }
+    ensures chain { chains.old.items ≡ result.chain ∷ chains.new.items }
+    ensures site { result.site.now ≡ means.now.site.now }
+{
+    let mut dialer = take_at(places, place);
+    dialer.aim(aim);
+    LineDuty {
+        alloc: means.alloc,
+        site: means.site,
+        dialer,
+        chain: take_first(chains),
+        clock: means.clock,
+        gate: means.gate,
+    }
+}
+
 // Each interface gets its dialer and its chain.
 fn line_tasks<'a, D: Dialer, C: Framer, K, G, P: Drop, E: Drop, S: Drop>(
     means: &Means<'a, K, G>,
@@ -103,20 +133,10 @@ fn line_tasks<'a, D: Dialer, C: Framer, K, G, P: Drop, E: Drop, S: Drop>(
 {
     let mut place = 0;
     'lines: while !aims.is_empty() {
-        let aim = take_first(&mut aims);
-        let chain = take_first(chains);
-        let mut dialer = take_at(places, place);
-        dialer.aim(aim);
+        let duty = line_duty(means, places, place, take_first(&mut aims), chains);
         tasks.push_reserved(Task {
             by: place as u32,
-            duty: AnyDuty::Line(LineDuty {
-                alloc: means.alloc,
-                site: means.site,
-                dialer,
-                chain,
-                clock: means.clock,
-                gate: means.gate,
-            }),
+            duty: AnyDuty::Line(duty),
         });
         place += 1;
     }
@@ -141,20 +161,10 @@ fn slot_tasks<'a, D: Dialer, C: Framer, K, G, L: Drop, E: Drop, S: Drop>(
 {
     let mut place = 0;
     'lines: while !aims.is_empty() {
-        let aim = take_first(&mut aims);
-        let chain = take_first(chains);
-        let mut dialer = take_at(places, place);
-        dialer.aim(aim);
+        let duty = line_duty(means, places, place, take_first(&mut aims), chains);
         tasks.push_reserved(Task {
             by: FIRST_SLOT + place as u32,
-            duty: AnyDuty::Slot(LineDuty {
-                alloc: means.alloc,
-                site: means.site,
-                dialer,
-                chain,
-                clock: means.clock,
-                gate: means.gate,
-            }),
+            duty: AnyDuty::Slot(duty),
         });
         place += 1;
     }

@@ -1,5 +1,4 @@
-use Rattle.std.proofs.Common.{arith, map, ap, length, length-append, ◌++◌, sym, ◌∙◌, None, Some}
-use Rattle.std.proofs.lemmas.Grind.{common_steps}
+use Rattle.std.proofs.Common.{arith, map, ap, length, length-append, ◌++◌, sym, ◌∙◌, None}
 use Rattle.std.specs.List.{filter_map}
 use Rattle.cts_server.specs.Homes.{last_of}
 use Rattle.cts_server.specs.Kinds.{desk_left, desk_note, line_note, line_why, scribe_note, slot_note}

@@ -22,19 +22,18 @@ pub lines-preserved : goal.lines-preserved
 lines-preserved g c =
     let kept = c.lines.invariant in
     let place = c.lines.place in
-    let aim = c.take_first-aim.ensures.items in
-    let at = c.take_at-dialer.ensures in
-    let chain = c.take_first-chain.ensures.items in
-    let fit = fit_more (λ n x. FitsLine c.args.means.now.site.now n (g.C.Chained.shape x)) (first_slot + place) c.lines.aims.items c.take_first-aim.new.items.items c.lines.chains.items c.take_first-chain.new.items.items c.take_first-aim.result c.take_first-chain.result kept.fit aim chain in
+    let aim = c.take_first.ensures.items in
+    let made = c.line_duty-duty.ensures in
+    let fit = fit_more (λ n x. FitsLine c.args.means.now.site.now n (g.C.Chained.shape x)) (first_slot + place) c.lines.aims.items c.take_first.new.items.items c.lines.chains.items c.line_duty-duty.new.chains.items c.take_first.result c.line_duty-duty.result.chain kept.fit aim made.chain in
     record {
-      taking = took (IsSlot (λ n aim d x. ReadyLine c.args.means.now.site.now n aim (g.D.Link.seen d) (g.D.Link.seen x.dialer) x.site.now (g.C.Chained.shape x.chain))) first_slot c.args.aims.items c.lines.aims.items c.take_first-aim.new.items.items c.args.places.now c.lines.places c.take_at-dialer.new.places c.args.tasks.now.items c.lines.tasks.items _ place (first_slot + place)
-          c.take_first-aim.result c.take_at-dialer.result _ kept.taking aim at.stood at.others at.long c.push_reserved.ensures.items (omega arith) refl
-          (line_ready g.D.Link.seen c.args.means.now.site.now (first_slot + place) c.take_first-aim.result c.take_at-dialer.result c.aim.new.self (g.C.Chained.shape c.take_first-chain.result) fit.0 c.aim.ensures.content c.aim.ensures.linked c.aim.ensures.faults c.aim.ensures.dials);
-      there = there_more place c.lines.places c.take_at-dialer.new.places c.take_at-dialer.result kept.there at.stood at.others;
+      taking = took (IsSlot (λ n aim d x. ReadyLine c.args.means.now.site.now n aim (g.D.Link.seen d) (g.D.Link.seen x.dialer) x.site.now (g.C.Chained.shape x.chain))) first_slot c.args.aims.items c.lines.aims.items c.take_first.new.items.items c.args.places.now c.lines.places c.line_duty-duty.new.places c.args.tasks.now.items c.lines.tasks.items _ place (first_slot + place)
+          c.take_first.result made.dialer.0 _ kept.taking aim made.dialer.1 made.others made.long c.push_reserved.ensures.items (omega arith) refl
+          (line_ready c.args.means.now.site.now c.line_duty-duty.result.site.now (first_slot + place) c.take_first.result (g.D.Link.seen made.dialer.0) (g.D.Link.seen c.line_duty-duty.result.dialer) (g.C.Chained.shape c.line_duty-duty.result.chain) fit.0 made.dialer.2 made.site);
+      there = there_more place c.lines.places c.line_duty-duty.new.places made.dialer.0 kept.there made.dialer.1 made.others;
       many = grind (arith, common_steps);
-      long = at.long ∙ kept.long;
-      fit = subst (λ n. AreFit (λ n x. FitsLine c.args.means.now.site.now n (g.C.Chained.shape x)) n c.take_first-aim.new.items.items c.take_first-chain.new.items.items) (omega arith) fit.1;
-      chains = rest_is place c.args.chains.now.items c.lines.chains.items c.take_first-chain.new.items.items c.take_first-chain.result kept.chains chain;
+      long = made.long ∙ kept.long;
+      fit = subst (λ n. AreFit (λ n x. FitsLine c.args.means.now.site.now n (g.C.Chained.shape x)) n c.take_first.new.items.items c.line_duty-duty.new.chains.items) (omega arith) fit.1;
+      chains = rest_is place c.args.chains.now.items c.lines.chains.items c.line_duty-duty.new.chains.items c.line_duty-duty.result.chain kept.chains made.chain;
       room = grind (arith, common_steps);
       same_room = grind (arith, common_steps);
     }
