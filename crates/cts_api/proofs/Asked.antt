@@ -4,7 +4,7 @@ use Rattle.cts_api.specs.declared.refusal.Refusal.{Refusal}
 use Rattle.cts_api.specs.declared.refusal.Refusal.TheVariants.{NoSuch, NotDone, BadParams, Memory}
 use Rattle.cts_api.specs.declared.sending.Done as code
 use Rattle.cts_api.specs.Answers.{answer}
-use Rattle.cts_api.specs.Asking.{Asking}
+use Rattle.cts_methods.specs.Asking.{Asking}
 use Rattle.cts_api.specs.Points.{Point}
 use Rattle.cts_api.specs.Replies.{HasRequest}
 use Rattle.cts_api.specs.Settling.{HasAnswered, takes_memory}

@@ -17,13 +17,13 @@ use Rattle.cts_table.specs.Keeping.{rules_of}
 use Rattle.cts_table.specs.declared.basis.Basis.{Basis}
 use Rattle.serde_json.specs.Data.{Data}
 use Rattle.cts_api.specs.Answers.{Done, answer}
-use Rattle.cts_api.specs.Asking.{Asking, Said, gives, refused}
-use Rattle.cts_api.specs.Kinds.{listed}
+use Rattle.cts_methods.specs.Asking.{Asking, Said, gives, refused}
+use Rattle.cts_methods.specs.Kinds.{listed}
 use Rattle.cts_api.specs.Legal.{RepliesAreLegal, RepliesAreOfTheirDesk}
-use Rattle.cts_api.specs.Methods.{method_named, params_of}
+use Rattle.cts_methods.specs.Methods.{method_named, params_of}
 use Rattle.cts_api.specs.Points.{Point, point_of}
 use Rattle.cts_api.specs.Replies.{IsReply, IsReplyFor, IsReplyOf, IsReplyTo, Reply, done_reply, fit, history_full, made, posted, said_to}
-use Rattle.cts_api.specs.declared.method.Method.{Method}
+use Rattle.cts_methods.specs.declared.method.Method.{Method}
 use Rattle.cts_api.proofs.Allowed.{DoneMay, MayPost, OneMay, answer_may, ends_none, may_be_said}
 
 module _ (h : Point) (by : ℕ) (time : Time) where

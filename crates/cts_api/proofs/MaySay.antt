@@ -11,12 +11,12 @@ use Rattle.cts_table.specs.Keeping.{IsKept}
 use Rattle.cts_table.specs.States.{Shown}
 use Rattle.cts_watch.specs.Sets.{known_sets}
 use Rattle.serde_json.specs.Data.{Data}
-use Rattle.cts_api.specs.declared.method.Method.{Method}
-use Rattle.cts_api.specs.declared.method.Method.TheVariants as method
+use Rattle.cts_methods.specs.declared.method.Method.{Method}
+use Rattle.cts_methods.specs.declared.method.Method.TheVariants as method
 use Rattle.cts_api.specs.declared.sending.Done as code
-use Rattle.cts_api.specs.Asking.{Asking, NewLimits, asks_value, asks_packet, asks_received, asks_sent, sends, asks_limits, sets_limits, enables, asks_set, chooses_set, asks_out_of_limits, asks_events, asks_interfaces, asks_interface, injects, stops}
-use Rattle.cts_api.specs.Kinds.{item_in, kind_in, limits_first, may_be, maybe_first, names_first, names_in, natural_in, new_limits, nothing, object_in, order_in, packet_first, packet_in, persistence, persistence_in, set_limits, single, switch_in, text_in}
-use Rattle.cts_api.specs.Methods.{params_of}
+use Rattle.cts_methods.specs.Asking.{Asking, NewLimits, asks_value, asks_packet, asks_received, asks_sent, sends, asks_limits, sets_limits, enables, asks_set, chooses_set, asks_out_of_limits, asks_events, asks_interfaces, asks_interface, injects, stops}
+use Rattle.cts_methods.specs.Kinds.{item_in, kind_in, limits_first, may_be, maybe_first, names_first, names_in, natural_in, new_limits, nothing, object_in, order_in, packet_first, packet_in, persistence, persistence_in, set_limits, single, switch_in, text_in}
+use Rattle.cts_methods.specs.Methods.{params_of}
 use Rattle.cts_api.specs.Settling.{CanSayIt, HasAnswered, HasPersistence, IsPersistent, IsSoundAsking, LimitsPersist}
 use Rattle.cts_api.specs.Telling.{listed as whats_of, point}
 use Rattle.cts_api.proofs.Allowed.{allowed}

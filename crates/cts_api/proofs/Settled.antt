@@ -12,15 +12,15 @@ use Rattle.cts_rpc.specs.declared.call.RpcFault.TheVariants as fault
 use Rattle.cts_table.specs.States.{Shown}
 use Rattle.serde_json.specs.Data.{Data, null}
 use Rattle.serde_json.specs.View.{items_of, items_view, view}
-use Rattle.cts_api.specs.declared.method.Method.{Method}
+use Rattle.cts_methods.specs.declared.method.Method.{Method}
 use Rattle.cts_api.specs.declared.refusal.Refusal.{Refusal}
 use Rattle.cts_api.specs.declared.refusal.Refusal.TheVariants.{NoSuch, NotDone, BadParams, Memory as NoMemory}
 use Rattle.cts_api.specs.declared.sending.Done as code
 use Rattle.cts_api.specs.declared.settling.Answer as reply
 use Rattle.cts_api.specs.Answers.{answer}
-use Rattle.cts_api.specs.Asking.{Asking, refused}
-use Rattle.cts_api.specs.Kinds.{listed}
-use Rattle.cts_api.specs.Methods.{method_named, params_of}
+use Rattle.cts_methods.specs.Asking.{Asking, refused}
+use Rattle.cts_methods.specs.Kinds.{listed}
+use Rattle.cts_methods.specs.Methods.{method_named, params_of}
 use Rattle.cts_api.specs.Points.{Point}
 use Rattle.cts_api.specs.Replied.{Answered, Replied}
 use Rattle.cts_api.specs.Replies.{HasRequest, IsReplyFor, IsReplyOf, IsReplyTo, IsTextFor, Reply, invalid_params, made, not_found, posted, refusal_to, reply_with, said_to}

@@ -10,11 +10,11 @@ use Rattle.cts_def.specs.declared.time.Time.{Time}
 use Rattle.cts_rpc.specs.Requests.{Outcome, not_json, not_request, bad_params, calls, asked, IsOutcome}
 use Rattle.serde_json.specs.Data.{Data}
 use Rattle.serde_json.specs.Read.{read}
-use Rattle.cts_api.specs.Asking.{Order, in_text, in_parts, Asking, asks_value, asks_packet, asks_received, asks_sent, sends, asks_limits, sets_limits, enables, asks_set, chooses_set, asks_out_of_limits, asks_events, asks_interfaces, asks_interface, injects, stops}
+use Rattle.cts_methods.specs.Asking.{Order, in_text, in_parts, Asking, asks_value, asks_packet, asks_received, asks_sent, sends, asks_limits, sets_limits, enables, asks_set, chooses_set, asks_out_of_limits, asks_events, asks_interfaces, asks_interface, injects, stops}
 use Rattle.cts_api.specs.Answers.{answer}
-use Rattle.cts_api.specs.Kinds.{listed}
-use Rattle.cts_api.specs.Methods.{params_of, method_named}
-use Rattle.cts_api.specs.declared.method.Method.{Method}
+use Rattle.cts_methods.specs.Kinds.{listed}
+use Rattle.cts_methods.specs.Methods.{params_of, method_named}
+use Rattle.cts_methods.specs.declared.method.Method.{Method}
 use Rattle.cts_api.specs.Points.{Point}
 use Rattle.cts_api.specs.Replies.{Reply, IsRequested, HasRequest, IsReplyTo, IsReplyOf, IsReplyFor, IsReply, said_to, invalid_params, not_found, parse_error, invalid_request}
 

@@ -1,14 +1,10 @@
-pub mod Asking
 pub mod Points
-pub mod Kinds
-pub mod Methods
 pub mod Shown
 pub mod Answers
 pub mod Made
 pub mod Replies
 pub mod Legal
 pub mod Rows
-pub mod Seen
 pub mod Telling
 pub mod Replied
 pub mod Responding

@@ -19,7 +19,7 @@ use Rattle.cts_watch.specs.Sets.{is_set_known, sets_known}
 use Rattle.cts_watch.specs.Settings.{current_set, limits_of}
 use Rattle.cts_watch.specs.declared.types.LimitsEvent.{LimitsEvent}
 use Rattle.cts_watch.specs.declared.types.LimitsUsed.{LimitsUsed}
-use Rattle.cts_api.specs.Asking.{ItemName}
+use Rattle.cts_methods.specs.Asking.{ItemName}
 
 pub record Point : Type 0 where
   pub site : SiteData

@@ -6,8 +6,8 @@ use Rattle.cts_rpc.specs.declared.call.Call.{Call}
 use Rattle.cts_table.specs.States.{Shown}
 use Rattle.serde_json.specs.View.{items_view, view}
 use Rattle.cts_api.specs.declared.settling.Answer as code
-use Rattle.cts_api.specs.Kinds.{listed}
-use Rattle.cts_api.specs.Methods.{method_named}
+use Rattle.cts_methods.specs.Kinds.{listed}
+use Rattle.cts_methods.specs.Methods.{method_named}
 use Rattle.cts_api.specs.Replies.{Reply, IsReply, IsReplyOf, IsTextFor, text_of}
 use Rattle.cts_api.specs.Telling.{point}
 

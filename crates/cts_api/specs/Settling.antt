@@ -17,7 +17,7 @@ use Rattle.cts_api.specs.declared.refusal.Refusal.{Refusal}
 use Rattle.cts_api.specs.declared.refusal.Refusal.TheVariants.{NoSuch, NotDone, BadParams, Memory as NoMemory}
 use Rattle.cts_api.specs.declared.sending.Done as done
 use Rattle.cts_api.specs.Answers.{answer}
-use Rattle.cts_api.specs.Asking.{Asking, asks_received, asks_sent, enables, sets_limits, stops}
+use Rattle.cts_methods.specs.Asking.{Asking, asks_received, asks_sent, enables, sets_limits, stops}
 use Rattle.cts_api.specs.Points.{Point}
 use Rattle.cts_api.specs.Replied.{Appends, IsUnchanged}
 use Rattle.cts_api.specs.Replies.{HasRequest, IsTextFor, history_full, made, reply_with, respond}

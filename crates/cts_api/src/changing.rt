@@ -3,17 +3,17 @@
 ghost use Rattle.std.specs.Prelude.{◌≤◌, IfOk, option_map};
 ghost use Rattle.cts_def.specs.Items.{HasSoundLimits};
 ghost use Rattle.cts_api.specs.Answers.{choose_answer, enable_answer, limits_given, new_set, set_limits_answer};
-ghost use Rattle.cts_api.specs.Seen.{item_name, limits_asked};
+ghost use Rattle.cts_methods.specs.Seen.{item_name, limits_asked};
 ghost use Rattle.cts_api.specs.Settling.{HasPersistence, IsPersistent};
 ghost use Rattle.cts_api.specs.Telling.{Finds, point, Tells};
 
 use crate::limits::known_set;
 use crate::naming::item_at;
-use crate::params::{ItemWords, LimitsWords};
 use crate::refusal::{Missing, Refusal};
 use cts_base::{Bytes, Name, NameFault};
 use cts_def::{Item, MOST_SETS};
 use cts_entry::What;
+use cts_methods::{ItemWords, LimitsWords};
 use cts_table::{Hall, LimitsUsed};
 use cts_watch::is_watched;
 use std::alloc::Global;

@@ -6,17 +6,17 @@ ghost use Rattle.cts_base.specs.Names.{in_upper_case};
 ghost use Rattle.serde_json.specs.Data.{no_members, put};
 ghost use Rattle.serde_json.specs.View.{members_view, view};
 ghost use Rattle.cts_api.specs.Answers.{command_row};
-ghost use Rattle.cts_api.specs.Kinds.{given_in, members_given, or_else};
-ghost use Rattle.cts_api.specs.Seen.{order_data};
+ghost use Rattle.cts_methods.specs.Kinds.{given_in, members_given, or_else};
+ghost use Rattle.cts_methods.specs.Seen.{order_data};
 ghost use Rattle.cts_api.specs.Shown.{given, object_of};
 ghost use Rattle.cts_api.specs.Telling.{IsRequestOf};
 
-use crate::reading::Order;
 use crate::refusal::Refusal;
 use crate::shown::{push_text, text, whole};
 use cts_base::{Bytes, List, Memory, in_upper_case};
 use cts_cmd::{Given, Request, TextFault, parse};
 use cts_def::Packet;
+use cts_methods::Order;
 use serde_json::{Map, Value, put};
 use std::alloc::Global;
 

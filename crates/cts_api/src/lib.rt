@@ -14,10 +14,7 @@ mod injecting;
 mod interfaces;
 mod laws;
 mod limits;
-mod method;
 mod naming;
-mod params;
-mod reading;
 mod refusal;
 mod replying;
 mod response;
@@ -25,7 +22,6 @@ mod sending;
 mod settling;
 mod shown;
 mod values;
-mod words;
 
 pub use laws::{
     answers_are_whole, bytes_are_made, replies_are_legal, replies_are_of_their_desk, reply_is_one,

@@ -5,16 +5,16 @@ ghost use Rattle.serde_json.specs.View.{view};
 ghost use Rattle.cts_def.specs.Most.{most_packets};
 ghost use Rattle.cts_def.specs.Packets.{default_set};
 ghost use Rattle.cts_api.specs.Answers.{all_out_rows, decimal_rows, event_row, event_row_of, event_rows, events_answer, green_rows, known_set, limits_answer, limits_row, limits_set_answer, out_of_limits_answer, out_row, out_rows, set_asked};
-ghost use Rattle.cts_api.specs.Seen.{item_name};
+ghost use Rattle.cts_methods.specs.Seen.{item_name};
 ghost use Rattle.cts_api.specs.Shown.{color};
 ghost use Rattle.cts_api.specs.Telling.{point, Tells};
 
 use crate::naming::item_at;
-use crate::params::ItemWords;
 use crate::refusal::Refusal;
 use crate::shown::{is_out, push_color, push_decimal, push_text, text};
 use cts_base::{Decimal, Memory, Name, NameFault};
 use cts_def::{Color, Item, Limits, Packet};
+use cts_methods::ItemWords;
 use cts_table::{Hall, LimitsEvent, LimitsUsed};
 use serde_json::Value;
 use std::alloc::Global;

@@ -5,13 +5,13 @@ ghost use Rattle.std.specs.List.{list_any, position};
 ghost use Rattle.cts_cmd.specs.Checks.{has_target};
 ghost use Rattle.cts_def.specs.Packets.{is_named};
 ghost use Rattle.cts_api.specs.Answers.{first_with, has_name, is_called, item_at, packet_at};
-ghost use Rattle.cts_api.specs.Seen.{item_name, packet_name};
+ghost use Rattle.cts_methods.specs.Seen.{item_name, packet_name};
 ghost use Rattle.cts_api.specs.Telling.{Finds, item_place};
 
-use crate::params::{ItemWords, PacketWords};
 use crate::refusal::Missing;
 use cts_base::spells;
 use cts_def::{Interface, Item, Packet};
+use cts_methods::{ItemWords, PacketWords};
 
 /// An item and its packet, each with its number.
 #[derive(Clone, Copy)]

@@ -12,14 +12,13 @@ ghost use Rattle.cts_api.specs.Responding.{code_number, IsTold, RefusesWith, Tel
 ghost use Rattle.cts_api.specs.Settling.{CanEnd, Ends};
 
 use crate::answering::asked;
-use crate::method::method_named;
-use crate::reading::read_asking;
 use crate::refusal::Refusal;
 use crate::response::{Code, error_to, refusal_to};
 use crate::sending::{Done, before_drop, nothing};
 use crate::settling::{Answer, settle};
 use cts_base::Memory;
 use cts_def::{Site, Time};
+use cts_methods::{method_named, read_asking};
 use cts_rpc::{Call, RpcFault, calls_are_whole, read};
 use cts_table::Hall;
 use serde_json::Value;

@@ -7,8 +7,8 @@ use Rattle.cts_base.specs.declared.decimal.NotDecimal.{NotDecimal}
 use Rattle.cts_base.specs.Decimals.{decimal_of}
 use Rattle.serde_json.specs.Data.{Data, Members, array, boolean, float, negative, null, number, object, string, unsigned}
 use Rattle.serde_json.specs.Find.{as_integer}
-use Rattle.cts_api.specs.Asking.{ItemName, PacketName}
-use Rattle.cts_api.specs.Kinds.{are_given, decimal_in, decimal_read, first_in, names_first, natural_in, object_in, packet_first, pair_first, persistence, persistence_in, switch_in, text_in, wholes}
+use Rattle.cts_methods.specs.Asking.{ItemName, PacketName}
+use Rattle.cts_methods.specs.Kinds.{are_given, decimal_in, decimal_read, first_in, names_first, natural_in, object_in, packet_first, pair_first, persistence, persistence_in, switch_in, text_in, wholes}
 use Rattle.cts_api_laws.specs.ParamRows.{AreNames, AreTwoNames, IsDecimal, IsObject, IsPersistence}
 use Rattle.cts_api_laws.proofs.Inverting.{and_then_some, and_then_taken, map_some, map_taken, some_is}
 

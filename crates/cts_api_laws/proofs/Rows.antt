@@ -1,8 +1,8 @@
 -- The params of all methods that change something.
 use Rattle.std.proofs.Common.{◌≡◌, Bool, true, false, List, [], ◌∷◌, Option, Some, None, refl, sym, ap, subst, ◌∙◌}
 use Rattle.serde_json.specs.Data.{Data, Members, no_members}
-use Rattle.cts_api.specs.Asking.{Asking, ItemName, Order, PacketName, chooses_set, enables, in_parts, in_text, injects, sends, stops}
-use Rattle.cts_api.specs.Kinds.{alone, choose_set, command, enable, injected, may_be, names_first, names_in, nothing, object_in, or_else, order_in, packet_first, parts_in, single, text_in}
+use Rattle.cts_methods.specs.Asking.{Asking, ItemName, Order, PacketName, chooses_set, enables, in_parts, in_text, injects, sends, stops}
+use Rattle.cts_methods.specs.Kinds.{alone, choose_set, command, enable, injected, may_be, names_first, names_in, nothing, object_in, or_else, order_in, packet_first, parts_in, single, text_in}
 use Rattle.cts_api_laws.specs.ParamRows.{AreNames, AreTwoNames, IsChoice, IsCommand, IsEnable, IsInjection, IsOrder, ParamsAreTheirRow}
 use Rattle.cts_api_laws.proofs.Inverting.{and_then_some, and_then_taken, map_some, map_taken, one_said, one_taken, pair_refused, single_said, single_taken, some_is, two_refused}
 use Rattle.cts_api_laws.proofs.Params.{names_said, names_short, names_taken, object_said, object_taken, packet_said, packet_short, packet_taken, text_said, text_taken}

@@ -4,8 +4,8 @@ use Rattle.std.specs.Prelude.{option_map}
 use Rattle.cts_base.specs.declared.decimal.Decimal.{Decimal}
 use Rattle.cts_def.specs.declared.limits.Limits.{Limits}
 use Rattle.serde_json.specs.Data.{Data, boolean}
-use Rattle.cts_api.specs.Asking.{Asking, ItemName, NewLimits, sets_limits}
-use Rattle.cts_api.specs.Kinds.{green_first, limits_first, may_be, maybe_first, names_first, new_limits, or_else, pair_first, persistence_in, set_limits, switch_in, text_in}
+use Rattle.cts_methods.specs.Asking.{Asking, ItemName, NewLimits, sets_limits}
+use Rattle.cts_methods.specs.Kinds.{green_first, limits_first, may_be, maybe_first, names_first, new_limits, or_else, pair_first, persistence_in, set_limits, switch_in, text_in}
 use Rattle.cts_api_laws.specs.ParamRows.{AreGreen, AreMore, AreNames, IsDecimal, IsLasting, IsSet, IsSetLimits}
 use Rattle.cts_api_laws.proofs.Inverting.{and_then_some, and_then_taken, map_some, map_taken, one_said, one_taken, some_is, two_refused}
 use Rattle.cts_api_laws.proofs.Params.{Two, names_said, names_short, names_taken, pair_said, pair_short, pair_taken, persistence_said, persistence_taken, switch_said, text_said, text_taken}

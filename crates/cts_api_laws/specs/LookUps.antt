@@ -7,7 +7,7 @@ use Rattle.cts_entry.specs.Legal.{IsLegal}
 use Rattle.cts_table.specs.declared.basis.Basis.{Basis}
 use Rattle.cts_table.specs.Keeping.{rules_of}
 use Rattle.serde_json.specs.Data.{Data}
-use Rattle.cts_api.specs.Methods.{method_named}
+use Rattle.cts_methods.specs.Methods.{method_named}
 use Rattle.cts_api.specs.Points.{Point, point_of}
 use Rattle.cts_api.specs.Replies.{IsReplyOf, Reply, history_full}
 

@@ -4,8 +4,8 @@ use Rattle.cts_base.specs.declared.decimal.Decimal.{Decimal}
 use Rattle.cts_base.specs.Decimals.{decimal_of}
 use Rattle.serde_json.specs.Data.{Data, Members, Num, boolean, no_members, number, object, string, unsigned}
 use Rattle.serde_json.specs.Find.{as_integer}
-use Rattle.cts_api.specs.Asking.{Asking, ItemName, NewLimits, Order, PacketName, chooses_set, enables, in_parts, in_text, injects, sends, sets_limits, stops}
-use Rattle.cts_api.specs.Kinds.{are_given, wholes}
+use Rattle.cts_methods.specs.Asking.{Asking, ItemName, NewLimits, Order, PacketName, chooses_set, enables, in_parts, in_text, injects, sends, sets_limits, stops}
+use Rattle.cts_methods.specs.Kinds.{are_given, wholes}
 use Rattle.cts_api.specs.Rows.{asked}
 
 -- ---- what one param is

@@ -1,9 +1,9 @@
 -- Which commands of a run are sent, and which are refused.
 use Rattle.std.specs.Prelude.{◌≡◌, ◌⊎◌, ◌↔◌, ℕ, ◌+◌, false, List, [], ◌∷◌, length, Option, Some, None, option_and_then, Ok, Err}
-use Rattle.cts_api.specs.Asking.{Asking, Order, sends}
-use Rattle.cts_api.specs.Kinds.{listed}
+use Rattle.cts_methods.specs.Asking.{Asking, Order, sends}
+use Rattle.cts_methods.specs.Kinds.{listed}
 use Rattle.cts_api.specs.Made.{built}
-use Rattle.cts_api.specs.Methods.{method_named, params_of}
+use Rattle.cts_methods.specs.Methods.{method_named, params_of}
 use Rattle.cts_api.specs.Replies.{IsRequested}
 use Rattle.cts_cmd.specs.Checks.{refusal}
 use Rattle.cts_cmd.specs.declared.built.Built.{Built}

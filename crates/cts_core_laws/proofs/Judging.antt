@@ -6,13 +6,13 @@ use Rattle.std.proofs.lemmas.List.Folds.{find_at}
 use Rattle.std.proofs.lemmas.List.Sums.{sum_by-cons}
 use Rattle.std.proofs.lemmas.Option.{slice_get_within}
 use Rattle.cts_api.specs.Answers.{Done, answer, command_row, given_or, next, numbered, or_refused, posts_command, request_answer, routed}
-use Rattle.cts_api.specs.Asking.{Asking, Order, Said, gives, sends}
-use Rattle.cts_api.specs.Kinds.{listed}
+use Rattle.cts_methods.specs.Asking.{Asking, Order, Said, gives, sends}
+use Rattle.cts_methods.specs.Kinds.{listed}
 use Rattle.cts_api.specs.Made.{built}
 use Rattle.cts_api.specs.Points.{Point, point_of}
 use Rattle.cts_api.specs.Replies.{IsReply, IsReplyFor, IsReplyOf, IsReplyTo, IsRequested, Reply as Answer, done_reply, fit, history_full, made, said_to}
 use Rattle.cts_api.specs.Shown.{not_done}
-use Rattle.cts_api.specs.Methods.{method_named, params_of}
+use Rattle.cts_methods.specs.Methods.{method_named, params_of}
 use Rattle.cts_api.proofs.OneReply.{requested_one}
 use Rattle.cts_cmd.specs.Checks.{has_target, refusal, refusal_at}
 use Rattle.cts_cmd.specs.declared.built.Built.{Built}

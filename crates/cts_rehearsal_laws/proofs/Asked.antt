@@ -3,7 +3,7 @@ use Rattle.std.proofs.Common.{ℕ, refl, inl}
 use Rattle.std.proofs.lemmas.Str.{IsUtf8-from_ascii}
 use Rattle.serde_json.proofs.OnLiterals.{serde_json_on_literals}
 use Rattle.cts_api.proofs.TextLemmas.{ascii}
-use Rattle.cts_api.specs.Asking.{in_text}
+use Rattle.cts_methods.specs.Asking.{in_text}
 use Rattle.cts_core.specs.Sendings.{AsksFor}
 use Rattle.cts_rehearsal.specs.Generated.{order}
 use Rattle.cts_rehearsal_laws.specs.Orders.{OrdersAskFor, all_checks, order_text}

@@ -1,7 +1,7 @@
 -- The texts of commands ask for them.
 use Rattle.std.proofs.Common.{ℕ, List, [], ◌∷◌, ◌++◌, Some, codes, pos, refl, inl, inr}
 use Rattle.cts_base.specs.Wholes.{whole_of}
-use Rattle.cts_api.specs.Asking.{in_text}
+use Rattle.cts_methods.specs.Asking.{in_text}
 use Rattle.cts_api.specs.Replies.{IsRequested}
 use Rattle.cts_cmd.specs.declared.request.Given.TheVariants.{Whole}
 use Rattle.cts_cmd.specs.Texts.{IsCommandText, IsHead, IsLastParam, IsParamFirst, IsWith}

@@ -1,7 +1,7 @@
 -- The commands of a rehearsal are sent.
 use Rattle.std.proofs.Common.{pos, ◌≡◌, ◌∙◌, ℕ, ◌≤◌, true, List, [], ◌∷◌, Some, None, Ok, codes, refl, ap, inl, inr, arith}
 use Rattle.std.specs.Prelude.{slice_get, option_and_then}
-use Rattle.cts_api.specs.Asking.{in_text}
+use Rattle.cts_methods.specs.Asking.{in_text}
 use Rattle.cts_api.specs.Made.{built}
 use Rattle.cts_cmd.specs.Checks.{refusal, refusal_among}
 use Rattle.cts_cmd.specs.declared.refused.Refused.TheVariants.{OutOfRange}

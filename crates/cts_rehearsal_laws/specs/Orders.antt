@@ -1,6 +1,6 @@
 -- What the requests of a rehearsal ask.
 use Rattle.std.specs.Prelude.{ℕ, ◌≤◌, pos, true, List, [], ◌∷◌, ◌++◌, codes, Some}
-use Rattle.cts_api.specs.Asking.{in_text}
+use Rattle.cts_methods.specs.Asking.{in_text}
 use Rattle.cts_api.specs.Replies.{IsRequested}
 use Rattle.cts_cmd.specs.declared.request.Checks.{Checks}
 use Rattle.cts_cmd.specs.declared.request.Given.TheVariants.{Whole}

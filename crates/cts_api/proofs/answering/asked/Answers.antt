@@ -2,8 +2,8 @@ use Rattle.std.proofs.Common.{refl, sym, subst}
 use Rattle.std.specs.Prelude.{option_map}
 use Rattle.serde_json.specs.View.{members_view}
 use Rattle.cts_api.specs.Answers.{choose_answer, enable_answer, events_answer, interface_answer, interfaces_answer, limits_answer, limits_set_answer, out_of_limits_answer, packet_answer, received_answer, sent_answer, value_answer}
-use Rattle.cts_api.specs.Asking.{asks_events, asks_interface, asks_interfaces, asks_limits, asks_out_of_limits, asks_packet, asks_received, asks_sent, asks_set, asks_value, chooses_set, enables, injects}
-use Rattle.cts_api.specs.Seen.{asking_data, item_name, packet_name}
+use Rattle.cts_methods.specs.Asking.{asks_events, asks_interface, asks_interfaces, asks_limits, asks_out_of_limits, asks_packet, asks_received, asks_sent, asks_set, asks_value, chooses_set, enables, injects}
+use Rattle.cts_methods.specs.Seen.{asking_data, item_name, packet_name}
 use Rattle.cts_api.specs.Settling.{HasAnswered}
 use Rattle.cts_api.specs.Telling.{point}
 use Rattle.cts_api.proofs.Asked.{answered, free_answered}

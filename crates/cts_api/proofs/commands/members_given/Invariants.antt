@@ -1,6 +1,6 @@
 use Rattle.std.proofs.Common.{◌≡◌, ◌++◌}
 use Rattle.serde_json.specs.View.{members_view}
-use Rattle.cts_api.specs.Kinds.{members_given}
+use Rattle.cts_methods.specs.Kinds.{members_given}
 use Rattle.cts_api.proofs.commands.members_given.Given as goal
 
 abbrev pub invariant-loop-name : goal.invariant-loop-name

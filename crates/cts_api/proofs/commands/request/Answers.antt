@@ -2,9 +2,9 @@ use Rattle.std.proofs.Common.{None, Err, refl, sym, subst, inr}
 use Rattle.cts_cmd.specs.declared.text_fault.TextFault.{TextFault}
 use Rattle.cts_cmd.specs.Texts.{IsRead}
 use Rattle.cts_cmd.proofs.Exact.{one_way}
-use Rattle.cts_api.specs.declared.reading.Order.{Order}
+use Rattle.cts_methods.specs.declared.reading.Order.{Order}
 use Rattle.cts_api.specs.Replies.{IsRequested}
-use Rattle.cts_api.specs.Seen.{order_data}
+use Rattle.cts_methods.specs.Seen.{order_data}
 use Rattle.cts_api.proofs.commands.request.Goals as goal
 
 -- a text that fails somewhere asks for nothing

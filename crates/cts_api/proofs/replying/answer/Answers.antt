@@ -4,10 +4,10 @@ use Rattle.cts_def.specs.Most.{most_sets}
 use Rattle.serde_json.specs.Data.{Data}
 use Rattle.serde_json.specs.View.{view}
 use Rattle.cts_api.specs.declared.response.Code.TheVariants.{MethodNotFound, InvalidParams}
-use Rattle.cts_api.specs.Methods.{method_named, params_of}
+use Rattle.cts_methods.specs.Methods.{method_named, params_of}
 use Rattle.cts_api.specs.Replies.{IsTextFor, error, respond}
 use Rattle.cts_api.specs.Responding.{code_number}
-use Rattle.cts_api.specs.Seen.{asking_data}
+use Rattle.cts_methods.specs.Seen.{asking_data}
 use Rattle.cts_api.specs.Settling.{Ends, HasAnswered, IsSoundAsking, LimitsPersist}
 use Rattle.cts_api.specs.Telling.{point}
 use Rattle.cts_api.proofs.MaySay.{may_say, params_persist, some_of}

@@ -1,6 +1,6 @@
 use Rattle.std.proofs.Common.{◌∙◌, ap, length, unwrap_or}
 use Rattle.cts_base.proofs.DecimalLemmas.{position-or_length}
-use Rattle.cts_api.proofs.words.white_place.Goals as goal
+use Rattle.cts_methods.proofs.words.white_place.Goals as goal
 use Rattle.cts_cmd.specs.Words.{is_white}
 
 pub returns-clause-place : goal.returns-clause-place

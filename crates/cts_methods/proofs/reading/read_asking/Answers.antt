@@ -1,6 +1,6 @@
 use Rattle.std.proofs.Common.{arith}
 use Rattle.std.proofs.lemmas.Grind.{common_steps}
-use Rattle.cts_api.proofs.reading.read_asking.Goals as goal
+use Rattle.cts_methods.proofs.reading.read_asking.Goals as goal
 
 pub returns-in_ok-item_in-in-Value : goal.returns-in_ok-item_in-in-Value
 returns-in_ok-item_in-in-Value c = grind (arith, common_steps)

@@ -3,8 +3,8 @@
 ghost use Rattle.std.specs.Prelude.{◌≡◌, is_some, map, option_map};
 ghost use Rattle.serde_json.specs.Find.{as_integer};
 ghost use Rattle.serde_json.specs.View.{members_view, number_view, view};
-ghost use Rattle.cts_api.specs.Kinds.{are_given, decimal_in, first_in, given_in, green_first, item_in, kind_in, kind_named, limits_first, may_be, maybe_first, names_first, names_in, natural_in, new_limits, object_in, packet_first, packet_in, pair_first, persistence_in, single, switch_in, text_in, wholes};
-ghost use Rattle.cts_api.specs.Seen.{item_name, limits_asked, packet_name};
+ghost use Rattle.cts_methods.specs.Kinds.{are_given, decimal_in, first_in, given_in, green_first, item_in, kind_in, kind_named, limits_first, may_be, maybe_first, names_first, names_in, natural_in, new_limits, object_in, packet_first, packet_in, pair_first, persistence_in, single, switch_in, text_in, wholes};
+ghost use Rattle.cts_methods.specs.Seen.{item_name, limits_asked, packet_name};
 
 use crate::words::three_words;
 use cts_base::{Decimal, read_decimal};
@@ -17,7 +17,7 @@ const PARTS: i128 = 1_000_000_000_000;
 
 /// The names of a packet or command, in any case.
 #[derive(Clone, Copy)]
-pub(crate) struct PacketWords<'a> {
+pub struct PacketWords<'a> {
     /// Its target.
     pub target: &'a [u8],
     /// Its own name.
@@ -26,7 +26,7 @@ pub(crate) struct PacketWords<'a> {
 
 /// The names of an item, in any case.
 #[derive(Clone, Copy)]
-pub(crate) struct ItemWords<'a> {
+pub struct ItemWords<'a> {
     /// The target of its packet.
     pub target: &'a [u8],
     /// Its packet.
@@ -37,7 +37,7 @@ pub(crate) struct ItemWords<'a> {
 
 /// New limits of an item, as they are given.
 #[derive(Clone, Copy)]
-pub(crate) struct LimitsWords<'a> {
+pub struct LimitsWords<'a> {
     /// The limits, in whatever order.
     pub limits: Limits,
     /// The set, in any case; CUSTOM where none is given.

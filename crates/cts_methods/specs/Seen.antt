@@ -2,15 +2,15 @@
 use Rattle.std.specs.Prelude.{option_map}
 use Rattle.serde_json.specs.Data.{no_members}
 use Rattle.serde_json.specs.View.{members_view}
-use Rattle.cts_api.specs.declared.reading.Asking as lent
-use Rattle.cts_api.specs.declared.reading.Asking.TheVariants as lends
-use Rattle.cts_api.specs.declared.reading.Order as order
-use Rattle.cts_api.specs.declared.reading.Order.TheVariants as orders
-use Rattle.cts_api.specs.declared.params.PacketWords.{PacketWords}
-use Rattle.cts_api.specs.declared.params.ItemWords.{ItemWords}
-use Rattle.cts_api.specs.declared.params.LimitsWords.{LimitsWords}
-use Rattle.cts_api.specs.Asking.{PacketName, ItemName, NewLimits, Order, in_text, in_parts, Asking, asks_value, asks_packet, asks_received, asks_sent, sends, asks_limits, sets_limits, enables, asks_set, chooses_set, asks_out_of_limits, asks_events, asks_interfaces, asks_interface, injects, stops}
-use Rattle.cts_api.specs.Kinds.{or_else}
+use Rattle.cts_methods.specs.declared.reading.Asking as lent
+use Rattle.cts_methods.specs.declared.reading.Asking.TheVariants as lends
+use Rattle.cts_methods.specs.declared.reading.Order as order
+use Rattle.cts_methods.specs.declared.reading.Order.TheVariants as orders
+use Rattle.cts_methods.specs.declared.params.PacketWords.{PacketWords}
+use Rattle.cts_methods.specs.declared.params.ItemWords.{ItemWords}
+use Rattle.cts_methods.specs.declared.params.LimitsWords.{LimitsWords}
+use Rattle.cts_methods.specs.Asking.{PacketName, ItemName, NewLimits, Order, in_text, in_parts, Asking, asks_value, asks_packet, asks_received, asks_sent, sends, asks_limits, sets_limits, enables, asks_set, chooses_set, asks_out_of_limits, asks_events, asks_interfaces, asks_interface, injects, stops}
+use Rattle.cts_methods.specs.Kinds.{or_else}
 
 abbrev pub packet_name : PacketWords → PacketName
 packet_name p = record { target = p.target.now; packet = p.packet.now }

@@ -13,7 +13,7 @@ use Rattle.cts_conv.specs.declared.value.ValueKind.TheVariants.{Raw, Converted, 
 use Rattle.cts_def.specs.declared.limits.Limits.{Limits}
 use Rattle.serde_json.specs.Data.{Data, null, boolean, number, string, array, object, Items, no_items, item, Members, no_members, member}
 use Rattle.serde_json.specs.Find.{as_bool, as_integer, as_number, as_str, as_u64}
-use Rattle.cts_api.specs.Asking.{PacketName, ItemName, Order, in_text, in_parts, NewLimits, Asking, asks_value, asks_packet, sends, asks_limits, sets_limits, enables, chooses_set, asks_events, asks_interface, injects}
+use Rattle.cts_methods.specs.Asking.{PacketName, ItemName, Order, in_text, in_parts, NewLimits, Asking, asks_value, asks_packet, sends, asks_limits, sets_limits, enables, chooses_set, asks_events, asks_interface, injects}
 
 abbrev pub listed : Items → List Data
 listed no_items = []

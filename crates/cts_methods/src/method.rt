@@ -1,13 +1,13 @@
 //! The table of methods.
 
 ghost use Rattle.std.specs.Prelude.{◌≡◌, map};
-ghost use Rattle.cts_api.specs.Methods.{method_in, method_named};
+ghost use Rattle.cts_methods.specs.Methods.{method_in, method_named};
 
 use cts_conv::ValueKind;
 
 /// What a method does; of methods that differ in one word, that word.
 #[derive(Clone, Copy)]
-pub(crate) enum Method {
+pub enum Method {
     /// `tlm`, `tlm_raw`, `tlm_formatted` and `tlm_with_units`.
     Value(ValueKind),
     /// `get_tlm_packet`.
@@ -170,7 +170,7 @@ fn method_in(list: &[Row], name: &[u8]) -> Option<Method>
 
 /// The method of this name, which stands exactly so. The names are those of the COSMOS 4 JSON API, but for `stop_server` and
 /// `get_limits_events`, which are this project's own.
-pub(crate) fn method_named(name: &[u8]) -> Option<Method>
+pub fn method_named(name: &[u8]) -> Option<Method>
     ensures { result ≡ method_named name.now }
 {
     method_in(&METHODS, name)

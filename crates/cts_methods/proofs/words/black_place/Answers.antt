@@ -1,7 +1,7 @@
 use Rattle.std.proofs.Common.{◌∙◌, ap, length, unwrap_or}
 use Rattle.cts_base.proofs.DecimalLemmas.{position-or_length}
-use Rattle.cts_api.proofs.words.black_place.Goals as goal
-use Rattle.cts_api.specs.Kinds.{is_black}
+use Rattle.cts_methods.proofs.words.black_place.Goals as goal
+use Rattle.cts_methods.specs.Kinds.{is_black}
 
 pub returns-clause-place : goal.returns-clause-place
 returns-clause-place c =

@@ -3,8 +3,8 @@
 ghost use Rattle.std.specs.Prelude.{◌≡◌, ◌≤◌, length, option_map};
 ghost use Rattle.std.specs.List.{position, position_or_len};
 ghost use Rattle.cts_cmd.specs.Words.{is_white};
-ghost use Rattle.cts_api.specs.Kinds.{after_white, is_black, three_words, word_first};
-ghost use Rattle.cts_api.specs.Seen.{item_name};
+ghost use Rattle.cts_methods.specs.Kinds.{after_white, is_black, three_words, word_first};
+ghost use Rattle.cts_methods.specs.Seen.{item_name};
 
 use crate::params::ItemWords;
 

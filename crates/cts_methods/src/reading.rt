@@ -2,9 +2,9 @@
 
 ghost use Rattle.std.specs.Prelude.{◌≡◌, map, option_map};
 ghost use Rattle.serde_json.specs.View.{view};
-ghost use Rattle.cts_api.specs.Kinds.{injected, limits, nothing, order_in, packet, parts_in, set_limits};
-ghost use Rattle.cts_api.specs.Methods.{params_of};
-ghost use Rattle.cts_api.specs.Seen.{asking_data, order_data};
+ghost use Rattle.cts_methods.specs.Kinds.{injected, limits, nothing, order_in, packet, parts_in, set_limits};
+ghost use Rattle.cts_methods.specs.Methods.{params_of};
+ghost use Rattle.cts_methods.specs.Seen.{asking_data, order_data};
 
 use crate::method::Method;
 use crate::params::{
@@ -18,7 +18,7 @@ use serde_json::{Map, Value};
 
 /// A command as it is given.
 #[derive(Clone, Copy)]
-pub(crate) enum Order<'a> {
+pub enum Order<'a> {
     /// In one text.
     Text(&'a [u8]),
     /// By its names, and perhaps an object of whole numbers and texts.
@@ -27,7 +27,7 @@ pub(crate) enum Order<'a> {
 
 /// What a call asks, once its params have the count and the kinds that its method wants.
 #[derive(Clone, Copy)]
-pub(crate) enum Asking<'a> {
+pub enum Asking<'a> {
     /// The value of an item.
     Value(ValueKind, ItemWords<'a>),
     /// All items of a packet, by this kind of value.
@@ -119,7 +119,7 @@ fn nothing<'a>(asking: Asking<'a>, params: &'a [Value]) -> Option<Asking<'a>>
 }
 
 /// What the params of a method ask; none where they are not of its count and kinds.
-pub(crate) fn read_asking(method: Method, params: &[Value]) -> Option<Asking<'_>>
+pub fn read_asking(method: Method, params: &[Value]) -> Option<Asking<'_>>
     ensures { option_map asking_data result ≡ params_of method (map view params.now) }
 {
     match method {

@@ -1,6 +1,6 @@
 use Rattle.std.proofs.Common.{arith}
 use Rattle.std.proofs.lemmas.Grind.{common_steps}
-use Rattle.cts_api.proofs.params.may_be_object.Goals as goal
+use Rattle.cts_methods.proofs.params.may_be_object.Goals as goal
 
 pub returns-in-empty : goal.returns-in-empty
 returns-in-empty c = grind (arith, common_steps)
