@@ -28,7 +28,8 @@ use Rattle.cts_watch.specs.Watching.{is_watched}
 use Rattle.cts_watch.specs.declared.types.LimitsUsed.{LimitsUsed}
 use Rattle.serde_json.specs.Data.{Data, null}
 use Rattle.cts_api.specs.Answers.{Done, ItemAt, answer, appended, check, choose_answer, command_answer, command_row, enable_answer, given_or, inject_answer, item_at, known_set, limits_at, new_set, next, numbered, or_injection_refused, or_refused, packet_at, posts_command, posts_injected, request_answer, routed, set_limits_answer, stop_answer, told}
-use Rattle.cts_methods.specs.Asking.{Asking, ItemName, NewLimits, PacketName, Said, asks_events, asks_interface, asks_interfaces, asks_limits, asks_out_of_limits, asks_packet, asks_received, asks_sent, asks_set, asks_value, chooses_set, enables, gives, injects, refused, sends, sets_limits, stops}
+use Rattle.cts_methods.specs.Asking.{Asking, ItemName, NewLimits, PacketName, asks_events, asks_interface, asks_interfaces, asks_limits, asks_out_of_limits, asks_packet, asks_received, asks_sent, asks_set, asks_value, chooses_set, enables, injects, sends, sets_limits, stops}
+use Rattle.cts_api.specs.Saying.{Said, gives, refused}
 use Rattle.cts_methods.specs.Kinds.{members_given, or_else}
 use Rattle.cts_api.specs.Made.{built}
 use Rattle.cts_api.specs.Points.{Point, point_of}

@@ -8,7 +8,8 @@ use Rattle.cts_def.specs.Packets.{PacketData, is_named}
 use Rattle.cts_entry.specs.declared.what.What.{What}
 use Rattle.serde_json.specs.Data.{Data, null}
 use Rattle.cts_api.specs.Answers.{Done, ItemAt, appended, check, first_with, given_or, is_called, item_at, next, numbered, or_refused, packet_at, posts, posts_nothing, told}
-use Rattle.cts_methods.specs.Asking.{Said, refused, gives, ItemName, PacketName}
+use Rattle.cts_methods.specs.Asking.{ItemName, PacketName}
+use Rattle.cts_api.specs.Saying.{Said, refused, gives}
 use Rattle.cts_api.specs.Shown.{no_such}
 
 pub given : {A : Type 0} (a b : A) → gives a ≡ gives b → a ≡ b

@@ -9,7 +9,8 @@ use Rattle.cts_def.specs.Packets.{PacketData}
 use Rattle.cts_entry.specs.declared.what.What.TheVariants.{Injected}
 use Rattle.serde_json.specs.Data.{Data, null}
 use Rattle.cts_api.specs.Answers.{Done, inject_answer, next, or_injection_refused, packet_at, posts_injected}
-use Rattle.cts_methods.specs.Asking.{PacketName, Said, gives}
+use Rattle.cts_methods.specs.Asking.{PacketName}
+use Rattle.cts_api.specs.Saying.{Said, gives}
 use Rattle.cts_api.specs.Points.{Point}
 use Rattle.cts_api.specs.Replies.{posted}
 use Rattle.cts_api.proofs.Making.{injections_are_written, stood_bytes}

@@ -17,7 +17,8 @@ use Rattle.cts_table.specs.Keeping.{rules_of}
 use Rattle.cts_table.specs.declared.basis.Basis.{Basis}
 use Rattle.serde_json.specs.Data.{Data}
 use Rattle.cts_api.specs.Answers.{Done, answer}
-use Rattle.cts_methods.specs.Asking.{Asking, Said, gives, refused}
+use Rattle.cts_methods.specs.Asking.{Asking}
+use Rattle.cts_api.specs.Saying.{Said, gives, refused}
 use Rattle.cts_methods.specs.Kinds.{listed}
 use Rattle.cts_api.specs.Legal.{RepliesAreLegal, RepliesAreOfTheirDesk}
 use Rattle.cts_methods.specs.Methods.{method_named, params_of}

@@ -29,7 +29,8 @@ use Rattle.cts_watch.specs.Watching.{is_watched}
 use Rattle.cts_watch.specs.declared.types.LimitsUsed.{LimitsUsed}
 use Rattle.serde_json.specs.Data.{Data, null}
 use Rattle.cts_api.specs.Answers.{Done, ItemAt, answer, check, choose_answer, command_answer, command_row, enable_answer, events_answer, first_with, given_or, inject_answer, interface_answer, interfaces_answer, item_at, known_set, limits_answer, limits_at, limits_set_answer, new_set, next, or_injection_refused, out_of_limits_answer, packet_answer, packet_at, posts_command, posts_injected, posts_nothing, received_answer, request_answer, routed, sent_answer, set_limits_answer, sound_request, told, appended, value_answer, Posting}
-use Rattle.cts_methods.specs.Asking.{Said, gives, Asking, NewLimits, ItemName, PacketName, asks_value, asks_packet, asks_received, asks_sent, sends, asks_limits, sets_limits, enables, asks_set, chooses_set, asks_out_of_limits, asks_events, asks_interfaces, asks_interface, injects, stops}
+use Rattle.cts_methods.specs.Asking.{Asking, NewLimits, ItemName, PacketName, asks_value, asks_packet, asks_received, asks_sent, sends, asks_limits, sets_limits, enables, asks_set, chooses_set, asks_out_of_limits, asks_events, asks_interfaces, asks_interface, injects, stops}
+use Rattle.cts_api.specs.Saying.{Said, gives}
 use Rattle.cts_methods.specs.Kinds.{members_given, or_else}
 use Rattle.cts_api.specs.Made.{built}
 use Rattle.cts_api.specs.Points.{Point, point_of}

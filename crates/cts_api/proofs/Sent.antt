@@ -15,7 +15,7 @@ use Rattle.serde_json.specs.Data.{Data, null}
 use Rattle.cts_api.specs.declared.refusal.Refusal.{Refusal}
 use Rattle.cts_api.specs.declared.refusal.Refusal.TheVariants.{NoSuch, NotDone, BadParams, Memory}
 use Rattle.cts_api.specs.Answers.{Done, appended, command_row, first_with, given_or, next, numbered, or_refused, posts, posts_command, posts_nothing, request_answer, routed, sound_request, stop_answer, told}
-use Rattle.cts_methods.specs.Asking.{Said, gives}
+use Rattle.cts_api.specs.Saying.{Said, gives}
 use Rattle.cts_api.specs.Points.{Point}
 use Rattle.cts_api.specs.Replies.{posted}
 use Rattle.cts_api.proofs.Making.{commands_are_built}

@@ -18,7 +18,8 @@ use Rattle.cts_api.specs.declared.refusal.Refusal.TheVariants.{NoSuch, NotDone, 
 use Rattle.cts_api.specs.declared.sending.Done as code
 use Rattle.cts_api.specs.declared.settling.Answer as reply
 use Rattle.cts_api.specs.Answers.{answer}
-use Rattle.cts_methods.specs.Asking.{Asking, refused}
+use Rattle.cts_methods.specs.Asking.{Asking}
+use Rattle.cts_api.specs.Saying.{refused}
 use Rattle.cts_methods.specs.Kinds.{listed}
 use Rattle.cts_methods.specs.Methods.{method_named, params_of}
 use Rattle.cts_api.specs.Points.{Point}

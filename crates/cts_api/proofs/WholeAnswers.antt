@@ -33,7 +33,8 @@ use Rattle.serde_json.specs.Find.{of_integer}
 use Rattle.serde_json.specs.View.{items_of}
 use Rattle.serde_json.specs.Written.{has_float, items_have_float, members_have_float}
 use Rattle.cts_api.specs.Answers.{Done, posts_command, posts_injected, next, given_or, check, told, appended, packet_at, item_at, ItemAt, is_unknown_target, or_unknown, value_said, item_color, item_row, rows_from, packet_rows, packet_answer, received_answer, sent_answer, limits_at, green_rows, decimal_rows, limits_row, set_asked, limits_answer, set_limits_answer, enable_answer, choose_answer, out_row, out_rows, all_out_rows, event_row_in, event_row_of, with_row, event_rows, names_of, connection_text, interface_answer, first_with, has_name, routed, sound_request, command_row, command_answer, or_injection_refused, inject_answer, stop_answer, answer}
-use Rattle.cts_methods.specs.Asking.{Said, refused, gives, PacketName, ItemName, Asking, asks_value, asks_packet, asks_received, asks_sent, sends, asks_limits, sets_limits, enables, asks_set, chooses_set, asks_out_of_limits, asks_events, asks_interfaces, asks_interface, injects, stops}
+use Rattle.cts_methods.specs.Asking.{PacketName, ItemName, Asking, asks_value, asks_packet, asks_received, asks_sent, sends, asks_limits, sets_limits, enables, asks_set, chooses_set, asks_out_of_limits, asks_events, asks_interfaces, asks_interface, injects, stops}
+use Rattle.cts_api.specs.Saying.{Said, refused, gives}
 use Rattle.cts_cmd.specs.Injects.{injection_refusal}
 use Rattle.cts_methods.specs.Kinds.{members_given}
 use Rattle.cts_api.specs.Points.{Point}

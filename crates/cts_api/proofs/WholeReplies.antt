@@ -10,7 +10,8 @@ use Rattle.serde_json.specs.Find.{is_float, of_integer}
 use Rattle.serde_json.specs.Written.{compact_text, has_float}
 use Rattle.cts_methods.specs.declared.method.Method.{Method}
 use Rattle.cts_api.specs.Answers.{Done, answer}
-use Rattle.cts_methods.specs.Asking.{Asking, Said, gives, refused}
+use Rattle.cts_methods.specs.Asking.{Asking}
+use Rattle.cts_api.specs.Saying.{Said, gives, refused}
 use Rattle.cts_methods.specs.Methods.{params_of}
 use Rattle.cts_api.specs.Points.{Point}
 use Rattle.cts_api.specs.Replies.{IsReplyOf, IsReplyTo, IsTextFor, Reply, done_reply, error, fit, history_full, made, posted, refusal_to, respond, said_to}

@@ -28,7 +28,8 @@ use Rattle.cts_watch.specs.Watching.{is_watched}
 use Rattle.cts_watch.specs.declared.types.LimitsEvent.{LimitsEvent}
 use Rattle.cts_watch.specs.declared.types.LimitsUsed.{LimitsUsed}
 use Rattle.serde_json.specs.Data.{Data, null, boolean, object}
-use Rattle.cts_methods.specs.Asking.{Said, refused, gives, PacketName, ItemName, NewLimits, Asking, asks_value, asks_packet, asks_received, asks_sent, sends, asks_limits, sets_limits, enables, asks_set, chooses_set, asks_out_of_limits, asks_events, asks_interfaces, asks_interface, injects, stops}
+use Rattle.cts_methods.specs.Asking.{PacketName, ItemName, NewLimits, Asking, asks_value, asks_packet, asks_received, asks_sent, sends, asks_limits, sets_limits, enables, asks_set, chooses_set, asks_out_of_limits, asks_events, asks_interfaces, asks_interface, injects, stops}
+use Rattle.cts_api.specs.Saying.{Said, refused, gives}
 use Rattle.cts_cmd.specs.Injects.{injection_refusal}
 use Rattle.cts_methods.specs.Kinds.{or_else, members_given}
 use Rattle.cts_api.specs.Points.{Point}

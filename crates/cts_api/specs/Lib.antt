@@ -1,4 +1,5 @@
 pub mod Points
+pub mod Saying
 pub mod Shown
 pub mod Answers
 pub mod Made

@@ -17,7 +17,8 @@ use Rattle.cts_table.specs.declared.basis.Basis.{Basis}
 use Rattle.cts_rpc.specs.Requests.{calls}
 use Rattle.cts_rpc.specs.Replies.{result_reply}
 use Rattle.serde_json.specs.Data.{Data, null, boolean, number, string, negative, no_items}
-use Rattle.cts_methods.specs.Asking.{Said, gives, in_text, Asking, sends, stops}
+use Rattle.cts_methods.specs.Asking.{in_text, Asking, sends, stops}
+use Rattle.cts_api.specs.Saying.{Said, gives}
 use Rattle.cts_api.specs.Answers.{Done, told, appended, answer}
 use Rattle.cts_methods.specs.Methods.{params_of, method_named}
 use Rattle.cts_methods.specs.declared.method.Method.{Method}

@@ -18,7 +18,7 @@ use Rattle.cts_def.specs.declared.color.Color.TheVariants.{RedLow, YellowLow, Gr
 use Rattle.serde_json.specs.Data.{Data, number, string, array, unsigned, Members, no_members, put}
 use Rattle.serde_json.specs.Find.{of_integer}
 use Rattle.serde_json.specs.View.{items_of}
-use Rattle.cts_methods.specs.Asking.{Said, refused}
+use Rattle.cts_api.specs.Saying.{Said, refused}
 
 -- Bytes as text: what is no UTF-8 in them is replaced.
 abbrev pub text : List ℕ → Data

@@ -17,7 +17,8 @@ use Rattle.cts_api.specs.declared.refusal.Refusal.TheVariants.{NoSuch, NotDone, 
 use Rattle.serde_json.specs.View.{view}
 use Rattle.cts_api.specs.declared.sending.Done as code
 use Rattle.cts_api.specs.Answers.{Done, ItemAt}
-use Rattle.cts_methods.specs.Asking.{Order, Said, gives}
+use Rattle.cts_methods.specs.Asking.{Order}
+use Rattle.cts_api.specs.Saying.{Said, gives}
 use Rattle.cts_api.specs.Points.{Point, point_of}
 use Rattle.cts_api.specs.Replies.{IsRequested, posted}
 use Rattle.cts_api.specs.Shown.{no_such, not_done, bad_params}

@@ -4,7 +4,7 @@ ghost use Rattle.std.specs.Prelude.{◌≡◌, ℕ, List, option_map, Some};
 ghost use Rattle.cts_cmd.specs.Builds.{AreBytes};
 ghost use Rattle.serde_json.specs.View.{members_view};
 ghost use Rattle.cts_api.specs.Answers.{inject_answer};
-ghost use Rattle.cts_methods.specs.Asking.{Said};
+ghost use Rattle.cts_api.specs.Saying.{Said};
 ghost use Rattle.cts_api.specs.Injecting.{IsInjectionRefused};
 ghost use Rattle.cts_methods.specs.Kinds.{members_given};
 ghost use Rattle.cts_methods.specs.Seen.{packet_name};

@@ -6,7 +6,8 @@ use Rattle.std.proofs.lemmas.List.Folds.{find_at}
 use Rattle.std.proofs.lemmas.List.Sums.{sum_by-cons}
 use Rattle.std.proofs.lemmas.Option.{slice_get_within}
 use Rattle.cts_api.specs.Answers.{Done, answer, command_row, given_or, next, numbered, or_refused, posts_command, request_answer, routed}
-use Rattle.cts_methods.specs.Asking.{Asking, Order, Said, gives, sends}
+use Rattle.cts_methods.specs.Asking.{Asking, Order, sends}
+use Rattle.cts_api.specs.Saying.{Said, gives}
 use Rattle.cts_methods.specs.Kinds.{listed}
 use Rattle.cts_api.specs.Made.{built}
 use Rattle.cts_api.specs.Points.{Point, point_of}

@@ -1,14 +1,9 @@
 -- What the methods ask, once their params are of the right count and kinds.
-use Rattle.std.specs.Prelude.{ℕ, ℤ, Bool, List, Option}
+use Rattle.std.specs.Prelude.{ℕ, Bool, List, Option}
 use Rattle.cts_cmd.specs.declared.request.Checks.{Checks}
 use Rattle.cts_conv.specs.declared.value.ValueKind.{ValueKind}
 use Rattle.cts_def.specs.declared.limits.Limits.{Limits}
 use Rattle.serde_json.specs.Data.{Members}
-
--- An answer, or the code and the message of a refusal.
-pub data Said (A : Type 0) : Type 0 where
-  refused : ℤ → List ℕ → Said A
-  gives : A → Said A
 
 -- names as they are given, in any case
 pub record PacketName : Type 0 where

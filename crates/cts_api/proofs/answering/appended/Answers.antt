@@ -2,7 +2,7 @@ use Rattle.std.proofs.Common.{refl, ap, subst}
 use Rattle.cts_entry.specs.declared.what.What.{What}
 use Rattle.serde_json.specs.Data.{null}
 use Rattle.cts_api.specs.Answers.{appended, posts}
-use Rattle.cts_methods.specs.Asking.{gives}
+use Rattle.cts_api.specs.Saying.{gives}
 use Rattle.cts_api.specs.Telling.{Tells}
 use Rattle.cts_api.proofs.Sent.{refused_next}
 use Rattle.cts_api.proofs.answering.appended.Goals as goal

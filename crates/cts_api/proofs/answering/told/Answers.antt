@@ -2,7 +2,7 @@ use Rattle.std.proofs.Common.{refl, ap, subst}
 use Rattle.serde_json.specs.Data.{Data}
 use Rattle.serde_json.specs.View.{view}
 use Rattle.cts_api.specs.Answers.{posts_nothing, told}
-use Rattle.cts_methods.specs.Asking.{gives}
+use Rattle.cts_api.specs.Saying.{gives}
 use Rattle.cts_api.specs.Telling.{Tells}
 use Rattle.cts_api.proofs.Sent.{refused_next}
 use Rattle.cts_api.proofs.answering.told.Goals as goal

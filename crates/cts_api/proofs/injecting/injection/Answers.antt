@@ -5,7 +5,7 @@ use Rattle.serde_json.specs.View.{members_view, view}
 use Rattle.cts_cmd.specs.Injects.{Injects, injection_refusal, stood, with_item}
 use Rattle.cts_cmd.specs.declared.request.Given.{Given}
 use Rattle.cts_api.specs.Answers.{packet_at}
-use Rattle.cts_methods.specs.Asking.{gives}
+use Rattle.cts_api.specs.Saying.{gives}
 use Rattle.cts_methods.specs.Kinds.{members_given}
 use Rattle.cts_methods.specs.Seen.{packet_name}
 use Rattle.cts_api.specs.Telling.{point}
