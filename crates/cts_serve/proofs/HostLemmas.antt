@@ -9,21 +9,21 @@ use Rattle.cts_outside.specs.Seen.{CrewSeen, FilesSeen, LineSeen, SinkSeen, Vaul
 use Rattle.cts_proto.specs.Meaning.{Meaning}
 use Rattle.cts_server.specs.Ready.{PutsReady, ready_line}
 use Rattle.cts_server.specs.declared.worked.NotStarted.TheVariants as not_started
-use Rattle.cts_serve.specs.Command.{LeavesShelf, ShelfBy, first_phases}
-use Rattle.cts_serve.specs.Endings.{Ends, EndsHalted, halt_status}
-use Rattle.cts_serve.specs.Load.{digest_asked, no_site, site_asked, site_phases}
-use Rattle.cts_serve.specs.Phases.{FileCounts, Gives, HaltCounts, HaltsIn, IsFound, LoadCounts, LoadHalts, Phase, first_halt}
-use Rattle.cts_serve.specs.Putting.{FailsWithin, HaltFaults, HaltLogs, IsPut, VaultCounts}
+use Rattle.cts_run.specs.Command.{LeavesShelf, ShelfBy, first_phases}
+use Rattle.cts_run.specs.Endings.{Ends, EndsHalted, halt_status}
+use Rattle.cts_run.specs.Load.{digest_asked, no_site, site_asked, site_phases}
+use Rattle.cts_run.specs.Phases.{FileCounts, Gives, HaltCounts, HaltsIn, IsFound, LoadCounts, LoadHalts, Phase, first_halt}
+use Rattle.cts_run.specs.Putting.{FailsWithin, HaltFaults, HaltLogs, IsPut, VaultCounts}
 use Rattle.cts_serve.specs.Served.{serves_on}
 use Rattle.cts_serve.specs.Serving.{Finds, HasIdled, IsPlanned, UnstartedBy, done_as}
-use Rattle.cts_serve.specs.Start.{shelf_phase}
-use Rattle.cts_serve.specs.declared.halt.Halt.{Halt}
-use Rattle.cts_serve.specs.declared.halt.Halt.TheVariants as halt
-use Rattle.cts_serve.specs.declared.halt.file_kind.FileKind.TheVariants.{Configuration, Script}
-use Rattle.cts_serve.specs.declared.halt.status.Status.{Status}
-use Rattle.cts_serve.specs.declared.halt.status.Status.TheVariants as is
-use Rattle.cts_serve.proofs.CommandLemmas.{TakesSite, begun_shelf, made_shelf, no_vault, unmade_shelf}
-use Rattle.cts_serve.proofs.PhaseLemmas.{first_past, front, load_stays, past}
+use Rattle.cts_run.specs.Start.{shelf_phase}
+use Rattle.cts_run.specs.declared.halt.Halt.{Halt}
+use Rattle.cts_run.specs.declared.halt.Halt.TheVariants as halt
+use Rattle.cts_run.specs.declared.halt.file_kind.FileKind.TheVariants.{Configuration, Script}
+use Rattle.cts_run.specs.declared.halt.status.Status.{Status}
+use Rattle.cts_run.specs.declared.halt.status.Status.TheVariants as is
+use Rattle.cts_run.proofs.CommandLemmas.{TakesSite, begun_shelf, made_shelf, no_vault, unmade_shelf}
+use Rattle.cts_run.proofs.PhaseLemmas.{first_past, front, load_stays, past}
 
 -- ---- what it is started from
 

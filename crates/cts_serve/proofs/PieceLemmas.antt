@@ -7,10 +7,11 @@ use Rattle.cts_outside.proofs.Putting.{appended-append, appended-nil, part_first
 use Rattle.cts_outside.specs.Causes.{Rose, Steady}
 use Rattle.cts_outside.specs.Contents.{appended}
 use Rattle.cts_outside.specs.Seen.{SinkSeen}
-use Rattle.cts_serve.specs.Acts.{TakesNoMemory}
-use Rattle.cts_serve.specs.Putting.{FailsWithin, IsPut, Printed, PutsText, PutsWhole}
-use Rattle.cts_serve.specs.declared.putting.Undone.{Undone}
-use Rattle.cts_serve.specs.declared.putting.Undone.TheVariants as undone
+use Rattle.cts_run.specs.Acts.{TakesNoMemory}
+use Rattle.cts_run.specs.Putting.{FailsWithin, IsPut, Printed, PutsText}
+use Rattle.cts_run.specs.declared.putting.Undone.{Undone}
+use Rattle.cts_run.specs.declared.putting.Undone.TheVariants as undone
+use Rattle.cts_serve.specs.Served.{PutsWhole}
 
 -- ---- two texts
 

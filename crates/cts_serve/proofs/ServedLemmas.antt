@@ -24,13 +24,13 @@ use Rattle.cts_server.specs.Cancelled.{cancellations, is_set}
 use Rattle.cts_server.specs.Ready.{ready_line}
 use Rattle.cts_server.specs.declared.worked.DeskNote.{DeskNote}
 use Rattle.cts_server.specs.declared.worked.Worked.{Worked}
-use Rattle.cts_serve.specs.Lines.{end_line}
-use Rattle.cts_serve.specs.Phases.{FileCounts, IsFound}
-use Rattle.cts_serve.specs.Putting.{FailsWithin, IsPut, Printed}
+use Rattle.cts_run.specs.Lines.{end_line}
+use Rattle.cts_run.specs.Phases.{FileCounts, IsFound}
+use Rattle.cts_run.specs.Putting.{FailsWithin, IsPut, Printed}
 use Rattle.cts_serve.specs.Served.{DialFailedIn, EndsServing, IsFine, VaultIsSteady, VaultRose, VaultStays, left, serves_on, trouble_line, trouble_status}
 use Rattle.cts_serve.specs.Serving.{HasServed, worked_of}
-use Rattle.cts_serve.specs.declared.halt.status.Status.{Status}
-use Rattle.cts_serve.specs.declared.halt.status.Status.TheVariants as is
+use Rattle.cts_run.specs.declared.halt.status.Status.{Status}
+use Rattle.cts_run.specs.declared.halt.status.Status.TheVariants as is
 use Rattle.cts_serve.specs.declared.serving.ended.Ended.{Ended}
 use Rattle.cts_serve.proofs.PieceLemmas.{printed_after, printed_part}
 use Rattle.cts_serve.proofs.TroubleLemmas.{aims_fit, desks_door, dial_of_first, dial_of_rest, full_later, lines_door, lines_full, log_shown, door_shown, full_shown, no_door, none_cancelled, raised_never, raised_once, vault_failed, vault_still, worker_cancelled}

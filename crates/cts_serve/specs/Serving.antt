@@ -12,13 +12,13 @@ use Rattle.cts_server.specs.Places.{AimedAtMost, CameBack}
 use Rattle.cts_server.specs.Ready.{ready_line}
 use Rattle.cts_server.specs.declared.worked.Worked.{Worked}
 use Rattle.cts_table.specs.Keeping.{IsKept}
-use Rattle.cts_serve.specs.Endings.{EndsHalted}
-use Rattle.cts_serve.specs.Load.{digest_asked, site_asked}
-use Rattle.cts_serve.specs.Phases.{HaltsIn, Phase, first_halt}
-use Rattle.cts_serve.specs.Putting.{FailsWithin, IsPut}
-use Rattle.cts_serve.specs.declared.halt.Halt.{Halt}
-use Rattle.cts_serve.specs.declared.halt.Halt.TheVariants.{Memory, WriteFault}
-use Rattle.cts_serve.specs.declared.halt.status.Status.{Status}
+use Rattle.cts_run.specs.Endings.{EndsHalted}
+use Rattle.cts_run.specs.Load.{digest_asked, site_asked}
+use Rattle.cts_run.specs.Phases.{HaltsIn, Phase, first_halt}
+use Rattle.cts_run.specs.Putting.{FailsWithin, IsPut}
+use Rattle.cts_run.specs.declared.halt.Halt.{Halt}
+use Rattle.cts_run.specs.declared.halt.Halt.TheVariants.{Memory, WriteFault}
+use Rattle.cts_run.specs.declared.halt.status.Status.{Status}
 use Rattle.cts_serve.specs.declared.serving.ended.Ended.{Ended}
 
 -- ---- what it is started from
