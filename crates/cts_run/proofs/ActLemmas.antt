@@ -1,20 +1,18 @@
 -- What acts leave that are done one after another, and what is left where one fails.
-use Rattle.std.proofs.Common.{◌≡◌, ℕ, ◌+◌, ◌≤◌, Bool, true, false, List, [], ◌∷◌, ◌++◌, length, take, drop, Option, Some, None, Result, Ok, Err, refl, sym, ◌∙◌, ap, subst, arith, append_assoc}
+use Rattle.std.proofs.Common.{◌≡◌, ℕ, ◌+◌, ◌≤◌, Bool, true, List, [], ◌∷◌, ◌++◌, length, take, drop, Option, Some, None, Result, Ok, Err, refl, sym, ◌∙◌, ap, subst, append_assoc}
 use Rattle.std.specs.Prelude.{option_map}
-use Rattle.std.proofs.Math.Seq.{take-append-add, take-length}
-use Rattle.std.proofs.lemmas.Grind.{flat_map-append}
+use Rattle.std.proofs.Math.Seq.{take-append-add}
 use Rattle.std.proofs.lemmas.List.{append-nil, take-append-drop, take_at}
 use Rattle.cts_outside.proofs.Putting.{appended-append, appended-nil}
 use Rattle.cts_outside.specs.Causes.{Rose}
-use Rattle.cts_outside.specs.Contents.{appended}
-use Rattle.cts_outside.specs.Seen.{FilesSeen, SinkSeen, VaultSeen}
+use Rattle.cts_outside.specs.Seen.{SinkSeen, VaultSeen}
 use Rattle.cts_outside.specs.Vaults.{Logs, all_synced, at_kind, log_of, with_bytes}
 use Rattle.cts_outside.specs.declared.vault.LogKind.{LogKind}
 use Rattle.cts_outside.specs.declared.vault.LogKind.TheVariants.{Tlm, Cmd}
-use Rattle.cts_run.specs.Acts.{Act, Append, AreDone, DoesActs, DoesAll, Fails, FailsIn, LogFails, Outside, Put, PutFails, Sync, TakesNoMemory, after_act, after_acts, appended_by, appends, bytes_if, is_kept, is_kind, is_put, logged_of, outside, put_by, puts, syncs, text_of}
+use Rattle.cts_run.specs.Acts.{Act, Append, AreDone, DoesActs, DoesAll, Fails, FailsIn, LogFails, Outside, Put, PutFails, Sync, after_act, after_acts, appends, bytes_if, is_kept, is_kind, is_put, logged_of, outside, puts, syncs, text_of}
 use Rattle.cts_run.specs.Causes.{put_answer}
 use Rattle.cts_run.specs.Laws.{AllIsSynced, BytesAreKept, NoCountRises, TextsArePut}
-use Rattle.cts_run.specs.Putting.{FailsWithin, IsPut, PutsText, SinkCounts, VaultCounts}
+use Rattle.cts_run.specs.Putting.{PutsText, SinkCounts, VaultCounts}
 use Rattle.cts_run.specs.declared.halt.Halt.{Halt}
 use Rattle.cts_run.specs.declared.halt.Halt.TheVariants as halt
 use Rattle.cts_run.specs.declared.putting.Undone.{Undone}

@@ -7,7 +7,7 @@ use Rattle.std.proofs.lemmas.List.Elements.{filter-append}
 use Rattle.cts_core.specs.Endings.{held_in}
 use Rattle.cts_core.specs.Environments.{basis_of, site_environment}
 use Rattle.cts_core.specs.Runs.{Did, after, drained, Ending, Finished, NotEnabled, HistoryFull, Runs}
-use Rattle.cts_core.specs.States.{State, commands_log, opening, packets_log}
+use Rattle.cts_core.specs.States.{commands_log, opening, packets_log}
 use Rattle.cts_core.specs.declared.fault.WorldFault.{WorldFault}
 use Rattle.cts_core.specs.declared.fault.WorldFault.TheVariants as fault
 use Rattle.cts_core_laws.proofs.OneRun.{has_run}

@@ -1,8 +1,8 @@
 -- What a story tells of an event, from what the world says.
-use Rattle.std.proofs.Common.{◌≡◌, ℕ, ◌-◌, ◌≤◌, nat_le, true, ◌++◌, List, [], ◌∷◌, length, take, drop, filter, None, Result, Ok, Err, refl, sym, ◌∙◌, ap, subst, arith, length-append, length-drop}
+use Rattle.std.proofs.Common.{◌≡◌, ℕ, ◌-◌, nat_le, true, ◌++◌, List, [], ◌∷◌, length, take, drop, filter, Result, Ok, Err, refl, sym, ◌∙◌, ap, arith, length-drop}
 use Rattle.std.proofs.Math.Seq.{drop-append_seam, take-append_seam, take-length}
 use Rattle.std.proofs.lemmas.Bool.Decides.{nat_tests}
-use Rattle.cts_core.specs.Endings.{HasPassed, LogPasses, WorldData, held_in, lasting}
+use Rattle.cts_core.specs.Endings.{LogPasses, WorldData, held_in, lasting}
 use Rattle.cts_core.specs.Environments.{basis_of, site_environment}
 use Rattle.cts_core.specs.Runs.{Did, after}
 use Rattle.cts_core.specs.States.{State, commands_log, log_ahead, packets_log}

@@ -1,5 +1,5 @@
 -- What a command does outside, one act after another: texts that are put, and bytes that two logs get and keep.
-use Rattle.std.specs.Prelude.{◌≡◌, ℕ, ◌≤◌, Bool, true, false, not, List, [], ◌∷◌, ◌++◌, length, take, Option, option_map, Result, Ok, Err}
+use Rattle.std.specs.Prelude.{◌≡◌, ℕ, ◌≤◌, Bool, true, false, not, List, [], ◌∷◌, ◌++◌, length, take, option_map, Result, Ok, Err}
 use Rattle.std.specs.List.{flat_map}
 use Rattle.cts_outside.specs.Causes.{Rose}
 use Rattle.cts_outside.specs.Contents.{appended, IsPartPut}

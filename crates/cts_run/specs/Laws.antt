@@ -1,5 +1,5 @@
 -- Laws of outcomes.
-use Rattle.std.specs.Prelude.{◌≡◌, ◌↔◌, ◌<◌, ◌⊎◌, ◌++◌, ℕ, List, length, [], Option, Some, None, option_map}
+use Rattle.std.specs.Prelude.{◌≡◌, ◌↔◌, ◌<◌, ◌⊎◌, ◌++◌, ℕ, List, length, Option, Some, None, option_map}
 use Rattle.cts_def.specs.declared.proto_spec.Kind.{Kind}
 use Rattle.cts_log.specs.Logged.{Logged}
 use Rattle.cts_log.specs.Reading.{IsLogRead}

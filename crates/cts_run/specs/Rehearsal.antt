@@ -1,5 +1,5 @@
 -- A rehearsal: a run of the events that are made from a number, in the demo's site, and the summary that is put of it.
-use Rattle.std.specs.Prelude.{◌≡◌, ℕ, ◌+◌, ◌<◌, ◌^◌, nat_eq, Bool, true, false, List, [], ◌∷◌, ◌++◌, length, codes, Option, Some, None, ◌⊎◌, Result, Ok, Err}
+use Rattle.std.specs.Prelude.{◌≡◌, ℕ, ◌+◌, ◌<◌, ◌^◌, nat_eq, Bool, true, false, List, [], ◌++◌, length, codes, Option, Some, None, ◌⊎◌, Result, Ok, Err}
 use Rattle.std.specs.List.{filter, starts_with}
 use Rattle.cts_core.specs.Environments.{site_environment}
 use Rattle.cts_core.specs.Runs.{Did, Ending, Finished, NotEnabled, HistoryFull, Runs}

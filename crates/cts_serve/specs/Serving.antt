@@ -1,5 +1,5 @@
 -- A server: why it does not start, and what its workers did where it does.
-use Rattle.std.specs.Prelude.{◌≡◌, ◌⊎◌, ℕ, true, List, [], ◌++◌, length, take, drop, Option, Some, None, Result, Ok, Err, IfSome, count_by}
+use Rattle.std.specs.Prelude.{◌≡◌, ◌⊎◌, ℕ, true, List, length, take, drop, Option, None, Result, Ok, Err, IfSome, count_by}
 use Rattle.cts_def.specs.Makers.{first_desk, first_slot}
 use Rattle.cts_def.specs.Sites.{SiteData}
 use Rattle.cts_outside.specs.Crews.{CancelledFrom, with_cancelled, with_jobs}

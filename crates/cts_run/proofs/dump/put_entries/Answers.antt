@@ -1,7 +1,6 @@
 use Rattle.std.proofs.Common.{◌++◌, [], Ok, Err, ap}
 use Rattle.cts_log.specs.Reading.{ReaderData, logged}
-use Rattle.cts_outside.specs.Seen.{VaultSeen}
-use Rattle.cts_run.specs.Acts.{outside, puts}
+use Rattle.cts_run.specs.Acts.{puts}
 use Rattle.cts_run.specs.declared.putting.Undone.TheVariants as undone
 use Rattle.cts_run.proofs.ActLemmas.{put_done}
 use Rattle.cts_run.proofs.CommandLemmas.{no_vault}

@@ -1,4 +1,4 @@
-use Rattle.std.proofs.Common.{ℕ, ◌-◌, List, length}
+use Rattle.std.proofs.Common.{◌-◌, List, length}
 use Rattle.cts_outside.specs.Seen.{VaultSeen}
 use Rattle.cts_run.specs.Acts.{Act, outside}
 use Rattle.cts_run.proofs.DumpLemmas.{IsFar}

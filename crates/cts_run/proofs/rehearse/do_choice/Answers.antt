@@ -1,7 +1,6 @@
 use Rattle.std.proofs.Common.{rules, ◌≡◌, ℕ, ◌+◌, ◌∷◌, ◌++◌, List, ap, subst, arith}
 use Rattle.cts_entry.specs.declared.event.Event.{Event}
-use Rattle.cts_run.specs.Rehearsal.{Halts, IsFar, ones}
-use Rattle.cts_run.specs.Replay.{event_halt}
+use Rattle.cts_run.specs.Rehearsal.{IsFar}
 use Rattle.cts_run.proofs.RehearsalLemmas.{counted, goes_on, one_more, stops}
 use Rattle.cts_run.proofs.rehearse.do_choice.Goals as goal
 

@@ -1,10 +1,8 @@
-use Rattle.std.proofs.Common.{Some, refl}
+use Rattle.std.proofs.Common.{Some}
 use Rattle.cts_core.specs.States.{opening}
-use Rattle.cts_run.specs.Acts.{outside}
 use Rattle.cts_run.specs.Demo.{definitions_name, demo_files, site_name}
 use Rattle.cts_run.specs.Story.{site_told}
-use Rattle.cts_run.proofs.CommandLemmas.{made_shelf, no_vault, rehearse_counts, rehearse_faults, rehearse_logs, rehearse_performs, rehearse_unloaded, rehearse_unmade, unloaded_shelf, unmade_shelf}
-use Rattle.cts_run.proofs.PhaseLemmas.{load_faults, load_logs, sure_counts}
+use Rattle.cts_run.proofs.CommandLemmas.{made_shelf, no_vault, rehearse_counts, rehearse_faults, rehearse_logs, rehearse_performs, rehearse_unloaded, rehearse_unmade}
 use Rattle.cts_run.proofs.StoryLemmas.{site_is}
 use Rattle.cts_run.proofs.rehearse.rehearse.Goals as goal
 

@@ -1,4 +1,4 @@
-use Rattle.std.proofs.Common.{◌≡◌, ℕ, List, length}
+use Rattle.std.proofs.Common.{List, length}
 use Rattle.cts_run.specs.Acts.{Act, AreDone, outside}
 use Rattle.cts_run.specs.Story.{site_told}
 use Rattle.cts_run.proofs.ReplayLemmas.{IsProgress}

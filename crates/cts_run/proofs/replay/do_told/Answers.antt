@@ -1,4 +1,4 @@
-use Rattle.cts_run.specs.Acts.{outside, puts}
+use Rattle.cts_run.specs.Acts.{puts}
 use Rattle.cts_run.specs.Replay.{log_acts}
 use Rattle.cts_run.proofs.ActLemmas.{does_first, does_then, put_done}
 use Rattle.cts_run.proofs.replay.do_told.Goals as goal

@@ -1,5 +1,5 @@
 use Rattle.std.proofs.Common.{◌++◌, Err}
-use Rattle.cts_run.specs.Acts.{outside, puts, syncs}
+use Rattle.cts_run.specs.Acts.{puts, syncs}
 use Rattle.cts_run.specs.Lines.{end_line}
 use Rattle.cts_run.specs.Replay.{log_acts}
 use Rattle.cts_run.proofs.ActLemmas.{does_first, does_then, put_done}

@@ -1,6 +1,5 @@
 use Rattle.cts_run.proofs.CommandLemmas.{script_counts, script_fails, script_faults, script_logs, script_replays}
 use Rattle.cts_run.proofs.PhaseLemmas.{load_counts, load_faults, load_logs}
-use Rattle.cts_run.specs.Acts.{outside}
 use Rattle.cts_run.specs.Story.{site_told}
 use Rattle.cts_run.proofs.replay.replay_script.Goals as goal
 

@@ -1,4 +1,4 @@
-use Rattle.std.proofs.Common.{◌≡◌, true, false, List, ℕ, Option, Some, None, IfSome, Ok, Err, refl, sym, ◌∙◌, ap, subst, ◌<◌, ◌⊎◌, inl, inr}
+use Rattle.std.proofs.Common.{◌≡◌, true, List, ℕ, Option, None, Ok, Err, refl, sym, ◌∙◌, ap, subst, ◌<◌, ◌⊎◌, inl, inr}
 use Rattle.std.specs.Prelude.{map}
 use Rattle.cts_ending.specs.Troubles.{has_closed, trouble_of}
 use Rattle.cts_ending.specs.declared.trouble.Trouble.TheVariants.{HistoryFull as FullHistory}
@@ -6,7 +6,6 @@ use Rattle.cts_entry.specs.declared.entry.Entry.{Entry}
 use Rattle.cts_entry.specs.Histories.{entries_in}
 use Rattle.cts_entry.specs.Legal.{most_entries}
 use Rattle.cts_def.specs.Sites.{SiteData}
-use Rattle.cts_scribe.specs.declared.ending.ScribeWhy.{ScribeWhy}
 use Rattle.cts_server.specs.Ready.{ready_line}
 use Rattle.cts_server.specs.declared.worked.Worked.{Worked}
 use Rattle.cts_run.specs.Command.{ShelfAt, first_phases}

@@ -1,6 +1,5 @@
 use Rattle.std.proofs.Common.{ap, refl}
 use Rattle.cts_run.specs.Load.Files.{verdict}
-use Rattle.cts_run.specs.declared.halt.cause.Cause.TheVariants.{Definition}
 use Rattle.cts_run.specs.declared.halt.file_kind.FileKind.TheVariants.{Configuration as OfKind}
 use Rattle.cts_run.proofs.LoadLemmas.{definitions_err, definitions_ok}
 use Rattle.cts_run.proofs.load.configuration.take_definitions.Goals as goal
