@@ -1,29 +1,26 @@
 -- A server up to the end of its workers: its phases, its counts and its shelf.
-use Rattle.std.proofs.Common.{◌≡◌, ◌≢◌, ℕ, zero, suc, false, List, [], ◌∷◌, ◌++◌, length, take, Option, Some, None, IfSome, Result, Ok, Err, refl, sym, ◌∙◌, ap, subst, arith, inl, inr}
+use Rattle.std.proofs.Common.{◌≡◌, ℕ, zero, suc, false, List, [], ◌∷◌, take, Option, Some, None, IfSome, Result, Ok, Err, refl, ◌∙◌, ap, subst, inl, inr}
 use Rattle.std.specs.Prelude.{IfErr, IfOk, OnOk, OnErr}
 use Rattle.std.specs.List.{AllByRecursion}
 use Rattle.cts_chain.specs.Builds.{Taken}
 use Rattle.cts_core.specs.LineChains.{line_uses}
 use Rattle.cts_def.specs.Sites.{SiteData}
-use Rattle.cts_outside.specs.Seen.{CrewSeen, FilesSeen, LineSeen, SinkSeen, VaultSeen}
+use Rattle.cts_outside.specs.Seen.{FilesSeen, SinkSeen}
 use Rattle.cts_proto.specs.Meaning.{Meaning}
-use Rattle.cts_server.specs.Ready.{PutsReady, ready_line}
-use Rattle.cts_server.specs.declared.worked.NotStarted.TheVariants as not_started
-use Rattle.cts_serve.specs.Command.{LeavesShelf, ShelfBy, first_phases}
-use Rattle.cts_serve.specs.Endings.{Ends, EndsHalted, halt_status}
-use Rattle.cts_serve.specs.Load.{digest_asked, no_site, site_asked, site_phases}
-use Rattle.cts_serve.specs.Phases.{FileCounts, Gives, HaltCounts, HaltsIn, IsFound, LoadCounts, LoadHalts, Phase, first_halt}
-use Rattle.cts_serve.specs.Putting.{FailsWithin, HaltFaults, HaltLogs, IsPut, VaultCounts}
+use Rattle.cts_run.specs.Command.{LeavesShelf, ShelfBy, first_phases}
+use Rattle.cts_run.specs.Endings.{EndsHalted, halt_status}
+use Rattle.cts_run.specs.Load.{digest_asked, no_site, site_asked, site_phases}
+use Rattle.cts_run.specs.Phases.{FileCounts, Gives, HaltCounts, HaltsIn, IsFound, LoadCounts, LoadHalts, Phase, first_halt}
+use Rattle.cts_run.specs.Putting.{HaltLogs}
 use Rattle.cts_serve.specs.Served.{serves_on}
-use Rattle.cts_serve.specs.Serving.{Finds, HasIdled, IsPlanned, UnstartedBy, done_as}
-use Rattle.cts_serve.specs.Start.{shelf_phase}
-use Rattle.cts_serve.specs.declared.halt.Halt.{Halt}
-use Rattle.cts_serve.specs.declared.halt.Halt.TheVariants as halt
-use Rattle.cts_serve.specs.declared.halt.file_kind.FileKind.TheVariants.{Configuration, Script}
-use Rattle.cts_serve.specs.declared.halt.status.Status.{Status}
-use Rattle.cts_serve.specs.declared.halt.status.Status.TheVariants as is
-use Rattle.cts_serve.proofs.CommandLemmas.{TakesSite, begun_shelf, made_shelf, no_vault, unmade_shelf}
-use Rattle.cts_serve.proofs.PhaseLemmas.{first_past, front, load_stays, past}
+use Rattle.cts_serve.specs.Serving.{Finds, IsPlanned, UnstartedBy, done_as}
+use Rattle.cts_run.specs.Start.{shelf_phase}
+use Rattle.cts_run.specs.declared.halt.Halt.{Halt}
+use Rattle.cts_run.specs.declared.halt.Halt.TheVariants as halt
+use Rattle.cts_run.specs.declared.halt.file_kind.FileKind.TheVariants.{Configuration, Script}
+use Rattle.cts_run.specs.declared.halt.status.Status.{Status}
+use Rattle.cts_run.proofs.CommandLemmas.{TakesSite, begun_shelf, made_shelf, no_vault, unmade_shelf}
+use Rattle.cts_run.proofs.PhaseLemmas.{first_past, front, load_stays, past}
 
 -- ---- what it is started from
 

@@ -1,15 +1,3 @@
-pub mod PhaseLemmas
-pub mod ActLemmas
-pub mod LoadLemmas
-pub mod EndingLemmas
-pub mod StoryLemmas
-pub mod ReplayLemmas
-pub mod RehearsalLemmas
-pub mod MomentLemmas
-pub mod LogLemmas
-pub mod DumpLemmas
-pub mod CommandLemmas
-pub mod LawLemmas
 pub mod PieceLemmas
 pub mod TroubleLemmas
 pub mod ServedLemmas

@@ -1,16 +1,17 @@
 -- What the puts of several texts leave, one after another.
-use Rattle.std.proofs.Common.{◌≡◌, ◌≢◌, ℕ, ◌+◌, Bool, true, false, List, [], ◌∷◌, ◌++◌, length, take, Result, Ok, Err, refl, sym, ◌∙◌, ap, subst, arith, append_assoc}
+use Rattle.std.proofs.Common.{◌≡◌, ◌≢◌, ℕ, ◌+◌, Bool, true, false, List, [], ◌∷◌, ◌++◌, length, take, Result, Ok, Err, refl, sym, ◌∙◌, ap, subst, arith}
 use Rattle.std.specs.Prelude.{is_ok}
 use Rattle.std.proofs.Math.Seq.{take-append-add, take-length}
 use Rattle.std.proofs.lemmas.List.{take-append-le}
-use Rattle.cts_outside.proofs.Putting.{appended-append, appended-nil, part_first, part_then, whole_then}
+use Rattle.cts_outside.proofs.Putting.{part_first, part_then, whole_then}
 use Rattle.cts_outside.specs.Causes.{Rose, Steady}
 use Rattle.cts_outside.specs.Contents.{appended}
 use Rattle.cts_outside.specs.Seen.{SinkSeen}
-use Rattle.cts_serve.specs.Acts.{TakesNoMemory}
-use Rattle.cts_serve.specs.Putting.{FailsWithin, IsPut, Printed, PutsText, PutsWhole}
-use Rattle.cts_serve.specs.declared.putting.Undone.{Undone}
-use Rattle.cts_serve.specs.declared.putting.Undone.TheVariants as undone
+use Rattle.cts_run.specs.Acts.{TakesNoMemory}
+use Rattle.cts_run.specs.Putting.{FailsWithin, IsPut, Printed, PutsText}
+use Rattle.cts_run.specs.declared.putting.Undone.{Undone}
+use Rattle.cts_run.specs.declared.putting.Undone.TheVariants as undone
+use Rattle.cts_serve.specs.Served.{PutsWhole}
 
 -- ---- two texts
 

@@ -1,9 +1,7 @@
 -- The clauses of a server, by whether it was started.
-use Rattle.std.proofs.Common.{◌≡◌, ◌≢◌, ℕ, ◌<◌, ◌≤◌, true, false, List, [], ◌∷◌, ◌++◌, length, Option, Some, None, IfSome, Result, Ok, Err, refl, sym, ◌∙◌, ap, subst, arith, ◌⊎◌, inl, inr}
+use Rattle.std.proofs.Common.{◌≡◌, ◌≢◌, ℕ, ◌<◌, ◌≤◌, true, false, List, [], ◌∷◌, Option, Some, None, IfSome, Result, Ok, Err, refl, sym, ◌∙◌, ap, subst, arith, ◌⊎◌, inl, inr}
 use Rattle.std.specs.Option.{option_or}
 use Rattle.std.specs.Prelude.{IsSome, IsSomeAnd, is_some, option_map}
-use Rattle.cts_chain.specs.Builds.{Taken}
-use Rattle.cts_core.specs.LineChains.{line_uses}
 use Rattle.cts_def.specs.Sites.{SiteData}
 use Rattle.cts_def.specs.declared.proto_spec.Kind.{Kind}
 use Rattle.cts_ending.specs.Troubles.{has_closed}
@@ -16,23 +14,23 @@ use Rattle.cts_outside.specs.Causes.{Rose, Steady, raised}
 use Rattle.cts_outside.specs.Seen.{LineSeen, SinkSeen, VaultSeen}
 use Rattle.cts_proto.specs.Meaning.{Meaning}
 use Rattle.cts_scribe.specs.declared.ending.ScribeWhy.{ScribeWhy}
-use Rattle.cts_serve.specs.Acts.{Act}
-use Rattle.cts_serve.specs.Command.{IsDueOf, LeavesShelf, ShelfAt, ShelfBy, first_phases}
-use Rattle.cts_serve.specs.Endings.{EndsHalted, halt_status}
-use Rattle.cts_serve.specs.Laws.{IsShortOf}
-use Rattle.cts_serve.specs.Load.{site_asked, site_phases}
-use Rattle.cts_serve.specs.Phases.{Phase, first_halt}
+use Rattle.cts_run.specs.Acts.{Act}
+use Rattle.cts_run.specs.Command.{ShelfAt, ShelfBy, first_phases}
+use Rattle.cts_run.specs.Endings.{EndsHalted, halt_status}
+use Rattle.cts_run.specs.Laws.{IsShortOf}
+use Rattle.cts_run.specs.Load.{site_asked, site_phases}
+use Rattle.cts_run.specs.Phases.{Phase, first_halt}
 use Rattle.cts_serve.specs.Served.{DialFailedIn, LeftNothing, VaultIsSteady, VaultRose, serves_on, trouble_status}
 use Rattle.cts_serve.specs.Serving.{HaltsServing, UnstartedBy}
-use Rattle.cts_serve.specs.Start.{shelf_phase, short_halt, short_kind}
-use Rattle.cts_serve.specs.declared.halt.Halt.{Halt}
-use Rattle.cts_serve.specs.declared.halt.Halt.TheVariants as halt
-use Rattle.cts_serve.specs.declared.halt.status.Status.{Status}
+use Rattle.cts_run.specs.Start.{shelf_phase, short_halt, short_kind}
+use Rattle.cts_run.specs.declared.halt.Halt.{Halt}
+use Rattle.cts_run.specs.declared.halt.Halt.TheVariants as halt
+use Rattle.cts_run.specs.declared.halt.status.Status.{Status}
 use Rattle.cts_serve.specs.declared.serving.ended.Ended.{Ended}
-use Rattle.cts_serve.specs.declared.halt.status.Status.TheVariants as is
-use Rattle.cts_serve.proofs.CommandLemmas.{halts_so, never_some, shelf_status, steady_rose}
-use Rattle.cts_serve.proofs.LawLemmas.{short_where}
-use Rattle.cts_serve.proofs.PhaseLemmas.{first_past}
+use Rattle.cts_run.specs.declared.halt.status.Status.TheVariants as is
+use Rattle.cts_run.proofs.CommandLemmas.{halts_so, never_some, steady_rose}
+use Rattle.cts_run.proofs.LawLemmas.{short_where}
+use Rattle.cts_run.proofs.PhaseLemmas.{first_past}
 
 -- ---- it was not started
 

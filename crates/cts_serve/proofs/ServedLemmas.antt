@@ -1,22 +1,21 @@
 -- What holds of a server whose workers have worked, by its status.
-use Rattle.std.proofs.Common.{◌≡◌, ◌≢◌, ℕ, ◌+◌, ◌<◌, ◌≤◌, Bool, true, false, not, ◌||◌, List, [], ◌++◌, length, take, drop, Option, Some, None, IfSome, refl, sym, ◌∙◌, ap, subst, arith, ◌⊎◌, inl, inr}
-use Rattle.std.specs.Prelude.{IsSome, IsSomeAnd, count_by}
+use Rattle.std.proofs.Common.{◌≡◌, ◌≢◌, ℕ, ◌≤◌, Bool, true, false, not, ◌||◌, List, [], ◌++◌, length, take, drop, Option, Some, None, refl, sym, ◌∙◌, ap, subst, arith, ◌⊎◌, inl, inr}
+use Rattle.std.specs.Prelude.{count_by}
 use Rattle.std.specs.List.{AllByRecursion, list_any}
 use Rattle.std.proofs.lemmas.List.{take-append-drop}
 use Rattle.std.proofs.lemmas.List.Folds.{list_any-append}
 use Rattle.cts_def.specs.Makers.{first_desk, first_slot}
-use Rattle.cts_def.specs.Sites.{InterfaceData, SiteData}
-use Rattle.cts_desk.specs.declared.ending.DeskWhy.{DeskWhy}
+use Rattle.cts_def.specs.Sites.{SiteData}
 use Rattle.cts_ending.proofs.Telling.{plain_where_none, tells_first}
-use Rattle.cts_ending.specs.Laws.{IsPlain, is_plain_desk, is_plain_line}
-use Rattle.cts_ending.specs.Troubles.{Left, closed_shows, desk_shows, has_closed, has_desk, line_shows, scribe_shows, shows, trouble_of}
+use Rattle.cts_ending.specs.Laws.{is_plain_desk, is_plain_line}
+use Rattle.cts_ending.specs.Troubles.{Left, has_closed, line_shows, shows, trouble_of}
 use Rattle.cts_ending.specs.declared.trouble.Trouble.{Trouble}
 use Rattle.cts_ending.specs.declared.trouble.Trouble.TheVariants as trouble
 use Rattle.cts_entry.specs.Histories.{entries_in}
 use Rattle.cts_entry.specs.Legal.{most_entries}
 use Rattle.cts_entry.specs.declared.entry.Entry.{Entry}
 use Rattle.cts_line.specs.declared.ending.LineWhy.{LineWhy}
-use Rattle.cts_outside.specs.Causes.{Rose, Steady, raised}
+use Rattle.cts_outside.specs.Causes.{Rose, raised}
 use Rattle.cts_outside.specs.Seen.{CrewSeen, FilesSeen, LineSeen, SinkSeen, VaultSeen}
 use Rattle.cts_scribe.specs.declared.ending.ScribeWhy.{ScribeWhy}
 use Rattle.cts_server.specs.Aims.{desk_aims, line_aims, slot_aims}
@@ -24,13 +23,13 @@ use Rattle.cts_server.specs.Cancelled.{cancellations, is_set}
 use Rattle.cts_server.specs.Ready.{ready_line}
 use Rattle.cts_server.specs.declared.worked.DeskNote.{DeskNote}
 use Rattle.cts_server.specs.declared.worked.Worked.{Worked}
-use Rattle.cts_serve.specs.Lines.{end_line}
-use Rattle.cts_serve.specs.Phases.{FileCounts, IsFound}
-use Rattle.cts_serve.specs.Putting.{FailsWithin, IsPut, Printed}
-use Rattle.cts_serve.specs.Served.{DialFailedIn, EndsServing, IsFine, VaultIsSteady, VaultRose, VaultStays, left, serves_on, trouble_line, trouble_status}
-use Rattle.cts_serve.specs.Serving.{HasServed, worked_of}
-use Rattle.cts_serve.specs.declared.halt.status.Status.{Status}
-use Rattle.cts_serve.specs.declared.halt.status.Status.TheVariants as is
+use Rattle.cts_run.specs.Lines.{end_line}
+use Rattle.cts_run.specs.Phases.{IsFound}
+use Rattle.cts_run.specs.Putting.{FailsWithin, IsPut, Printed}
+use Rattle.cts_serve.specs.Served.{DialFailedIn, EndsServing, IsFine, VaultRose, left, trouble_line, trouble_status}
+use Rattle.cts_serve.specs.Serving.{HasServed}
+use Rattle.cts_run.specs.declared.halt.status.Status.{Status}
+use Rattle.cts_run.specs.declared.halt.status.Status.TheVariants as is
 use Rattle.cts_serve.specs.declared.serving.ended.Ended.{Ended}
 use Rattle.cts_serve.proofs.PieceLemmas.{printed_after, printed_part}
 use Rattle.cts_serve.proofs.TroubleLemmas.{aims_fit, desks_door, dial_of_first, dial_of_rest, full_later, lines_door, lines_full, log_shown, door_shown, full_shown, no_door, none_cancelled, raised_never, raised_once, vault_failed, vault_still, worker_cancelled}

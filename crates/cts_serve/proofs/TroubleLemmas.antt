@@ -1,20 +1,19 @@
 -- What a trouble that is told says of the workers of a site, of their devices and of their history.
-use Rattle.std.proofs.Common.{◌≡◌, ℕ, zero, suc, cond, ◌+◌, ◌-◌, ◌^◌, ◌<◌, ◌≤◌, min, Bool, true, false, ◌&&◌, ◌||◌, ◌==◌, List, [], ◌∷◌, ◌++◌, length, take, drop, map, Option, Some, None, refl, sym, ◌∙◌, ap, subst, arith, ◌⊎◌, inl, inr}
-use Rattle.std.specs.Prelude.{count_by, nat_lt, sum_by}
+use Rattle.std.proofs.Common.{◌≡◌, ℕ, zero, suc, cond, ◌+◌, ◌≤◌, Bool, true, false, ◌&&◌, ◌||◌, ◌==◌, List, [], ◌∷◌, ◌++◌, length, take, drop, map, Option, Some, None, refl, sym, ◌∙◌, ap, subst, arith, ◌⊎◌, inl, inr}
+use Rattle.std.specs.Prelude.{count_by}
 use Rattle.std.specs.List.{AllByRecursion, list_any}
 use Rattle.std.proofs.lemmas.Bool.Decides.{nat_tests}
 use Rattle.std.proofs.lemmas.List.Folds.{list_any-append}
 use Rattle.std.proofs.lemmas.List.Sums.{sum_by-append, sum_by-cons}
-use Rattle.std.proofs.lemmas.List.{length-map, take-append-drop}
-use Rattle.cts_def.specs.Makers.{first_desk, first_slot}
+use Rattle.std.proofs.lemmas.List.{length-map}
 use Rattle.cts_def.specs.Sites.{SiteData}
 use Rattle.cts_desk.specs.declared.ending.DeskWhy.{DeskWhy}
 use Rattle.cts_desk.specs.declared.ending.DeskWhy.TheVariants as desk
 use Rattle.cts_desk.specs.Ending.{CausesEnd as CausesDeskEnd}
-use Rattle.cts_duties.specs.Desks.{OwesDesk, is_cancelled as is_cancelled_desk}
-use Rattle.cts_duties.specs.Lines.{OwesLine, is_cancelled}
-use Rattle.cts_duties.specs.Scribes.{OwesScribe, is_cancelled as is_cancelled_scribe}
-use Rattle.cts_ending.specs.Laws.{IsPlain, is_plain_desk, is_plain_line}
+use Rattle.cts_duties.specs.Desks.{is_cancelled as is_cancelled_desk}
+use Rattle.cts_duties.specs.Lines.{is_cancelled}
+use Rattle.cts_duties.specs.Scribes.{is_cancelled as is_cancelled_scribe}
+use Rattle.cts_ending.specs.Laws.{is_plain_desk, is_plain_line}
 use Rattle.cts_ending.specs.Troubles.{Left, closed_shows, desk_shows, has_closed, line_shows, has_desk, scribe_shows, shows}
 use Rattle.cts_ending.specs.declared.trouble.Trouble.{Trouble}
 use Rattle.cts_ending.specs.declared.trouble.Trouble.TheVariants as trouble
@@ -36,14 +35,13 @@ use Rattle.cts_outside.specs.declared.link.Aim.{Aim}
 use Rattle.cts_scribe.specs.declared.ending.ScribeWhy.{ScribeWhy}
 use Rattle.cts_scribe.specs.declared.ending.ScribeWhy.TheVariants as scribe
 use Rattle.cts_scribe.specs.Ending.{CausesEnd as CausesScribeEnd}
-use Rattle.cts_server.specs.Aims.{aimed_at, interface_aim, line_aims}
+use Rattle.cts_server.specs.Aims.{interface_aim, line_aims}
 use Rattle.cts_server.specs.Cancelled.{cancellations, is_set}
-use Rattle.cts_server.specs.Owed.{DeskOwes, LineOwes, ScribeOwes, server_basis}
+use Rattle.cts_server.specs.Owed.{DeskOwes, LineOwes, ScribeOwes}
 use Rattle.cts_server.specs.Places.{CameBack}
 use Rattle.cts_server.specs.declared.worked.DeskNote.{DeskNote}
 use Rattle.cts_server.specs.declared.worked.Worked.{Worked}
 use Rattle.cts_told.specs.Makers.{closes_for}
-use Rattle.cts_turn.specs.Lists.{StartsWith}
 use Rattle.cts_serve.specs.Served.{DialFailedIn, VaultRose, VaultStays}
 
 -- ---- tests of lists

@@ -1,67 +1,8 @@
--- The lines that a command prints for itself. Each ends with byte 0A.
-use Rattle.std.specs.Prelude.{ℕ, ◌+◌, List, [], ◌∷◌, ◌++◌, length, codes}
-use Rattle.std.specs.Fmt.{decimal}
-use Rattle.cts_def.specs.declared.proto_spec.Kind.{Kind}
-use Rattle.cts_def.specs.declared.proto_spec.Kind.TheVariants as kind
-use Rattle.cts_def.specs.Packets.{items_in}
-use Rattle.cts_def.specs.Sites.{SiteData}
-
-abbrev pub usage_line : List ℕ
-usage_line = codes "usage: check DEFS SITE | replay DEFS SITE SCRIPT | rehearse N | dump LOG | serve DEFS SITE\n"
-
-abbrev pub memory_line : List ℕ
-memory_line = codes "out of memory\n"
-
-abbrev pub read_fault_line : List ℕ → List ℕ
-read_fault_line name = codes "read fault: " ++ name ++ 10 ∷ []
-
-abbrev pub absent_line : List ℕ → List ℕ
-absent_line name = codes "absent: " ++ name ++ 10 ∷ []
-
-abbrev pub log_fault_line : List ℕ
-log_fault_line = codes "log fault\n"
+-- The last lines that a server alone puts. Each ends with byte 0A.
+use Rattle.std.specs.Prelude.{ℕ, List, codes}
 
 abbrev pub no_worker_line : List ℕ
 no_worker_line = codes "no worker\n"
 
 abbrev pub door_fault_line : List ℕ
 door_fault_line = codes "door fault\n"
-
--- a file, a line of it and a cause
-abbrev pub refused_line : List ℕ → ℕ → List ℕ → List ℕ
-refused_line name line cause = codes "refused: " ++ name ++ codes " line " ++ decimal line ++ codes ": " ++ cause ++ 10 ∷ []
-
--- a kind of protocols as it is printed
-abbrev pub kind_name : Kind → List ℕ
-kind_name kind.Burst = codes "BURST"
-kind_name kind.Fixed = codes "FIXED"
-kind_name kind.Length = codes "LENGTH"
-kind_name kind.Terminated = codes "TERMINATED"
-kind_name kind.Preidentified = codes "PREIDENTIFIED"
-
--- how many boxes of a kind are needed, and how many there are
-abbrev pub shelf_line : Kind → ℕ → ℕ → List ℕ
-shelf_line k needed stocked = codes "shelf empty: " ++ kind_name k ++ codes " needed " ++ decimal needed ++ codes " stocked " ++ decimal stocked ++ 10 ∷ []
-
-abbrev pub full_line : ℕ → ℕ → List ℕ
-full_line entries bytes = codes "history full: " ++ decimal entries ++ codes " entries, " ++ decimal bytes ++ codes " bytes\n"
-
--- where a log is refused: at the first byte that is in no entry
-abbrev pub log_line : ℕ → List ℕ
-log_line place = codes "log refused at " ++ decimal place ++ 10 ∷ []
-
--- how many entries the history has at the end
-abbrev pub end_line : ℕ → List ℕ
-end_line entries = codes "END " ++ decimal entries ++ 10 ∷ []
-
--- how many packets, commands, items of both, interfaces and routers there are
-abbrev pub numbers_line : ℕ → ℕ → ℕ → ℕ → ℕ → List ℕ
-numbers_line telemetry commands items interfaces routers =
-    codes "telemetry " ++ decimal telemetry ++ codes " commands " ++ decimal commands ++ codes " items " ++ decimal items
-    ++ codes " interfaces " ++ decimal interfaces ++ codes " routers " ++ decimal routers ++ 10 ∷ []
-
--- what a site and its definitions have
-abbrev pub counts_line : SiteData → List ℕ
-counts_line site =
-    numbers_line (length site.definitions.telemetry) (length site.definitions.commands)
-    (items_in site.definitions.telemetry + items_in site.definitions.commands) (length site.interfaces) (length site.routers)

@@ -13,10 +13,11 @@ use Rattle.cts_outside.specs.Seen.{CrewSeen, FilesSeen, LineSeen, SinkSeen, Vaul
 use Rattle.cts_scribe.specs.declared.ending.ScribeWhy.{ScribeWhy}
 use Rattle.cts_scribe.specs.declared.ending.ScribeWhy.TheVariants as scribe
 use Rattle.cts_server.specs.declared.worked.DeskNote.{DeskNote}
-use Rattle.cts_serve.specs.Lines.{door_fault_line, end_line, full_line, log_fault_line, memory_line, no_worker_line}
-use Rattle.cts_serve.specs.Putting.{Printed}
-use Rattle.cts_serve.specs.declared.halt.status.Status.{Status}
-use Rattle.cts_serve.specs.declared.halt.status.Status.TheVariants as is
+use Rattle.cts_run.specs.Lines.{end_line, full_line, log_fault_line, memory_line}
+use Rattle.cts_run.specs.Putting.{FailsWithin, IsPut, Printed}
+use Rattle.cts_run.specs.declared.halt.status.Status.{Status}
+use Rattle.cts_run.specs.declared.halt.status.Status.TheVariants as is
+use Rattle.cts_serve.specs.Lines.{door_fault_line, no_worker_line}
 use Rattle.cts_serve.specs.declared.serving.ended.Ended.{Ended}
 
 -- ---- the status and the last line of each trouble
@@ -43,6 +44,11 @@ trouble_line (Some trouble.DoorFault) history = door_fault_line
 -- what a server left, where the number of its entries was put or not
 abbrev pub left : Bool → List LineWhy → List DeskNote → ScribeWhy → List Entry → Left
 left written lines desks scribe history = record { written = written; lines = lines; desks = desks; scribe = scribe; history = history }
+
+-- a text was put, or a put failed within it
+abbrev pub PutsWhole : List ℕ → Bool → SinkSeen → SinkSeen → Type 0
+PutsWhole text true old new = IsPut text old new
+PutsWhole text false old new = FailsWithin text old new
 
 -- After a text the number of entries was put, and the last line of the first trouble that shows, or a prefix of all that where a put failed. The number of entries could not
 -- be put only where the count rose.

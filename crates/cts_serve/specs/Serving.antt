@@ -1,5 +1,5 @@
 -- A server: why it does not start, and what its workers did where it does.
-use Rattle.std.specs.Prelude.{◌≡◌, ◌⊎◌, ℕ, true, List, [], ◌++◌, length, take, drop, Option, Some, None, Result, Ok, Err, IfSome, count_by}
+use Rattle.std.specs.Prelude.{◌≡◌, ◌⊎◌, ℕ, true, List, length, take, drop, Option, None, Result, Ok, Err, IfSome, count_by}
 use Rattle.cts_def.specs.Makers.{first_desk, first_slot}
 use Rattle.cts_def.specs.Sites.{SiteData}
 use Rattle.cts_outside.specs.Crews.{CancelledFrom, with_cancelled, with_jobs}
@@ -12,13 +12,13 @@ use Rattle.cts_server.specs.Places.{AimedAtMost, CameBack}
 use Rattle.cts_server.specs.Ready.{ready_line}
 use Rattle.cts_server.specs.declared.worked.Worked.{Worked}
 use Rattle.cts_table.specs.Keeping.{IsKept}
-use Rattle.cts_serve.specs.Endings.{EndsHalted}
-use Rattle.cts_serve.specs.Load.{digest_asked, site_asked}
-use Rattle.cts_serve.specs.Phases.{HaltsIn, Phase, first_halt}
-use Rattle.cts_serve.specs.Putting.{FailsWithin, IsPut}
-use Rattle.cts_serve.specs.declared.halt.Halt.{Halt}
-use Rattle.cts_serve.specs.declared.halt.Halt.TheVariants.{Memory, WriteFault}
-use Rattle.cts_serve.specs.declared.halt.status.Status.{Status}
+use Rattle.cts_run.specs.Endings.{EndsHalted}
+use Rattle.cts_run.specs.Load.{digest_asked, site_asked}
+use Rattle.cts_run.specs.Phases.{HaltsIn, Phase, first_halt}
+use Rattle.cts_run.specs.Putting.{FailsWithin, IsPut}
+use Rattle.cts_run.specs.declared.halt.Halt.{Halt}
+use Rattle.cts_run.specs.declared.halt.Halt.TheVariants.{Memory, WriteFault}
+use Rattle.cts_run.specs.declared.halt.status.Status.{Status}
 use Rattle.cts_serve.specs.declared.serving.ended.Ended.{Ended}
 
 -- ---- what it is started from

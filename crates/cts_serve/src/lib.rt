@@ -1,25 +1,10 @@
-//! The top call of the program: `run`, from the words of the command line to the last printed line.
+//! The top call of the server: `serve`, from the words of the command line to the last printed line. `run`, that of the other commands, is handed on.
 #![tactic(auto)]
 
-mod check;
-mod command;
-mod demo;
-mod digest;
-mod dump;
-mod file_name;
-mod halt;
-mod keeping;
-mod laws;
-mod load;
-mod putting;
-mod rehearse;
-mod replay;
+mod lines;
 mod serving;
-mod story;
 mod words;
 
-pub use command::run;
-pub use halt::status::Status;
-pub use laws::{acts, outcomes};
+pub use cts_run::{Status, acts, outcomes, run};
 pub use serving::ended::Ended;
 pub use serving::serve;

@@ -2,9 +2,9 @@
 ghost use Rattle.std.specs.Prelude.{◌≡◌, [], Some};
 ghost use Rattle.cts_serve.specs.Served.{LeftNothing};
 
-use crate::halt::status::Status;
 use cts_base::List;
 use cts_line::LineWhy;
+use cts_run::Status;
 use cts_scribe::ScribeWhy;
 use cts_server::DeskNote;
 use cts_table::History;

@@ -5,18 +5,16 @@ ghost use Rattle.cts_ending.specs.declared.trouble.Trouble.TheVariants.{HistoryF
 ghost use Rattle.cts_entry.specs.Histories.{bytes_in, entries_in};
 ghost use Rattle.cts_entry.specs.Legal.{most_bytes, most_entries};
 ghost use Rattle.cts_entry.specs.declared.entry.Entry.{Entry};
-ghost use Rattle.cts_serve.specs.Lines.{end_line, full_line};
-ghost use Rattle.cts_serve.specs.Putting.{Printed, PutsWhole};
-ghost use Rattle.cts_serve.specs.Served.{EndsServing, trouble_line, trouble_status};
+ghost use Rattle.cts_run.specs.Lines.{end_line, full_line};
+ghost use Rattle.cts_run.specs.Putting.{Printed};
+ghost use Rattle.cts_serve.specs.Served.{EndsServing, PutsWhole, trouble_line, trouble_status};
 
-use crate::halt::ending::put_last;
-use crate::halt::lines;
-use crate::halt::status::Status;
-use crate::putting::put_text;
+use crate::lines;
 use crate::serving::ended::Ended;
 use cts_ending::{Counted, Trouble, count_history, first_trouble};
 use cts_line::LineWhy;
 use cts_outside::Sink;
+use cts_run::{Status, log_fault_text, memory_text, put_last, put_text};
 use cts_scribe::ScribeWhy;
 use cts_server::{DeskNote, Worked};
 use cts_table::History;
@@ -132,8 +130,8 @@ fn known_line(trouble: Trouble) -> &'static [u8]
     ensures { (history : List Entry) → result.now ≡ trouble_line (Some trouble) history }
 {
     match trouble {
-        Trouble::Memory => lines::memory_text(),
-        Trouble::LogFault => lines::log_fault_text(),
+        Trouble::Memory => memory_text(),
+        Trouble::LogFault => log_fault_text(),
         Trouble::NoWorker => lines::no_worker_text(),
         Trouble::DoorFault => lines::door_fault_text(),
         Trouble::WriteFault | Trouble::HistoryFull => b"",

@@ -1,4 +1,4 @@
-use Rattle.std.proofs.Common.{◌≡◌, true, false, List, ℕ, Option, Some, None, IfSome, Ok, Err, refl, sym, ◌∙◌, ap, subst, ◌<◌, ◌⊎◌, inl, inr}
+use Rattle.std.proofs.Common.{◌≡◌, true, List, ℕ, Option, None, Ok, Err, refl, sym, ◌∙◌, ap, subst, ◌<◌, ◌⊎◌, inl, inr}
 use Rattle.std.specs.Prelude.{map}
 use Rattle.cts_ending.specs.Troubles.{has_closed, trouble_of}
 use Rattle.cts_ending.specs.declared.trouble.Trouble.TheVariants.{HistoryFull as FullHistory}
@@ -6,23 +6,22 @@ use Rattle.cts_entry.specs.declared.entry.Entry.{Entry}
 use Rattle.cts_entry.specs.Histories.{entries_in}
 use Rattle.cts_entry.specs.Legal.{most_entries}
 use Rattle.cts_def.specs.Sites.{SiteData}
-use Rattle.cts_scribe.specs.declared.ending.ScribeWhy.{ScribeWhy}
 use Rattle.cts_server.specs.Ready.{ready_line}
 use Rattle.cts_server.specs.declared.worked.Worked.{Worked}
-use Rattle.cts_serve.specs.Command.{ShelfAt, first_phases}
-use Rattle.cts_serve.specs.Endings.{EndsHalted}
-use Rattle.cts_serve.specs.Laws.{IsShortOf}
-use Rattle.cts_serve.specs.Load.{site_asked}
-use Rattle.cts_serve.specs.Command.{LeavesShelf}
-use Rattle.cts_serve.specs.Phases.{first_halt}
+use Rattle.cts_run.specs.Command.{ShelfAt, first_phases}
+use Rattle.cts_run.specs.Endings.{EndsHalted}
+use Rattle.cts_run.specs.Laws.{IsShortOf}
+use Rattle.cts_run.specs.Load.{site_asked}
+use Rattle.cts_run.specs.Command.{LeavesShelf}
+use Rattle.cts_run.specs.Phases.{first_halt}
 use Rattle.cts_serve.specs.Served.{EndsServing, left, serves_on}
 use Rattle.cts_serve.specs.Serving.{HaltsServing, HasServed, IsPlanned, UnstartedBy, worked_of}
-use Rattle.cts_serve.specs.Start.{short_halt}
+use Rattle.cts_run.specs.Start.{short_halt}
 use Rattle.cts_serve.specs.Words.{asked_to_serve}
-use Rattle.cts_serve.specs.declared.halt.status.Status.{Status}
-use Rattle.cts_serve.specs.declared.halt.status.Status.TheVariants as status
-use Rattle.cts_serve.proofs.CommandLemmas.{never_some, no_vault, shelf_status, steady_rose}
-use Rattle.cts_serve.proofs.EndingLemmas.{caused, never_usage}
+use Rattle.cts_run.specs.declared.halt.status.Status.{Status}
+use Rattle.cts_run.specs.declared.halt.status.Status.TheVariants as status
+use Rattle.cts_run.proofs.CommandLemmas.{never_some, no_vault, shelf_status, steady_rose}
+use Rattle.cts_run.proofs.EndingLemmas.{caused, never_usage}
 use Rattle.cts_serve.proofs.HostLemmas.{some_plan, unserved_logs, unserved_status}
 use Rattle.cts_serve.proofs.ServeLemmas.{asked_not, complete_by, halts_serving, in_if, in_none, in_there, none_status, phase_status, reason_status, shelf_started, short_by, short_reason, told_asked, told_both, told_is_asked, told_one, told_unasked, un_full, un_if, un_started, un_status, un_there}
 use Rattle.cts_serve.proofs.ServedLemmas.{full_is_told, never_absent, never_read, never_shelf, never_usage_told, ready_end, served_door, served_fine, served_full, served_log, served_worker, served_write}

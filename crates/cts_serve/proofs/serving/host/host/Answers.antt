@@ -2,7 +2,7 @@ use Rattle.std.proofs.Common.{Some, refl, inl}
 use Rattle.std.specs.Arc.{arc_value}
 use Rattle.cts_serve.specs.Serving.{done_as}
 use Rattle.cts_serve.proofs.HostLemmas.{boxes_late_told, halts_early, if_ok_as, load_unserved, on_err_as, on_ok, phases_past, planned, some_plan, work_files, work_halts}
-use Rattle.cts_serve.proofs.PhaseLemmas.{load_counts, load_faults}
+use Rattle.cts_run.proofs.PhaseLemmas.{load_counts, load_faults}
 use Rattle.cts_serve.proofs.serving.host.host.Goals as goal
 
 -- ---- the workers of the site were let work

@@ -1,7 +1,7 @@
 use Rattle.std.proofs.Common.{◌≡◌, ◌∷◌, [], refl}
 use Rattle.std.specs.Arc.{arc_value}
-use Rattle.cts_serve.specs.Start.{shelf_phase}
-use Rattle.cts_serve.proofs.CommandLemmas.{unloaded_shelf}
+use Rattle.cts_run.specs.Start.{shelf_phase}
+use Rattle.cts_run.proofs.CommandLemmas.{unloaded_shelf}
 use Rattle.cts_serve.proofs.HostLemmas.{plan_boxes, plan_counts, plan_finds, unloaded_finds}
 use Rattle.cts_serve.proofs.serving.host.prepare.Goals as goal
 

@@ -1,8 +1,8 @@
 use Rattle.std.proofs.Common.{◌≡◌, ◌++◌, ℕ, List, ap, append_assoc, subst, sym}
 use Rattle.std.specs.Prelude.{codes}
 use Rattle.std.specs.Fmt.{decimal}
-use Rattle.cts_serve.specs.Lines.{full_line}
-use Rattle.cts_serve.specs.Putting.{Printed}
+use Rattle.cts_run.specs.Lines.{full_line}
+use Rattle.cts_run.specs.Putting.{Printed}
 use Rattle.cts_serve.proofs.PieceLemmas.{printed_after, printed_of, printed_part}
 use Rattle.cts_serve.proofs.serving.telling.put_full.Goals as goal
 

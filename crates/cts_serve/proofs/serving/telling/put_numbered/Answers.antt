@@ -1,6 +1,6 @@
 use Rattle.std.proofs.Common.{◌≡◌, ◌++◌, ℕ, List, false, ◌∙◌, subst}
 use Rattle.std.specs.Fmt.{decimal}
-use Rattle.cts_serve.specs.Putting.{FailsWithin, IsPut}
+use Rattle.cts_run.specs.Putting.{FailsWithin, IsPut}
 use Rattle.cts_serve.proofs.PieceLemmas.{fails_before, whole_after}
 use Rattle.cts_serve.proofs.serving.telling.put_numbered.Goals as goal
 

@@ -1,0 +1,12 @@
+use Rattle.std.proofs.Common.{◌≡◌, ◌+◌, ◌≤◌, drop, length}
+use Rattle.std.specs.List.{filter}
+use Rattle.cts_run.specs.Rehearsal.{is_command}
+use Rattle.cts_run.proofs.rehearse.counting.commands_in.Given as goal
+
+abbrev pub invariant-loop-n : goal.invariant-loop-n
+invariant-loop-n g l =
+    let history = g.H.Stands.list l.history in
+    record {
+      counted : l.count + length (filter is_command (drop l.n history)) ≡ length (filter is_command history);
+      few : l.count ≤ l.n;
+    }

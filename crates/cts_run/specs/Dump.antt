@@ -1,0 +1,70 @@
+-- A dump: the lines of the entries of a log, and where the log is refused.
+use Rattle.std.specs.Prelude.{◌≡◌, ℕ, nat_eq, List, [], ◌∷◌, ◌++◌, length, Option, None, ◌⊎◌, Result, Ok, Err, if◌then◌else◌}
+use Rattle.cts_log.specs.Dumping.{IsDumpLine}
+use Rattle.cts_log.specs.Logged.{Logged}
+use Rattle.cts_log.specs.Reading.{HasNoHead, IsLogRead}
+use Rattle.cts_log.specs.declared.kind.LogKind.{LogKind}
+use Rattle.cts_outside.specs.Seen.{SinkSeen}
+use Rattle.cts_run.specs.Acts.{Act, DoesAll, Outside, puts}
+use Rattle.cts_run.specs.Load.Files.{log_limit, within}
+use Rattle.cts_run.specs.Phases.{Phase, reading}
+use Rattle.cts_run.specs.Putting.{IsPut, FailsWithin}
+use Rattle.cts_run.specs.declared.halt.Halt.{Halt}
+use Rattle.cts_run.specs.declared.halt.Halt.TheVariants as halt
+use Rattle.cts_run.specs.declared.putting.Undone.{Undone}
+use Rattle.cts_run.specs.declared.putting.Undone.TheVariants as undone
+
+-- the puts of the lines of entries, in their order
+abbrev pub AreLines : List Logged → List Act → Type 0
+AreLines [] acts = acts ≡ []
+AreLines (e ∷ es) acts = (line : List ℕ) × (more : List Act) × IsDumpLine e line × AreLines es more × (acts ≡ puts line ++ more)
+
+-- a log that was read up to this place, of a file of this length
+abbrev pub dump_answer : ℕ → ℕ → Result (Unit {0}) Halt
+dump_answer place len = if nat_eq place len then Ok tt else Err (halt.LogRefused place)
+
+-- The lines of all whole entries of a log. It is refused at the first byte that is in no entry, if there is one.
+pub record IsPrinted (file : List ℕ) (acts : List Act) (due : Result (Unit {0}) Halt) : Type 0 where
+  pub kind : LogKind
+  pub entries : List Logged
+  pub place : ℕ
+  pub read : IsLogRead file kind entries place
+  pub lines : AreLines entries acts
+  pub due_is : due ≡ dump_answer place (length file)
+
+-- A file without the head of a log has no line, and is refused at its beginning.
+pub record IsNoLog (file : List ℕ) (acts : List Act) (due : Result (Unit {0}) Halt) : Type 0 where
+  pub none : HasNoHead file
+  pub nothing : acts ≡ []
+  pub refused : due ≡ Err (halt.LogRefused 0)
+
+-- what is done of a file before the last line, and how its dump ends
+abbrev pub IsDump : List ℕ → List Act → Result (Unit {0}) Halt → Type 0
+IsDump file acts due = IsPrinted file acts due ⊎ IsNoLog file acts due
+
+-- The lines of a log were put.
+pub record PutsLines (file : List ℕ) (answer : Result (Unit {0}) Halt) (old new : Outside) : Type 0 where
+  pub acts : List Act
+  pub due : Result (Unit {0}) Halt
+  pub printed : IsPrinted file acts due
+  pub does : DoesAll acts due answer old new
+
+-- A file was dumped.
+pub record PutsLog (file : List ℕ) (answer : Result (Unit {0}) Halt) (old new : Outside) : Type 0 where
+  pub acts : List Act
+  pub due : Result (Unit {0}) Halt
+  pub is : IsDump file acts due
+  pub does : DoesAll acts due answer old new
+
+-- The line of an entry was put, or why not.
+abbrev pub PutsEntry : Logged → Result (Unit {0}) Undone → SinkSeen → SinkSeen → Type 0
+PutsEntry e (Ok done) old new = (line : List ℕ) × IsDumpLine e line × IsPut line old new
+PutsEntry e (Err undone.WriteFault) old new = (line : List ℕ) × IsDumpLine e line × FailsWithin line old new
+PutsEntry e (Err undone.LogFault) old new = ⊥
+PutsEntry e (Err undone.Memory) old new = new ≡ old
+
+-- ---- its phase
+
+-- the log is read; one that is too large is refused at the limit
+abbrev pub log_phase : (List ℕ → Option (List ℕ)) → List ℕ → Phase
+log_phase files name = reading name (within log_limit (halt.LogRefused log_limit) (λ bytes. None)) (files name)

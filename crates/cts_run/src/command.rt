@@ -1,0 +1,117 @@
+// The top call.
+ghost use Rattle.std.specs.Prelude.{◌≡◌, ◌≤◌, ◌↔◌, ◌⊎◌, false, map, IfSome, None, Some};
+ghost use Rattle.cts_outside.specs.Causes.{Rose, Steady};
+ghost use Rattle.cts_run.specs.Acts.{outside};
+ghost use Rattle.cts_run.specs.Command.{Answers, CommandLeaves, Completes, Performs, ShelfAfter, keeps_logs, makes_world};
+ghost use Rattle.cts_run.specs.Laws.{IsBadLog, IsShort};
+ghost use Rattle.cts_run.specs.Lines.{usage_line};
+ghost use Rattle.cts_run.specs.Phases.{FileCounts};
+ghost use Rattle.cts_run.specs.Putting.{Printed, SinkCounts, VaultCounts};
+ghost use Rattle.cts_run.specs.Words.{asked};
+
+use crate::check::check;
+use crate::dump::dump;
+use crate::halt::Halt;
+use crate::halt::ending::{end, end_misused};
+use crate::halt::status::Status;
+use crate::rehearse::rehearse;
+use crate::replay::replay;
+use crate::words::{Command, read_words};
+use cts_core::{Framer, Supplier};
+use cts_outside::{Files, Sink, Vault};
+use std::alloc::Global;
+
+/// Runs one command: reads the files that its words name, does what it asks, puts what it prints, keeps
+/// the packet logs, and answers how it ended.
+///
+/// The words are those after the program's name: `check DEFS SITE` reads definitions and a site, and
+/// puts how much they have; `replay DEFS SITE SCRIPT` does the events of a script, and writes both packet logs to the vault;
+/// `rehearse N` does the events that are made from a number from 1 to 1,000,000 in the world of the demo's site, and puts eight lines
+/// of what they were; `dump LOG` puts the entries of a log file. Other words are `Usage`. The boxes of the protocols of all chains of a site whose world is made are taken from the shelf,
+/// before a script is read. The program's chains and shelf are `Chain` of `cts_chain` and `Shelf` of
+/// `cts_proto`; it is written over any, since a function that is lent boxes may not make a world of them.
+pub fn run<C: Framer, B: Supplier<C>, F: Files, O: Sink, V: Vault>(
+    alloc: Global,
+    words: &[&str],
+    shelf: &mut B,
+    files: &mut F,
+    out: &mut O,
+    vault: &mut V,
+) -> Status
+    // Exactly where the words fit no command.
+    ensures usage { result ≡ Status.Usage ↔ (asked (map (λ w. w.now) words.now) ≡ None) }
+    // Only where a read failed in this call.
+    ensures read { result ≡ Status.ReadFault → Rose (F.seen files.old).faults (F.seen files.new).faults }
+    // Only where a file was not there in this call.
+    ensures absent { result ≡ Status.Absent → Rose (F.seen files.old).absences (F.seen files.new).absences }
+    // Only where a put failed in this call.
+    ensures write { result ≡ Status.WriteFault → Rose (O.seen out.old).faults (O.seen out.new).faults }
+    // Only where an append or a sync failed in this call.
+    ensures vault { result ≡ Status.LogFault → Rose (V.seen vault.old).faults (V.seen vault.new).faults }
+    // Only where nothing failed.
+    ensures fine { result ≡ Status.Ok → ((F.seen files.new).faults ≡ (F.seen files.old).faults) × ((F.seen files.new).absences ≡ (F.seen files.old).absences) × ((O.seen out.new).faults ≡ (O.seen out.old).faults) × ((V.seen vault.new).faults ≡ (V.seen vault.old).faults) }
+    // No count falls.
+    ensures later { ((F.seen files.old).faults ≤ (F.seen files.new).faults) × ((F.seen files.old).absences ≤ (F.seen files.new).absences) × ((O.seen out.old).faults ≤ (O.seen out.new).faults) × ((V.seen vault.old).faults ≤ (V.seen vault.new).faults) }
+    // The files stay.
+    ensures stays { (F.seen files.new).told ≡ (F.seen files.old).told }
+    // Where the words fit no command, the line that says which ones do, whatever the files are.
+    ensures misused { asked (map (λ w. w.now) words.now) ≡ None → Printed (O.seen out.old) (O.seen out.new) usage_line }
+    // Only where all chains of the site need more boxes of a kind than the shelf holds.
+    ensures short { result ≡ Status.ShelfEmpty → IfSome (F.seen files.old).told (λ all. IsShort (B.stock shelf.old) all (asked (map (λ w. w.now) words.now))) }
+    // And there no other status comes, where no count rose, but want of memory.
+    ensures shelf { Steady (F.seen files.old).faults (F.seen files.new).faults → Steady (O.seen out.old).faults (O.seen out.new).faults → Steady (V.seen vault.old).faults (V.seen vault.new).faults
+        → IfSome (F.seen files.old).told (λ all. IsShort (B.stock shelf.old) all (asked (map (λ w. w.now) words.now)) → (result ≡ Status.ShelfEmpty) ⊎ (result ≡ Status.Memory)) }
+    // A command that makes no world leaves the shelf, and one that keeps no logs the vault.
+    ensures untouched { makes_world (asked (map (λ w. w.now) words.now)) ≡ false → B.stock shelf.new ≡ B.stock shelf.old }
+    ensures idle { keeps_logs (asked (map (λ w. w.now) words.now)) ≡ false → V.seen vault.new ≡ V.seen vault.old }
+    // A replay or rehearsal that halts before its world is made leaves it too; and else exactly the boxes of all chains of its site are gone.
+    ensures boxes { IfSome (F.seen files.old).told (λ all. ShelfAfter all (asked (map (λ w. w.now) words.now)) result (B.stock shelf.old) (B.stock shelf.new)) }
+    // Only where a dump is asked for of a file that is too large, or is no head with whole entries alone after it.
+    ensures refused { result ≡ Status.LogRefused → IfSome (F.seen files.old).told (λ all. IsBadLog all (asked (map (λ w. w.now) words.now))) }
+    // And there no other status comes, where no count rose, but want of memory.
+    ensures log { Steady (F.seen files.old).faults (F.seen files.new).faults → Steady (O.seen out.old).faults (O.seen out.new).faults → Steady (V.seen vault.old).faults (V.seen vault.new).faults
+        → IfSome (F.seen files.old).told (λ all. IsBadLog all (asked (map (λ w. w.now) words.now)) → (result ≡ Status.LogRefused) ⊎ (result ≡ Status.Memory)) }
+    // The outcome that the boxes on the shelf and the content of the files have, and what was put and appended for it.
+    ensures transcript { IfSome (F.seen files.old).told (λ all. Answers (B.stock shelf.old) all (asked (map (λ w. w.now) words.now)) result (outside (O.seen out.old) (V.seen vault.old)) (outside (O.seen out.new) (V.seen vault.new))) }
+    // Where no count rose, the outcome's status comes, or want of memory.
+    ensures complete { Steady (F.seen files.old).faults (F.seen files.new).faults → Steady (O.seen out.old).faults (O.seen out.new).faults → Steady (V.seen vault.old).faults (V.seen vault.new).faults
+        → IfSome (F.seen files.old).told (λ all. Completes (B.stock shelf.old) all (asked (map (λ w. w.now) words.now)) result) }
+{
+    match read_words(words) {
+        Some(command) => {
+            let done = perform::<C, B, F, O, V>(alloc, &command, shelf, files, out, vault);
+            end(alloc, done, out)
+        }
+        None => end_misused(out),
+    }
+}
+
+// Does a command in its room, until all is done or it halts.
+fn perform<'a, C: Framer, B: Supplier<C>, F: Files, O: Sink, V: Vault>(
+    alloc: Global,
+    command: &Command<'a>,
+    shelf: &mut B,
+    files: &mut F,
+    out: &mut O,
+    vault: &mut V,
+) -> Result<(), Halt<'a>>
+    ensures stays { (F.seen files.new).told ≡ (F.seen files.old).told }
+    ensures files { FileCounts result (F.seen files.old) (F.seen files.new) }
+    ensures sink { SinkCounts result (O.seen out.old) (O.seen out.new) }
+    ensures vault { VaultCounts result (V.seen vault.old) (V.seen vault.new) }
+    ensures performs { IfSome (F.seen files.old).told (λ all. Performs (B.stock shelf.old) all command.now result (outside (O.seen out.old) (V.seen vault.old)) (outside (O.seen out.new) (V.seen vault.new))) }
+    ensures untouched { makes_world (Some command.now) ≡ false → B.stock shelf.new ≡ B.stock shelf.old }
+    ensures idle { keeps_logs (Some command.now) ≡ false → V.seen vault.new ≡ V.seen vault.old }
+    ensures boxes { IfSome (F.seen files.old).told (λ all. CommandLeaves all command.now result (B.stock shelf.old) (B.stock shelf.new)) }
+{
+    match command {
+        Command::Check { definitions, site } => check(alloc, definitions, site, files, out),
+        Command::Replay {
+            definitions,
+            site,
+            script,
+        } => replay::<C, B, F, O, V>(alloc, definitions, site, script, shelf, files, out, vault),
+        Command::Rehearse { number } => rehearse::<C, B, O>(alloc, *number, shelf, out),
+        Command::Dump { log } => dump(alloc, log, files, out),
+    }
+}

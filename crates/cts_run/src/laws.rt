@@ -1,0 +1,22 @@
+// Laws of the definitions. The functions do nothing: their contracts are the laws.
+ghost use Rattle.cts_run.specs.Laws.{AllIsSynced, BytesAreKept, HasOutcome, HasOneOutcome, NoCountRises, RefusedExactly, ShortExactly, TextsArePut};
+
+/// The words of a command, the boxes on the shelf and the content of the files decide one outcome: its status, and all that is
+/// put and appended. Its status is that of a shelf that is short exactly where all chains of the site need more boxes of a kind than the
+/// shelf holds, and nothing is refused before. It is that of a refused log exactly where a dump is asked for of a file that is too
+/// large, or is no head with whole entries alone after it.
+pub fn outcomes()
+    ensures some { HasOutcome }
+    ensures one { HasOneOutcome }
+    ensures short { ShortExactly }
+    ensures refused { RefusedExactly }
+{}
+
+/// What acts leave that were done, one after another: the sink has all their texts, each log all bytes that they append to it, and no
+/// count rises. Where both logs are synced last, all their bytes are synced.
+pub fn acts()
+    ensures texts { TextsArePut }
+    ensures bytes { BytesAreKept }
+    ensures synced { AllIsSynced }
+    ensures counts { NoCountRises }
+{}

@@ -1,5 +1,0 @@
-use Rattle.cts_serve.proofs.LawLemmas.{has_outcome, has_one_outcome, refused_exactly, short_exactly}
-use Rattle.cts_serve.proofs.laws.outcomes.Goals as goal
-
-pub returns : goal.returns
-returns c = record { some = has_outcome; one = has_one_outcome; short = short_exactly; refused = refused_exactly }

@@ -1,4 +1,0 @@
-use Rattle.cts_serve.proofs.story.Story.over.Goals as goal
-
-pub returns-in-Ok-new-clause-taken : goal.returns-in-Ok-new-clause-taken
-returns-in-Ok-new-clause-taken g c = rw c.in-Ok.ensures.ok at c.in-Ok-new.ensures.taken
