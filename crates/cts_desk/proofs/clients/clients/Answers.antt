@@ -1,4 +1,4 @@
-use Rattle.std.proofs.Common.{refl, rules, ◌∙◌}
+use Rattle.std.proofs.Common.{refl}
 use Rattle.cts_worker.proofs.Onwards.{onward_then, onward_same}
 use Rattle.cts_desk.proofs.Faulting.{rise_then, rise_same}
 use Rattle.cts_desk.proofs.clients.clients.Goals as goal
