@@ -4,7 +4,7 @@ use crate::Time;
 use cts_base::Name;
 
 /// The time and the names of a packet, as a log entry and a preidentified frame carry them.
-#[derive(Debug, Drop)]
+#[derive(Drop)]
 pub struct Label {
     /// The packet's time.
     pub time: Time,

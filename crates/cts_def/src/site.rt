@@ -5,7 +5,7 @@ use cts_base::List;
 use std::marker::Model;
 
 /// The definitions, the interfaces and routers, and the desks of JSON clients.
-#[derive(Debug, Drop)]
+#[derive(Drop)]
 pub struct Site {
     /// The packets and commands.
     pub definitions: Definitions,

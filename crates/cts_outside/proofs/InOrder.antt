@@ -20,6 +20,14 @@ pub count_more : {E : Type 0} (p : E → Bool) (ends : List E) (end : E) (b : Bo
 count_more p ends end b h =
     omega (arith, sum_by-append (λ x. cond (p x) 1 0) ends (end ∷ []), ap {B = ℕ} (λ (v : Bool). cond v 1 0) h)
 
+-- all jobs are started, and none is joined
+pub joined_none : {J S E : Type 0} (R : J → E → Type 0) (Q : J → S → Type 0) (started left all : List J) (ends : List E) (starts : List S)
+    → left ≡ [] → ends ≡ [] → started ++ left ≡ all → AllZip Q started starts
+    → (d r : List J) × (d ++ r ≡ all) × AllZip R d ends × AllZip Q r starts
+joined_none R Q started [] all [] starts none fresh e q = ([], started, sym (append-nil started) ∙ e, tt, q)
+joined_none R Q started [] all (x ∷ ends) starts none fresh e q = absurd cc
+joined_none R Q started (j ∷ left) all ends starts none fresh e q = absurd cc
+
 -- the end of the first start is an end of the first of the jobs that are left
 pub joined_more : {J S E : Type 0} (R : J → E → Type 0) (Q : J → S → Type 0) (done rest all : List J) (ends : List E) (starts after : List S) (start : S) (end : E)
     → done ++ rest ≡ all → AllZip R done ends → AllZip Q rest starts → starts ≡ start ∷ after → ((job : J) → Q job start → R job end)

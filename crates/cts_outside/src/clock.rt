@@ -11,7 +11,7 @@ pub trait Clock {
 }
 
 /// A clock that stands still.
-#[derive(Debug, Drop)]
+#[derive(Drop)]
 pub struct FixedClock {
     seconds: u32,
     micros: u32,

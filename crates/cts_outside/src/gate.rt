@@ -2,7 +2,7 @@
 use std::sync::Wait;
 
 /// What a worker has just done when it comes to the gate.
-#[derive(Clone, Copy, Debug, PartialEq, Eq)]
+#[derive(Clone, Copy, PartialEq, Eq)]
 pub enum GateStage {
     /// It has begun.
     Started,
@@ -21,7 +21,7 @@ pub trait Gate {
 }
 
 /// A gate at which nobody waits.
-#[derive(Debug, Drop)]
+#[derive(Drop)]
 pub struct OpenGate;
 
 impl OpenGate {

@@ -8,7 +8,7 @@ use crate::PutFailed;
 use cts_base::{Bytes, Decimal};
 
 /// Where a dialer is to connect to, or where it is to accept clients.
-#[derive(Debug, Drop)]
+#[derive(Drop)]
 pub struct Aim {
     /// The host to connect to. It is empty for a dialer that serves.
     pub host: Bytes,

@@ -13,7 +13,7 @@ use std::alloc::Global;
 use std::marker::Model;
 
 /// What a connection in memory gives.
-#[derive(Debug, Drop)]
+#[derive(Drop)]
 pub enum MemPiece {
     /// Bytes, as many at once as the buffer has room for.
     Bytes(Bytes),
@@ -34,7 +34,7 @@ impl MemPiece {
 }
 
 /// A connection in memory. It ends after its last piece.
-#[derive(Debug, Drop)]
+#[derive(Drop)]
 pub struct MemConnection {
     /// How many dials answer Later before it stands.
     pub later: u64,

@@ -10,7 +10,7 @@ use std::alloc::Global;
 use std::marker::Model;
 
 /// A log in memory, of which the first bytes are synced.
-#[derive(Debug, Drop)]
+#[derive(Drop)]
 struct MemLog {
     bytes: Vec<u8>,
     synced: usize,
@@ -63,7 +63,7 @@ impl MemLog {
 }
 
 /// A vault in memory. The appends and syncs are numbered together from 0, and those whose numbers are listed fail.
-#[derive(Debug, Drop)]
+#[derive(Drop)]
 pub struct MemVault {
     tlm: MemLog,
     cmd: MemLog,

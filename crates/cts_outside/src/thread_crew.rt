@@ -14,7 +14,7 @@ use std::thread::{Promise, PromisedHandle, Scope, Threads};
 
 /// A crew that runs each job on a thread of its own, within a scope. A job whose start the system refuses is cancelled on the
 /// caller's thread, before the next one is started.
-#[derive(Debug, Drop)]
+#[derive(Drop)]
 pub struct ThreadCrew {
     faults: u64,
     handed: usize,

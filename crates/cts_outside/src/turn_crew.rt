@@ -9,7 +9,7 @@ use std::marker::Model;
 
 /// A crew that runs its jobs one after another. It refuses the start of the jobs whose numbers are listed, and of no other; the
 /// first job of each `all` has the number 0.
-#[derive(Debug, Drop)]
+#[derive(Drop)]
 pub struct TurnCrew {
     failing: Vec<u64>,
     faults: u64,

@@ -6,7 +6,7 @@ ghost use Rattle.cts_outside.specs.Vaults.{Appends, Syncs};
 use crate::PutFailed;
 
 /// Which of the two packet logs.
-#[derive(Clone, Copy, Debug, PartialEq, Eq)]
+#[derive(Clone, Copy, PartialEq, Eq)]
 pub enum LogKind {
     /// That of telemetry.
     Tlm,

@@ -18,7 +18,7 @@ use cts_staff::Task;
 use std::alloc::Global;
 
 /// What all workers of a site work with.
-#[derive(Clone, Copy)]
+#[derive(Drop)]
 pub(crate) struct Means<'a, K, G> {
     pub alloc: Global,
     pub site: &'a Site,

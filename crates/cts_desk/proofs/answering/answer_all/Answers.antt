@@ -1,10 +1,10 @@
-use Rattle.std.proofs.Common.{subst, Bool, ◌∙◌, ◌≡◌, true}
+use Rattle.std.proofs.Common.{subst, refl, Bool, ◌∙◌, ◌≡◌, true}
 use Rattle.cts_desk.specs.Serving.{Serving, Reads, goes_on}
 use Rattle.cts_turn.specs.Passes.{view}
 use Rattle.cts_worker.specs.Grounds.{ground}
-use Rattle.cts_worker.proofs.Onwards.{onward_then}
+use Rattle.cts_worker.proofs.Onwards.{onward_then, onward_same}
 use Rattle.cts_desk.proofs.Steps.{serving_more, serving_refused, serving_asks, given_of}
-use Rattle.cts_desk.proofs.Faulting.{rise_then}
+use Rattle.cts_desk.proofs.Faulting.{rise_then, rise_same}
 use Rattle.cts_desk.proofs.Aiming.{aim_put}
 use Rattle.cts_desk.proofs.answering.answer_all.Goals as goal
 
@@ -55,3 +55,19 @@ returns-in-Refuse-clause-aim g c = aim_put _ _ _ c.put_refusal-put.result c.put_
 
 pub returns-then-not-goes-clause-aim : goal.returns-then-not-goes-clause-aim
 returns-then-not-goes-clause-aim g c = c.answer-next.ensures.aim ∙ c.requests.invariant.aim
+
+pub requests-init : goal.requests-init
+requests-init g c = record {
+  pass = c.requires.pass;
+  ready = c.requires.ready;
+  onward = onward_same _;
+  linked = c.requires.linked;
+  dials = refl;
+  faults = rise_same (g.R.Link.seen c.args.door.now);
+  aim = refl;
+  open_still = c.requires.open;
+  serves = λ was s. s;
+}
+
+pub returns-then-not-goes-clause-onward : goal.returns-then-not-goes-clause-onward
+returns-then-not-goes-clause-onward g c = onward_then _ _ _ c.requests.invariant.onward c.answer-next.ensures.onward

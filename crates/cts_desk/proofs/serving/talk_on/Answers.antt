@@ -1,10 +1,10 @@
-use Rattle.std.proofs.Common.{subst, sym, Bool, [], ◌∙◌, rules}
+use Rattle.std.proofs.Common.{subst, sym, refl, Bool, [], ◌∙◌, rules}
 use Rattle.cts_turn.specs.Passes.{view}
 use Rattle.cts_worker.specs.Grounds.{ground}
 use Rattle.cts_desk.specs.Serving.{Serving, Reads, Waits, goes_on}
-use Rattle.cts_worker.proofs.Onwards.{onward_then, onward_hold}
+use Rattle.cts_worker.proofs.Onwards.{onward_then, onward_same, onward_hold}
 use Rattle.cts_desk.proofs.Steps.{serving_looked, serving_halted, serving_taken}
-use Rattle.cts_desk.proofs.Faulting.{rise_then}
+use Rattle.cts_desk.proofs.Faulting.{rise_then, rise_same}
 use Rattle.cts_desk.proofs.serving.talk_on.Goals as goal
 
 pub returns-then-stop-clause-serves : goal.returns-then-stop-clause-serves
@@ -74,3 +74,31 @@ returns-then-stop-clause-aim g c = c.answer_all-next.ensures.aim ∙ c.rounds.in
 
 pub returns-then-not-more-clause-aim : goal.returns-then-not-more-clause-aim
 returns-then-not-more-clause-aim g c = c.take_piece-more.ensures.aim ∙ c.answer_all-next.ensures.aim ∙ c.rounds.invariant.aim
+
+pub rounds-init : goal.rounds-init
+rounds-init g c = record {
+  pass = c.requires.pass;
+  ready = c.requires.ready;
+  onward = onward_same _;
+  linked = c.requires.linked;
+  dials = refl;
+  faults = rise_same (g.R.Link.seen c.args.door.now);
+  aim = refl;
+  open_still = c.requires.open;
+  room = search rules;
+  serves = λ was s. s;
+}
+
+pub returns-then-not-goes-clause-onward : goal.returns-then-not-goes-clause-onward
+returns-then-not-goes-clause-onward g c = onward_then _ _ _ c.rounds.invariant.onward c.answer_all-next.ensures.onward
+
+pub returns-then-stop-clause-onward : goal.returns-then-stop-clause-onward
+returns-then-stop-clause-onward g c = onward_then _ _ _ (onward_then _ _ _ c.rounds.invariant.onward c.answer_all-next.ensures.onward) (onward_hold c.args.by _ _ [] c.looks-next.ensures.hold)
+
+pub returns-then-not-more-clause-onward : goal.returns-then-not-more-clause-onward
+returns-then-not-more-clause-onward g c = onward_then _ _ _ (onward_then _ _ _ c.rounds.invariant.onward c.answer_all-next.ensures.onward) (onward_hold c.args.by _ _ [] c.looks-next.ensures.hold)
+
+pub returns-then-not-goes-clause-serves : goal.returns-then-not-goes-clause-serves
+returns-then-not-goes-clause-serves g c = λ was s.
+    subst (λ (x : Bool). Serving (ground c.args.turn.now) c.args.by was (goes_on x Waits) c.answer_all-next.result.0.fronts.items (view c.answer_all-next.result.0.pass) c.answer_all-next.new.reader (g.R.Link.seen c.answer_all-next.new.door).told) c.if-not-goes.true
+    (c.answer_all-next.ensures.serves was (c.rounds.invariant.serves was s))

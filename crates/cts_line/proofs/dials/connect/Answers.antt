@@ -148,3 +148,12 @@ returns-in-Some-end-clause-stop g c =
 
 pub returns-in-Some-end-clause-retells : goal.returns-in-Some-end-clause-retells
 returns-in-Some-end-clause-retells g c = retells_then _ _ _ c.dials.invariant.retells c.attempt-next.ensures.retells
+
+pub returns-then-stop-clause-onward : goal.returns-then-stop-clause-onward
+returns-then-stop-clause-onward g c = onward_then _ _ _ c.dials.invariant.onward (onward_hold c.args.hand.now.by _ _ [] c.sees_stop-next.ensures.hold)
+
+pub returns-in-Some-end-clause-onward : goal.returns-in-Some-end-clause-onward
+returns-in-Some-end-clause-onward g c = onward_then _ _ _ (onward_then _ _ _ c.dials.invariant.onward (onward_hold c.args.hand.now.by _ _ [] c.sees_stop-next.ensures.hold)) c.attempt-next.ensures.onward
+
+pub returns-in-Some-end-clause-same : goal.returns-in-Some-end-clause-same
+returns-in-Some-end-clause-same g c = same_then c.args.connection.now.chain c.dials.connection.chain c.attempt-next.new.connection.chain c.dials.invariant.same c.attempt-next.ensures.same

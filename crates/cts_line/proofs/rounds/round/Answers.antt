@@ -2,6 +2,7 @@ use Rattle.std.proofs.Common.{◌∙◌, refl}
 use Rattle.cts_outside.specs.Lines.{after_take}
 use Rattle.cts_outside.specs.declared.link.Taken.TheVariants.{Got, Nothing, End, Failed}
 use Rattle.cts_turn.specs.Passes.{view}
+use Rattle.cts_worker.proofs.Onwards.{onward_then}
 use Rattle.cts_line.proofs.Following.{closed_went, end_taken, ends_by, failed_taken, nothing_taken, takes_by, went_told}
 use Rattle.cts_line.proofs.Telling.{retells_now, retells_then, since_now}
 use Rattle.cts_line.proofs.rounds.round.Goals as goal
@@ -65,3 +66,15 @@ returns-in-Failed-clause-stop g c = c.close-in-Failed.ensures.stop ∙ c.catch_u
 
 pub returns-in-Got-clause-stop : goal.returns-in-Got-clause-stop
 returns-in-Got-clause-stop g c = c.post.ensures.stop ∙ c.catch_up-pass.ensures.stop
+
+pub returns-in-Some-clause-onward : goal.returns-in-Some-clause-onward
+returns-in-Some-clause-onward g c = onward_then (view c.args.pass) (view c.catch_up-pass.result.0) (view c.close.result.0) c.catch_up-pass.ensures.onward c.close.ensures.onward
+
+pub returns-in-End-clause-onward : goal.returns-in-End-clause-onward
+returns-in-End-clause-onward g c = onward_then (view c.args.pass) (view c.catch_up-pass.result.0) (view c.close-in-End.result.0) c.catch_up-pass.ensures.onward c.close-in-End.ensures.onward
+
+pub returns-in-Failed-clause-onward : goal.returns-in-Failed-clause-onward
+returns-in-Failed-clause-onward g c = onward_then (view c.args.pass) (view c.catch_up-pass.result.0) (view c.close-in-Failed.result.0) c.catch_up-pass.ensures.onward c.close-in-Failed.ensures.onward
+
+pub returns-in-Got-clause-onward : goal.returns-in-Got-clause-onward
+returns-in-Got-clause-onward g c = onward_then (view c.args.pass) (view c.catch_up-pass.result.0) (view c.post.result.0) c.catch_up-pass.ensures.onward c.post.ensures.onward

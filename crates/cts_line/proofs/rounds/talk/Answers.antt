@@ -63,3 +63,9 @@ returns-in-Some-closed-clause-stop g c = c.round-next.ensures.stop ∙ c.rounds.
 
 pub returns-in-Some-closed-clause-retells : goal.returns-in-Some-closed-clause-retells
 returns-in-Some-closed-clause-retells g c = retells_then _ _ _ c.rounds.invariant.retells c.round-next.ensures.retells
+
+pub returns-in-Some-closed-clause-onward : goal.returns-in-Some-closed-clause-onward
+returns-in-Some-closed-clause-onward g c = onward_then (view c.args.pass) (view c.rounds.pass) (view c.round-next.result.0) c.rounds.invariant.onward c.round-next.ensures.onward
+
+pub returns-in-Some-closed-clause-same : goal.returns-in-Some-closed-clause-same
+returns-in-Some-closed-clause-same g c = same_then c.args.connection.now.chain c.rounds.connection.chain c.round-next.new.connection.chain c.rounds.invariant.same c.round-next.ensures.same

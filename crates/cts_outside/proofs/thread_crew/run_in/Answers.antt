@@ -2,7 +2,7 @@ use Rattle.std.proofs.Common.{◌≡◌, ◌++◌, ◌∷◌, [], rules, arith, 
 use Rattle.std.specs.List.{AllByRecursion}
 use Rattle.cts_outside.specs.Crews.{EndsAs}
 use Rattle.std.proofs.lemmas.Grind.{common_steps}
-use Rattle.cts_outside.proofs.InOrder.{ended_more, joined_more, joined_all}
+use Rattle.cts_outside.proofs.InOrder.{ended_more, joined_none, joined_more, joined_all}
 use Rattle.cts_outside.proofs.thread_crew.run_in.Goals as goal
 use Rattle.cts_outside.proofs.thread_crew.run_in.Goals.{in-Ok-take_first, in-Err}
 
@@ -48,3 +48,37 @@ returns-clause-ends g c =
     let kept = c.starts.invariant in
     let none : c.starts.starts.items ≡ [] = grind (arith, common_steps) in
     joined_all _ _ kept.ends.0 kept.ends.1 _ _ _ none kept.ends.2 kept.ends.3 kept.ends.4
+
+pub unwrap-requires : goal.unwrap-requires
+unwrap-requires g c = grind (arith, common_steps)
+
+pub unwrap-requires-in-starts : goal.unwrap-requires-in-starts
+unwrap-requires-in-starts g c = grind (arith, common_steps)
+
+pub overflow_add-number : goal.overflow_add-number
+overflow_add-number g c = grind (arith, common_steps)
+
+pub jobs-smaller : goal.jobs-smaller
+jobs-smaller g c = grind (arith, common_steps)
+
+pub starts-smaller : goal.starts-smaller
+starts-smaller g c = grind (arith, common_steps)
+
+pub take_first-job-requires : goal.take_first-job-requires
+take_first-job-requires g c = grind (arith, common_steps)
+
+pub take_first-requires : goal.take_first-requires
+take_first-requires g c = grind (arith, common_steps)
+
+pub jobs-init : goal.jobs-init
+jobs-init g c = search rules
+
+pub starts-init : goal.starts-init
+starts-init g c =
+    let kept = c.jobs.invariant in
+    let none : c.jobs.jobs.items ≡ [] = grind (arith, common_steps) in
+    let fresh : c.in-Ok-with_capacity.ends.items ≡ [] = search rules in
+    record {
+      ends = joined_none _ _ kept.starts.0 _ _ _ _ none fresh kept.starts.1 kept.starts.2;
+      room = grind (arith, common_steps);
+    }

@@ -1,10 +1,13 @@
-use Rattle.std.proofs.Common.{Ok, Err, refl, subst, sym, take, inl}
+use Rattle.std.proofs.Common.{Ok, Err, refl, subst, sym, take, true, inl}
 use Rattle.cts_turn.specs.Passes.{view}
+use Rattle.cts_worker.specs.Lasts.{first_moment}
 use Rattle.cts_worker.specs.Grounds.{ground}
+use Rattle.cts_worker.proofs.Lasting.{ended_onward}
+use Rattle.cts_worker.proofs.Onwards.{onward_then}
 use Rattle.cts_scribe.specs.declared.ending.ScribeWhy.TheVariants.{NoMemory, VaultFailed}
 use Rattle.cts_scribe.specs.Vaults.{AreParts, AreWhole, PutsBoth}
 use Rattle.cts_scribe.proofs.Lasting.{gave_up_at, gave_up_taken}
-use Rattle.cts_scribe.proofs.Sighting.{Looked, looked_more, looked_wanting, put_after, wanting_whole}
+use Rattle.cts_scribe.proofs.Sighting.{Looked, looked_more, looked_onward, looked_wanting, put_after, wanting_whole}
 use Rattle.cts_scribe.proofs.following.attempt.Goals as goal
 
 pub returns-in-Ok-clause-logs : goal.returns-in-Ok-clause-logs
@@ -85,3 +88,20 @@ returns-clause-logs g c = λ digest whole.
     let kept = wanting_whole site base c.args.by v w p q c.in-Err.field-0 digest told hold c.requires.following whole in
     inl (subst (λ l. AreWhole site digest l told)
     (sym (gave_up_taken c.args.by w (view c.give_up-follower-in-Err.result.pass) q c.give_up-follower-in-Err.result.progress c.give_up-follower-in-Err.ensures.ended f c.give_up-follower-in-Err.ensures.progress)) kept)
+
+pub returns-in-Ok-clause-onward : goal.returns-in-Ok-clause-onward
+returns-in-Ok-clause-onward g c = looked_onward c.args.site.now (ground c.args.turn.now) c.args.by (view c.args.follower.pass) (view c.look-follower.result.0.pass) c.args.follower.progress c.look-follower.result.0.progress c.look-follower.result.1 c.look-follower.ensures.hold
+
+pub returns-in-Ok-Still-clause-onward : goal.returns-in-Ok-Still-clause-onward
+returns-in-Ok-Still-clause-onward g c = looked_onward c.args.site.now (ground c.args.turn.now) c.args.by (view c.args.follower.pass) (view c.look-follower.result.0.pass) c.args.follower.progress c.look-follower.result.0.progress c.look-follower.result.1 c.look-follower.ensures.hold
+
+pub returns-in-Ok-Drained-clause-onward : goal.returns-in-Ok-Drained-clause-onward
+returns-in-Ok-Drained-clause-onward g c = looked_onward c.args.site.now (ground c.args.turn.now) c.args.by (view c.args.follower.pass) (view c.look-follower.result.0.pass) c.args.follower.progress c.look-follower.result.0.progress c.look-follower.result.1 c.look-follower.ensures.hold
+
+pub returns-in-Ok-More-clause-onward : goal.returns-in-Ok-More-clause-onward
+returns-in-Ok-More-clause-onward g c = onward_then _ _ _ (looked_onward c.args.site.now (ground c.args.turn.now) c.args.by (view c.args.follower.pass) (view c.look-follower.result.0.pass) c.args.follower.progress c.look-follower.result.0.progress c.look-follower.result.1 c.look-follower.ensures.hold)
+    (ended_onward c.args.by first_moment true (view c.look-follower.result.0.pass) (view c.give_up-follower.result.pass) c.give_up-follower.ensures.ended)
+
+pub returns-clause-onward : goal.returns-clause-onward
+returns-clause-onward g c = onward_then _ _ _ (looked_onward c.args.site.now (ground c.args.turn.now) c.args.by (view c.args.follower.pass) (view c.look-follower.result.0.pass) c.args.follower.progress c.look-follower.result.0.progress c.look-follower.result.1 c.look-follower.ensures.hold)
+    (ended_onward c.args.by first_moment true (view c.look-follower.result.0.pass) (view c.give_up-follower-in-Err.result.pass) c.give_up-follower-in-Err.ensures.ended)

@@ -1,6 +1,6 @@
-use Rattle.std.proofs.Common.{◌∙◌, subst, take}
+use Rattle.std.proofs.Common.{◌∙◌, refl, subst, take}
 use Rattle.cts_turn.specs.Passes.{view}
-use Rattle.cts_worker.proofs.Onwards.{onward_then}
+use Rattle.cts_worker.proofs.Onwards.{onward_then, onward_same}
 use Rattle.cts_scribe.specs.Ending.{CausesEndIf, LogsEndIf}
 use Rattle.cts_scribe.specs.Following.{GoesOrEnds}
 use Rattle.cts_scribe.proofs.following.follow.Goals as goal
@@ -26,3 +26,15 @@ looks-preserved g c =
       logs = λ digest whole. subst (λ o. LogsEndIf c.args.site.now digest (take x.progress.place (view x.pass).seen) o told) none (e.logs digest (i.logs digest whole));
       faults = subst (λ o. CausesEndIf (g.V.Vault.seen c.looks.vault).faults (g.V.Vault.seen c.attempt-next.new.vault).faults o) none e.cause ∙ i.faults;
     }
+
+pub looks-init : goal.looks-init
+looks-init g c = record {
+  pass = c.requires.pass;
+  following = c.requires.following;
+  onward = onward_same _;
+  logs = λ digest whole. whole;
+  faults = refl;
+}
+
+pub returns-in-Some-end-clause-onward : goal.returns-in-Some-end-clause-onward
+returns-in-Some-end-clause-onward g c = onward_then _ _ _ c.looks.invariant.onward c.attempt-next.ensures.onward

@@ -1,6 +1,6 @@
-use Rattle.std.proofs.Common.{arith, map, ap, length, length-append, ◌++◌, sym, ◌∙◌, None}
+use Rattle.std.proofs.Common.{arith, map, ap, length, length-append, ◌++◌, sym, subst, ◌∙◌, None}
 use Rattle.std.specs.List.{filter_map}
-use Rattle.cts_server.specs.Homes.{last_of}
+use Rattle.cts_server.specs.Homes.{CameHome, last_of}
 use Rattle.cts_server.specs.Kinds.{desk_left, desk_note, line_note, line_why, scribe_note, slot_note}
 use Rattle.cts_server.proofs.Homing.{added_one, added_other, has_place, home_one, home_other, home_place, last_one, last_other, walked, walked_all, walked_len}
 use Rattle.cts_server.proofs.notes.notes_back.Goals as goal
@@ -125,6 +125,15 @@ loop-note-preserved g c =
       whys_room = kept.whys_room;
       left_room = kept.left_room;
     }
+
+pub returns-clause-lines : goal.returns-clause-lines
+returns-clause-lines g c = subst (λ l. CameHome line_note (λ n. n.dialer) l c.args.lines.now c.loop-note.lines) (walked_all c.loop-note.yielded _ _ _ c.loop-note.invariant.all c.loop-note.invariant.many c.in-None.ensures.steps.0) c.loop-note.invariant.lines.places
+
+pub returns-clause-slots : goal.returns-clause-slots
+returns-clause-slots g c = subst (λ l. CameHome slot_note (λ n. n.dialer) l c.args.slots.now c.loop-note.slots) (walked_all c.loop-note.yielded _ _ _ c.loop-note.invariant.all c.loop-note.invariant.many c.in-None.ensures.steps.0) c.loop-note.invariant.slots.places
+
+pub returns-clause-desks : goal.returns-clause-desks
+returns-clause-desks g c = subst (λ l. CameHome desk_note (λ n. n.door) l c.args.desks.now c.loop-note.desks) (walked_all c.loop-note.yielded _ _ _ c.loop-note.invariant.all c.loop-note.invariant.many c.in-None.ensures.steps.0) c.loop-note.invariant.desks.places
 
 pub returns-clause-vault : goal.returns-clause-vault
 returns-clause-vault g c = c.loop-note.invariant.vault ∙ ap (λ l. last_of c.args.vault.now (map (λ n. n.vault) (filter_map scribe_note l))) (walked_all c.loop-note.yielded _ _ _ c.loop-note.invariant.all c.loop-note.invariant.many c.in-None.ensures.steps.0)

@@ -35,3 +35,12 @@ desks-preserved g c =
       room = grind (arith, common_steps);
       same_room = grind (arith, common_steps);
     }
+
+pub desks-smaller : goal.desks-smaller
+desks-smaller g c = grind (arith, common_steps)
+
+pub push_reserved-requires : goal.push_reserved-requires
+push_reserved-requires g c = grind (arith, common_steps)
+
+pub take_first-aim-requires : goal.take_first-aim-requires
+take_first-aim-requires g c = grind (arith, common_steps)

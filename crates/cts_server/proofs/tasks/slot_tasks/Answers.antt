@@ -37,3 +37,12 @@ lines-preserved g c =
       room = grind (arith, common_steps);
       same_room = grind (arith, common_steps);
     }
+
+pub lines-smaller : goal.lines-smaller
+lines-smaller g c = grind (arith, common_steps)
+
+pub push_reserved-requires : goal.push_reserved-requires
+push_reserved-requires g c = grind (arith, common_steps)
+
+pub take_first-requires : goal.take_first-requires
+take_first-requires g c = grind (arith, common_steps)
