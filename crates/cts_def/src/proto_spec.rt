@@ -26,7 +26,7 @@ pub enum Kind {
 /// `discard` is how many leading bytes are taken off a frame that is read, and put before one that is written. `sync` is
 /// the pattern with which a frame begins, without bytes for none. `fill` says whether discarded bytes, the sync pattern
 /// and the length are written.
-#[derive(Debug, Drop)]
+#[derive(Clone, Debug, Drop)]
 pub enum ProtoSpec {
     /// All bytes of a piece.
     Burst {
@@ -77,84 +77,6 @@ impl ProtoSpec {
     pub fn copied(&self) -> Result<ProtoSpec, Memory>
         ensures { IfOk result (λ s. spec_data s ≡ spec_data self.now) }
     {
-        match self {
-            ProtoSpec::Burst {
-                discard,
-                sync,
-                fill,
-            } => Ok(ProtoSpec::Burst {
-                discard: *discard,
-                sync: sync.clone()?,
-                fill: *fill,
-            }),
-            ProtoSpec::Fixed {
-                min_id,
-                discard,
-                sync,
-                telemetry,
-                fill,
-                raise,
-                starts,
-            } => {
-                Ok(ProtoSpec::Fixed {
-                    min_id: *min_id,
-                    discard: *discard,
-                    sync: sync.clone()?,
-                    telemetry: *telemetry,
-                    fill: *fill,
-                    raise: *raise,
-                    starts: starts.clone()?,
-                })
-            }
-            ProtoSpec::Length {
-                place,
-                value_offset,
-                per_count,
-                discard,
-                sync,
-                max,
-                fill,
-            } => {
-                Ok(ProtoSpec::Length {
-                    place: *place,
-                    value_offset: *value_offset,
-                    per_count: *per_count,
-                    discard: *discard,
-                    sync: sync.clone()?,
-                    max: *max,
-                    fill: *fill,
-                })
-            }
-            ProtoSpec::Terminated {
-                write,
-                read,
-                strip,
-                discard,
-                sync,
-                fill,
-            } => {
-                let (write, read, sync) = all_three(write, read, sync)?;
-                Ok(ProtoSpec::Terminated {
-                    write,
-                    read,
-                    strip: *strip,
-                    discard: *discard,
-                    sync,
-                    fill: *fill,
-                })
-            }
-            ProtoSpec::Preidentified { sync, max } => Ok(ProtoSpec::Preidentified {
-                sync: sync.clone()?,
-                max: *max,
-            }),
-        }
+        Ok(self.clone()?)
     }
-}
-
-// Copies of these, in their order.
-fn all_three(a: &Bytes, b: &Bytes, c: &Bytes) -> Result<(Bytes, Bytes, Bytes), Memory>
-    ensures { IfOk result (λ r. r ≡ (a.now, b.now, c.now)) }
-{
-    let (a, b) = (a.clone()?, b.clone()?);
-    Ok((a, b, c.clone()?))
 }
