@@ -1,11 +1,11 @@
 // Commands built from texts, over definitions that were read.
-use crate::values::{packet_with, shown};
+use crate::values::{packet_with, shown_of_only};
 use cts_base::Bytes;
 use cts_cmd::{Built, Checks, Refused, build, parse};
 use cts_conv::ValueKind;
 use cts_def::Definitions;
 use cts_rows::{Answers, cut, debug_of, readable_of, rows_end_so};
-use cts_samples::{definitions_of, only_packet};
+use cts_samples::definitions_of;
 use std::alloc::Global;
 use std::test::Fail;
 
@@ -89,10 +89,10 @@ ITEM I 56 0 BLOCK|T A with M 0|0x
 ITEM I 56 0 BLOCK|T A with M 0, REST '0x0a0b0c'|0x0a0b0c";
 
 /// The number and the bytes of the command that is built, or why it is not.
-fn told(alloc: Global, answer: Result<Built, Refused>) -> Result<String, Fail> {
+fn told(alloc: Global, answer: &Result<Built, Refused>) -> Result<String, Fail> {
     match answer {
-        Ok(built) => debug_of(alloc, &built),
-        Err(refused) => readable_of(alloc, &refused),
+        Ok(built) => debug_of(alloc, built),
+        Err(refused) => readable_of(alloc, refused),
     }
 }
 
@@ -103,7 +103,7 @@ fn answer(alloc: Global, definitions: &Definitions, text: &str, all: bool) -> Re
         hazardous: all,
     };
     match parse(alloc, text.as_bytes()) {
-        Ok(request) => told(alloc, build(alloc, definitions, &request, checks)),
+        Ok(request) => told(alloc, &build(alloc, definitions, &request, checks)),
         Err(fault) => debug_of(alloc, &fault),
     }
 }
@@ -144,12 +144,16 @@ fn fields_hold_what_is_given_for_them(rt: HostRuntime) -> Result<(), Fail> {
 /// The bytes of the command that is built of a text, without checks.
 fn built_of(alloc: Global, text: &str) -> Result<Bytes, Fail> {
     let definitions = definitions_of(alloc, FIELDS)?;
+    built_over(alloc, &definitions, text)
+}
+
+fn built_over(alloc: Global, definitions: &Definitions, text: &str) -> Result<Bytes, Fail> {
     let request = parse(alloc, text.as_bytes())?;
     let checks = Checks {
         range: false,
         hazardous: false,
     };
-    match build(alloc, &definitions, &request, checks) {
+    match build(alloc, definitions, &request, checks) {
         Ok(built) => Ok(built.bytes),
         Err(_) => Err(Fail::new("refused")),
     }
@@ -161,14 +165,14 @@ impl Answers for ReadBack {
     fn answer(alloc: Global, asked: &str) -> Result<String, Fail> {
         let (line, text) = cut(asked, '|')?;
         let bytes = built_of(alloc, text)?;
-        let definitions = packet_with(alloc, line)?;
-        shown(
-            alloc,
-            only_packet(&definitions)?,
-            ValueKind::Raw,
-            bytes.as_slice(),
-        )
+        read_back(alloc, line, bytes.as_slice())
     }
+}
+
+/// What the one item of this line reads in the bytes.
+fn read_back(alloc: Global, line: &str, bytes: &[u8]) -> Result<String, Fail> {
+    let definitions = packet_with(alloc, line)?;
+    shown_of_only(alloc, &definitions, ValueKind::Raw, bytes)
 }
 
 #[test]

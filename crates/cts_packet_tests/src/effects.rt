@@ -1,5 +1,6 @@
 // Each effect on a site that was read, with its line written out by hand.
 use cts_base::Bytes;
+use cts_def::Site;
 use cts_entry::Effect;
 use cts_rows::{Answers, as_text, bytes_of, cut, debug_of, number, part, rows_end_so, same};
 use cts_samples::site_of;
@@ -17,7 +18,11 @@ ROUTER BACK tcpip_server_interface.rb 4 4 nil nil";
 /// The line of an effect, between quotes, in which `\n` is a line end.
 fn line_of(alloc: Global, effect: &Effect) -> Result<String, Fail> {
     let site = site_of(alloc, "", SITE)?;
-    let line = effect_line(alloc, &site, effect)?;
+    line_at(alloc, &site, effect)
+}
+
+fn line_at(alloc: Global, site: &Site, effect: &Effect) -> Result<String, Fail> {
+    let line = effect_line(alloc, site, effect)?;
     debug_of(alloc, &as_text(line.as_slice())?)
 }
 

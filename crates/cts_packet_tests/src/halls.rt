@@ -1,5 +1,5 @@
 // A hall over a site that was read: what is appended to it, looked up in it, and when it is full.
-ghost use Rattle.std.specs.Prelude.{◌≡◌, ◌<◌};
+ghost use Rattle.std.specs.Prelude.{◌≡◌, ◌<◌, []};
 
 use cts_base::Bytes;
 use cts_conv::{Value, ValueKind};
@@ -54,16 +54,21 @@ pub fn hall_of(alloc: Global, definitions: &str, entries: u64, bytes: u64) -> Re
     if entries > 4_000_000 || bytes > 1_073_741_824 {
         return Err(Fail::new("no such limits"));
     }
-    let site = site_of(alloc, definitions, SITE)?;
-    if site.interfaces.as_slice().is_empty() {
-        return Err(Fail::new("no interface"));
-    }
-    let mut hall = Hall::with_limits(alloc, Arc::new(alloc, site)?, entries, bytes)?;
-    if hall.room(1, 0).is_err() {
-        return Err(Fail::new("no room"));
+    let site = Arc::new(alloc, site_of(alloc, definitions, SITE)?)?;
+    let mut hall = Hall::with_limits(alloc, site, entries, bytes)?;
+    opens(&mut hall)?;
+    Ok(hall)
+}
+
+/// The interface is connected.
+fn opens(hall: &mut Hall) -> Result<(), Fail>
+    requires { hall.old.entries ≡ [] }
+{
+    if hall.site().interfaces.as_slice().is_empty() || hall.room(1, 0).is_err() {
+        return Err(Fail::new("no interface or no room"));
     }
     hall.opened(0, NOW);
-    Ok(hall)
+    Ok(())
 }
 
 /// The interface receives a packet, where it is connected and there is room.
@@ -92,10 +97,15 @@ pub fn receives(alloc: Global, hall: &mut Hall, ident: Ident, digits: &str) -> R
 /// or `?`, in front of `:`, and digits after it.
 fn hall_after(alloc: Global, entries: u64, bytes: u64, packets: &str) -> Result<Hall, Fail> {
     let mut hall = connected(alloc, entries, bytes)?;
-    for packet in packets.split(' ') {
-        receives_text(alloc, &mut hall, packet)?;
-    }
+    receives_all(alloc, &mut hall, packets)?;
     Ok(hall)
+}
+
+fn receives_all(alloc: Global, hall: &mut Hall, packets: &str) -> Result<(), Fail> {
+    for packet in packets.split(' ') {
+        receives_text(alloc, hall, packet)?;
+    }
+    Ok(())
 }
 
 fn receives_text(alloc: Global, hall: &mut Hall, packet: &str) -> Result<(), Fail> {
@@ -172,13 +182,22 @@ struct Longer;
 impl Answers for Longer {
     fn answer(alloc: Global, asked: &str) -> Result<String, Fail> {
         let mut hall = connected(alloc, 20_000, 100_000)?;
-        for _ in 0..number::<u32>(asked, 0)? {
-            receives(alloc, &mut hall, Ident::Known(0), "010500")?;
-        }
-        let value = looked_up(alloc, &hall, "T|A|V");
-        let count = looked_up(alloc, &hall, "T|A|RECEIVED_COUNT");
-        Ok(format!(in alloc; "{value:?} {count:?} {}", hall.count())?)
+        receives_often(alloc, &mut hall, number(asked, 0)?)?;
+        told_of_long(alloc, &hall)
     }
+}
+
+fn receives_often(alloc: Global, hall: &mut Hall, times: u32) -> Result<(), Fail> {
+    for _ in 0..times {
+        receives(alloc, hall, Ident::Known(0), "010500")?;
+    }
+    Ok(())
+}
+
+fn told_of_long(alloc: Global, hall: &Hall) -> Result<String, Fail> {
+    let value = looked_up(alloc, hall, "T|A|V");
+    let count = looked_up(alloc, hall, "T|A|RECEIVED_COUNT");
+    Ok(format!(in alloc; "{value:?} {count:?} {}", hall.count())?)
 }
 
 #[test]

@@ -3,7 +3,7 @@ ghost use Rattle.std.specs.Prelude.{◌≡◌, true, IfOk, OnOk};
 
 use crate::labels::{bytes_in, shown, site_with};
 use crate::shelves::interface_of;
-use cts_def::{Interface, ProtoSpec, ProtoUse};
+use cts_def::{ProtoSpec, ProtoUse, Site};
 use cts_proto::{Protocol, Step};
 use cts_rows::{Answers, cut, rows_end_so};
 use cts_stream::Length;
@@ -25,7 +25,7 @@ impl Answers for Told {
     fn answer(alloc: Global, asked: &str) -> Result<String, Fail> {
         let (protocol, pieces) = cut(asked, '|')?;
         let site = site_with(alloc, protocol)?;
-        told_of_interface(alloc, interface_of(&site)?, pieces)
+        told_of_site(alloc, &site, pieces)
     }
 }
 
@@ -34,8 +34,8 @@ fn what_is_left_is_held(rt: HostRuntime) -> Result<(), Fail> {
     rows_end_so::<Told>(rt.alloc(), ROWS)
 }
 
-fn told_of_interface(alloc: Global, interface: &Interface, pieces: &str) -> Result<String, Fail> {
-    let [used] = interface.chain.as_slice() else {
+fn told_of_site(alloc: Global, site: &Site, pieces: &str) -> Result<String, Fail> {
+    let [used] = interface_of(site)?.chain.as_slice() else {
         return Err(Fail::new("not one protocol"));
     };
     told_of_pieces(alloc, used, pieces)

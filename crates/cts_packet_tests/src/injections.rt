@@ -48,10 +48,10 @@ ffffffffff|T P with S -100, N 0|08ffffffff
 -|T P with N -1|Overflow('N')
 -|T P with TAIL '0x0102'|Overflow('TAIL')";
 
-fn told(alloc: Global, answer: Result<Bytes, Refused>) -> Result<String, Fail> {
+fn told(alloc: Global, answer: &Result<Bytes, Refused>) -> Result<String, Fail> {
     match answer {
         Ok(bytes) => digits_of(alloc, bytes.as_slice()),
-        Err(refused) => readable_of(alloc, &refused),
+        Err(refused) => readable_of(alloc, refused),
     }
 }
 
@@ -63,10 +63,16 @@ fn injected(
     members: &[(Bytes, Given)],
 ) -> Result<String, Fail> {
     if digits == "-" {
-        return told(alloc, inject(alloc, packet, None, members));
+        return told(alloc, &inject(alloc, packet, None, members));
     }
     let bytes = bytes_of(alloc, digits)?;
-    told(alloc, inject(alloc, packet, Some(&bytes), members))
+    told(alloc, &inject(alloc, packet, Some(&bytes), members))
+}
+
+/// The same of the members that a command text gives.
+fn told_of(alloc: Global, packet: &Packet, digits: &str, text: &str) -> Result<String, Fail> {
+    let request = parse(alloc, text.as_bytes())?;
+    injected(alloc, packet, digits, request.params.as_slice())
 }
 
 struct Injections;
@@ -75,9 +81,7 @@ impl Answers for Injections {
     fn answer(alloc: Global, asked: &str) -> Result<String, Fail> {
         let (digits, text) = cut(asked, '|')?;
         let definitions = definitions_of(alloc, PACKET)?;
-        let request = parse(alloc, text.as_bytes())?;
-        let packet = only_packet(&definitions)?;
-        injected(alloc, packet, digits, request.params.as_slice())
+        told_of(alloc, only_packet(&definitions)?, digits, text)
     }
 }
 

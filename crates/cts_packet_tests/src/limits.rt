@@ -120,10 +120,15 @@ fn step(alloc: Global, hall: &mut Hall, text: &str) -> Result<(), Fail> {
 /// A hall after these steps, of which the first entry is that the interface was opened.
 fn hall_after(alloc: Global, steps: &str) -> Result<Hall, Fail> {
     let mut hall = hall_of(alloc, DEFINITIONS, 100, 100)?;
-    for text in steps.split(';') {
-        step(alloc, &mut hall, text)?;
-    }
+    take_steps(alloc, &mut hall, steps)?;
     Ok(hall)
+}
+
+fn take_steps(alloc: Global, hall: &mut Hall, steps: &str) -> Result<(), Fail> {
+    for text in steps.split(';') {
+        step(alloc, hall, text)?;
+    }
+    Ok(())
 }
 
 struct Events;
@@ -185,12 +190,14 @@ struct Used;
 impl Answers for Used {
     fn answer(alloc: Global, asked: &str) -> Result<String, Fail> {
         let hall = hall_after(alloc, "L 1 DAWN;E 1 off")?;
-        let (packet, item) = (number(asked, 0)?, number(asked, 1)?);
-        debug_of(
-            alloc,
-            &hall.limits_of(packet, item, part(asked, 2).as_bytes()),
-        )
+        used_of(alloc, &hall, asked)
     }
+}
+
+fn used_of(alloc: Global, hall: &Hall, asked: &str) -> Result<String, Fail> {
+    let (packet, item) = (number(asked, 0)?, number(asked, 1)?);
+    let set = part(asked, 2).as_bytes();
+    debug_of(alloc, &hall.limits_of(packet, item, set))
 }
 
 #[test]

@@ -1,6 +1,6 @@
 // Each kind of entry on a site that was read, with its line written out by hand.
 use cts_base::{Bytes, Decimal, Name};
-use cts_def::{BadCause, Color, Ident, Limits, Loss, Time};
+use cts_def::{BadCause, Color, Ident, Limits, Loss, Site, Time};
 use cts_entry::{Entry, NotSent, What, Why};
 use cts_rows::{Answers, as_text, bytes_of, debug_of, number, part, rows_end_so, same};
 use cts_samples::site_of;
@@ -57,7 +57,17 @@ const TIME: Time = Time {
 /// What an entry of the site says, as one text between quotes, in which `\n` is a line end.
 fn text_of(alloc: Global, n: u64, entry: &Entry, events: &[LimitsEvent]) -> Result<String, Fail> {
     let site = site_of(alloc, DEFINITIONS, SITE)?;
-    let lines = entry_lines(alloc, &site, n, entry, events)?;
+    text_at(alloc, &site, n, entry, events)
+}
+
+fn text_at(
+    alloc: Global,
+    site: &Site,
+    n: u64,
+    entry: &Entry,
+    events: &[LimitsEvent],
+) -> Result<String, Fail> {
+    let lines = entry_lines(alloc, site, n, entry, events)?;
     debug_of(alloc, &as_text(lines.as_slice())?)
 }
 

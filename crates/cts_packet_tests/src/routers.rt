@@ -66,21 +66,25 @@ fn tell<C: Framer>(
     text: &str,
     out: &mut String,
 ) -> Result<(), Fail> {
-    let event = event_of(alloc, text)?;
-    let answer = world.step(&event);
-    let shown = shown(alloc, world.hall().site(), &answer)?;
-    out.push_str(shown.as_str())?;
+    let answer = answer_to(alloc, world, text)?;
+    out.push_str(answer.as_str())?;
     Ok(out.push(';')?)
 }
 
+fn answer_to<C: Framer>(alloc: Global, world: &mut World<C>, text: &str) -> Result<String, Fail> {
+    let event = event_of(alloc, text)?;
+    let answer = world.step(&event);
+    shown(alloc, world.hall().site(), &answer)
+}
+
 /// The answers to these events, and the lines of the history after them.
-fn told<C: Framer>(alloc: Global, mut world: World<C>, events: &str) -> Result<String, Fail> {
+fn told<C: Framer>(alloc: Global, world: &mut World<C>, events: &str) -> Result<String, Fail> {
     let mut out = String::new(alloc);
     for text in events.split(';') {
-        tell(alloc, &mut world, text, &mut out)?;
+        tell(alloc, world, text, &mut out)?;
     }
     out.push(' ')?;
-    tell_lines(alloc, &world, &mut out)?;
+    tell_lines(alloc, world, &mut out)?;
     Ok(out)
 }
 
@@ -91,8 +95,8 @@ fn told_of<C: Framer, B: Supplier<C>>(
     shelf: &mut B,
 ) -> Result<String, Fail> {
     let site = site_of(alloc, DEFINITIONS, site)?;
-    let world = world_of::<C, B>(alloc, site, shelf)?;
-    told(alloc, world, events)
+    let mut world = world_of::<C, B>(alloc, site, shelf)?;
+    told(alloc, &mut world, events)
 }
 
 /// A packet and a command that begin with how many bytes they have.

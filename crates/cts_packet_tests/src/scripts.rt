@@ -3,9 +3,9 @@
 use crate::effects::SITE;
 use cts_entry::Event;
 use cts_rows::{Answers, debug_of, lines, number, refusal_of, rows_end_so, same};
-use cts_samples::site_of;
+use cts_samples::{site_of, statements_of};
 use cts_scriptread::{ScriptFault, read_events, read_script};
-use cts_words::statements;
+use cts_words::Statement;
 use std::alloc::Global;
 use std::test::Fail;
 
@@ -155,18 +155,19 @@ fn what_is_no_text_is_refused_at_line_0(rt: HostRuntime) -> Result<(), Fail> {
 }
 
 /// The events of statements over the site.
-fn events_of_statements(alloc: Global, text: &[u8]) -> Result<Events, Fail> {
-    if text.len() > 1_000_000 {
-        return Err(Fail::new("too large"));
-    }
-    let found = statements(alloc, text)?;
+fn events_of_statements(alloc: Global, text: &str) -> Result<Events, Fail> {
+    let found = statements_of(alloc, text)?;
+    events_in(alloc, &found)
+}
+
+fn events_in(alloc: Global, found: &[Statement]) -> Result<Events, Fail> {
     let site = site_of(alloc, "", SITE)?;
-    Ok(read_events(alloc, &found, &site))
+    Ok(read_events(alloc, found, &site))
 }
 
 #[test]
 fn statements_are_read_as_their_text(rt: HostRuntime) -> Result<(), Fail> {
-    let found = events_of_statements(rt.alloc(), b"OPEN I\nSTOP\n")?;
+    let found = events_of_statements(rt.alloc(), "OPEN I;STOP;")?;
     let found = debug_of(rt.alloc(), &found)?;
     same(
         found.as_str(),

@@ -77,20 +77,21 @@ pub fn chain_of(alloc: Global, protocols: &str) -> Result<Chain, Fail>
     ensures { IfOk result (λ chain. IsIdle (⟦<Chain as Chained>⟧.shape chain)) }
 {
     let site = site_with(alloc, protocols)?;
-    chain_at(alloc, interface_of(&site)?)
+    chain_at(alloc, &site)
 }
 
-fn chain_at(alloc: Global, interface: &Interface) -> Result<Chain, Fail>
+fn chain_at(alloc: Global, site: &Site) -> Result<Chain, Fail>
     ensures { IfOk result (λ chain. IsIdle (⟦<Chain as Chained>⟧.shape chain)) }
 {
     let mut shelf = stocked_for_chains(alloc)?;
-    chain_over(alloc, &mut shelf, interface)
+    chain_over(alloc, &mut shelf, site)
 }
 
-/// The chain of an interface over the boxes of a shelf, to which nothing came yet.
-pub fn chain_over(alloc: Global, shelf: &mut Shelf, interface: &Interface) -> Result<Chain, Fail>
+/// The chain of the first interface of a site over the boxes of a shelf, to which nothing came yet.
+pub fn chain_over(alloc: Global, shelf: &mut Shelf, site: &Site) -> Result<Chain, Fail>
     ensures { IfOk result (λ chain. IsIdle (⟦<Chain as Chained>⟧.shape chain)) }
 {
+    let interface = interface_of(site)?;
     match Chain::build(alloc, shelf, interface.chain.as_slice()) {
         Ok(chain) => Ok(chain),
         Err(_) => Err(Fail::new("no chain")),
@@ -118,10 +119,11 @@ const THREE: &str =
 /// What is told of this chain before and after one more box of LENGTH, and whether a box of BURST is left.
 fn told_of_three(alloc: Global) -> Result<String, Fail> {
     let site = site_with(alloc, THREE)?;
-    told_of_interface(alloc, interface_of(&site)?)
+    told_of_site(alloc, &site)
 }
 
-fn told_of_interface(alloc: Global, interface: &Interface) -> Result<String, Fail> {
+fn told_of_site(alloc: Global, site: &Site) -> Result<String, Fail> {
+    let interface = interface_of(site)?;
     let mut shelf = stocked_for_chains(alloc)?;
     told_over(alloc, &mut shelf, interface)
 }

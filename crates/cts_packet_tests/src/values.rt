@@ -81,13 +81,17 @@ fn kind_named(name: &str) -> Result<ValueKind, Fail> {
     }
 }
 
-/// The text of the value of the one item of a packet, in these bytes.
-pub fn shown(
+/// The text of the value of the one item of the one packet of these definitions, in these bytes.
+pub fn shown_of_only(
     alloc: Global,
-    packet: &Packet,
+    definitions: &Definitions,
     kind: ValueKind,
     bytes: &[u8],
 ) -> Result<String, Fail> {
+    shown(alloc, only_packet(definitions)?, kind, bytes)
+}
+
+fn shown(alloc: Global, packet: &Packet, kind: ValueKind, bytes: &[u8]) -> Result<String, Fail> {
     match packet.items.as_slice() {
         [item] => plain_text(alloc, &value_of(alloc, packet, item, bytes, kind)?),
         _ => Err(Fail::new("another count of items")),
@@ -112,7 +116,7 @@ impl Answers for Values {
         let kind = kind_named(field(asked, 1))?;
         let bytes = bytes_of(alloc, field(asked, 2))?;
         let definitions = packet_with(alloc, field(asked, 0))?;
-        shown(alloc, only_packet(&definitions)?, kind, &bytes)
+        shown_of_only(alloc, &definitions, kind, &bytes)
     }
 }
 

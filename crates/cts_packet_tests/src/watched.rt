@@ -4,7 +4,7 @@ ghost use Rattle.cts_chain.specs.Shapes.{IsIdle};
 
 use crate::chains::told_of_pieces;
 use crate::labels::site_with;
-use crate::shelves::{chain_over, interface_of, put};
+use crate::shelves::{chain_over, put};
 use cts_base::Memory;
 use cts_chain::{Chain, Chained};
 use cts_def::{Kind, Label, ProtoSpec};
@@ -93,7 +93,7 @@ fn chain_of_two(alloc: Global, shelf: &mut Shelf) -> Result<Chain, Fail>
     ensures { IfOk result (λ chain. IsIdle (⟦<Chain as Chained>⟧.shape chain)) }
 {
     let site = site_with(alloc, TWO)?;
-    chain_over(alloc, shelf, interface_of(&site)?)
+    chain_over(alloc, shelf, &site)
 }
 
 /// What the chain of a shelf's two boxes gives of one piece.

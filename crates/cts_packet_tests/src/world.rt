@@ -93,20 +93,24 @@ fn tell<C: Framer>(
     text: &str,
     out: &mut String,
 ) -> Result<(), Fail> {
-    let event = event_of(alloc, text)?;
-    let answer = answer(alloc, world, &event)?;
+    let answer = answer_to(alloc, world, text)?;
     out.push_str(answer.as_str())?;
     Ok(out.push(';')?)
 }
 
+fn answer_to<C: Framer>(alloc: Global, world: &mut World<C>, text: &str) -> Result<String, Fail> {
+    let event = event_of(alloc, text)?;
+    answer(alloc, world, &event)
+}
+
 /// The answers to these events, and the lines of the history after them.
-fn told<C: Framer>(alloc: Global, mut world: World<C>, events: &str) -> Result<String, Fail> {
+fn told<C: Framer>(alloc: Global, world: &mut World<C>, events: &str) -> Result<String, Fail> {
     let mut out = String::new(alloc);
     for text in events.split(';') {
-        tell(alloc, &mut world, text, &mut out)?;
+        tell(alloc, world, text, &mut out)?;
     }
     out.push(' ')?;
-    tell_lines(alloc, &world, &mut out)?;
+    tell_lines(alloc, world, &mut out)?;
     Ok(out)
 }
 
@@ -157,8 +161,8 @@ fn told_of<C: Framer, B: Supplier<C>>(
     shelf: &mut B,
 ) -> Result<String, Fail> {
     let site = site_of(alloc, texts.0, texts.1)?;
-    let world = world_of::<C, B>(alloc, site, shelf)?;
-    told(alloc, world, events)
+    let mut world = world_of::<C, B>(alloc, site, shelf)?;
+    told(alloc, &mut world, events)
 }
 
 /// A world of this site with the limits of a server.
@@ -202,8 +206,8 @@ fn told_within<C: Framer, B: Supplier<C>>(
     events: &str,
     shelf: &mut B,
 ) -> Result<String, Fail> {
-    let world = limited::<C, B>(alloc, site, limits, shelf)?;
-    told(alloc, world, events)
+    let mut world = limited::<C, B>(alloc, site, limits, shelf)?;
+    told(alloc, &mut world, events)
 }
 
 fn limited<C: Framer, B: Supplier<C>>(

@@ -1,5 +1,5 @@
 // What chains write, and what they read again of it.
-ghost use Rattle.cts_chain.specs.Shapes.{IsChain};
+ghost use Rattle.cts_chain.specs.Shapes.{IsChain, IsIdle};
 
 use crate::chains::feed;
 use crate::labels::{bytes_in, label_of, name_text, shown};
@@ -54,8 +54,8 @@ struct Written;
 impl Answers for Written {
     fn answer(alloc: Global, asked: &str) -> Result<String, Fail> {
         let (protocols, bytes) = cut(asked, '|')?;
-        let chain = chain_of(alloc, protocols)?;
         let bytes = bytes_in(alloc, bytes)?;
+        let chain = chain_of(alloc, protocols)?;
         written_by(alloc, &chain, &bytes)
     }
 }
@@ -75,8 +75,14 @@ fn written_by(alloc: Global, chain: &Chain, bytes: &[u8]) -> Result<String, Fail
     requires { IsChain (⟦<Chain as Chained>⟧.shape chain.now) }
 {
     let label = label_of(alloc, MOMENT, "TARGET", "PACKET")?;
+    written_with(alloc, chain, &label, bytes)
+}
+
+fn written_with(alloc: Global, chain: &Chain, label: &Label, bytes: &[u8]) -> Result<String, Fail>
+    requires { IsChain (⟦<Chain as Chained>⟧.shape chain.now) }
+{
     let mut out = bytes_of(alloc, "ee")?;
-    let refusal = refusal_of(alloc, chain, &label, bytes, &mut out)?;
+    let refusal = refusal_of(alloc, chain, label, bytes, &mut out)?;
     let out = shown(alloc, &out)?;
     Ok(format!(in alloc; "{refusal}{out}")?)
 }
@@ -129,12 +135,38 @@ fn a_packet_brings_its_time_and_names(rt: HostRuntime) -> Result<(), Fail> {
 }
 
 fn told_again(alloc: Global, target: &str, packet: &str, bytes: &[u8]) -> Result<String, Fail> {
-    let label = label_of(alloc, MOMENT, target, packet)?;
     let mut chain = chain_of(alloc, "PREIDENTIFIED 0xabcd")?;
+    told_by(alloc, &mut chain, target, packet, bytes)
+}
+
+fn told_by(
+    alloc: Global,
+    chain: &mut Chain,
+    target: &str,
+    packet: &str,
+    bytes: &[u8],
+) -> Result<String, Fail>
+    requires { IsIdle (⟦<Chain as Chained>⟧.shape chain.old) }
+{
+    let frame = frame_of(alloc, chain, target, packet, bytes)?;
+    feed(chain, &frame)?;
+    read_again(alloc, chain, target, packet, bytes)
+}
+
+/// What the chain writes of bytes with these names.
+fn frame_of(
+    alloc: Global,
+    chain: &Chain,
+    target: &str,
+    packet: &str,
+    bytes: &[u8],
+) -> Result<Vec<u8>, Fail>
+    requires { IsChain (⟦<Chain as Chained>⟧.shape chain.now) }
+{
+    let label = label_of(alloc, MOMENT, target, packet)?;
     let mut out = Vec::new(alloc);
-    write(&chain, &label, bytes, &mut out)?;
-    feed(&mut chain, &out)?;
-    read_again(alloc, &mut chain, target, packet, bytes)
+    write(chain, &label, bytes, &mut out)?;
+    Ok(out)
 }
 
 fn write(chain: &Chain, label: &Label, bytes: &[u8], out: &mut Vec<u8>) -> Result<(), Fail>
