@@ -48,9 +48,13 @@ fn told_of_two(
 fn cut_holds(alloc: Global, bytes: &[u8], at: usize, wanted: &str) -> Result<(), Fail> {
     let (first, second) = bytes.split_at(at.min(bytes.len()));
     let piece = as_text(first)?;
-    let mut reader = Reader::new(alloc);
-    let found = told_of_two(alloc, &mut reader, first, second)?;
+    let found = told_of_cut(alloc, first, second)?;
     same(found.as_str(), wanted, piece)
+}
+
+fn told_of_cut(alloc: Global, first: &[u8], second: &[u8]) -> Result<String, Fail> {
+    let mut reader = Reader::new(alloc);
+    told_of_two(alloc, &mut reader, first, second)
 }
 
 fn cuts_hold(alloc: Global, bytes: &[u8], wanted: &str) -> Result<(), Fail> {
@@ -62,8 +66,14 @@ fn cuts_hold(alloc: Global, bytes: &[u8], wanted: &str) -> Result<(), Fail> {
 
 fn told_of_whole(alloc: Global, bytes: &[u8]) -> Result<String, Fail> {
     let mut reader = Reader::new(alloc);
+    told_of_piece(alloc, &mut reader, bytes)
+}
+
+fn told_of_piece(alloc: Global, reader: &mut Reader, bytes: &[u8]) -> Result<String, Fail>
+    requires { reader.old.closed ≡ false }
+{
     reader.feed(bytes)?;
-    told(alloc, &mut reader)
+    told(alloc, reader)
 }
 
 fn told_of_cuts(alloc: Global, bytes: &[u8]) -> Result<String, Fail> {
@@ -255,14 +265,20 @@ impl Answers for Bytewise {
     fn answer(alloc: Global, asked: &str) -> Result<String, Fail> {
         let bytes = bytes_of_parts(alloc, asked)?;
         let mut reader = Reader::new(alloc);
-        let (first, last) = bytes.split_at(bytes.len() - bytes.len().min(1));
-        come_one_by_one(&mut reader, first)?;
-        reader.feed(last)?;
-        let held = reader.held();
-        match reader.next() {
-            HttpStep::Request { last } => debug_of(alloc, &(held, last, reader.body().len())),
-            step => debug_of(alloc, &(held, step)),
-        }
+        told_bytewise(alloc, &mut reader, &bytes)
+    }
+}
+
+fn told_bytewise(alloc: Global, reader: &mut Reader, bytes: &[u8]) -> Result<String, Fail>
+    requires { reader.old.closed ≡ false }
+{
+    let (first, last) = bytes.split_at(bytes.len() - bytes.len().min(1));
+    come_one_by_one(reader, first)?;
+    reader.feed(last)?;
+    let held = reader.held();
+    match reader.next() {
+        HttpStep::Request { last } => debug_of(alloc, &(held, last, reader.body().len())),
+        step => debug_of(alloc, &(held, step)),
     }
 }
 

@@ -16,23 +16,34 @@ fn name_of(alloc: Global, word: &str) -> Result<Name, Fail> {
 
 /// An entry of these seconds and micros, target, packet and bytes in hexadecimal.
 fn put(alloc: Global, out: &mut Vec<u8>, row: &str) -> Result<(), Fail> {
-    let label = Label {
-        time: Time {
-            seconds: number(row, 0)?,
-            micros: number(row, 1)?,
-        },
-        target: name_of(alloc, part(row, 2))?,
-        packet: name_of(alloc, part(row, 3))?,
-    };
     let bytes = bytes_of(alloc, part(row, 4))?;
+    put_bytes(alloc, out, row, &bytes)
+}
+
+fn put_bytes(alloc: Global, out: &mut Vec<u8>, row: &str, bytes: &[u8]) -> Result<(), Fail> {
+    let label = label_of(alloc, row)?;
     put_entry(out, &label, bytes)
 }
 
-fn put_entry(out: &mut Vec<u8>, label: &Label, bytes: Vec<u8>) -> Result<(), Fail> {
+fn label_of(alloc: Global, row: &str) -> Result<Label, Fail> {
+    let time = Time {
+        seconds: number(row, 0)?,
+        micros: number(row, 1)?,
+    };
+    let target = name_of(alloc, part(row, 2))?;
+    let packet = name_of(alloc, part(row, 3))?;
+    Ok(Label {
+        time,
+        target,
+        packet,
+    })
+}
+
+fn put_entry(out: &mut Vec<u8>, label: &Label, bytes: &[u8]) -> Result<(), Fail> {
     if bytes.len() > 1_000 {
         return Err(Fail::new("long"));
     }
-    match encode_entry(label, &bytes, out) {
+    match encode_entry(label, bytes, out) {
         Ok(()) => Ok(()),
         Err(_) => Err(Fail::new("no memory")),
     }

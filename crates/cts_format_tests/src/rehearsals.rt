@@ -60,10 +60,14 @@ struct InShort;
 impl Answers for InShort {
     fn answer(alloc: Global, asked: &str) -> Result<String, Fail> {
         let events = events_of(alloc, asked)?;
-        let shown = debug_of(alloc, &events)?;
-        let digits = digits_of(alloc, &Md5::digest(shown.as_bytes()))?;
-        Ok(format!(in alloc; "{} events, {digits}", events.len())?)
+        in_short(alloc, &events)
     }
+}
+
+fn in_short(alloc: Global, events: &[Event]) -> Result<String, Fail> {
+    let shown = debug_of(alloc, &events)?;
+    let digits = digits_of(alloc, &Md5::digest(shown.as_bytes()))?;
+    Ok(format!(in alloc; "{} events, {digits}", events.len())?)
 }
 
 /// The number of the events, and the MD5 digest of all of them as they are shown.
@@ -91,9 +95,13 @@ impl Answers for Summaries {
             refused: number(asked, 4)?,
             log: Bytes::copy(alloc, part(asked, 5).as_bytes())?,
         };
-        let text = summary(alloc, number(asked, 0)?, number(asked, 1)?, &tally)?;
-        in_one_line(alloc, text.as_slice())
+        summary_of(alloc, asked, &tally)
     }
+}
+
+fn summary_of(alloc: Global, asked: &str, tally: &Tally) -> Result<String, Fail> {
+    let text = summary(alloc, number(asked, 0)?, number(asked, 1)?, tally)?;
+    in_one_line(alloc, text.as_slice())
 }
 
 #[test]
