@@ -1,9 +1,8 @@
 // Both crews, over jobs that need no other.
 ghost use Rattle.std.specs.Prelude.{◌≡◌, ◌*◌};
 
-use crate::shared::numbers;
 use cts_outside::{Crew, Job, ThreadCrew, TurnCrew};
-use cts_rows::{debug_of, field, number, same};
+use cts_rows::{debug_of, field, number, numbers, same};
 use std::alloc::Global;
 use std::sync::Wait;
 use std::test::Fail;

@@ -1,9 +1,9 @@
 // A dialer in memory.
 use crate::driven::Driven;
-use crate::shared::{numbers, tell};
+use crate::shared::tell;
 use cts_base::Bytes;
 use cts_outside::{MemConnection, MemDialer, MemPiece};
-use cts_rows::{Answers, debug_of, field, number, rows_end_so};
+use cts_rows::{Answers, debug_of, field, number, numbers, rows_end_so};
 use std::alloc::Global;
 use std::test::Fail;
 

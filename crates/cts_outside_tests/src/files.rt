@@ -1,8 +1,8 @@
 // Files in memory.
-use crate::shared::{numbers, tell};
+use crate::shared::tell;
 use cts_base::Bytes;
 use cts_outside::{FileGot, Files, MemFiles};
-use cts_rows::{Answers, cut, debug_of, number, part, rows_end_so};
+use cts_rows::{Answers, cut, debug_of, number, numbers, part, rows_end_so};
 use std::alloc::Global;
 use std::test::Fail;
 

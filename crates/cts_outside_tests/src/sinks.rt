@@ -1,7 +1,7 @@
 // A sink in memory.
-use crate::shared::{numbers, tell};
+use crate::shared::tell;
 use cts_outside::{MemSink, PutFailed, Sink};
-use cts_rows::{Answers, cut, debug_of, rows_end_so};
+use cts_rows::{Answers, cut, debug_of, numbers, rows_end_so};
 use std::alloc::Global;
 use std::test::Fail;
 

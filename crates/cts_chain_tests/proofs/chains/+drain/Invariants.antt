@@ -1,4 +1,0 @@
-use Rattle.cts_chain_tests.proofs.chains.+drain.Given as goal
-
-abbrev pub decreases-drain : goal.decreases-drain
-decreases-drain g l = l.most
