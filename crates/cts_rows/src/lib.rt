@@ -7,8 +7,8 @@ mod rows;
 mod shown;
 mod texts;
 
-pub use parts::{field, number, part};
-pub use rows::{Answers, rows_end_so, same};
+pub use parts::{field, number, numbers, part};
+pub use rows::{Answers, asked_and_wanted, rows_end_so, same};
 pub use shown::{debug_of, display_of, readable_of, refusal_of};
 pub use texts::{
     as_text, bytes_by_number, bytes_of, cut, digits_of, in_one_line, lines, pieces_of,

@@ -1,4 +1,5 @@
 // The parts of a row.
+use std::alloc::Global;
 use std::str::FromStr;
 use std::test::Fail;
 
@@ -21,4 +22,13 @@ where
         Ok(number) => Ok(number),
         Err(_) => Err(Fail::new("no number")),
     }
+}
+
+/// The numbers between blanks.
+pub fn numbers(alloc: Global, text: &str) -> Result<Vec<u64>, Fail> {
+    let mut found = Vec::new(alloc);
+    for word in text.split_ascii_whitespace() {
+        found.push(number(word, 0)?)?;
+    }
+    Ok(found)
 }

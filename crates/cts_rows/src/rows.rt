@@ -22,11 +22,15 @@ pub fn rows_end_so<A: Answers>(alloc: Global, rows: &str) -> Result<(), Fail> {
 
 // Tells of a row that is answered otherwise.
 fn tell_row<A: Answers>(alloc: Global, row: &str, told: &mut String) -> Result<(), Fail> {
+    let (asked, wanted) = asked_and_wanted(row)?;
+    let found = A::answer(alloc, asked)?;
+    tell(alloc, found.as_str(), wanted, asked, told)
+}
+
+/// What a row asks, and what stands after its last bar.
+pub fn asked_and_wanted(row: &str) -> Result<(&str, &str), Fail> {
     match row.rsplit_once('|') {
-        Some((asked, wanted)) => {
-            let found = A::answer(alloc, asked)?;
-            tell(alloc, found.as_str(), wanted, asked, told)
-        }
+        Some(parts) => Ok(parts),
         None => Err(Fail::new("no bar")),
     }
 }
