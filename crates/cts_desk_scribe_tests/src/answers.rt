@@ -1,6 +1,6 @@
 // What clients of a desk are answered: whole and cut, refused, where the door fails, and where the server is stopped.
 use crate::clients::{Asked, answered, in_short};
-use cts_rows::{cut, number, same};
+use cts_rows::{asked_and_wanted, cut, number, same};
 use std::alloc::Global;
 use std::sync::Wait;
 use std::test::Fail;
@@ -22,9 +22,7 @@ const ALL: usize = 2_000_000;
 
 // A row in which the requests stand, and what is wanted.
 fn parts(alloc: Global, row: &str) -> Result<(String, &str), Fail> {
-    let Some((asked, wanted)) = row.rsplit_once('|') else {
-        return Err(Fail::new("no bar"));
-    };
+    let (asked, wanted) = asked_and_wanted(row)?;
     let asked = asked.replace(alloc, '$', CALL)?;
     let asked = asked.replace(alloc, '@', NOTED)?;
     Ok((asked.replace(alloc, '!', STOP)?, wanted))

@@ -1,8 +1,8 @@
 // What clients of a desk are answered.
-use crate::desks::{desk_over, hall_of};
+use crate::desks::{Left, desk_over, hall_of};
 use cts_base::Bytes;
 use cts_outside::{MemConnection, MemDialer, MemPiece};
-use cts_rows::{as_text, bytes_by_number, debug_of, number};
+use cts_rows::{as_text, bytes_by_number, debug_of, numbers};
 use std::alloc::Global;
 use std::sync::Wait;
 use std::test::Fail;
@@ -49,16 +49,6 @@ fn clients(alloc: Global, asked: Asked<'_>) -> Result<Vec<MemConnection>, Fail> 
     Ok(out)
 }
 
-fn numbers(alloc: Global, text: &str) -> Result<Vec<u64>, Fail> {
-    let mut found = Vec::new(alloc);
-    for word in text.split(' ') {
-        if !word.is_empty() {
-            found.push(number(word, 0)?)?;
-        }
-    }
-    Ok(found)
-}
-
 // What was put to a client, in one line.
 fn put_to(alloc: Global, door: &MemDialer, client: usize) -> Result<String, Fail> {
     match door.put_to(client) {
@@ -70,19 +60,32 @@ fn put_to(alloc: Global, door: &MemDialer, client: usize) -> Result<String, Fail
     }
 }
 
-/// What is put to clients, with `;` for each line end and `&` after each client, and what the desk leaves.
-pub fn answered<W: Wait>(rt: &W, alloc: Global, asked: Asked<'_>) -> Result<String, Fail> {
-    let failing = numbers(alloc, asked.failing)?;
-    let mut door = MemDialer::new(alloc, clients(alloc, asked)?, failing);
-    let left = desk_over(rt, alloc, hall_of(alloc, "")?, &mut door)?;
+// What was put to so many clients, each with `&` after it.
+fn puts_of(alloc: Global, door: &MemDialer, clients: usize) -> Result<String, Fail> {
     let mut out = String::new(alloc);
-    for one in 0..asked.texts.split('&').count() {
-        out.push_str(&put_to(alloc, &door, one)?)?;
+    for one in 0..clients {
+        out.push_str(&put_to(alloc, door, one)?)?;
         out.push('&')?;
     }
+    Ok(out)
+}
+
+// What was put to clients, and what the desk leaves.
+fn shown(alloc: Global, door: &MemDialer, clients: usize, left: &Left) -> Result<String, Fail> {
+    let mut out = puts_of(alloc, door, clients)?;
     let told = debug_of(alloc, &(left.why, left.fronts.as_slice(), left.entries))?;
     out.push_str(&told)?;
     Ok(out)
+}
+
+/// What is put to clients, with `;` for each line end and `&` after each client, and what the desk leaves.
+pub fn answered<W: Wait>(rt: &W, alloc: Global, asked: Asked<'_>) -> Result<String, Fail> {
+    let failing = numbers(alloc, asked.failing)?;
+    let clients = clients(alloc, asked)?;
+    let hall = hall_of(alloc, "")?;
+    let mut door = MemDialer::new(alloc, clients, failing);
+    let left = desk_over(rt, alloc, hall, &mut door)?;
+    shown(alloc, &door, asked.texts.split('&').count(), &left)
 }
 
 /// The same in short: of what is put to a client, the status of each response.

@@ -3,14 +3,11 @@ ghost use Rattle.std.specs.Prelude.{◌≡◌, [], false, IfOk};
 ghost use Rattle.cts_desk.specs.Told.{IsIdle};
 
 use cts_base::{List, Memory};
-use cts_defread::read_definitions;
 use cts_desk::{DeskEnd, DeskWhy, DeskWorker};
 use cts_outside::{Dialer, FixedClock, OpenGate};
-use cts_plan::read_site;
-use cts_rows::lines;
+use cts_samples::site_of;
 use cts_table::Hall;
 use cts_turn::Turn;
-use cts_words::{Statement, statements};
 use std::alloc::Global;
 use std::sync::{Arc, Wait};
 use std::test::Fail;
@@ -26,23 +23,12 @@ pub struct Left {
     pub entries: u64,
 }
 
-fn statements_of(alloc: Global, text: &str) -> Result<Vec<Statement>, Fail> {
-    let text = lines(alloc, text)?;
-    if text.len() > 67_108_864 {
-        return Err(Fail::new("too large"));
-    }
-    Ok(statements(alloc, &text)?)
-}
-
 /// A hall without entries, whose site has these definitions and no interface. Each `;` is a line feed.
 pub fn hall_of(alloc: Global, definitions: &str) -> Result<Hall, Fail>
     ensures { IfOk result (λ hall. hall.entries ≡ []) }
 {
-    let found = statements_of(alloc, definitions)?;
-    let definitions = read_definitions(alloc, &found)?;
-    let none = statements_of(alloc, "")?;
-    let site = read_site(alloc, &none, definitions)?;
-    Ok(Hall::new(alloc, Arc::new(alloc, site)?)?)
+    let site = Arc::new(alloc, site_of(alloc, definitions, "")?)?;
+    Ok(Hall::new(alloc, site)?)
 }
 
 /// What the first desk leaves that runs over this door, and nothing beside it.

@@ -5,9 +5,11 @@ use crate::adding::history;
 use crate::logs::{counted, of_log, of_vault};
 use crate::narrow::Narrow;
 use crate::scribing::{cancel_scribe, run_beside, run_scribe};
-use crate::words::{entries_of, site_of};
+use crate::words::entries_of;
+use cts_def::Site;
 use cts_outside::{LogKind, MemVault, Vault};
-use cts_rows::{digits_of, field, number, same};
+use cts_rows::{asked_and_wanted, digits_of, field, number, numbers, same};
+use cts_samples::site_of;
 use std::alloc::Global;
 use std::sync::{Arc, Wait};
 use std::test::Fail;
@@ -44,22 +46,6 @@ open:0 packet:0:0:0105 command:24:0:03|6|(VaultFailed, 12) SE T 146/146 T A 0105
 open:0 packet:0:0:0105 command:24:0:03|7|(VaultFailed, 12) SE T 146/146 T A 0105;end C 146/128 T GO 03;end
 open:0 packet:0:0:0105 command:24:0:03|8|(Drained, 12) E T 146/146 T A 0105;end C 146/146 T GO 03;end";
 
-// What a row asks, and after its last bar what is wanted.
-fn parts(row: &str) -> Result<(&str, &str), Fail> {
-    match row.rsplit_once('|') {
-        Some(parts) => Ok(parts),
-        None => Err(Fail::new("no bar")),
-    }
-}
-
-fn failing(alloc: Global, text: &str) -> Result<Vec<u64>, Fail> {
-    let mut found = Vec::new(alloc);
-    if !text.is_empty() {
-        found.push(number(text, 0)?)?;
-    }
-    Ok(found)
-}
-
 /// What a scribe leaves of a history that has these entries before all others have ended, over a site with these texts.
 fn logged<R: Wait, V: Vault>(
     rt: &R,
@@ -71,18 +57,35 @@ fn logged<R: Wait, V: Vault>(
     requires blank { AreBlank (V.seen vault.old).told }
 {
     let site = Arc::new(alloc, site_of(alloc, texts.0, texts.1)?)?;
+    logged_at(rt, alloc, &site, words, vault)
+}
+
+fn logged_at<R: Wait, V: Vault>(
+    rt: &R,
+    alloc: Global,
+    site: &Arc<Site>,
+    words: &str,
+    vault: &mut V,
+) -> Result<String, Fail>
+    requires blank { AreBlank (V.seen vault.old).told }
+{
     let hall = history(alloc, site.clone()?, words, 0)?;
-    run_scribe(rt, alloc, &site, hall, vault)
+    run_scribe(rt, alloc, site, hall, vault)
+}
+
+// What was told of a scribe, and what is told of its vault.
+fn with_logs(alloc: Global, told: &str, vault: &MemVault) -> Result<String, Fail> {
+    Ok(format!(in alloc; "{told} {}", of_vault(alloc, vault)?)?)
 }
 
 fn told<R: Wait>(rt: &R, alloc: Global, row: &str) -> Result<String, Fail> {
-    let mut vault = MemVault::new(alloc, failing(alloc, field(row, 1))?);
+    let mut vault = MemVault::new(alloc, numbers(alloc, field(row, 1))?);
     let told = logged(rt, alloc, (DEFINITIONS, SITE), field(row, 0), &mut vault)?;
-    Ok(format!(in alloc; "{told} {}", of_vault(alloc, &vault)?)?)
+    with_logs(alloc, &told, &vault)
 }
 
 fn holds<R: Wait>(rt: &R, alloc: Global, row: &str) -> Result<(), Fail> {
-    let (asked, wanted) = parts(row)?;
+    let (asked, wanted) = asked_and_wanted(row)?;
     same(&told(rt, alloc, asked)?, wanted, asked)
 }
 
@@ -100,7 +103,7 @@ const LONG: &str = "\
 600|6|(VaultFailed, 512) SE T 4463/4463 T A 01 255";
 
 fn long_holds<R: Wait>(rt: &R, alloc: Global, row: &str) -> Result<(), Fail> {
-    let (asked, wanted) = parts(row)?;
+    let (asked, wanted) = asked_and_wanted(row)?;
     let packets = "packet:0:0:01 ".repeat(alloc, number(field(asked, 0), 0)?)?;
     let all = format!(in alloc; "open:0 {packets}|{}", field(asked, 1))?;
     let told = told(rt, alloc, &all)?;
@@ -137,13 +140,17 @@ fn at_room<R: Wait>(rt: &R, alloc: Global, room: usize) -> Result<String, Fail> 
     let words = "open:0 packet:0:0:0105 command:24:0:03 packet:0:0:0207";
     let mut vault = Narrow::new(alloc, room);
     let told = logged(rt, alloc, (DEFINITIONS, SITE), words, &mut vault)?;
+    with_both(alloc, &told, &vault)
+}
+
+fn with_both(alloc: Global, told: &str, vault: &Narrow) -> Result<String, Fail> {
     let tlm = of_log(alloc, &vault.tlm, 0)?;
     let cmd = of_log(alloc, &vault.cmd, 0)?;
     Ok(format!(in alloc; "{told} T {tlm} C {cmd}")?)
 }
 
 fn room_holds<R: Wait>(rt: &R, alloc: Global, row: &str) -> Result<(), Fail> {
-    let (asked, wanted) = parts(row)?;
+    let (asked, wanted) = asked_and_wanted(row)?;
     same(&at_room(rt, alloc, number(asked, 0)?)?, wanted, asked)
 }
 
@@ -160,14 +167,26 @@ const BESIDE: &str = "\
 open:0 packet:0:0:01 packet:0:0:02 packet:0:0:03 packet:0:0:04 close:0 end:0|(Drained, 14, 15) E T 196/196 T A 01;T A 02;T A 03;T A 04;end C 128/128 end";
 
 fn beside_holds<R: Wait>(rt: &R, alloc: Global, row: &str) -> Result<(), Fail> {
-    let (asked, wanted) = parts(row)?;
+    let (asked, wanted) = asked_and_wanted(row)?;
+    same(&told_beside(rt, alloc, asked)?, wanted, asked)
+}
+
+fn told_beside<R: Wait>(rt: &R, alloc: Global, asked: &str) -> Result<String, Fail> {
     let site = Arc::new(alloc, site_of(alloc, DEFINITIONS, SITE)?)?;
-    let hall = history(alloc, site.clone()?, "", 1)?;
+    let (told, vault) = run_beside_at(rt, alloc, &site, asked)?;
+    with_logs(alloc, &told, &vault)
+}
+
+fn run_beside_at<R: Wait>(
+    rt: &R,
+    alloc: Global,
+    site: &Arc<Site>,
+    asked: &str,
+) -> Result<(String, MemVault), Fail> {
     let mut entries = entries_of(alloc, asked)?;
     entries.reverse();
-    let (told, vault) = run_beside(rt, alloc, &site, hall, entries)?;
-    let found = format!(in alloc; "{told} {}", of_vault(alloc, &vault)?)?;
-    same(&found, wanted, asked)
+    let hall = history(alloc, site.clone()?, "", 1)?;
+    run_beside(rt, alloc, site, hall, entries)
 }
 
 #[test]
@@ -184,7 +203,7 @@ const CANCELS: &str = "\
 stop:31|(Cancelled, 0) E";
 
 fn cancel_holds<R: Wait>(rt: &R, alloc: Global, row: &str) -> Result<(), Fail> {
-    let (asked, wanted) = parts(row)?;
+    let (asked, wanted) = asked_and_wanted(row)?;
     let site = Arc::new(alloc, site_of(alloc, DEFINITIONS, SITE)?)?;
     let hall = history(alloc, site, asked, 0)?;
     same(&cancel_scribe(rt, alloc, hall)?, wanted, asked)
@@ -223,11 +242,15 @@ fn the_demo_is_logged(rt: HostRuntime) -> Result<(), Fail> {
     let alloc = rt.alloc();
     let mut vault = MemVault::new(alloc, Vec::new(alloc));
     let told = logged(&rt, alloc, (DEMO_DEFINITIONS, DEMO_SITE), DEMO, &mut vault)?;
-    let logs = of_vault(alloc, &vault)?;
+    same(&with_bytes(alloc, &told, &vault)?, DEMO_LOGS, DEMO)
+}
+
+// What was told of a scribe, what is told of its vault, and the bytes of both logs after their heads.
+fn with_bytes(alloc: Global, told: &str, vault: &MemVault) -> Result<String, Fail> {
+    let both = with_logs(alloc, told, vault)?;
     let tlm = after_head(alloc, vault.bytes(LogKind::Tlm))?;
     let cmd = after_head(alloc, vault.bytes(LogKind::Cmd))?;
-    let found = format!(in alloc; "{told} {logs}\n{tlm}\n{cmd}")?;
-    same(&found, DEMO_LOGS, DEMO)
+    Ok(format!(in alloc; "{both}\n{tlm}\n{cmd}")?)
 }
 
 fn after_head(alloc: Global, log: &[u8]) -> Result<String, Fail> {

@@ -1,11 +1,8 @@
-// Sites and entries, from text.
+// Entries, from text.
 use cts_base::{Bytes, Name};
-use cts_def::{Ident, Loss, Site, Time};
-use cts_defread::read_definitions;
+use cts_def::{Ident, Loss, Time};
 use cts_entry::{Entry, What, Why};
-use cts_plan::read_site;
-use cts_rows::{bytes_of, lines};
-use cts_words::{Statement, statements};
+use cts_rows::bytes_of;
 use std::alloc::Global;
 use std::test::Fail;
 
@@ -14,22 +11,6 @@ const LOSS: Loss = Loss {
     skipped: 0,
     empty: 0,
 };
-
-fn statements_of(alloc: Global, text: &str) -> Result<Vec<Statement>, Fail> {
-    let text = lines(alloc, text)?;
-    if text.len() > 67_108_864 {
-        return Err(Fail::new("too large"));
-    }
-    Ok(statements(alloc, &text)?)
-}
-
-/// The site of these definitions and statements, in which each `;` is a line feed.
-pub fn site_of(alloc: Global, definitions: &str, site: &str) -> Result<Site, Fail> {
-    let found = statements_of(alloc, definitions)?;
-    let definitions = read_definitions(alloc, &found)?;
-    let found = statements_of(alloc, site)?;
-    Ok(read_site(alloc, &found, definitions)?)
-}
 
 // An entry of the moment 100.250000: what it is, its maker, the number of its packet or command, and its bytes. A command has the number of its interface.
 fn entry_of(alloc: Global, word: &str) -> Result<Entry, Fail> {
@@ -48,9 +29,13 @@ fn entry_of(alloc: Global, word: &str) -> Result<Entry, Fail> {
 pub fn entries_of(alloc: Global, words: &str) -> Result<Vec<Entry>, Fail> {
     let mut entries = Vec::new(alloc);
     for word in words.split_ascii_whitespace() {
-        entries.push(entry_of(alloc, word)?)?;
+        push_entry(alloc, &mut entries, word)?;
     }
     Ok(entries)
+}
+
+fn push_entry(alloc: Global, entries: &mut Vec<Entry>, word: &str) -> Result<(), Fail> {
+    Ok(entries.push(entry_of(alloc, word)?)?)
 }
 
 fn what_of(alloc: Global, what: &str, rest: &str) -> Result<What, Fail> {

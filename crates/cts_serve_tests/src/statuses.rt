@@ -2,9 +2,10 @@
 use crate::demo::{CALLS, DEFINITIONS, INTERFACES, PIECES, ROUTER, SILENT};
 use crate::devices::{FIRST_DESK_DOOR, Gives, failing};
 use crate::serving::{Served, serve_demo};
-use crate::told::{logs, places, site_of, transcript, whys};
+use crate::told::{logs, places, transcript, whys};
 use cts_outside::{LogKind, MemVault, OpenGate, TurnCrew};
 use cts_rows::{cut, digits_of, in_one_line, same};
+use cts_samples::site_of;
 use std::alloc::Global;
 use std::sync::Wait;
 use std::test::Fail;
@@ -94,6 +95,17 @@ fn told(alloc: Global, left: &Served<MemVault>) -> Result<String, Fail> {
     )?)
 }
 
+/// The same of a server of the demo over a crew that takes turns, where these calls fail.
+fn told_in_turn<R: Threads + Wait + Sync>(
+    rt: &R,
+    alloc: Global,
+    words: &str,
+    failing_words: &str,
+) -> Result<String, Fail> {
+    let left = in_turn(rt, alloc, words, failing_words)?;
+    told(alloc, &left)
+}
+
 fn after_head(alloc: Global, left: &Served<MemVault>, kind: LogKind) -> Result<String, Fail> {
     match &left.devices.vault {
         Some(vault) => digits_of(alloc, vault.bytes(kind).get(128..).unwrap_or(&[])),
@@ -157,8 +169,7 @@ serve d s|o:0|WriteFault  [] None 0/0 0/0 aimed";
 fn row_holds<R: Threads + Wait + Sync>(rt: &R, alloc: Global, row: &str) -> Result<(), Fail> {
     let (words, rest) = cut(row, '|')?;
     let (failing, wanted) = cut(rest, '|')?;
-    let left = in_turn(rt, alloc, words, failing)?;
-    same(&told(alloc, &left)?, wanted, failing)
+    same(&told_in_turn(rt, alloc, words, failing)?, wanted, failing)
 }
 
 #[test]
@@ -176,8 +187,7 @@ fn failing_row_holds<R: Threads + Wait + Sync>(
 ) -> Result<(), Fail> {
     let (failing, wanted) = cut(row, '|')?;
     let wanted = if wanted == "=" { WHOLE } else { wanted };
-    let left = in_turn(rt, alloc, "serve d s", failing)?;
-    same(&told(alloc, &left)?, wanted, failing)
+    same(&told_in_turn(rt, alloc, "serve d s", failing)?, wanted, failing)
 }
 
 fn failing_rows_hold<R: Threads + Wait + Sync>(

@@ -1,33 +1,14 @@
 // What is told of a server that has ended.
 use crate::devices::Devices;
 use cts_def::Site;
-use cts_defread::read_definitions;
 use cts_outside::{LogKind, MemDialer, MemVault};
-use cts_plan::read_site;
-use cts_rows::{as_text, debug_of, lines};
+use cts_rows::{as_text, debug_of};
 use cts_script::put_entry_lines;
 use cts_serve::Ended;
 use cts_server::DeskNote;
 use cts_table::History;
-use cts_words::{Statement, statements};
 use std::alloc::Global;
 use std::test::Fail;
-
-fn statements_of(alloc: Global, text: &str) -> Result<Vec<Statement>, Fail> {
-    let text = lines(alloc, text)?;
-    if text.len() > 67_108_864 {
-        return Err(Fail::new("too large"));
-    }
-    Ok(statements(alloc, &text)?)
-}
-
-/// The site of two texts.
-pub fn site_of(alloc: Global, definitions: &str, site: &str) -> Result<Site, Fail> {
-    let found = statements_of(alloc, definitions)?;
-    let definitions = read_definitions(alloc, &found)?;
-    let found = statements_of(alloc, site)?;
-    Ok(read_site(alloc, &found, definitions)?)
-}
 
 /// The entries of a history as a transcript has them, without their numbers.
 pub fn transcript(alloc: Global, site: &Site, history: &History) -> Result<String, Fail> {

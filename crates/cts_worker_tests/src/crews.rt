@@ -7,13 +7,11 @@ ghost use Rattle.cts_staff.specs.Tasks.{Rising};
 
 use crate::toy::{Toy, ToyNote};
 use cts_base::Memory;
-use cts_defread::read_definitions;
 use cts_outside::Crew;
-use cts_plan::read_site;
+use cts_samples::site_of;
 use cts_staff::{Task, employ};
 use cts_table::Hall;
 use cts_turn::Turn;
-use cts_words::{Statement, statements};
 use std::alloc::Global;
 use std::sync::{Arc, Wait};
 use std::test::Fail;
@@ -24,18 +22,12 @@ const DESK: u32 = 24;
 /// The number of the scribe.
 const SCRIBE: u32 = 28;
 
-fn no_statements(alloc: Global) -> Result<Vec<Statement>, Fail> {
-    Ok(statements(alloc, b"")?)
-}
-
 /// A hall without entries, over a site without an interface.
 pub fn empty_hall(alloc: Global) -> Result<Hall, Fail>
     ensures { IfOk result (λ hall. hall.entries ≡ []) }
 {
-    let none = no_statements(alloc)?;
-    let definitions = read_definitions(alloc, &none)?;
-    let site = read_site(alloc, &none, definitions)?;
-    Ok(Hall::new(alloc, Arc::new(alloc, site)?)?)
+    let site = Arc::new(alloc, site_of(alloc, "", "")?)?;
+    Ok(Hall::new(alloc, site)?)
 }
 
 // A toy for the first desk, and one for the scribe.

@@ -1,10 +1,11 @@
 // One line alone, over a dialer in memory.
 use crate::chains::chain_of;
 use crate::jobs::LineJob;
-use crate::read::{dialer_of, hall_of, parts, site_of};
+use crate::read::{dialer_of, hall_of, parts};
 use cts_connection::is_line;
 use cts_outside::{Job, OpenGate};
 use cts_rows::{field, number, same};
+use cts_samples::site_of;
 use cts_turn::Turn;
 use std::alloc::Global;
 use std::sync::{Arc, Wait};

@@ -6,11 +6,12 @@ ghost use Rattle.cts_turn.specs.Passes.{IsPassOf, view};
 use crate::chains::chain_of;
 use crate::jobs::{LineJob, LineOver};
 use crate::order::Order;
-use crate::read::{dialer_of, hall_of, numbers, parts, site_of};
+use crate::read::{dialer_of, hall_of, parts};
 use cts_connection::is_line;
 use cts_def::Site;
 use cts_outside::{Crew, Job, ThreadCrew, TurnCrew};
-use cts_rows::{field, same};
+use cts_rows::{field, numbers, same};
+use cts_samples::site_of;
 use cts_table::Hall;
 use cts_turn::{Pass, Turn};
 use std::alloc::Global;
@@ -24,11 +25,14 @@ const DEFINITIONS: &str = "\
 TELEMETRY T A BIG_ENDIAN;APPEND_ITEM L 8 UINT;APPEND_ID_ITEM K 8 UINT 1;\
 COMMAND T C BIG_ENDIAN;APPEND_PARAMETER L 8 UINT 0 9 3;APPEND_ID_PARAMETER K 8 UINT 0 9 2;APPEND_PARAMETER N 8 UINT 0 9 1";
 
-/// An interface, and a router of its packets, with this protocol.
+/// An interface, and a router of its packets, with a protocol for each `$`.
+const SITE: &str = "\
+INTERFACE I tcpip_client_interface.rb h 1 1 nil nil $;TARGET T;\
+ROUTER R tcpip_server_interface.rb 3 3 nil nil $;ROUTE I";
+
+/// The site with this protocol.
 fn site_with(alloc: Global, protocol: &str) -> Result<Site, Fail> {
-    let text = format!(in alloc;
-        "INTERFACE I tcpip_client_interface.rb h 1 1 nil nil {protocol};TARGET T;ROUTER R tcpip_server_interface.rb 3 3 nil nil {protocol};ROUTE I"
-    )?;
+    let text = SITE.replace(alloc, '$', protocol)?;
     site_of(alloc, DEFINITIONS, &text)
 }
 

@@ -4,49 +4,17 @@ ghost use Rattle.std.specs.Arc.{arc_value};
 
 use cts_base::Bytes;
 use cts_def::Site;
-use cts_defread::read_definitions;
 use cts_outside::{MemConnection, MemDialer, MemPiece};
-use cts_plan::read_site;
-use cts_rows::{bytes_of, cut, lines, number};
+use cts_rows::{asked_and_wanted, bytes_of, cut, number, numbers};
 use cts_table::Hall;
-use cts_words::{Statement, statements};
 use std::alloc::Global;
 use std::sync::Arc;
 use std::test::Fail;
 
-fn statements_of(alloc: Global, text: &str) -> Result<Vec<Statement>, Fail> {
-    let text = lines(alloc, text)?;
-    if text.len() > 67_108_864 {
-        return Err(Fail::new("too large"));
-    }
-    Ok(statements(alloc, &text)?)
-}
-
-/// The site of two texts.
-pub fn site_of(alloc: Global, definitions: &str, site: &str) -> Result<Site, Fail> {
-    let found = statements_of(alloc, definitions)?;
-    let definitions = read_definitions(alloc, &found)?;
-    let found = statements_of(alloc, site)?;
-    Ok(read_site(alloc, &found, definitions)?)
-}
-
-/// The numbers of words.
-pub fn numbers(alloc: Global, text: &str) -> Result<Vec<u64>, Fail> {
-    let mut found = Vec::new(alloc);
-    for word in text.split(' ') {
-        if !word.is_empty() {
-            found.push(number(word, 0)?)?;
-        }
-    }
-    Ok(found)
-}
-
 /// What a row asks, with the row for the `$` of a form, and what it wants.
 pub fn parts<'r>(alloc: Global, form: &str, row: &'r str) -> Result<(String, &'r str), Fail> {
-    match row.rsplit_once('|') {
-        Some((asked, wanted)) => Ok((form.replace(alloc, '$', asked)?, wanted)),
-        None => Err(Fail::new("no bar")),
-    }
+    let (asked, wanted) = asked_and_wanted(row)?;
+    Ok((form.replace(alloc, '$', asked)?, wanted))
 }
 
 /// A hall without entries, by how many entries and how many bytes it may have.
@@ -91,15 +59,18 @@ fn connection(alloc: Global, words: &str) -> Result<MemConnection, Fail> {
     })
 }
 
-/// The piece of a word: digits, `-` for Nothing, or `x` and a number for so many bytes of 0.
+/// The piece of a word: `-` for Nothing, or bytes.
 fn piece(alloc: Global, word: &str) -> Result<MemPiece, Fail> {
     if word == "-" {
         return Ok(MemPiece::Nothing);
     }
-    if let Some(count) = word.strip_prefix('x') {
-        let mut bytes = Vec::new(alloc);
-        bytes.resize(number(count, 0)?, 0)?;
-        return Ok(MemPiece::Bytes(Bytes::of(bytes)));
+    Ok(MemPiece::Bytes(Bytes::of(bytes_in(alloc, word)?)))
+}
+
+/// The bytes of a word: digits, or `x` and a number for so many bytes of 0.
+fn bytes_in(alloc: Global, word: &str) -> Result<Vec<u8>, Fail> {
+    match word.strip_prefix('x') {
+        Some(count) => Ok(vec![in alloc; 0; number(count, 0)?]?),
+        None => bytes_of(alloc, word),
     }
-    Ok(MemPiece::Bytes(Bytes::of(bytes_of(alloc, word)?)))
 }

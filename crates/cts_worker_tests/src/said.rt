@@ -1,5 +1,5 @@
 // What is told of lines: their entries in short, and what was put to their peers.
-use cts_base::Memory;
+use cts_base::{Bytes, Memory};
 use cts_entry::{Stands, What};
 use cts_outside::MemDialer;
 use cts_table::Hall;
@@ -48,16 +48,16 @@ fn sent(alloc: Global, what: &What) -> Result<String, Memory> {
             interface,
             command,
             bytes,
-        } => {
-            let digits = hex::encode(alloc, bytes.as_slice())?;
-            Ok(format!(in alloc; "K{interface}:{command}:{digits}")?)
-        }
-        What::Unrouted { why, bytes } => {
-            let digits = hex::encode(alloc, bytes.as_slice())?;
-            Ok(format!(in alloc; "U{why:?}:{digits}")?)
-        }
+        } => with_digits(alloc, format!(in alloc; "K{interface}:{command}:")?, bytes),
+        What::Unrouted { why, bytes } => with_digits(alloc, format!(in alloc; "U{why:?}:")?, bytes),
         _ => Ok("?".to_string(alloc)?),
     }
+}
+
+/// A text with these bytes in digits after it.
+fn with_digits(alloc: Global, mut text: String, bytes: &Bytes) -> Result<String, Memory> {
+    text.push_str(&hex::encode(alloc, bytes.as_slice())?)?;
+    Ok(text)
 }
 
 /// Appends the bytes that were put to each connection, in digits, with a blank before each; `-` where none were.

@@ -3,7 +3,7 @@ use crate::crews::{employ_two, empty_hall};
 use crate::toy::{Toy, ToyNote};
 use cts_entry::{Entry, Stands, What};
 use cts_outside::{ThreadCrew, TurnCrew};
-use cts_rows::{debug_of, field, number, same};
+use cts_rows::{debug_of, field, numbers, same};
 use cts_table::Hall;
 use std::alloc::Global;
 use std::sync::Wait;
@@ -28,14 +28,6 @@ const DESK_FIRST: &str =
 
 const SCRIBE_FIRST: &str =
     r#"("28E 24E ", [ToyNote { saw: false, cancelled: false }, ToyNote { saw: false, cancelled: false }], (0, 2))"#;
-
-fn numbers(alloc: Global, text: &str) -> Result<Vec<u64>, Fail> {
-    let mut found = Vec::new(alloc);
-    for word in text.split_ascii_whitespace() {
-        found.push(number(word, 0)?)?;
-    }
-    Ok(found)
-}
 
 fn toy(word: &str) -> Toy {
     Toy {

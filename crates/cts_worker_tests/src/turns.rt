@@ -1,18 +1,17 @@
 // A list of entries and a hall under the turn.
+ghost use Rattle.std.specs.Prelude.{◌≡◌, []};
+
 use crate::halls::add_packet;
 use crate::holds::{add_both, add_two};
 use crate::passes::{close_two, first_two};
 use crate::waiting::hold_both;
 use crate::written::Written;
 use cts_base::Bytes;
-use cts_def::{Site, Time};
-use cts_defread::read_definitions;
+use cts_def::Time;
 use cts_entry::{Entry, Stands, What};
-use cts_plan::read_site;
-use cts_rows::lines;
+use cts_samples::site_of;
 use cts_table::Hall;
 use cts_turn::{Turn, close_all, hand_out};
-use cts_words::{Statement, statements};
 use std::alloc::Global;
 use std::sync::Arc;
 use std::test::Fail;
@@ -47,33 +46,26 @@ fn two_opened(alloc: Global) -> Result<Written, Fail> {
     Ok(written)
 }
 
-fn statements_of(alloc: Global, text: &str) -> Result<Vec<Statement>, Fail> {
-    let text = lines(alloc, text)?;
-    if text.len() > 67_108_864 {
-        return Err(Fail::new("too large"));
+// The first interface is connected, where there is one and the hall has room for it.
+fn connect(hall: &mut Hall) -> bool
+    requires empty { hall.old.entries ≡ [] }
+{
+    if hall.site().interfaces.as_slice().is_empty() || hall.room(1, 0).is_err() {
+        return false;
     }
-    Ok(statements(alloc, &text)?)
-}
-
-fn site(alloc: Global) -> Result<Site, Fail> {
-    let none = statements_of(alloc, "")?;
-    let definitions = read_definitions(alloc, &none)?;
-    let found = statements_of(alloc, SITE)?;
-    Ok(read_site(alloc, &found, definitions)?)
+    hall.opened(0, NOW);
+    true
 }
 
 // A hall whose first interface is connected.
 fn connected_hall(alloc: Global) -> Result<Hall, Fail> {
-    let site = site(alloc)?;
-    if site.interfaces.as_slice().is_empty() {
-        return Err(Fail::new("no interface"));
+    let site = Arc::new(alloc, site_of(alloc, "", SITE)?)?;
+    let mut hall = Hall::new(alloc, site)?;
+    if connect(&mut hall) {
+        Ok(hall)
+    } else {
+        Err(Fail::new("not connected"))
     }
-    let mut hall = Hall::new(alloc, Arc::new(alloc, site)?)?;
-    if hall.room(1, 0).is_err() {
-        return Err(Fail::new("no room"));
-    }
-    hall.opened(0, NOW);
-    Ok(hall)
 }
 
 #[test]

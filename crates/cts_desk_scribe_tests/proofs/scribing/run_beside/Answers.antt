@@ -11,17 +11,17 @@ use Rattle.cts_desk_scribe_tests.proofs.scribing.run_beside.Goals as goal
 pub split-first-requires-clause-two : goal.split-first-requires-clause-two
 split-first-requires-clause-two g c = (split_from _ 0 c.in_ok-turn.ensures.makers (omega arith)).2
 
-pub new-vault-requires-2-clause-by : goal.new-vault-requires-2-clause-by
-new-vault-requires-2-clause-by g c = ap (λ v. has 0 v.makers) c.split-first.ensures.new ∙ ap (λ m. has 0 (m ∷ [])) (split_from _ 0 c.in_ok-turn.ensures.makers (omega arith)).1
+pub run_over-end-requires-clause-first : goal.run_over-end-requires-clause-first
+run_over-end-requires-clause-first g c = ap (λ v. has 0 v.makers) c.split-first.ensures.new ∙ ap (λ m. has 0 (m ∷ [])) (split_from _ 0 c.in_ok-turn.ensures.makers (omega arith)).1
 
-pub run-end-requires-clause-by : goal.run-end-requires-clause-by
-run-end-requires-clause-by g c =
+pub run_over-end-requires-clause-scribe : goal.run_over-end-requires-clause-scribe
+run_over-end-requires-clause-scribe g c =
     ap (λ v. has 28 v.makers) c.split-first.ensures.view ∙ ap (has 28) (split_from _ 0 c.in_ok-turn.ensures.makers (omega arith)).0 ∙ has_from 1 28 (omega arith) (omega arith)
 
-pub run-end-requires-clause-new : goal.run-end-requires-clause-new
-run-end-requires-clause-new g c =
+pub run_over-end-requires-clause-new : goal.run_over-end-requires-clause-new
+run_over-end-requires-clause-new g c =
     let none : list_any (λ (e : Entry). e.by == 28) c.args.hall.entries ≡ false = sym c.has_made.ensures ∙ c.if-has_made.false in
     ap (λ v. of_maker 28 v.seen) c.split-first.ensures.view ∙ ap (of_maker 28) c.in_ok-turn.ensures.seen.0 ∙ silent 28 c.args.hall.entries none
 
-pub run-end-requires-clause-site : goal.run-end-requires-clause-site
-run-end-requires-clause-site g c = c.requires.site ∙ sym (ap (λ (b : Basis). b.site) c.in_ok-turn.ensures.basis)
+pub run_over-end-requires-clause-site : goal.run_over-end-requires-clause-site
+run_over-end-requires-clause-site g c = c.requires.site ∙ sym (ap (λ (b : Basis). b.site) c.in_ok-turn.ensures.basis)
