@@ -131,7 +131,16 @@ fn run_over<R: Wait>(
     let (first, pass) = passes;
     let vault = MemVault::new(alloc, Vec::new(alloc));
     let mut vault = Beside::new(rt, turn, first, entries, vault);
-    let end = Scribe::run(rt, alloc, site, SCRIBE, turn, pass, &digest_of(b""), &mut vault);
+    let end = Scribe::run(
+        rt,
+        alloc,
+        site,
+        SCRIBE,
+        turn,
+        pass,
+        &digest_of(b""),
+        &mut vault,
+    );
     (end, vault.into_vault())
 }
 

@@ -64,16 +64,29 @@ pub fn closed() -> What {
 fn with_bytes(alloc: Global, what: &str, rest: &str) -> Result<What, Fail> {
     let (number, digits) = rest.split_once(':').unwrap_or((rest, ""));
     let bytes = Bytes::of(bytes_of(alloc, digits)?);
-    let ident = match number.parse::<u32>() {
+    if what == "packet" {
+        let ident = ident_of(number);
+        return Ok(What::Packet { ident, bytes });
+    }
+    with_number(what, number.parse::<u32>()?, bytes)
+}
+
+fn ident_of(number: &str) -> Ident {
+    match number.parse::<u32>() {
         Ok(number) => Ident::Known(number),
         Err(_) => Ident::Unknown,
-    };
-    match (what, ident) {
-        ("packet", ident) => Ok(What::Packet { ident, bytes }),
-        ("inject", Ident::Known(packet)) => Ok(What::Injected { packet, bytes }),
-        ("command", Ident::Known(command)) => Ok(What::Command {
-            interface: command,
-            command,
+    }
+}
+
+fn with_number(what: &str, number: u32, bytes: Bytes) -> Result<What, Fail> {
+    match what {
+        "inject" => Ok(What::Injected {
+            packet: number,
+            bytes,
+        }),
+        "command" => Ok(What::Command {
+            interface: number,
+            command: number,
             bytes,
         }),
         _ => Err(Fail::new("no such entry")),

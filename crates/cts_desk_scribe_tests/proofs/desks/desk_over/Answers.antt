@@ -1,5 +1,4 @@
-use Rattle.std.proofs.Common.{◌≡◌, ◌≤◌, ap, arith, ◌∙◌, subst, sym, true}
-use Rattle.cts_def.specs.Sites.{SiteData}
+use Rattle.std.proofs.Common.{◌≡◌, ◌≤◌, ap, arith, ◌∙◌, true}
 use Rattle.cts_entry.specs.Workers.{is_desk}
 use Rattle.cts_table.specs.declared.basis.Basis.{Basis}
 use Rattle.cts_told.specs.Makers.{of_maker}

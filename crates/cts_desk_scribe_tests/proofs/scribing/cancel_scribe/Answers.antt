@@ -15,5 +15,5 @@ cancel-end-requires-clause-new g c =
     let none : list_any (λ (e : Entry). e.by == 28) c.args.hall.entries ≡ false = sym c.has_made.ensures ∙ c.if-has_made.false in
     ap (of_maker 28) c.in_ok-turn.ensures.seen.0 ∙ silent 28 c.args.hall.entries none
 
-pub close-requires-clause-all : goal.close-requires-clause-all
-close-requires-clause-all g c = λ m lt. ap (has m) (c.cancel-end.ensures.onward.makers ∙ c.in_ok-turn.ensures.makers) ∙ has_from 0 m (omega arith) lt
+pub close-hall-requires-clause-all : goal.close-hall-requires-clause-all
+close-hall-requires-clause-all g c = λ m lt. ap (has m) (c.cancel-end.ensures.onward.makers ∙ c.in_ok-turn.ensures.makers) ∙ has_from 0 m (omega arith) lt

@@ -19,5 +19,5 @@ run-end-requires-clause-new g c =
 pub run-end-requires-clause-site : goal.run-end-requires-clause-site
 run-end-requires-clause-site g c = c.requires.site ∙ sym (ap (λ (b : Basis). b.site) c.in_ok-turn.ensures.basis)
 
-pub close-requires-clause-all : goal.close-requires-clause-all
-close-requires-clause-all g c = λ m lt. ap (has m) (c.run-end.ensures.onward.makers ∙ c.in_ok-turn.ensures.makers) ∙ has_from 0 m (omega arith) lt
+pub close-hall-requires-clause-all : goal.close-hall-requires-clause-all
+close-hall-requires-clause-all g c = λ m lt. ap (has m) (c.run-end.ensures.onward.makers ∙ c.in_ok-turn.ensures.makers) ∙ has_from 0 m (omega arith) lt
