@@ -1,6 +1,7 @@
 // What desks reply to whole bodies, and what they append.
 use crate::hall::hall_of;
 use cts_api::{Answer, answer, reply};
+use cts_base::Bytes;
 use cts_def::{FIRST_DESK, Time};
 use cts_entry::{Stands, has_ended};
 use cts_rows::{Answers, as_text, cut, number, readable_of, rows_end_so, same};
@@ -147,12 +148,12 @@ fn told_of_change(alloc: Global, body: &[u8]) -> Result<String, Fail> {
 fn told_of_change_in(alloc: Global, hall: &mut Hall, body: &[u8]) -> Result<String, Fail> {
     let answer = asked(alloc, hall, body)?;
     let lines = last_lines(alloc, hall)?;
-    let line = as_text(&lines)?.trim_end();
+    let line = as_text(lines.as_slice())?.trim_end();
     readable_of(alloc, &(answer.text, answer.appended, line))
 }
 
 /// The lines of the last entry.
-fn last_lines(alloc: Global, hall: &Hall) -> Result<Vec<u8>, Fail> {
+fn last_lines(alloc: Global, hall: &Hall) -> Result<Bytes, Fail> {
     let count = hall.count();
     if count == 0 {
         return Err(Fail::new("no entry"));

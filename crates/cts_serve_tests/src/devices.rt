@@ -5,11 +5,12 @@ ghost use Rattle.cts_outside.specs.Lines.{no_connections};
 ghost use Rattle.cts_server.specs.Places.{AreThere, IsStill};
 
 use crate::demo::DEFINITIONS;
+use crate::shelves::put;
 use cts_base::Bytes;
 use cts_fixed::Fixed;
 use cts_outside::{Link, MemConnection, MemDialer, MemFiles, MemPiece};
 use cts_preid::Preidentified;
-use cts_proto::{Boxed, Shelf};
+use cts_proto::Shelf;
 use cts_rows::{bytes_of, lines, number};
 use cts_stream::{Burst, Length, Terminated};
 use std::alloc::Global;
@@ -156,13 +157,6 @@ pub fn files(alloc: Global, site: &str, failing_words: &str) -> Result<MemFiles,
         held.push((name, content))?;
     }
     Ok(MemFiles::new(held, failing(alloc, failing_words, "f")?))
-}
-
-fn put(shelf: &mut Shelf, protocol: Boxed) -> Result<(), Fail> {
-    match shelf.put(protocol) {
-        Ok(()) => Ok(()),
-        Err(_) => Err(Fail::new("out of memory")),
-    }
 }
 
 /// A shelf with so many boxes of each kind.

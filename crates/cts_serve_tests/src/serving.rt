@@ -48,7 +48,7 @@ fn means_of(alloc: Global, site: &str, failing_words: &str) -> Result<Means, Fai
 }
 
 /// What a server leaves, at the moment 100.250000. Nothing is said of it, so that no test has to carry what is.
-fn ended<R: Threads + Wait + Sync, V: Vault + Send, W: Crew, G: Gate + Sync>(
+fn serve_over<R: Threads + Wait + Sync, V: Vault + Send, W: Crew, G: Gate + Sync>(
     rt: &R,
     alloc: Global,
     words: &[&str],
@@ -63,19 +63,7 @@ fn ended<R: Threads + Wait + Sync, V: Vault + Send, W: Crew, G: Gate + Sync>(
     requires vault { IsSomeAnd devices.old.vault (λ v. AreBlank (V.seen v).told) }
 {
     let clock = FixedClock::new(100, 250_000);
-    serve::<
-        R,
-        Chain,
-        Shelf,
-        MemFiles,
-        MemSink,
-        MemDialer,
-        MemDialer,
-        V,
-        FixedClock,
-        W,
-        G,
-    >(
+    serve::<R, Chain, Shelf, MemFiles, MemSink, MemDialer, MemDialer, V, FixedClock, W, G>(
         rt,
         alloc,
         words,
@@ -92,7 +80,7 @@ fn ended<R: Threads + Wait + Sync, V: Vault + Send, W: Crew, G: Gate + Sync>(
 }
 
 /// What a server has left, where what it printed is a text.
-fn served<V: Drop>(
+fn whole<V: Drop>(
     ended: Ended,
     devices: Devices<V>,
     printed: Result<String, Fail>,
@@ -121,6 +109,6 @@ pub fn serve_demo<R: Threads + Wait + Sync, V: Vault + Send, W: Crew, G: Gate + 
     let words = words.split_whitespace().collect::<Vec<&str>>(alloc)?;
     let mut means = means_of(alloc, site, gives.failing)?;
     let mut devices = devices_of(alloc, gives, vault)?;
-    let ended = ended(rt, alloc, &words, &mut means, &mut devices, crew, gate);
-    served(ended, devices, in_one_line(alloc, means.out.bytes()))
+    let ended = serve_over(rt, alloc, &words, &mut means, &mut devices, crew, gate);
+    whole(ended, devices, in_one_line(alloc, means.out.bytes()))
 }

@@ -187,7 +187,11 @@ fn failing_row_holds<R: Threads + Wait + Sync>(
 ) -> Result<(), Fail> {
     let (failing, wanted) = cut(row, '|')?;
     let wanted = if wanted == "=" { WHOLE } else { wanted };
-    same(&told_in_turn(rt, alloc, "serve d s", failing)?, wanted, failing)
+    same(
+        &told_in_turn(rt, alloc, "serve d s", failing)?,
+        wanted,
+        failing,
+    )
 }
 
 fn failing_rows_hold<R: Threads + Wait + Sync>(
