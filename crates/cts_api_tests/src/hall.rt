@@ -1,11 +1,10 @@
 // A hall over a site that is read from text.
+ghost use Rattle.std.specs.Prelude.{◌≡◌, []};
+
 use cts_base::Bytes;
-use cts_def::{Definitions, Ident, Site, Time};
-use cts_defread::read_definitions;
-use cts_plan::read_site;
-use cts_rows::lines;
+use cts_def::{Ident, Time};
+use cts_samples::site_of;
 use cts_table::Hall;
-use cts_words::{Statement, statements};
 use std::alloc::Global;
 use std::sync::Arc;
 use std::test::Fail;
@@ -28,25 +27,24 @@ const NOW: Time = Time {
     micros: 0,
 };
 
-fn statements_of(alloc: Global, text: &str) -> Result<Vec<Statement>, Fail> {
-    let text = lines(alloc, text)?;
-    if text.len() > 67_108_864 {
-        return Err(Fail::new("too large"));
+/// A hall without entries.
+pub fn new_hall(alloc: Global) -> Result<Hall, Fail> {
+    let site = Arc::new(alloc, site_of(alloc, DEFINITIONS, SITE)?)?;
+    Ok(Hall::new(alloc, site)?)
+}
+
+// The first interface is connected, where the hall has room for it and no entry yet.
+fn connect(hall: &mut Hall) -> bool
+    requires empty { hall.old.entries ≡ [] }
+{
+    if hall.site().interfaces.as_slice().is_empty() || hall.room(1, 0).is_err() {
+        return false;
     }
-    Ok(statements(alloc, &text)?)
+    hall.opened(0, NOW);
+    true
 }
 
-fn definitions(alloc: Global) -> Result<Definitions, Fail> {
-    let found = statements_of(alloc, DEFINITIONS)?;
-    Ok(read_definitions(alloc, &found)?)
-}
-
-fn site(alloc: Global) -> Result<Site, Fail> {
-    let definitions = definitions(alloc)?;
-    let found = statements_of(alloc, SITE)?;
-    Ok(read_site(alloc, &found, definitions)?)
-}
-
+// The first interface has received a packet A, where it is connected and the hall has room for it.
 fn receive(hall: &mut Hall, bytes: Bytes) -> bool {
     if hall.site().definitions.telemetry.as_slice().is_empty()
         || hall.site().interfaces.as_slice().is_empty()
@@ -59,26 +57,14 @@ fn receive(hall: &mut Hall, bytes: Bytes) -> bool {
     true
 }
 
-/// A hall without entries.
-pub fn new_hall(alloc: Global) -> Result<Hall, Fail> {
-    let site = site(alloc)?;
-    Ok(Hall::new(alloc, Arc::new(alloc, site)?)?)
-}
-
 /// A hall with room for so many entries, whose first interface is connected and has received one packet A.
 pub fn hall_of(alloc: Global, entries: u64) -> Result<Hall, Fail> {
-    let site = site(alloc)?;
-    if site.interfaces.as_slice().is_empty() {
-        return Err(Fail::new("no interface"));
-    }
-    let mut hall = Hall::with_limits(alloc, Arc::new(alloc, site)?, entries.min(100), 100)?;
-    if hall.room(1, 0).is_err() {
-        return Err(Fail::new("no room"));
-    }
-    hall.opened(0, NOW);
     let bytes = Bytes::copy(alloc, b"\x01\x05\x06\xff\x0a")?;
-    if !receive(&mut hall, bytes) {
-        return Err(Fail::new("not received"));
+    let site = Arc::new(alloc, site_of(alloc, DEFINITIONS, SITE)?)?;
+    let mut hall = Hall::with_limits(alloc, site, entries.min(100), 100)?;
+    if connect(&mut hall) && receive(&mut hall, bytes) {
+        Ok(hall)
+    } else {
+        Err(Fail::new("not received"))
     }
-    Ok(hall)
 }

@@ -1,6 +1,7 @@
 // What desks reply to whole bodies, and what they append.
 use crate::hall::hall_of;
 use cts_api::{Answer, answer, reply};
+use cts_base::Bytes;
 use cts_def::{FIRST_DESK, Time};
 use cts_entry::{Stands, has_ended};
 use cts_rows::{Answers, as_text, cut, number, readable_of, rows_end_so, same};
@@ -141,15 +142,24 @@ fn look_ups_and_refusals_are_replied_and_append_nothing(rt: HostRuntime) -> Resu
 /// The response to a body, how many entries it appends, and the last entry.
 fn told_of_change(alloc: Global, body: &[u8]) -> Result<String, Fail> {
     let mut hall = hall_of(alloc, 100)?;
-    let answer = asked(alloc, &mut hall, body)?;
+    told_of_change_in(alloc, &mut hall, body)
+}
+
+fn told_of_change_in(alloc: Global, hall: &mut Hall, body: &[u8]) -> Result<String, Fail> {
+    let answer = asked(alloc, hall, body)?;
+    let lines = last_lines(alloc, hall)?;
+    let line = as_text(lines.as_slice())?.trim_end();
+    readable_of(alloc, &(answer.text, answer.appended, line))
+}
+
+/// The lines of the last entry.
+fn last_lines(alloc: Global, hall: &Hall) -> Result<Bytes, Fail> {
     let count = hall.count();
     if count == 0 {
         return Err(Fail::new("no entry"));
     }
     let last = hall.lend(count - 1);
-    let lines = entry_lines(alloc, hall.site(), count - 1, last, &[])?;
-    let line = as_text(lines.as_slice())?.trim_end();
-    readable_of(alloc, &(answer.text, answer.appended, line))
+    Ok(entry_lines(alloc, hall.site(), count - 1, last, &[])?)
 }
 
 /// Calls that append something: the method, its params, its response, how many entries it appends, and the entry.
@@ -345,15 +355,21 @@ const SETS: &str =
 62|set_limits|["T","A","V",1,2,3,4,"2.1","2.2","s61"]|(Some('{"id":1,"jsonrpc":"2.0","result":null}'), 65)
 62|set_limits_set|["MORE"]|(Some('{"error":{"code":-32001,"message":"Unknown limits set"},"id":1,"jsonrpc":"2.0"}'), 64)"#;
 
+/// The response to a body after an item has limits in so many new sets.
+fn told_after(alloc: Global, hall: &mut Hall, count: u32, body: &[u8]) -> Result<String, Fail> {
+    with_sets(alloc, hall, count)?;
+    told(alloc, hall, body)
+}
+
 struct Sets;
 
 impl Answers for Sets {
     fn answer(alloc: Global, asked: &str) -> Result<String, Fail> {
         let (count, call) = cut(asked, '|')?;
-        let mut hall = hall_of(alloc, 100)?;
-        with_sets(alloc, &mut hall, number(count, 0)?)?;
         let body = call_of(alloc, call)?;
-        told(alloc, &mut hall, body.as_bytes())
+        let count = number(count, 0)?;
+        let mut hall = hall_of(alloc, 100)?;
+        told_after(alloc, &mut hall, count, body.as_bytes())
     }
 }
 
@@ -363,7 +379,12 @@ fn a_65th_set_is_too_many(rt: HostRuntime) -> Result<(), Fail> {
 }
 
 /// What desk 0 answers to a call that was read before.
-fn answered(alloc: Global, hall: &mut Hall, call: &Call) -> Result<String, Fail> {
+fn answered(alloc: Global, call: &Call) -> Result<String, Fail> {
+    let mut hall = hall_of(alloc, 100)?;
+    answered_in(alloc, &mut hall, call)
+}
+
+fn answered_in(alloc: Global, hall: &mut Hall, call: &Call) -> Result<String, Fail> {
     if hall.site().desks == 0 || has_ended(hall, FIRST_DESK) {
         return Err(Fail::new("no desk"));
     }
@@ -388,7 +409,7 @@ impl Answers for ReadCalls {
     fn answer(alloc: Global, asked: &str) -> Result<String, Fail> {
         let body = call_of(alloc, asked)?;
         match read(alloc, body.as_bytes()) {
-            Ok(call) => answered(alloc, &mut hall_of(alloc, 100)?, &call),
+            Ok(call) => answered(alloc, &call),
             Err(_) => Err(Fail::new("no call")),
         }
     }
@@ -406,7 +427,7 @@ impl Answers for WithFractions {
             id: Some(Value::from(1.5)),
             ..call
         };
-        answered(alloc, &mut hall_of(alloc, 100)?, &call)
+        answered(alloc, &call)
     }
 }
 

@@ -1,7 +1,6 @@
 // Dumps of log files.
 use crate::faults::numbers_of;
-use crate::shelves::stocked;
-use crate::table::{commands_end_so, ended, hold_bytes, rows_told};
+use crate::table::{commands_end_so, ended_stocked, hold_bytes, rows_told};
 use cts_outside::{MemFiles, MemSink, MemVault};
 use cts_rows::{Answers, bytes_of, number, part};
 use std::alloc::Global;
@@ -17,15 +16,15 @@ struct Dumps;
 
 impl Answers for Dumps {
     fn answer(alloc: Global, asked: &str) -> Result<String, Fail> {
+        let log = log_of(alloc, asked)?;
+        let reads = numbers_of(alloc, part(asked, 3))?;
+        let puts = numbers_of(alloc, part(asked, 4))?;
         let mut held = Vec::new(alloc);
-        hold_bytes(alloc, &mut held, "l", log_of(alloc, asked)?)?;
-        let mut files = MemFiles::new(held, numbers_of(alloc, part(asked, 3))?);
-        let mut sink = MemSink::new(alloc, numbers_of(alloc, part(asked, 4))?);
+        hold_bytes(alloc, &mut held, "l", log)?;
+        let mut files = MemFiles::new(held, reads);
+        let mut sink = MemSink::new(alloc, puts);
         let mut vault = MemVault::new(alloc, Vec::new(alloc));
-        let mut shelf = stocked(alloc)?;
-        ended(
-            alloc, "dump l", &mut shelf, &mut files, &mut sink, &mut vault,
-        )
+        ended_stocked(alloc, "dump l", &mut files, &mut sink, &mut vault)
     }
 }
 

@@ -1,6 +1,5 @@
 // Commands whose reads, puts, appends and syncs fail, each in its turn.
-use crate::shelves::stocked;
-use crate::table::{SITE, ended, files, rows_told};
+use crate::table::{SITE, ended_stocked, files, rows_told};
 use cts_outside::{MemFiles, MemSink, MemVault};
 use cts_rows::{Answers, same};
 use cts_serve::Status;
@@ -31,9 +30,12 @@ fn ended_where_fails(
     put: &str,
     kept: &str,
 ) -> Result<String, Fail> {
-    let mut files = files(alloc, definitions, SITE, SCRIPT, numbers_of(alloc, read)?)?;
-    let mut sink = MemSink::new(alloc, numbers_of(alloc, put)?);
-    let mut vault = MemVault::new(alloc, numbers_of(alloc, kept)?);
+    let read = numbers_of(alloc, read)?;
+    let put = numbers_of(alloc, put)?;
+    let kept = numbers_of(alloc, kept)?;
+    let mut files = files(alloc, definitions, SITE, SCRIPT, read)?;
+    let mut sink = MemSink::new(alloc, put);
+    let mut vault = MemVault::new(alloc, kept);
     ended_with_faults(alloc, words, &mut files, &mut sink, &mut vault)
 }
 
@@ -52,8 +54,7 @@ fn ended_with_faults(
     sink: &mut MemSink,
     vault: &mut MemVault,
 ) -> Result<String, Fail> {
-    let mut shelf = stocked(alloc)?;
-    let ended = ended(alloc, words, &mut shelf, files, sink, vault)?;
+    let ended = ended_stocked(alloc, words, files, sink, vault)?;
     let (reads, puts, kept) = (files.faults(), sink.faults(), vault.faults());
     Ok(format!(in alloc; "{reads} {puts} {kept} {ended}")?)
 }

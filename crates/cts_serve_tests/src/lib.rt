@@ -1,4 +1,5 @@
-//! Tests of whole commands. They stand above `cts_serve`, so that it is not proved a second time for them.
+//! Tests of whole commands over files, a shelf, a sink and a vault in memory, and of a server over devices in memory. They stand above
+//! these crates, so that neither of them is proved a second time for them.
 #![tactic(auto)]
 
 #[cfg(test)]
@@ -10,11 +11,19 @@ mod commands;
 #[cfg(test)]
 mod counting;
 #[cfg(test)]
+mod crews;
+#[cfg(test)]
+mod demo;
+#[cfg(test)]
+mod devices;
+#[cfg(test)]
 mod dumps;
 #[cfg(test)]
 mod failing;
 #[cfg(test)]
 mod faults;
+#[cfg(test)]
+mod gates;
 #[cfg(test)]
 mod instrument;
 #[cfg(test)]
@@ -30,8 +39,14 @@ mod routers;
 #[cfg(test)]
 mod scripts;
 #[cfg(test)]
+mod serving;
+#[cfg(test)]
 mod shelves;
 #[cfg(test)]
 mod site;
 #[cfg(test)]
+mod statuses;
+#[cfg(test)]
 mod table;
+#[cfg(test)]
+mod told;

@@ -42,10 +42,10 @@ impl Answers for Word {
 }
 
 fn said_of_bytes(alloc: Global, definitions: Vec<u8>) -> Result<String, Fail> {
+    let mut shelf = stocked(alloc)?;
     let mut held = Vec::new(alloc);
     hold_bytes(alloc, &mut held, "d", definitions)?;
     let mut files = MemFiles::new(held, Vec::new(alloc));
-    let mut shelf = stocked(alloc)?;
     ended_without_faults(alloc, "replay d s c", &mut shelf, &mut files)
 }
 

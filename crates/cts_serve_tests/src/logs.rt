@@ -2,8 +2,7 @@
 use crate::commands::DEMO_SITE;
 use crate::faults::numbers_of;
 use crate::instrument::INSTRUMENT_DEFINITIONS;
-use crate::shelves::stocked;
-use crate::table::{ended, files, rows_told};
+use crate::table::{ended_stocked, files, rows_told};
 use cts_outside::{LogKind, MemSink, MemVault};
 use cts_rows::{Answers, digits_of};
 use std::alloc::Global;
@@ -19,23 +18,28 @@ impl Answers for Kept {
         let [put, kept, line, script] = parts.as_slice() else {
             return Err(Fail::new("not four parts"));
         };
-        let mut sink = MemSink::new(alloc, numbers_of(alloc, put)?);
+        let put = numbers_of(alloc, put)?;
         let mut vault = MemVault::new(alloc, numbers_of(alloc, kept)?);
-        replayed(alloc, line, script, &mut sink, &mut vault)?;
-        let tlm = log_of(alloc, &vault, LogKind::Tlm)?;
-        let cmd = log_of(alloc, &vault, LogKind::Cmd)?;
-        Ok(format!(in alloc; "{tlm} {cmd}")?)
+        replayed(alloc, line, script, put, &mut vault)?;
+        both_logs(alloc, &vault)
     }
 }
 
-/// Replays a script over the instrument, whose last interface has a line more.
+/// What both logs of a vault have.
+fn both_logs(alloc: Global, vault: &MemVault) -> Result<String, Fail> {
+    let tlm = log_of(alloc, vault, LogKind::Tlm)?;
+    let cmd = log_of(alloc, vault, LogKind::Cmd)?;
+    Ok(format!(in alloc; "{tlm} {cmd}")?)
+}
+
+/// How a replay of a script ends over the instrument, whose last interface has a line more.
 fn replayed(
     alloc: Global,
     line: &str,
     script: &str,
-    sink: &mut MemSink,
+    failing_puts: Vec<u64>,
     vault: &mut MemVault,
-) -> Result<(), Fail> {
+) -> Result<String, Fail> {
     let site = format!(in alloc; "{DEMO_SITE};{line}")?;
     let mut files = files(
         alloc,
@@ -44,9 +48,8 @@ fn replayed(
         script,
         Vec::new(alloc),
     )?;
-    let mut shelf = stocked(alloc)?;
-    ended(alloc, "replay d s c", &mut shelf, &mut files, sink, vault)?;
-    Ok(())
+    let mut sink = MemSink::new(alloc, failing_puts);
+    ended_stocked(alloc, "replay d s c", &mut files, &mut sink, vault)
 }
 
 fn log_of(alloc: Global, vault: &MemVault, kind: LogKind) -> Result<String, Fail> {

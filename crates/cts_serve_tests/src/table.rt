@@ -196,6 +196,18 @@ pub fn hold_bytes(
     Ok(held.push((name, Bytes::of(content)))?)
 }
 
+/// How a command ends over a shelf with boxes of each kind.
+pub fn ended_stocked(
+    alloc: Global,
+    words: &str,
+    files: &mut MemFiles,
+    sink: &mut MemSink,
+    vault: &mut MemVault,
+) -> Result<String, Fail> {
+    let mut shelf = stocked(alloc)?;
+    ended(alloc, words, &mut shelf, files, sink, vault)
+}
+
 /// How a command ends: its status, and after a blank all that it prints, with `;` for each line feed.
 pub fn ended(
     alloc: Global,

@@ -1,2 +1,0 @@
-pub mod Toys
-pub mod ToyLaws

@@ -1,2 +1,0 @@
-mod Two
-mod Owns

@@ -1,0 +1,3 @@
+mod Owns
+mod Places
+mod Two

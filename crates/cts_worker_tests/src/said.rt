@@ -1,0 +1,82 @@
+// What is told of lines: their entries in short, and what was put to their peers.
+use cts_base::{Bytes, Memory};
+use cts_entry::{Stands, What};
+use cts_outside::MemDialer;
+use cts_table::Hall;
+use std::alloc::Global;
+
+/// Each entry of a maker in short: O for Opened, P for a packet and its length, C for Closed and why, the bytes that the first stage held, and
+/// how many packets were not posted and how many entries for the peer not put; K for a command and its interface, number and bytes, U for an Unrouted entry,
+/// why it is one and its bytes; S for Stop and E for Ended.
+pub fn said(alloc: Global, hall: &Hall, by: u32) -> Result<String, Memory> {
+    let mut text = String::new(alloc);
+    for n in 0..hall.count() {
+        let entry = hall.lend(n);
+        if entry.by == by {
+            tell(&mut text, &word(alloc, &entry.what)?)?;
+        }
+    }
+    Ok(text)
+}
+
+/// Appends a word and a blank.
+fn tell(text: &mut String, word: &str) -> Result<(), Memory> {
+    text.push_str(word)?;
+    Ok(text.push(' ')?)
+}
+
+fn word(alloc: Global, what: &What) -> Result<String, Memory> {
+    match what {
+        What::Opened => Ok("O".to_string(alloc)?),
+        What::Packet { ident: _, bytes } => Ok(format!(in alloc; "P{}", bytes.as_slice().len())?),
+        What::Closed {
+            why,
+            loss,
+            unposted,
+            unsent,
+        } => Ok(format!(in alloc; "C{why:?}:{}:{unposted}:{unsent}", loss.held[0])?),
+        What::Stop => Ok("S".to_string(alloc)?),
+        What::Ended => Ok("E".to_string(alloc)?),
+        _ => sent(alloc, what),
+    }
+}
+
+/// What a slot took.
+fn sent(alloc: Global, what: &What) -> Result<String, Memory> {
+    match what {
+        What::Command {
+            interface,
+            command,
+            bytes,
+        } => with_digits(alloc, format!(in alloc; "K{interface}:{command}:")?, bytes),
+        What::Unrouted { why, bytes } => with_digits(alloc, format!(in alloc; "U{why:?}:")?, bytes),
+        _ => Ok("?".to_string(alloc)?),
+    }
+}
+
+/// A text with these bytes in digits after it.
+fn with_digits(alloc: Global, mut text: String, bytes: &Bytes) -> Result<String, Memory> {
+    text.push_str(&hex::encode(alloc, bytes.as_slice())?)?;
+    Ok(text)
+}
+
+/// Appends the bytes that were put to each connection, in digits, with a blank before each; `-` where none were.
+pub fn tell_puts(
+    alloc: Global,
+    dialer: &MemDialer,
+    connections: u64,
+    text: &mut String,
+) -> Result<(), Memory> {
+    for connection in 0..connections {
+        text.push(' ')?;
+        text.push_str(&put_to(alloc, dialer, connection)?)?;
+    }
+    Ok(())
+}
+
+fn put_to(alloc: Global, dialer: &MemDialer, connection: u64) -> Result<String, Memory> {
+    match dialer.put_to(connection as usize) {
+        Some(bytes) if !bytes.is_empty() => Ok(hex::encode(alloc, bytes)?),
+        _ => Ok("-".to_string(alloc)?),
+    }
+}
