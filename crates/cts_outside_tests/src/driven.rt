@@ -2,7 +2,7 @@
 ghost use Rattle.std.specs.Prelude.{◌≡◌, false};
 
 use cts_base::{Bytes, Decimal};
-use cts_outside::{Aim, Dialed, Dialer, PutFailed, Taken};
+use cts_outside::{Aim, Dialed, Dialer, PutFailed};
 use cts_rows::{debug_of, number};
 use std::alloc::Global;
 use std::test::Fail;

@@ -3,7 +3,7 @@ ghost use Rattle.std.specs.Prelude.{◌≡◌, ◌<◌, []};
 
 use cts_base::Bytes;
 use cts_conv::{Value, ValueKind};
-use cts_def::{Ident, Loss, SERVER, Site, Time};
+use cts_def::{Ident, Loss, SERVER, Time};
 use cts_entry::Why;
 use cts_rows::{Answers, bytes_of, debug_of, field, number, rows_end_so, same};
 use cts_samples::site_of;

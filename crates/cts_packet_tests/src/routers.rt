@@ -7,7 +7,7 @@ use cts_core::{Framer, Supplier, World, WorldFault};
 use cts_def::Site;
 use cts_entry::{Effect, Event, Why};
 use cts_proto::Shelf;
-use cts_rows::{Answers, as_text, bytes_of, cut, debug_of, digits_of, number, part, rows_end_so};
+use cts_rows::{Answers, as_text, bytes_of, debug_of, digits_of, number, part, rows_end_so};
 use cts_samples::site_of;
 use cts_script::effect_line;
 use std::alloc::Global;
