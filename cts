@@ -49,7 +49,7 @@ look_for_needs() {
 
 # GB: the largest crate is proved in less than this, and all that is built and kept takes less.
 LEAST_MEMORY=4
-LEAST_DISK=8
+LEAST_DISK=14
 declare -A KIT_HINT=([rt]=": it is the command of the Rattle kit that README.md names under Trusted")
 
 # How many crates are proved at a time: one a processor and two more, since some wait for a crate below, but no more than memory
@@ -114,7 +114,7 @@ build() {
 }
 
 # What it took where it was measured (bench/README.md).
-TIMES="some 25 minutes on four processors, an hour on one"
+TIMES="70 minutes with one crate at a time, less with more"
 
 if [ "${CTS_BUILT-}" = 1 ]; then
     [ -x "$program" ] || { echo "cts: CTS_BUILT=1, and no program is built" >&2; exit 1; }
