@@ -96,7 +96,7 @@ build() {
     look_for_needs
     jobs=$(at_a_time)
     echo "proving and building the program, once: $TIMES. Now $jobs crates at a time, with $(free_memory) GB of memory and $(free_disk) GB of disk free." >&2
-    echo "All sources are read first, which takes a minute or two. It may be stopped and started again: what is built stays." >&2
+    echo "All sources are read first, which takes some minutes. It may be stopped and started again: what is built stays." >&2
     began=$(mktemp)
     log=$(mktemp)
     trap 'rm -f "$began" "$log"' EXIT
