@@ -114,7 +114,7 @@ build() {
 }
 
 # What it took where it was measured (bench/README.md).
-TIMES="70 minutes with one crate at a time, less with more"
+TIMES="70 minutes with one crate at a time, 40 with four"
 
 if [ "${CTS_BUILT-}" = 1 ]; then
     [ -x "$program" ] || { echo "cts: CTS_BUILT=1, and no program is built" >&2; exit 1; }
