@@ -13,7 +13,8 @@ HOST = "127.0.0.1"
 
 def packets(data):
     """The whole packets at the front, each with its bytes as they came, and what is left: seconds, microseconds, two names with their
-    lengths, a count, and as many bytes. Entries of a log have the same form."""
+    lengths, a count, and as many bytes. Entries of a log of layout 2 have the same form. Only heads of layout 2 are read: those of layout 4
+    have a byte of flags before the seconds."""
     found = []
     while True:
         at = 8

@@ -24,8 +24,8 @@ use Rattle.cts_table.specs.Routes.{route_to}
 use Rattle.cts_table.specs.declared.basis.Basis.{Basis}
 use Rattle.cts_table.specs.declared.fault.NoRoute.{NoRoute}
 use Rattle.cts_table.specs.declared.fault.NoRoute.TheVariants.{NoInterface, NotConnected}
-use Rattle.cts_watch.specs.Watching.{is_watched}
-use Rattle.cts_watch.specs.declared.types.LimitsUsed.{LimitsUsed}
+use Rattle.cts_monitor.specs.Watching.{is_watched}
+use Rattle.cts_monitor.specs.declared.types.LimitsUsed.{LimitsUsed}
 use Rattle.serde_json.specs.Data.{Data, null}
 use Rattle.cts_api.specs.Answers.{Done, ItemAt, answer, appended, check, choose_answer, command_answer, command_row, enable_answer, given_or, inject_answer, item_at, known_set, limits_at, new_set, next, numbered, or_injection_refused, or_refused, packet_at, posts_command, posts_injected, request_answer, routed, set_limits_answer, stop_answer, told}
 use Rattle.cts_methods.specs.Asking.{Asking, ItemName, NewLimits, PacketName, asks_events, asks_interface, asks_interfaces, asks_limits, asks_out_of_limits, asks_packet, asks_received, asks_sent, asks_set, asks_value, chooses_set, enables, injects, sends, sets_limits, stops}
@@ -41,7 +41,7 @@ use Rattle.cts_api.specs.Shown.{injection_said, no_such, not_done}
 -- a desk may append this: a command goes where it has a route, and a Stop comes where none stands
 abbrev pub MayPost : Point → What → Type 0
 MayPost h Opened = ⊥
-MayPost h (Packet ident bytes) = ⊥
+MayPost h (Packet ident stored bytes) = ⊥
 MayPost h (Closed why loss unposted unsent) = ⊥
 MayPost h (Command interface command bytes) = h.route command ≡ Ok interface
 MayPost h (SetLimits enabled packet item persistence set limits) = Unit {0}
@@ -224,7 +224,7 @@ route_tells history (Some k) i e = route_if (is_connected k history) history k i
 
 pub may_be_said : (b : Basis) (history : List Entry) (by : ℕ) (what : What) → is_desk b.site by ≡ true → MayPost (point_of b history) what → Allows (rules_of b) history by what
 may_be_said b history by Opened desk may = absurd may
-may_be_said b history by (Packet ident bytes) desk may = absurd may
+may_be_said b history by (Packet ident stored bytes) desk may = absurd may
 may_be_said b history by (Closed why loss unposted unsent) desk may = absurd may
 may_be_said b history by (Command interface command bytes) desk may = let to = route_tells history (interface_of b.site command) interface may in (to.0, to.1, inl desk)
 may_be_said b history by (SetLimits enabled packet item persistence set limits) desk may = desk
@@ -237,7 +237,7 @@ may_be_said b history by Ended desk may = absurd may
 
 pub ends_none : (h : Point) (what : What) → MayPost h what → is_ended what ≡ false
 ends_none h Opened may = absurd may
-ends_none h (Packet ident bytes) may = absurd may
+ends_none h (Packet ident stored bytes) may = absurd may
 ends_none h (Closed why loss unposted unsent) may = absurd may
 ends_none h (Command interface command bytes) may = refl
 ends_none h (SetLimits enabled packet item persistence set limits) may = refl

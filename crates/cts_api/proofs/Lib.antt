@@ -1,4 +1,5 @@
 pub mod Allowed
+pub mod Appended
 pub mod Asked
 pub mod Giving
 pub mod Injected
@@ -7,6 +8,7 @@ pub mod Making
 pub mod MaySay
 pub mod OfSite
 pub mod OneReply
+pub mod OnlyLooks
 pub mod Persisting
 pub mod Sent
 pub mod Settled

@@ -1,9 +1,8 @@
 -- What is built of a request is the command of the definition, and what an injection leaves are the bytes of its members.
-use Rattle.std.proofs.Common.{◌≡◌, ℕ, zero, suc, ◌+◌, Some, None, ℤ, pos, negsuc, ◌-◌, ◌^◌, ◌<◌, ◌-ℤ◌, Bool, true, false, List, [], ◌∷◌, ◌++◌, Option, length, take, drop, refl, sym, ◌∙◌, ap, subst, arith, inl, inr, ◌⊎◌}
+use Rattle.std.proofs.Common.{◌≡◌, ℕ, zero, suc, Some, None, ℤ, pos, negsuc, ◌-◌, ◌^◌, ◌<◌, ◌-ℤ◌, Bool, true, false, List, [], ◌∷◌, ◌++◌, Option, length, take, drop, refl, sym, ◌∙◌, ap, subst, arith, inl, inr, ◌⊎◌}
 use Rattle.std.specs.Prelude.{replicate, slice_get, unwrap_or}
 use Rattle.std.proofs.lemmas.Bool.{cases_lt, le-ltb, lt-ltb}
 use Rattle.std.proofs.lemmas.Int.{ints}
-use Rattle.std.proofs.lemmas.List.{get_or-drop}
 use Rattle.cts_bits.specs.declared.place.Place.{Place}
 use Rattle.cts_bits.specs.Fields.{field, field_at}
 use Rattle.cts_bits.proofs.Outcomes.{one_outcome}
@@ -20,9 +19,9 @@ use Rattle.cts_def.specs.Spans.{is_signed}
 use Rattle.cts_def.specs.Starts.{PlaceData, place_data}
 use Rattle.cts_def.specs.declared.item_kind.Preset.{Preset}
 use Rattle.cts_def.specs.declared.item_kind.Preset.TheVariants.{Whole, Raw}
-use Rattle.cts_spell.specs.Spelled.{with_field}
-use Rattle.cts_spell.specs.Spellings.{HasField}
-use Rattle.cts_spell.proofs.FieldWritten.{field_written}
+use Rattle.cts_encode.specs.Spelled.{with_field}
+use Rattle.cts_encode.specs.Spellings.{HasField}
+use Rattle.cts_encode.proofs.FieldWritten.{bytes_append, bytes_drop, bytes_take, field_written}
 use Rattle.cts_api.specs.Made.{CommandsAreBuilt, InjectionsAreWritten, bits_for, built_at, bytes_in, command_bytes, injected, with_content, with_contents, with_member}
 
 -- ---- the bits of a number
@@ -97,20 +96,6 @@ commands_are_built d r b h =
 
 -- ---- injections
 
-bytes_drop : (n : ℕ) (xs : List ℕ) → AreBytes xs → AreBytes (drop n xs)
-bytes_drop n xs bytes k = let there = get_or-drop n xs k 0 in let small = bytes (n + k) in omega (arith, there, small)
-
-bytes_join : (n : ℕ) (xs ys : List ℕ) → AreBytes xs → AreBytes ys → AreBytes (take n xs ++ ys)
-bytes_join zero xs ys bytes more k = more k
-bytes_join (suc n) [] ys bytes more k = more k
-bytes_join (suc n) (x ∷ xs) ys bytes more zero = bytes zero
-bytes_join (suc n) (x ∷ xs) ys bytes more (suc k) = bytes_join n xs ys (λ j. bytes (suc j)) more k
-
-bytes_append : (xs ys : List ℕ) → AreBytes xs → AreBytes ys → AreBytes (xs ++ ys)
-bytes_append [] ys bytes more k = more k
-bytes_append (x ∷ xs) ys bytes more zero = bytes zero
-bytes_append (x ∷ xs) ys bytes more (suc k) = bytes_append xs ys (λ j. bytes (suc j)) more k
-
 -- what an injection is written over are bytes
 pub stood_bytes : (o : Option (List ℕ)) (count : ℕ) → ((bytes : List ℕ) → o ≡ Some bytes → AreBytes bytes) → AreBytes (stood o count)
 stood_bytes None count bytes = zeros count
@@ -124,5 +109,5 @@ injections_are_written (m ∷ ms) old new bytes w =
     let part = w.1.0 in
     let wrote = content_written (from_base m.0) (content_given m.0 m.1) (drop at old) part (bytes_drop at old bytes) w.1.1 in
     let next : with_member m old ≡ w.0 = ap (λ (p : List ℕ). take at old ++ p) wrote ∙ sym w.1.2 in
-    let left : AreBytes w.0 = subst AreBytes (sym w.1.2) (bytes_join at old part bytes (bytes_left (from_base m.0) (content_given m.0 m.1) (drop at old) part w.1.1)) in
+    let left : AreBytes w.0 = subst AreBytes (sym w.1.2) (bytes_append (take at old) part (bytes_take at old bytes) (bytes_left (from_base m.0) (content_given m.0 m.1) (drop at old) part w.1.1)) in
     ap (injected ms) next ∙ injections_are_written ms w.0 new left w.2

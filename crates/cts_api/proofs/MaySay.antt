@@ -9,7 +9,7 @@ use Rattle.cts_entry.specs.Workers.{is_desk, is_interface, is_slot}
 use Rattle.cts_entry.specs.declared.what.What.{What}
 use Rattle.cts_table.specs.Keeping.{IsKept}
 use Rattle.cts_table.specs.States.{Shown}
-use Rattle.cts_watch.specs.Sets.{known_sets}
+use Rattle.cts_monitor.specs.Sets.{known_sets}
 use Rattle.serde_json.specs.Data.{Data}
 use Rattle.cts_methods.specs.declared.method.Method.{Method}
 use Rattle.cts_methods.specs.declared.method.Method.TheVariants as method
@@ -35,7 +35,7 @@ mapped P f (Some a) all = all a refl
 pub some_of : {A : Type 0} (P : A → Type 0) (o : Option A) (a : A) → IfSome o P → o ≡ Some a → P a
 some_of P o a all is = subst (λ x. IfSome x P) is all
 
-if_some : (b : Bool) (k n : ℕ) → (if b then Some k else None) ≡ Some n → (b ≡ true) × (k ≡ n)
+pub if_some : (b : Bool) (k n : ℕ) → (if b then Some k else None) ≡ Some n → (b ≡ true) × (k ≡ n)
 if_some true k n e = (refl, ap (λ (o : Option ℕ). unwrap_or o k) e)
 if_some false k n e = absurd (cc e)
 

@@ -18,15 +18,16 @@ use Rattle.cts_def.specs.Sites.{SiteData}
 use Rattle.cts_def.specs.declared.limits_setup.LimitsSetup.{LimitsSetup}
 use Rattle.cts_entry.specs.declared.entry.Entry.{Entry}
 use Rattle.cts_entry.specs.declared.what.What.{What}
-use Rattle.cts_entry.specs.declared.what.What.TheVariants.{Opened, Packet, Closed, Command, SetLimits, Enable, LimitsSetIs, Injected, Unrouted, Stop, Ended}
+use Rattle.cts_entry.specs.declared.what.What.TheVariants.{Command, SetLimits, Enable, LimitsSetIs, Stop}
 use Rattle.cts_table.specs.declared.basis.Basis.{Basis}
 use Rattle.cts_table.specs.Keeping.{AllOfSite, IsSaid}
-use Rattle.cts_watch.specs.Items.{has_colors, has_limits, item_at as item_in}
-use Rattle.cts_watch.specs.Settings.{limits_of, limits_used_in, watched_in, watched_of}
-use Rattle.cts_watch.proofs.SetSteps.{set_known_is}
-use Rattle.cts_watch.specs.Sets.{is_among, is_set_known, known_sets, set_named, with_all, with_named}
-use Rattle.cts_watch.specs.Watching.{is_watched}
-use Rattle.cts_watch.specs.declared.types.LimitsUsed.{LimitsUsed}
+use Rattle.cts_table.proofs.KeptSteps.{few_named}
+use Rattle.cts_monitor.specs.Items.{has_colors, has_limits, item_at as item_in}
+use Rattle.cts_monitor.specs.Settings.{limits_of, limits_used_in, watched_in, watched_of}
+use Rattle.cts_monitor.proofs.SetSteps.{all_append, set_known_is}
+use Rattle.cts_monitor.specs.Sets.{is_among, known_sets}
+use Rattle.cts_monitor.specs.Watching.{is_watched}
+use Rattle.cts_monitor.specs.declared.types.LimitsUsed.{LimitsUsed}
 use Rattle.serde_json.specs.Data.{Data, null}
 use Rattle.cts_api.specs.Answers.{Done, ItemAt, answer, check, choose_answer, command_answer, command_row, enable_answer, events_answer, first_with, given_or, inject_answer, interface_answer, interfaces_answer, item_at, known_set, limits_answer, limits_at, limits_set_answer, new_set, next, or_injection_refused, out_of_limits_answer, packet_answer, packet_at, posts_command, posts_injected, posts_nothing, received_answer, request_answer, routed, sent_answer, set_limits_answer, sound_request, told, appended, value_answer, Posting}
 use Rattle.cts_methods.specs.Asking.{Asking, NewLimits, ItemName, PacketName, asks_value, asks_packet, asks_received, asks_sent, sends, asks_limits, sets_limits, enables, asks_set, chooses_set, asks_out_of_limits, asks_events, asks_interfaces, asks_interface, injects, stops}
@@ -41,27 +42,10 @@ use Rattle.cts_api.proofs.Giving.{appended_posts, check_gives, first_there, give
 
 -- ---- no more sets are known than may be
 
-known_more : (sets : List (List ℕ)) (before : List Entry) (e : Entry) → with_all sets (before ++ e ∷ []) ≡ with_named (with_all sets before) (set_named e.what)
-known_more sets [] e = refl
-known_more sets (x ∷ before) e = known_more (with_named sets (set_named x.what)) before e
-
-few_named : (site : SiteData) (before : List Entry) (by : ℕ) (what : What) → length (known_sets site before) ≤ most_sets → IsSaid site before by what → length (with_named (known_sets site before) (set_named what)) ≤ most_sets
-few_named site before by Opened few said = few
-few_named site before by (Packet ident bytes) few said = few
-few_named site before by (Closed why loss unposted unsent) few said = few
-few_named site before by (Command interface command bytes) few said = few
-few_named site before by (SetLimits enabled packet item persistence set limits) few said = said.2
-few_named site before by (Enable packet item enabled) few said = few
-few_named site before by (LimitsSetIs set) few said = few
-few_named site before by (Injected packet bytes) few said = few
-few_named site before by (Unrouted why bytes) few said = few
-few_named site before by Stop few said = few
-few_named site before by Ended few said = few
-
 pub few_known : (site : SiteData) (before es : List Entry) → length (known_sets site before) ≤ most_sets → AllOfSite site before es → length (known_sets site (before ++ es)) ≤ most_sets
 few_known site before [] few all = subst (λ (l : List Entry). length (known_sets site l) ≤ most_sets) (sym (append-nil before)) few
 few_known site before (e ∷ es) few all =
-    let one = subst (λ (sets : List (List ℕ)). length sets ≤ most_sets) (sym (known_more site.definitions.set_names before e)) (few_named site before e.by e.what few all.0.said) in
+    let one = subst (λ (sets : List (List ℕ)). length sets ≤ most_sets) (sym (all_append site.definitions.set_names before e)) (few_named site before e.by e.what few all.0.said) in
     subst (λ (l : List Entry). length (known_sets site l) ≤ most_sets) (append_assoc before (e ∷ []) es) (few_known site (before ++ e ∷ []) es one all.1)
 
 sets_fit : (sets : List (List ℕ)) (set : List ℕ) (among : Bool) → length sets ≤ most_sets → is_among sets set ≡ among → (among || nat_lt (length sets) most_sets) ≡ true → length (if among then sets else sets ++ set ∷ []) ≤ most_sets

@@ -1,8 +1,6 @@
 -- A body has one reply at a point.
-use Rattle.std.proofs.Common.{◌≡◌, ℕ, List, Option, Some, None, inl, inr, Result, Ok, Err, sym, ap, subst, ◌∙◌}
-use Rattle.cts_cmd.proofs.Exact.{taken}
-use Rattle.cts_cmd.specs.Texts.{IsCommandText}
-use Rattle.cts_cmd.specs.declared.text_fault.TextFault.{TextFault}
+use Rattle.std.proofs.Common.{◌≡◌, ℕ, List, Option, Some, None, inl, inr, sym, ap, subst, ◌∙◌}
+use Rattle.cts_cmd.proofs.Exact.{request_unique}
 use Rattle.cts_cmd.specs.declared.request.Request.{Request}
 use Rattle.cts_def.specs.declared.time.Time.{Time}
 use Rattle.cts_rpc.specs.Requests.{Outcome, not_json, not_request, bad_params, calls}
@@ -16,15 +14,9 @@ use Rattle.cts_methods.specs.declared.method.Method.{Method}
 use Rattle.cts_api.specs.Points.{Point}
 use Rattle.cts_api.specs.Replies.{Reply, IsRequested, HasRequest, IsReplyTo, IsReplyOf, IsReplyFor, IsReply, said_to}
 
-text_unique : (text : List ℕ) (r s : Request) → IsCommandText text r → IsCommandText text s → r ≡ s
-text_unique text r s a b = ap in_ok (taken text (Ok r) s a b) where
-  in_ok : Result Request TextFault → Request
-  in_ok (Ok q) = q
-  in_ok (Err e) = r
-
 pub requested_one : (o : Order) (a b : Option Request) → IsRequested o a → IsRequested o b → a ≡ b
 requested_one (in_parts c _) a b x y = x ∙ sym y
-requested_one (in_text text) a b (inl (r, reads, x)) (inl (s, also, y)) = x ∙ (ap (λ (q : Request). Some q) (text_unique text r s reads also) ∙ sym y)
+requested_one (in_text text) a b (inl (r, reads, x)) (inl (s, also, y)) = x ∙ (ap (λ (q : Request). Some q) (request_unique text r s reads also) ∙ sym y)
 requested_one (in_text text) a b (inl (r, reads, x)) (inr (none, y)) = absurd (none r reads)
 requested_one (in_text text) a b (inr (none, x)) (inl (s, also, y)) = absurd (none s also)
 requested_one (in_text text) a b (inr (none, x)) (inr (nor, y)) = x ∙ sym y

@@ -11,8 +11,8 @@ use Rattle.cts_entry.specs.declared.what.What.{What}
 use Rattle.cts_entry.specs.declared.what.What.TheVariants.{Opened, Packet, Closed, Command, SetLimits, Enable, LimitsSetIs, Injected, Unrouted, Stop, Ended}
 use Rattle.cts_entry.specs.Histories.{latest, or_earlier}
 use Rattle.cts_table.specs.Keeping.{AllOfSite, IsSaid}
-use Rattle.cts_watch.specs.Settings.{Watched, enabled_of, limits_in, first_persistence, limits_of, limits_used, limits_used_in, persistence_in_what, persistence_of, persistence_told, sets_of, watched_in, watched_of}
-use Rattle.cts_watch.specs.declared.types.LimitsUsed.{LimitsUsed}
+use Rattle.cts_monitor.specs.Settings.{Watched, enabled_of, limits_in, first_persistence, limits_of, limits_used, limits_used_in, persistence_in_what, persistence_of, persistence_told, sets_of, watched_in, watched_of}
+use Rattle.cts_monitor.specs.declared.types.LimitsUsed.{LimitsUsed}
 use Rattle.cts_api.specs.Settling.{HasPersistence}
 
 the_same : (n m : ℕ) → Some n ≡ Some m → n ≡ m
@@ -24,7 +24,7 @@ if_persists false m n some e = absurd (cc e)
 
 what_persists : (site : SiteData) (before : List Entry) (by p i n : ℕ) (what : What) → IsSaid site before by what → persistence_in_what p i what ≡ Some n → 1 ≤ n
 what_persists site before by p i n Opened said e = absurd (cc e)
-what_persists site before by p i n (Packet ident bytes) said e = absurd (cc e)
+what_persists site before by p i n (Packet ident stored bytes) said e = absurd (cc e)
 what_persists site before by p i n (Closed why loss unposted unsent) said e = absurd (cc e)
 what_persists site before by p i n (Command interface command bytes) said e = absurd (cc e)
 what_persists site before by p i n (SetLimits enabled packet item persistence set limits) said e = if_persists (packet == p && item == i) persistence n said.1 e

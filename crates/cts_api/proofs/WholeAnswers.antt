@@ -25,9 +25,9 @@ use Rattle.cts_def.specs.Sites.{InterfaceData}
 use Rattle.cts_entry.specs.declared.what.What.{What}
 use Rattle.cts_entry.specs.declared.what.What.TheVariants.{Stop}
 use Rattle.cts_table.specs.declared.fault.Lookup.{Lookup}
-use Rattle.cts_watch.specs.Watching.{is_watched}
-use Rattle.cts_watch.specs.declared.types.LimitsEvent.{LimitsEvent}
-use Rattle.cts_watch.specs.declared.types.LimitsUsed.{LimitsUsed}
+use Rattle.cts_monitor.specs.Watching.{is_watched}
+use Rattle.cts_monitor.specs.declared.types.LimitsEvent.{LimitsEvent}
+use Rattle.cts_monitor.specs.declared.types.LimitsUsed.{LimitsUsed}
 use Rattle.serde_json.specs.Data.{Data, null, boolean, number, object, Members, no_members, member, put}
 use Rattle.serde_json.specs.Find.{of_integer}
 use Rattle.serde_json.specs.View.{items_of}

@@ -24,9 +24,9 @@ use Rattle.cts_table.specs.declared.fault.Lookup.{Lookup}
 use Rattle.cts_table.specs.declared.fault.Lookup.TheVariants.{UnknownTarget, UnknownPacket, UnknownItem, NeverReceived, Memory}
 use Rattle.cts_table.specs.declared.fault.NoRoute.{NoRoute}
 use Rattle.cts_table.specs.declared.fault.NoRoute.TheVariants.{NoInterface, NotConnected}
-use Rattle.cts_watch.specs.Watching.{is_watched}
-use Rattle.cts_watch.specs.declared.types.LimitsEvent.{LimitsEvent}
-use Rattle.cts_watch.specs.declared.types.LimitsUsed.{LimitsUsed}
+use Rattle.cts_monitor.specs.Watching.{is_watched}
+use Rattle.cts_monitor.specs.declared.types.LimitsEvent.{LimitsEvent}
+use Rattle.cts_monitor.specs.declared.types.LimitsUsed.{LimitsUsed}
 use Rattle.serde_json.specs.Data.{Data, null, boolean, object}
 use Rattle.cts_methods.specs.Asking.{PacketName, ItemName, NewLimits, Asking, asks_value, asks_packet, asks_received, asks_sent, sends, asks_limits, sets_limits, enables, asks_set, chooses_set, asks_out_of_limits, asks_events, asks_interfaces, asks_interface, injects, stops}
 use Rattle.cts_api.specs.Saying.{Said, refused, gives}

@@ -11,3 +11,4 @@ pub mod Replied
 pub mod Responding
 pub mod Settling
 pub mod Injecting
+pub mod Looks

@@ -12,7 +12,7 @@ use Rattle.cts_def.specs.Items.{ItemData, is_to_the_end}
 use Rattle.cts_def.specs.Packets.{DefinitionsData, PacketData, is_named}
 use Rattle.cts_def.specs.declared.item_kind.Preset.{Preset}
 use Rattle.cts_def.specs.declared.item_kind.Preset.TheVariants.{Whole, Raw}
-use Rattle.cts_spell.specs.Spelled.{with_field}
+use Rattle.cts_encode.specs.Spelled.{with_field}
 
 -- the bits that spell a number in a field of `bits` bits, a negative one in two's complement
 abbrev pub bits_for : ℕ → ℤ → ℕ

@@ -12,13 +12,13 @@ use Rattle.cts_table.specs.declared.fault.Lookup.{Lookup}
 use Rattle.cts_table.specs.declared.fault.NoRoute.{NoRoute}
 use Rattle.cts_table.specs.Lookups.{looked_up, counted, every_length, commands_in}
 use Rattle.cts_table.specs.Routes.{route_of}
-use Rattle.cts_watch.specs.Brought.{current_of}
-use Rattle.cts_watch.specs.Events.{events_from}
-use Rattle.cts_watch.specs.Samples.{state_at}
-use Rattle.cts_watch.specs.Sets.{is_set_known, sets_known}
-use Rattle.cts_watch.specs.Settings.{current_set, limits_of}
-use Rattle.cts_watch.specs.declared.types.LimitsEvent.{LimitsEvent}
-use Rattle.cts_watch.specs.declared.types.LimitsUsed.{LimitsUsed}
+use Rattle.cts_monitor.specs.Brought.{current_of}
+use Rattle.cts_monitor.specs.Events.{events_from}
+use Rattle.cts_monitor.specs.Samples.{state_at}
+use Rattle.cts_monitor.specs.Sets.{is_set_known, sets_known}
+use Rattle.cts_monitor.specs.Settings.{current_set, limits_of}
+use Rattle.cts_monitor.specs.declared.types.LimitsEvent.{LimitsEvent}
+use Rattle.cts_monitor.specs.declared.types.LimitsUsed.{LimitsUsed}
 use Rattle.cts_methods.specs.Asking.{ItemName}
 
 pub record Point : Type 0 where

@@ -58,7 +58,7 @@ abbrev pub inst_int : InterfaceData
 inst_int = record { name = codes "INST_INT"; aim_host = codes "h"; port = 1; serves = false; targets = codes "INST" ∷ []; chain = []; reconnect = true; delay = record { parts = pos 0 }; logged = true }
 
 abbrev pub site : SiteData
-site = record { definitions = record { telemetry = health ∷ []; commands = collect ∷ []; set_names = codes "DEFAULT" ∷ [] }; interfaces = inst_int ∷ []; routers = []; api_port = 7777; desks = 1 }
+site = record { definitions = record { telemetry = health ∷ []; commands = collect ∷ []; set_names = codes "DEFAULT" ∷ [] }; interfaces = inst_int ∷ []; routers = []; api_port = 7777; desks = 1; log_layout = 2; log_cycle = None }
 
 abbrev pub at_rest : Time
 at_rest = record { seconds = 0; micros = 0 }

@@ -14,8 +14,8 @@ use cts_base::{Bytes, Name, NameFault};
 use cts_def::{Item, MOST_SETS};
 use cts_entry::What;
 use cts_methods::{ItemWords, LimitsWords};
+use cts_monitor::is_watched;
 use cts_table::{Hall, LimitsUsed};
-use cts_watch::is_watched;
 use std::alloc::Global;
 
 fn new_set(alloc: Global, name: Option<&[u8]>) -> Result<Name, Refusal>

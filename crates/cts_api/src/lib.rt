@@ -14,6 +14,8 @@ mod injecting;
 mod interfaces;
 mod laws;
 mod limits;
+mod looked;
+mod looking;
 mod naming;
 mod refusal;
 mod replying;
@@ -27,5 +29,7 @@ pub use laws::{
     answers_are_whole, bytes_are_made, replies_are_legal, replies_are_of_their_desk, reply_is_one,
     rows_are_as_defined,
 };
+pub use looked::Look;
+pub use looking::look;
 pub use replying::{answer, reply};
 pub use settling::Answer;

@@ -26,8 +26,8 @@ use std::alloc::Global;
 use std::marker::Brand;
 use std::sync::ledger::Blank;
 
-// A response with an error, which appends nothing.
-fn error_answer(
+/// A response with an error, which appends nothing.
+pub(crate) fn error_answer(
     alloc: Global,
     id: Option<&Value>,
     code: Code,
@@ -50,8 +50,8 @@ fn error_without_id(alloc: Global, code: Code, message: &[u8]) -> Result<Answer,
     error_answer(alloc, Some(&nothing()), code, message)
 }
 
-// The response to a body that is no call, which appends nothing.
-fn no_call(alloc: Global, fault: &RpcFault) -> Result<Answer, Memory>
+/// The response to a body that is no call, which appends nothing.
+pub(crate) fn no_call(alloc: Global, fault: &RpcFault) -> Result<Answer, Memory>
     ensures none { IfOk result (λ a. a.appended ≡ 0) }
     ensures text { IfOk result (λ a. TellsFault fault.now a.text) }
 {
@@ -69,8 +69,12 @@ fn no_call(alloc: Global, fault: &RpcFault) -> Result<Answer, Memory>
     }
 }
 
-// A response to a call that is refused, which appends nothing.
-fn refusal_told(alloc: Global, id: Option<&Value>, refusal: Refusal) -> Result<Answer, Memory>
+/// A response to a call that is refused, which appends nothing.
+pub(crate) fn refusal_told(
+    alloc: Global,
+    id: Option<&Value>,
+    refusal: Refusal,
+) -> Result<Answer, Memory>
     ensures none { IfOk result (λ a. a.appended ≡ 0) }
     ensures told { IfOk result (λ a. IsTold refusal) }
     ensures text { IfOk result (λ a. RefusesWith (option_map (λ i. view i.now) id.entry) refusal a.text) }

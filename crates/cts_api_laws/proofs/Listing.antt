@@ -5,7 +5,7 @@ use Rattle.std.specs.List.{cons_option, enumerate_from, filter, filter_map}
 use Rattle.cts_conv.specs.declared.value.ValueKind.{ValueKind}
 use Rattle.cts_def.specs.Items.{ItemData}
 use Rattle.cts_def.specs.Packets.{PacketData}
-use Rattle.cts_watch.specs.declared.types.LimitsEvent.{LimitsEvent}
+use Rattle.cts_monitor.specs.declared.types.LimitsEvent.{LimitsEvent}
 use Rattle.serde_json.specs.Data.{Data}
 use Rattle.cts_api.specs.Answers.{all_out_rows, event_row, event_rows, item_row, out_row, out_rows, rows_from, with_row}
 use Rattle.cts_api.specs.Points.{Point}

@@ -9,6 +9,7 @@ use Rattle.serde_json.specs.Data.{Data, Members, array, boolean, float, negative
 use Rattle.serde_json.specs.Find.{as_integer}
 use Rattle.cts_methods.specs.Asking.{ItemName, PacketName}
 use Rattle.cts_methods.specs.Kinds.{are_given, decimal_in, decimal_read, first_in, names_first, natural_in, object_in, packet_first, pair_first, persistence, persistence_in, switch_in, text_in, wholes}
+use Rattle.cts_api.proofs.MaySay.{if_some}
 use Rattle.cts_api_laws.specs.ParamRows.{AreNames, AreTwoNames, IsDecimal, IsObject, IsPersistence}
 use Rattle.cts_api_laws.proofs.Inverting.{and_then_some, and_then_taken, map_some, map_taken, some_is}
 
@@ -48,10 +49,6 @@ decimal_said (object ms) x e = absurd (cc e)
 pub decimal_taken : (d : Data) (x : Decimal) → IsDecimal d x → decimal_in d ≡ Some x
 decimal_taken d x (inl (n, z, is, whole, so)) = ap decimal_in is ∙ map_taken wholes (as_integer n) z x whole (sym so)
 decimal_taken d x (inr (s, is, reads)) = ap decimal_in is ∙ ap decimal_read reads
-
-if_some : (b : Bool) (k n : ℕ) → (if b then Some k else None) ≡ Some n → (b ≡ true) × (k ≡ n)
-if_some true k n e = (refl, some_is k n e)
-if_some false k n e = absurd (cc e)
 
 first_of_both : (a b : Bool) → (a && b) ≡ true → a ≡ true
 first_of_both true b h = refl

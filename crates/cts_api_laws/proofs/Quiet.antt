@@ -20,7 +20,7 @@ use Rattle.cts_entry.specs.Legal.{IsLegal}
 use Rattle.cts_table.specs.declared.basis.Basis.{Basis}
 use Rattle.cts_table.specs.declared.fault.Lookup.{Lookup}
 use Rattle.cts_table.specs.Keeping.{rules_of}
-use Rattle.cts_watch.specs.declared.types.LimitsUsed.{LimitsUsed}
+use Rattle.cts_monitor.specs.declared.types.LimitsUsed.{LimitsUsed}
 use Rattle.serde_json.specs.Data.{Data, Members, array, boolean, float, member, negative, no_members, null, number, object, string, unsigned}
 use Rattle.cts_api.specs.Answers.{Done, ItemAt, Posting, answer, check, connection_text, first_with, given_or, has_name, interface_answer, is_called, is_unknown_target, item_at, limits_answer, limits_at, limits_row, next, or_unknown, packet_answer, packet_at, packet_rows, posts_nothing, received_answer, rows_from, sent_answer, set_asked, told, value_answer, value_said}
 use Rattle.cts_methods.specs.Asking.{Asking, ItemName, PacketName, asks_events, asks_interface, asks_interfaces, asks_limits, asks_out_of_limits, asks_packet, asks_received, asks_sent, asks_set, asks_value, chooses_set, enables, injects, sends, sets_limits, stops}

@@ -4,7 +4,7 @@ use Rattle.std.specs.List.{enumerate_from, filter, filter_map}
 use Rattle.cts_conv.specs.declared.value.ValueKind.{ValueKind}
 use Rattle.cts_def.specs.Items.{ItemData}
 use Rattle.cts_def.specs.Packets.{PacketData}
-use Rattle.cts_watch.specs.declared.types.LimitsEvent.{LimitsEvent}
+use Rattle.cts_monitor.specs.declared.types.LimitsEvent.{LimitsEvent}
 use Rattle.cts_api.specs.Answers.{all_out_rows, event_row, event_rows, item_row, out_row, rows_from}
 use Rattle.cts_api.specs.Points.{Point}
 use Rattle.cts_api.specs.Shown.{color, is_out}

@@ -44,8 +44,8 @@ fn connect(hall: &mut Hall) -> bool
     true
 }
 
-// The first interface has received a packet A, where it is connected and the hall has room for it.
-fn receive(hall: &mut Hall, bytes: Bytes) -> bool {
+// The first interface has received a packet A, which was stored before or not, where it is connected and the hall has room for it.
+fn receive(hall: &mut Hall, stored: bool, bytes: Bytes) -> bool {
     if hall.site().definitions.telemetry.as_slice().is_empty()
         || hall.site().interfaces.as_slice().is_empty()
         || !hall.connected(0)
@@ -53,16 +53,25 @@ fn receive(hall: &mut Hall, bytes: Bytes) -> bool {
     {
         return false;
     }
-    hall.packet(0, NOW, Ident::Known(0), bytes);
+    hall.packet(0, NOW, Ident::Known(0), stored, bytes);
     true
 }
 
 /// A hall with room for so many entries, whose first interface is connected and has received one packet A.
 pub fn hall_of(alloc: Global, entries: u64) -> Result<Hall, Fail> {
+    received(alloc, entries, false)
+}
+
+/// The same, where that packet was stored before.
+pub fn stored_hall(alloc: Global) -> Result<Hall, Fail> {
+    received(alloc, 100, true)
+}
+
+fn received(alloc: Global, entries: u64, stored: bool) -> Result<Hall, Fail> {
     let bytes = Bytes::copy(alloc, b"\x01\x05\x06\xff\x0a")?;
     let site = Arc::new(alloc, site_of(alloc, DEFINITIONS, SITE)?)?;
     let mut hall = Hall::with_limits(alloc, site, entries.min(100), 100)?;
-    if connect(&mut hall) && receive(&mut hall, bytes) {
+    if connect(&mut hall) && receive(&mut hall, stored, bytes) {
         Ok(hall)
     } else {
         Err(Fail::new("not received"))

@@ -5,6 +5,8 @@
 #[cfg(test)]
 mod hall;
 #[cfg(test)]
+mod looks;
+#[cfg(test)]
 mod replies;
 #[cfg(test)]
 mod requests;

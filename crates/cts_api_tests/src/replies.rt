@@ -1,5 +1,5 @@
 // What desks reply to whole bodies, and what they append.
-use crate::hall::hall_of;
+use crate::hall::{hall_of, stored_hall};
 use cts_api::{Answer, answer, reply};
 use cts_base::Bytes;
 use cts_def::{FIRST_DESK, Time};
@@ -35,7 +35,7 @@ fn told(alloc: Global, hall: &mut Hall, body: &[u8]) -> Result<String, Fail> {
 }
 
 /// The body of a method and its params, with a bar between.
-fn call_of(alloc: Global, row: &str) -> Result<String, Fail> {
+pub fn call_of(alloc: Global, row: &str) -> Result<String, Fail> {
     let (method, params) = cut(row, '|')?;
     Ok(format!(in alloc;
         "{{\"jsonrpc\":\"2.0\",\"method\":\"{method}\",\"params\":{params},\"id\":1}}"
@@ -137,6 +137,29 @@ impl Answers for Calls {
 #[test]
 fn look_ups_and_refusals_are_replied_and_append_nothing(rt: HostRuntime) -> Result<(), Fail> {
     rows_end_so::<Calls>(rt.alloc(), ANSWERS)
+}
+
+/// The same where the one packet was stored: it was never received, is not counted and changes no limits state.
+const STORED: &str =
+    r#"tlm|["T A V"]|(Some('{"error":{"code":-32001,"message":"Never received"},"id":1,"jsonrpc":"2.0"}'), 2)
+get_tlm_packet|["T","A"]|(Some('{"error":{"code":-32001,"message":"Never received"},"id":1,"jsonrpc":"2.0"}'), 2)
+get_tlm_cnt|["T","A"]|(Some('{"id":1,"jsonrpc":"2.0","result":0}'), 2)
+get_out_of_limits|[]|(Some('{"id":1,"jsonrpc":"2.0","result":[]}'), 2)
+get_limits_events|[]|(Some('{"id":1,"jsonrpc":"2.0","result":[]}'), 2)"#;
+
+struct Stored;
+
+impl Answers for Stored {
+    fn answer(alloc: Global, asked: &str) -> Result<String, Fail> {
+        let body = call_of(alloc, asked)?;
+        let mut hall = stored_hall(alloc)?;
+        told(alloc, &mut hall, body.as_bytes())
+    }
+}
+
+#[test]
+fn a_stored_packet_is_not_looked_up(rt: HostRuntime) -> Result<(), Fail> {
+    rows_end_so::<Stored>(rt.alloc(), STORED)
 }
 
 /// The response to a body, how many entries it appends, and the last entry.

@@ -35,7 +35,7 @@ digit_48 d h = grind (arith, nat_tests)
 is_digit_48 : (d : ℕ) → d < 10 → is_digit (48 + d) 10 ≡ true
 is_digit_48 d h = lt-ltb (digit_value (48 + d)) 10 (omega (arith, digit_48 d h))
 
-all_push : (p : ℕ → Bool) (xs : List ℕ) (y : ℕ) → list_all p xs ≡ true → p y ≡ true → list_all p (xs ++ (y ∷ [])) ≡ true
+pub all_push : (p : ℕ → Bool) (xs : List ℕ) (y : ℕ) → list_all p xs ≡ true → p y ≡ true → list_all p (xs ++ (y ∷ [])) ≡ true
 all_push p [] y h g = and_from (p y) true g refl
 all_push p (x ∷ xs) y h g =
     let parts = and_parts (p x) (list_all p xs) h in

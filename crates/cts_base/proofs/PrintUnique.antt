@@ -13,7 +13,7 @@ use Rattle.cts_base.specs.Prints.{sign_of, PrintsDecimal}
 use Rattle.cts_base.proofs.Numerals.{digits-lt, digits_value-weighed, scaled-lt}
 use Rattle.cts_base.proofs.PrintLemmas.{value_after-append, value_after-zeros}
 
-same_digit : (c d : ℕ) → is_digit c 10 ≡ true → is_digit d 10 ≡ true → digit_value c ≡ digit_value d → c ≡ d
+pub same_digit : (c d : ℕ) → is_digit c 10 ≡ true → is_digit d 10 ≡ true → digit_value c ≡ digit_value d → c ≡ d
 same_digit c d h g e = grind (arith, nat_tests)
 
 -- two texts of as many digits that write the same number are one
@@ -55,7 +55,7 @@ all-zeros : (n : ℕ) → list_all (λ c. is_digit c 10) (replicate n 48) ≡ tr
 all-zeros zero = refl
 all-zeros (suc n) = all-zeros n
 
-all-append : (p : ℕ → Bool) (xs ys : List ℕ) → list_all p xs ≡ true → list_all p ys ≡ true → list_all p (xs ++ ys) ≡ true
+pub all-append : (p : ℕ → Bool) (xs ys : List ℕ) → list_all p xs ≡ true → list_all p ys ≡ true → list_all p (xs ++ ys) ≡ true
 all-append p [] ys h g = g
 all-append p (x ∷ xs) ys h g =
     let parts = and_parts (p x) (list_all p xs) h in

@@ -1,10 +1,11 @@
 // A chain of boxes.
 ghost use Rattle.std.specs.Prelude.{◌≡◌, ℕ, List, OnOk, OnErr, length, map, option_map};
-ghost use Rattle.cts_chain.specs.Chains.{Answers, FedFirst, given_by, loss_in, packet_at, Renewed, Reserved, Rises};
+ghost use Rattle.cts_framing.specs.Framing.{is_stored};
+ghost use Rattle.cts_chain.specs.Chains.{Answers, AnswersFew, FedFirst, given_by, loss_in, packet_at, Renewed, Reserved, Rises};
 ghost use Rattle.cts_chain.specs.Shapes.{ChainData, IsChain, IsGiving, IsIdle, IsSameChain, Leaves, writers};
 ghost use Rattle.cts_chain.specs.Writing.{Writes, chain_spelling};
-ghost use Rattle.cts_spell.specs.Spelled.{Spells};
-ghost use Rattle.cts_spell.specs.Spellings.{heading_of};
+ghost use Rattle.cts_encode.specs.Spelled.{Spells};
+ghost use Rattle.cts_encode.specs.Spellings.{heading_of};
 
 use crate::part::Part;
 use crate::pulled::{ChainStep, Pulled};
@@ -95,11 +96,14 @@ impl Chain {
         feed_stages(&mut self.stages, piece)
     }
 
-    /// The next packet, or why there is none: all was given that could be, or a stage has failed. It takes no memory.
+    /// The next packet, or why there is none: all was given that could be, or a stage has failed. Where there is none, each stage that
+    /// has not failed holds fewer bytes than the greatest frame has, or, of FIXED, than the discarded bytes with the least id size, where
+    /// these are more. It takes no memory.
     pub fn next(&mut self) -> ChainStep
         requires { IsChain (⟦<Chain as Chained>⟧.shape self.old) }
         ensures rises { Rises (⟦<Chain as Chained>⟧.shape self.old).stages (given_by result (⟦<Chain as Chained>⟧.shape self.new).lent (⟦<Chain as Chained>⟧.shape self.new).place) (⟦<Chain as Chained>⟧.shape self.new).stages }
         ensures answers { Answers (⟦<Chain as Chained>⟧.shape self.new).stages (⟦<Chain as Chained>⟧.shape self.new).lent (⟦<Chain as Chained>⟧.shape self.new).place result }
+        ensures few { AnswersFew result (⟦<Chain as Chained>⟧.shape self.new).stages }
         ensures left { Leaves result (⟦<Chain as Chained>⟧.shape self.new) }
         ensures chain { IsChain (⟦<Chain as Chained>⟧.shape self.new) }
         ensures same { IsSameChain (⟦<Chain as Chained>⟧.shape self.old) (⟦<Chain as Chained>⟧.shape self.new) }
@@ -135,6 +139,17 @@ impl Chain {
                 span_of_last(&self.stages, stamp.target.0, stamp.target.1),
                 span_of_last(&self.stages, stamp.packet.0, stamp.packet.1),
             )),
+        }
+    }
+
+    /// Whether the packet of the last `next` was stored before it was sent, which a frame of PREIDENTIFIED alone says.
+    pub fn packet_stored(&self) -> bool
+        requires { IsGiving (⟦<Chain as Chained>⟧.shape self.now) }
+        ensures { result ≡ is_stored (packet_at (⟦<Chain as Chained>⟧.shape self.now).lent (⟦<Chain as Chained>⟧.shape self.now).place).heading }
+    {
+        match self.stamp {
+            None => false,
+            Some(stamp) => stamp.stored,
         }
     }
 

@@ -82,7 +82,7 @@ same_request t u c d ps qs e f g =
     ∙ ap (λ (x : List ℕ). let r : Request = record { target = u; command = x; params = ps } in r) f
     ∙ ap (λ (x : List (List ℕ × Given)). let r : Request = record { target = u; command = d; params = x } in r) g
 
-request_unique : (text : List ℕ) (r s : Request) → IsCommandText text r → IsCommandText text s → r ≡ s
+pub request_unique : (text : List ℕ) (r s : Request) → IsCommandText text r → IsCommandText text s → r ≡ s
 request_unique text r s a b =
     let head = head_unique text r.target r.command a.rest s.target s.command b.rest a.head b.head in
     let params = tail_unique r.params s.params b.rest (subst (λ x. IsTail x r.params) head.2 a.tail) b.tail in

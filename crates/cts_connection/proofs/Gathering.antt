@@ -9,12 +9,12 @@ use Rattle.cts_def.specs.declared.time.Time.{Time}
 use Rattle.cts_entry.specs.declared.entry.Entry.{Entry}
 use Rattle.cts_entry.specs.declared.why.Why.{Why}
 use Rattle.cts_entry.specs.declared.why.Why.TheVariants.{BadFrame}
-use Rattle.cts_frame.specs.Framing.{Output, plain}
-use Rattle.cts_frame.specs.Packets.{Fault, capped}
+use Rattle.cts_framing.specs.Framing.{Output, plain}
+use Rattle.cts_framing.specs.Packets.{Fault, capped}
 use Rattle.cts_proto.specs.Founds.{heading_at}
 use Rattle.cts_proto.specs.Meaning.{Meaning}
 use Rattle.cts_proto.specs.declared.step.Stamp.{Stamp}
-use Rattle.cts_told.specs.Routing.{said_of, time_in}
+use Rattle.cts_trace.specs.Routing.{said_of, time_in}
 use Rattle.cts_connection.specs.Routings.{site_routing}
 use Rattle.cts_connection.specs.Takings.{Gathers, GivesUp, TakesPiece, blamed, entries_of}
 

@@ -1,4 +1,5 @@
 pub mod Placing
+pub mod Supplying
 pub mod LinePosts
 pub mod Gathering
 pub mod Keepings

@@ -19,15 +19,15 @@ use Rattle.cts_entry.specs.declared.what.NotSent.TheVariants.{NotConnected as No
 use Rattle.cts_entry.specs.Histories.{entries_for, entries_in, is_connected}
 use Rattle.cts_entry.specs.Legal.{is_ended}
 use Rattle.cts_entry.specs.Workers.{interface_of, is_interface, is_maker, is_slot}
-use Rattle.cts_frame.specs.Framing.{Heading, Output}
+use Rattle.cts_framing.specs.Framing.{Heading, Output, is_stored}
 use Rattle.cts_ident.specs.Identification.{first_of, fits, router_targets}
 use Rattle.cts_ident.proofs.FirstMatches.{known_is_first}
 use Rattle.cts_table.specs.Keeping.{AllOfSite, IsSaid}
-use Rattle.cts_told.specs.Routing.{routed_as, said_of, sent_on, time_in, posted_entries}
+use Rattle.cts_trace.specs.Routing.{routed_as, said_of, sent_on, time_in, posted_entries}
 use Rattle.cts_connection.specs.LinePlaces.{is_line}
 use Rattle.cts_connection.specs.Routings.{ident_by, ident_of, site_routing}
 use Rattle.cts_connection.specs.Takings.{entries_of}
-use Rattle.cts_connection.proofs.Placing.{slot_tells}
+use Rattle.cts_connection.proofs.Placing.{slot_of_line, slot_tells}
 
 -- what a line posts is of the site, counts one each, and ends nobody
 pub record AreOfLine (site : SiteData) (before entries : List Entry) (outs : List Output) : Type 0 where
@@ -44,13 +44,10 @@ lt_test m n h = grind (arith, nat_tests)
 not_lt_test : (m n : ℕ) → n ≤ m → nat_lt m n ≡ false
 not_lt_test m n h = grind (arith, nat_tests)
 
-slot_of : (site : SiteData) (by : ℕ) → is_line site by ≡ true → is_interface site by ≡ false → is_slot site by ≡ true
-slot_of site by line off = grind arith
-
 -- interfaces stand below the first slot
 pub kind_is : (site : SiteData) (by : ℕ) (b : Bool) → IsSoundSite site → is_line site by ≡ true → is_interface site by ≡ b → nat_lt by first_slot ≡ b
 kind_is site by true sound line e = let m = lt_tells by (length site.interfaces) e in lt_test by first_slot (omega (arith, m, sound.few_interfaces))
-kind_is site by false sound line e = not_lt_test by first_slot (slot_tells site by (slot_of site by line e)).0
+kind_is site by false sound line e = not_lt_test by first_slot (slot_tells site by (slot_of_line site by line e)).0
 
 -- a number that is found is one of the definitions
 found_within : (targets : List (List ℕ)) (packets : List PacketData) (test : PacketData → Bool) (n : ℕ) → first_of targets packets test ≡ Known n → n < length packets
@@ -73,9 +70,9 @@ module _ (site : SiteData) (by : ℕ) (sound : IsSoundSite site) (line : is_line
     one : entries_for what ≡ 1
     lasting : is_ended what ≡ false
 
-  packet_fits : (before : List Entry) (i : Ident) (bytes : List ℕ) → ((n : ℕ) → i ≡ Known n → n < length site.definitions.telemetry) → Fits before (Packet i bytes)
-  packet_fits before (Known n) bytes h = record { said = h n refl; one = refl; lasting = refl }
-  packet_fits before Unknown bytes h = record { said = tt; one = refl; lasting = refl }
+  packet_fits : (before : List Entry) (i : Ident) (stored : Bool) (bytes : List ℕ) → ((n : ℕ) → i ≡ Known n → n < length site.definitions.telemetry) → Fits before (Packet i stored bytes)
+  packet_fits before (Known n) stored bytes h = record { said = h n refl; one = refl; lasting = refl }
+  packet_fits before Unknown stored bytes h = record { said = tt; one = refl; lasting = refl }
 
   sent_fits : (before history : List Entry) (to : Option ℕ) (n : ℕ) (bytes : List ℕ) → n < length site.definitions.commands → Fits before (sent_on history to n bytes)
   sent_fits before history None n bytes m = record { said = tt; one = refl; lasting = refl }
@@ -90,7 +87,7 @@ module _ (site : SiteData) (by : ℕ) (sound : IsSoundSite site) (line : is_line
   routed_fits before history Unknown bytes h = record { said = tt; one = refl; lasting = refl }
 
   said_fits : (before history : List Entry) (o : Output) (b : Bool) → is_interface site by ≡ b → Fits before (said_of (site_routing site) history by o)
-  said_fits before history o true e = rw e (packet_fits before (ident_of site by o) o.bytes (λ n. packet_within o o.heading n e))
+  said_fits before history o true e = rw e (packet_fits before (ident_of site by o) (is_stored o.heading) o.bytes (λ n. packet_within o o.heading n e))
   said_fits before history o false e = rw e (routed_fits before history (ident_of site by o) o.bytes (λ n. command_within o o.heading n e))
 
   pub makes : is_maker site by ≡ true

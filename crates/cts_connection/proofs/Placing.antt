@@ -24,7 +24,7 @@ slot_tells site by h =
     let t = both (nat_le first_slot by) (nat_lt (router_of by) (length site.routers)) h in
     (le_tells first_slot by t.0, lt_tells (router_of by) (length site.routers) t.1)
 
-slot_of_line : (site : SiteData) (by : ℕ) → is_line site by ≡ true → is_interface site by ≡ false → is_slot site by ≡ true
+pub slot_of_line : (site : SiteData) (by : ℕ) → is_line site by ≡ true → is_interface site by ≡ false → is_slot site by ≡ true
 slot_of_line site by line off = grind arith
 
 there : (site : SiteData) (by : ℕ) (b : Bool) → is_interface site by ≡ b → is_line site by ≡ true → line_place site by < line_count site

@@ -17,17 +17,17 @@ use Rattle.cts_entry.specs.Histories.{connects, connects_maker, entries_in, byte
 use Rattle.cts_entry.specs.Legal.{AllAllowed, Allows, IsOn, Rules, StopsAfter, has_ended, is_ended, most_bytes as bytes_limit}
 use Rattle.cts_entry.specs.Workers.{is_interface, is_slot, is_desk}
 use Rattle.cts_entry.proofs.Appending.{stopped-append}
-use Rattle.cts_frame.specs.Framing.{Output}
-use Rattle.cts_frame.specs.Packets.{Fault, capped}
-use Rattle.cts_frame.proofs.Fronts.{le_tells}
+use Rattle.cts_framing.specs.Framing.{Output, is_stored}
+use Rattle.cts_framing.specs.Packets.{Fault, capped}
+use Rattle.cts_framing.proofs.Fronts.{le_tells}
 use Rattle.cts_table.specs.declared.basis.Basis.{Basis}
 use Rattle.cts_table.specs.Keeping.{IsKept, rules_of}
 use Rattle.cts_table.specs.States.{CanAdd, IsRoomAnswer, Shown, fits, with_room}
 use Rattle.cts_table.specs.declared.fault.HallFault.{HallFault}
 use Rattle.cts_table.specs.declared.fault.HallFault.TheVariants.{Full as Crowded, Memory as Wanting}
 use Rattle.cts_table.proofs.Active.{connected_active}
-use Rattle.cts_told.specs.Routing.{Routing, posted_entries, routed_as, said_of, sent_on, time_in}
-use Rattle.cts_told.proofs.Walks.{after, connected_kept, none_if, packets_connect, said, said_kept}
+use Rattle.cts_trace.specs.Routing.{Routing, posted_entries, routed_as, said_of, sent_on, time_in}
+use Rattle.cts_trace.proofs.Walks.{after, connected_kept, none_if, packets_connect, said, said_kept}
 use Rattle.cts_connection.specs.Laws.{LinesMayPost}
 use Rattle.cts_connection.specs.LinePlaces.{is_line}
 use Rattle.cts_connection.specs.Postings.{CanAddAll, CanClose, CanOpen, Grown, Posts, added_all, closed_of, end_of, opened_entry}
@@ -61,13 +61,13 @@ module _ (g : Routing) (slot desk : ℕ → Bool) (entries bytes : ℕ) where
   sayable_routed before by (Known command) said on = sayable_sent before by (g.interface_of command) command said on refl
   sayable_routed before by Unknown said on = (on, refl)
 
-  sayable_either : (b : Bool) (before : List Entry) (by : ℕ) (ident : Ident) (said : List ℕ) → g.is_interface by ≡ b → (slot by || g.is_interface by) ≡ true → is_connected by before ≡ true
-      → Sayable before by (if b then Packet ident said else routed_as g before ident said)
-  sayable_either true before by ident said kind line on = ((kind, on), refl)
-  sayable_either false before by ident said kind line on = sayable_routed before by ident said ((let l = line in grind arith), on)
+  sayable_either : (b : Bool) (before : List Entry) (by : ℕ) (ident : Ident) (stored : Bool) (said : List ℕ) → g.is_interface by ≡ b → (slot by || g.is_interface by) ≡ true → is_connected by before ≡ true
+      → Sayable before by (if b then Packet ident stored said else routed_as g before ident said)
+  sayable_either true before by ident stored said kind line on = ((kind, on), refl)
+  sayable_either false before by ident stored said kind line on = sayable_routed before by ident said ((let l = line in grind arith), on)
 
   pub sayable : (before : List Entry) (by : ℕ) (o : Output) → (slot by || g.is_interface by) ≡ true → is_connected by before ≡ true → Sayable before by (said_of g before by o)
-  sayable before by o line on = sayable_either (g.is_interface by) before by (g.ident by o) o.bytes refl line on
+  sayable before by o line on = sayable_either (g.is_interface by) before by (g.ident by o) (is_stored o.heading) o.bytes refl line on
 
   -- one entry more leaves a maker that has not ended
   still_active : (by : ℕ) (history : List Entry) (e : Entry) → has_ended by history ≡ false → is_ended e.what ≡ false → has_ended by (history ++ e ∷ []) ≡ false

@@ -10,8 +10,8 @@ use Rattle.cts_entry.proofs.Queuing.{spelled-append, refused-append}
 use Rattle.cts_entry.specs.Workers.{is_interface}
 use Rattle.cts_entry.proofs.Walks.{drop_lent}
 use Rattle.cts_table.specs.Keeping.{AllOfSite, IsOfSite}
-use Rattle.cts_told.specs.Routing.{queue, walk}
-use Rattle.cts_told.proofs.Walks.{queue-append}
+use Rattle.cts_trace.specs.Routing.{queue, walk}
+use Rattle.cts_trace.proofs.Walks.{queue-append}
 use Rattle.cts_connection.specs.Connections.{HoldsNext}
 use Rattle.cts_connection.specs.Routings.{site_routing}
 use Rattle.cts_connection.specs.Writings.{Puts, spell_by}

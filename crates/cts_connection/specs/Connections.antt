@@ -4,8 +4,8 @@ use Rattle.cts_chain.specs.Chains.{Renewed}
 use Rattle.cts_chain.specs.Shapes.{ChainData, IsIdle, IsSameChain}
 use Rattle.cts_def.specs.Sites.{SiteData}
 use Rattle.cts_entry.specs.declared.entry.Entry.{Entry}
-use Rattle.cts_frame.specs.Packets.{capped}
-use Rattle.cts_told.specs.Routing.{queue, walk}
+use Rattle.cts_framing.specs.Packets.{capped}
+use Rattle.cts_trace.specs.Routing.{queue, walk}
 use Rattle.cts_connection.specs.Routings.{site_routing}
 
 -- the place in the history up to which a connection has passed the entries, and how many of those that it passed and that were for its

@@ -4,7 +4,7 @@ use Rattle.cts_def.specs.Sites.{IsSoundSite, SiteData}
 use Rattle.cts_def.specs.declared.time.Time.{Time}
 use Rattle.cts_entry.specs.Histories.{entries_in, bytes_in, is_connected}
 use Rattle.cts_entry.specs.Legal.{has_ended}
-use Rattle.cts_frame.specs.Framing.{Output}
+use Rattle.cts_framing.specs.Framing.{Output}
 use Rattle.cts_table.specs.States.{Shown}
 use Rattle.cts_connection.specs.LinePlaces.{is_line, line_count, line_place}
 use Rattle.cts_connection.specs.Postings.{CanAddAll}

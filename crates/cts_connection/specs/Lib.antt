@@ -1,5 +1,6 @@
 pub mod Routings
 pub mod LinePlaces
+pub mod LineChains
 pub mod Connections
 pub mod Takings
 pub mod Writings

@@ -8,7 +8,7 @@ use Rattle.cts_entry.specs.declared.why.Why.{Why}
 use Rattle.cts_entry.specs.declared.why.Why.TheVariants.{NoMemory}
 use Rattle.cts_entry.specs.Histories.{entries_in, bytes_in, is_connected, is_stopped}
 use Rattle.cts_entry.specs.Legal.{AllAllowed, StopsAfter, has_ended}
-use Rattle.cts_frame.specs.Framing.{Output}
+use Rattle.cts_framing.specs.Framing.{Output}
 use Rattle.cts_table.specs.Keeping.{rules_of, AllOfSite}
 use Rattle.cts_table.specs.States.{Shown, fits}
 use Rattle.cts_table.specs.declared.fault.HallFault.{HallFault}

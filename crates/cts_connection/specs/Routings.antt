@@ -12,10 +12,10 @@ use Rattle.cts_def.specs.declared.ident.Ident.{Ident}
 use Rattle.cts_def.specs.declared.ident.Ident.TheVariants.{Known, Unknown}
 use Rattle.cts_entry.specs.Workers.{is_interface, is_slot, interface_of}
 use Rattle.cts_ident.specs.Identification.{identified, identified_command, named, routes_at}
-use Rattle.cts_frame.specs.Chains.{framings_at, uses_at}
-use Rattle.cts_frame.specs.Framing.{Heading, Output}
+use Rattle.cts_framing.specs.Chains.{framings_at, uses_at}
+use Rattle.cts_framing.specs.Framing.{Heading, Output}
 use Rattle.cts_def.specs.Names.{packet_names as names_of_packet, command_names}
-use Rattle.cts_told.specs.Routing.{Routing}
+use Rattle.cts_trace.specs.Routing.{Routing}
 
 -- ---- which definition an output is
 

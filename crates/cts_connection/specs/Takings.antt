@@ -1,5 +1,5 @@
 -- What a line's chain makes of a piece: the entries of its packets, how many packets have none, and why the connection has to be closed.
-use Rattle.std.specs.Prelude.{◌≡◌, ℕ, List, [], ◌∷◌, ◌++◌, length, Option, None, Some}
+use Rattle.std.specs.Prelude.{◌≡◌, ℕ, Bool, List, [], ◌∷◌, ◌++◌, length, Option, None, Some}
 use Rattle.cts_chain.specs.Chains.{StagesStand, AllSettled, last_fault}
 use Rattle.cts_chain.specs.Shapes.{ChainData, IsSameChain}
 use Rattle.cts_def.specs.Sites.{SiteData}
@@ -9,9 +9,9 @@ use Rattle.cts_entry.specs.declared.entry.Entry.{Entry}
 use Rattle.cts_entry.specs.declared.what.What.{What}
 use Rattle.cts_entry.specs.declared.why.Why.{Why}
 use Rattle.cts_entry.specs.declared.why.Why.TheVariants.{BadFrame}
-use Rattle.cts_frame.specs.Framing.{Output, plain}
-use Rattle.cts_frame.specs.Packets.{Fault, capped}
-use Rattle.cts_told.specs.Routing.{posted_entries, said_of}
+use Rattle.cts_framing.specs.Framing.{Output, plain, is_stored}
+use Rattle.cts_framing.specs.Packets.{Fault, capped}
+use Rattle.cts_trace.specs.Routing.{posted_entries, said_of}
 use Rattle.cts_connection.specs.Routings.{ident_of, site_routing}
 
 -- why a connection is closed whose chain has failed so
@@ -19,9 +19,9 @@ abbrev pub blamed : Option Fault → Option Why
 blamed None = None
 blamed (Some fault) = Some (BadFrame fault.stage fault.cause)
 
--- this is said of each output that has this definition and these bytes
-abbrev pub SaysOf : SiteData → List Entry → ℕ → Ident → List ℕ → What → Type 0
-SaysOf site history by ident bytes what = (o : Output) → ident_of site by o ≡ ident → o.bytes ≡ bytes → what ≡ said_of (site_routing site) history by o
+-- this is said of each output that has this definition, that was stored or not, and that has these bytes
+abbrev pub SaysOf : SiteData → List Entry → ℕ → Ident → Bool → List ℕ → What → Type 0
+SaysOf site history by ident stored bytes what = (o : Output) → ident_of site by o ≡ ident → is_stored o.heading ≡ stored → o.bytes ≡ bytes → what ≡ said_of (site_routing site) history by o
 
 -- the entries of these packets of a line, all said of the history as it stands
 abbrev pub entries_of : SiteData → List Entry → ℕ → Time → List Output → List Entry

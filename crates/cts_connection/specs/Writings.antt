@@ -5,15 +5,15 @@ use Rattle.cts_chain.specs.Writing.{chain_spelling}
 use Rattle.cts_def.specs.Protocols.{SpecData}
 use Rattle.cts_def.specs.Sites.{SiteData}
 use Rattle.cts_entry.specs.declared.entry.Entry.{Entry}
-use Rattle.cts_entry.specs.Histories.{bytes_of}
+use Rattle.cts_entry.specs.Histories.{bytes_of, stored_of}
 use Rattle.cts_entry.specs.Queues.{bytes_or_none, is_refused, refused, spelled}
-use Rattle.cts_told.specs.Routing.{heading_of, names_in, queue}
+use Rattle.cts_trace.specs.Routing.{heading_of, names_in, queue}
 use Rattle.cts_connection.specs.Connections.{HeldConnection, entries_ahead}
 use Rattle.cts_connection.specs.Routings.{site_routing}
 
 -- the spelling of an entry by these protocols, the last one first
 abbrev pub spell_by : SiteData → List SpecData → Entry → Option (List ℕ)
-spell_by site specs e = chain_spelling specs (heading_of (names_in (site_routing site) e.what) e.time) (bytes_of e.what)
+spell_by site specs e = chain_spelling specs (heading_of (names_in (site_routing site) e.what) (stored_of e.what) e.time) (bytes_of e.what)
 
 -- a spelling was put after old bytes, or it was refused and counts one
 pub record PutsOne (spelling : Option (List ℕ)) (old new : List ℕ) (count : ℕ) : Type 0 where

@@ -1,7 +1,7 @@
 // Several entries that are appended to a hall.
 ghost use Rattle.std.specs.Prelude.{◌≡◌};
 ghost use Rattle.cts_entry.specs.Histories.{bytes_in};
-ghost use Rattle.cts_frame.specs.Packets.{capped};
+ghost use Rattle.cts_framing.specs.Packets.{capped};
 ghost use Rattle.cts_connection.specs.Postings.{CanAddAll, added_all};
 
 use cts_entry::{Entry, bytes_for};

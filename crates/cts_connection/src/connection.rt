@@ -3,7 +3,7 @@ ghost use Rattle.std.specs.Prelude.{◌≡◌, ◌+◌, ◌≤◌, true, false, 
 ghost use Rattle.cts_chain.specs.Chains.{Reserved, loss_in};
 ghost use Rattle.cts_chain.specs.Shapes.{IsIdle, IsSameChain, writers};
 ghost use Rattle.cts_connection.specs.Connections.{AllIdle, HoldsNext, IsRenewed, entries_ahead, shut, waiting};
-ghost use Rattle.cts_told.specs.Routing.{queue};
+ghost use Rattle.cts_trace.specs.Routing.{queue};
 ghost use Rattle.cts_connection.specs.LinePlaces.{is_line};
 ghost use Rattle.cts_connection.specs.Postings.{CanClose, CanOpen, CanPost, Closes, Ends, Opens, Posts};
 ghost use Rattle.cts_connection.specs.Routings.{site_routing};

@@ -4,8 +4,9 @@ ghost use Rattle.std.specs.Prelude.{◌≡◌, ℕ, List, OnOk, OnErr, option_ma
 ghost use Rattle.cts_chain.specs.Chains.{Answers, FedFirst, given_by, loss_in, packet_at, Renewed, Reserved, Rises};
 ghost use Rattle.cts_chain.specs.Shapes.{IsChain, IsGiving, IsIdle, IsSameChain, Leaves, writers};
 ghost use Rattle.cts_chain.specs.Writing.{chain_spelling};
-ghost use Rattle.cts_spell.specs.Spelled.{Spells};
-ghost use Rattle.cts_spell.specs.Spellings.{heading_of};
+ghost use Rattle.cts_framing.specs.Framing.{is_stored};
+ghost use Rattle.cts_encode.specs.Spelled.{Spells};
+ghost use Rattle.cts_encode.specs.Spellings.{heading_of};
 
 use cts_base::Memory;
 use cts_chain::{Chain, ChainStep, Chained};
@@ -42,6 +43,11 @@ pub trait Framer: Chained + Drop {
         requires { IsGiving (Self.shape self.now) }
         ensures { option_map {U = List ℕ × List ℕ} (λ n. (n.0.now, n.1.now)) result ≡ option_map {U = List ℕ × List ℕ} (λ h. (h.target, h.packet)) (packet_at (Self.shape self.now).lent (Self.shape self.now).place).heading };
 
+    /// Whether the packet of the last `next` was stored before it was sent.
+    fn packet_stored(&self) -> bool
+        requires { IsGiving (Self.shape self.now) }
+        ensures { result ≡ is_stored (packet_at (Self.shape self.now).lent (Self.shape self.now).place).heading };
+
     /// Gives up what the stages hold, and says what is lost.
     fn reset(&mut self) -> Loss
         requires { IsIdle (Self.shape self.old) }
@@ -71,6 +77,10 @@ impl Framer for Chain {
 
     fn packet_names(&self) -> Option<(&[u8], &[u8])> {
         Chain::packet_names(self)
+    }
+
+    fn packet_stored(&self) -> bool {
+        Chain::packet_stored(self)
     }
 
     fn reset(&mut self) -> Loss {

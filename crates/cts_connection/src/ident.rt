@@ -1,6 +1,6 @@
 // Which definition an output is.
 ghost use Rattle.std.specs.Prelude.{◌≡◌, ℕ, List, Option, None, Some, true, option_map};
-ghost use Rattle.cts_frame.specs.Framing.{Output};
+ghost use Rattle.cts_framing.specs.Framing.{Output};
 ghost use Rattle.cts_connection.specs.LinePlaces.{is_line};
 ghost use Rattle.cts_connection.specs.Routings.{ident_of, identified_by};
 

@@ -4,6 +4,7 @@
 #![tactic(auto)]
 
 mod appending;
+mod chains;
 mod connection;
 mod end;
 mod framer;
@@ -12,14 +13,17 @@ mod laws;
 mod naming;
 mod place;
 mod saying;
+mod supplier;
 mod taking;
 mod writing;
 
+pub use chains::{build_chains, shortage_of};
 pub use connection::Connection;
 pub use end::End;
 pub use framer::Framer;
 pub use laws::{lines, lines_may_post};
 pub use naming::{command_label, packet_label};
-pub use place::{is_interface, is_line, is_slot, line_place};
+pub use place::{is_interface, is_line, is_slot, line_count, line_place};
 pub use saying::said;
+pub use supplier::Supplier;
 pub use taking::Taken;

@@ -1,7 +1,8 @@
 // Which makers are lines, and where the connection of each stands among those of its site.
-ghost use Rattle.std.specs.Prelude.{◌≡◌, true, false, length, MatchOption};
+ghost use Rattle.std.specs.Prelude.{◌≡◌, ◌≤◌, true, false, length, MatchOption};
+ghost use Rattle.cts_def.specs.Sites.{IsSoundSite};
 ghost use Rattle.cts_entry.specs.Workers.{is_interface, is_slot};
-ghost use Rattle.cts_connection.specs.LinePlaces.{is_line, line_place};
+ghost use Rattle.cts_connection.specs.LinePlaces.{is_line, line_count, line_place};
 
 use cts_def::{FIRST_SLOT, Site};
 
@@ -17,6 +18,15 @@ pub fn line_place(site: &Site, by: u32) -> Option<usize>
         return Some(interfaces_of(site) + (by - FIRST_SLOT) as usize);
     }
     None
+}
+
+/// How many lines a site has: its interfaces, and two slots for each router.
+pub fn line_count(site: &Site) -> usize
+    ensures count { result ≡ line_count site.now }
+    ensures few { result ≤ 24 }
+    ensures sound { IsSoundSite site.now }
+{
+    site.interfaces.as_slice().len() + 2 * site.routers.as_slice().len()
 }
 
 /// Whether a maker is an interface or a slot of a router.

@@ -2,7 +2,7 @@
 ghost use Rattle.std.specs.Prelude.{◌≡◌, ◌++◌, ◌∷◌, [], true, OnErr, OnOk};
 ghost use Rattle.cts_chain.specs.Chains.{packet_at};
 ghost use Rattle.cts_chain.specs.Shapes.{IsChain, IsGiving, IsIdle};
-ghost use Rattle.cts_told.specs.Routing.{said_of};
+ghost use Rattle.cts_trace.specs.Routing.{said_of};
 ghost use Rattle.cts_connection.specs.LinePlaces.{is_line};
 ghost use Rattle.cts_connection.specs.Postings.{end_of};
 ghost use Rattle.cts_connection.specs.Routings.{site_routing};
@@ -142,11 +142,12 @@ fn push_entry<C: Framer>(
     ensures err { OnErr result (entries.new.items ≡ entries.old.items) }
 {
     let ident = ident_by(hall.site(), by, chain.packet_bytes(), chain.packet_names());
+    let stored = chain.packet_stored();
     let bytes = Bytes::copy(alloc, chain.packet_bytes())?;
     let entry = Entry {
         by,
         time,
-        what: said(hall, by, ident, bytes),
+        what: said(hall, by, ident, stored, bytes),
     };
     entries.push(entry)?;
     Ok(())

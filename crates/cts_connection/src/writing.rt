@@ -5,9 +5,9 @@ ghost use Rattle.cts_chain.specs.Shapes.{IsChain, writers};
 ghost use Rattle.cts_chain.specs.Writing.{chain_spelling};
 ghost use Rattle.cts_entry.specs.declared.entry.Entry.{Entry as EntryData};
 ghost use Rattle.cts_entry.specs.Histories.{is_packet};
-ghost use Rattle.cts_spell.specs.Spellings.{heading_of};
+ghost use Rattle.cts_encode.specs.Spellings.{heading_of};
 ghost use Rattle.cts_table.specs.Keeping.{IsOfSite};
-ghost use Rattle.cts_told.specs.Routing.{is_for, queue};
+ghost use Rattle.cts_trace.specs.Routing.{is_for, queue};
 ghost use Rattle.cts_connection.specs.Connections.{HoldsNext};
 ghost use Rattle.cts_connection.specs.Routings.{is_routed, site_routing};
 ghost use Rattle.cts_connection.specs.Writings.{Puts, PutsOne, spell_by};
@@ -145,8 +145,12 @@ fn put_entry<C: Framer>(
         return Ok(0);
     }
     match &entry.what {
-        What::Packet { ident, bytes } => {
-            let label = packet_label(alloc, site, entry.time, *ident)?;
+        What::Packet {
+            ident,
+            stored,
+            bytes,
+        } => {
+            let label = packet_label(alloc, site, entry.time, *ident, *stored)?;
             put_one(chain, label, bytes.as_slice(), out)
         }
         What::Command {
@@ -194,7 +198,11 @@ fn is_packet(entry: &Entry) -> bool
     ensures { result ≡ is_packet entry.now.what }
 {
     match &entry.what {
-        What::Packet { ident: _, bytes: _ } => true,
+        What::Packet {
+            ident: _,
+            stored: _,
+            bytes: _,
+        } => true,
         _ => false,
     }
 }

@@ -3,8 +3,8 @@ use Rattle.std.proofs.Common.{◌≡◌, ℕ, Bool, true, List, [], ◌∷◌, �
 use Rattle.std.proofs.lemmas.List.{map-append}
 use Rattle.cts_def.specs.Sites.{SiteData}
 use Rattle.cts_entry.specs.Histories.{is_connected}
-use Rattle.cts_frame.specs.Chains.{framings_at}
-use Rattle.cts_frame.specs.Framing.{plain}
+use Rattle.cts_framing.specs.Chains.{framings_at}
+use Rattle.cts_framing.specs.Framing.{plain}
 use Rattle.cts_chain.specs.Chains.{StagesStand, AllDrained, framings_of}
 use Rattle.cts_chain.specs.Shapes.{writers}
 use Rattle.cts_chain.proofs.Anew.{all_renewed, none_failed, same_framings, settled_all}

@@ -7,14 +7,14 @@ use Rattle.cts_def.specs.Sites.{SiteData}
 use Rattle.cts_def.specs.declared.time.Time.{Time}
 use Rattle.cts_entry.specs.declared.entry.Entry.{Entry}
 use Rattle.cts_entry.specs.declared.event.Event.{Event}
-use Rattle.cts_entry.specs.declared.what.What.{What}
-use Rattle.cts_entry.specs.declared.what.What.TheVariants.{Opened, Packet, Closed, Command, SetLimits, Enable, LimitsSetIs, Injected, Unrouted, Stop, Ended}
-use Rattle.cts_entry.specs.Histories.{latest, or_earlier, connects, connects_maker, is_opened, opens as is_opening, since}
+use Rattle.cts_entry.specs.declared.what.What.TheVariants.{Opened}
+use Rattle.cts_entry.specs.Histories.{latest, or_earlier, connects_maker, is_opened, opens as is_opening, since}
 use Rattle.cts_entry.proofs.Queuing.{since_opened}
-use Rattle.cts_frame.specs.Framing.{Output}
-use Rattle.cts_frame.specs.Packets.{capped}
-use Rattle.cts_told.specs.Routing.{queue}
-use Rattle.cts_told.proofs.Walks.{packets_queue, queue-append}
+use Rattle.cts_framing.specs.Framing.{Output}
+use Rattle.cts_framing.specs.Packets.{capped}
+use Rattle.cts_trace.specs.Routing.{queue}
+use Rattle.cts_trace.proofs.Stretches.{opens_nothing}
+use Rattle.cts_trace.proofs.Walks.{packets_queue, queue-append}
 use Rattle.cts_core.specs.Cursors.{IsPassed}
 use Rattle.cts_core.specs.Environments.{site_environment}
 use Rattle.cts_core.specs.Runs.{Did, after, passed_for}
@@ -31,25 +31,11 @@ none_both : (later first : Option Bool) → or_earlier later first ≡ None → 
 none_both (Some b) first h = absurd (cc h)
 none_both None first h = (refl, h)
 
-opened_if : (mine : Bool) (what : What) → (if mine then connects what else None) ≡ None → (mine && is_opened what) ≡ false
-opened_if false what n = refl
-opened_if true Opened n = absurd (cc n)
-opened_if true (Packet ident bytes) n = refl
-opened_if true (Closed why loss unposted unsent) n = refl
-opened_if true (Command interface command bytes) n = refl
-opened_if true (SetLimits enabled packet item persistence set limits) n = refl
-opened_if true (Enable packet item enabled) n = refl
-opened_if true (LimitsSetIs set) n = refl
-opened_if true (Injected packet bytes) n = refl
-opened_if true (Unrouted why bytes) n = refl
-opened_if true Stop n = refl
-opened_if true Ended n = refl
-
 quiet_opens : (by : ℕ) (es : List Entry) → latest (connects_maker by) es ≡ None → list_any (is_opening by) es ≡ false
 quiet_opens by [] n = refl
 quiet_opens by (e ∷ es) n =
     let parts = none_both (latest (connects_maker by) es) (connects_maker by e) n in
-    ap (λ (b : Bool). b || list_any (is_opening by) es) (opened_if (e.by == by) e.what parts.1) ∙ quiet_opens by es parts.0
+    ap (λ (b : Bool). b || list_any (is_opening by) es) (opens_nothing (e.by == by) e.what parts.1) ∙ quiet_opens by es parts.0
 
 -- what a maker has passed in one state, it has passed in the other
 abbrev pub PassesOn : SiteData → State → State → ℕ → Type 0

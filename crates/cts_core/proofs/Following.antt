@@ -10,9 +10,9 @@ use Rattle.cts_entry.specs.declared.why.Why.{Why}
 use Rattle.cts_entry.specs.declared.why.Why.TheVariants.{PeerEnded, ReadFault, WriteFault, BadFrame, Stopped, NoMemory, Full}
 use Rattle.cts_entry.specs.Histories.{is_connected}
 use Rattle.cts_entry.specs.Legal.{Rules, is_ended, has_ended, StopsAfter, Allows, AllAllowed}
-use Rattle.cts_frame.specs.Framing.{Output}
+use Rattle.cts_framing.specs.Framing.{Output}
 use Rattle.cts_core.specs.States.{Environment, is_line, may_close}
-use Rattle.cts_told.specs.Routing.{time_in, said_of, posted_entries}
+use Rattle.cts_trace.specs.Routing.{time_in, said_of, posted_entries}
 use Rattle.cts_connection.proofs.Posting.{packets_allowed, sayable}
 
 -- how an environment judges a history

@@ -13,7 +13,7 @@ use Rattle.cts_entry.specs.Histories.{or_earlier, latest, connects, connects_mak
 use Rattle.cts_entry.specs.Legal.{most_bytes as bytes_limit}
 use Rattle.cts_entry.specs.Workers.{is_worker}
 use Rattle.cts_chain.specs.Shapes.{ChainData}
-use Rattle.cts_told.proofs.Walks.{packets_connect}
+use Rattle.cts_trace.proofs.Walks.{connected_kept, packets_connect}
 use Rattle.cts_table.specs.States.{Shown, CanAdd}
 use Rattle.cts_connection.specs.LinePlaces.{is_line, line_count, line_place}
 use Rattle.cts_core.specs.Environments.{environment_of}
@@ -28,7 +28,7 @@ use Rattle.cts_core.specs.declared.fault.WorldFault.{WorldFault}
 use Rattle.cts_core.specs.declared.fault.WorldFault.TheVariants.{NotEnabled, Full, Memory}
 use Rattle.cts_core.proofs.Building.{and_tells, place_held, place_other}
 use Rattle.cts_core.proofs.Following.{Lasting, lasting_append, none_ended, packets_follow}
-use Rattle.cts_core.proofs.Postings.{connected_kept, tells_maker, tells_no_other}
+use Rattle.cts_core.proofs.Postings.{tells_maker, tells_no_other}
 use Rattle.cts_entry.proofs.Appending.{connected-append}
 
 -- the connection at a place
@@ -90,7 +90,7 @@ fresh_idle [] (c ∷ cs) f = absurd f
 fresh_idle (uses ∷ chains) [] f = absurd f
 fresh_idle (uses ∷ chains) (c ∷ cs) f = (f.0.idle, fresh_idle chains cs f.1)
 
-none_stands : (cs : List ChainData) (by : ℕ) → (connection_at (map shut cs) by).connected ≡ false
+pub none_stands : (cs : List ChainData) (by : ℕ) → (connection_at (map shut cs) by).connected ≡ false
 none_stands [] by = refl
 none_stands (c ∷ cs) zero = refl
 none_stands (c ∷ cs) (suc by) = none_stands cs by

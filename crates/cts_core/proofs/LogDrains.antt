@@ -5,7 +5,7 @@ use Rattle.cts_core.specs.Drainings.{site_commands_log, site_packets_log}
 use Rattle.cts_def.specs.Sites.{SiteData}
 use Rattle.cts_entry.specs.declared.entry.Entry.{Entry}
 use Rattle.cts_entry.specs.Histories.{bytes_for, bytes_in}
-use Rattle.cts_laying.proofs.Growing.{commands_grow, packets_grow}
+use Rattle.cts_log_batch.proofs.Growing.{commands_grow, packets_grow}
 
 module _ (site : SiteData) where
   pub packets_more : (e : Entry) (es : List Entry) (sofar new all : List ℕ) → new ≡ sofar ++ site_packets_log site (e ∷ []) → sofar ++ site_packets_log site (e ∷ es) ≡ all → new ++ site_packets_log site es ≡ all

@@ -7,11 +7,11 @@ use Rattle.cts_entry.specs.declared.entry.Entry.{Entry}
 use Rattle.cts_entry.specs.Histories.{after_last, opens as is_opening, since}
 use Rattle.cts_entry.specs.Queues.{refused}
 use Rattle.cts_entry.proofs.Queuing.{since-append, refused-append}
-use Rattle.cts_frame.specs.Packets.{capped}
+use Rattle.cts_framing.specs.Packets.{capped}
 use Rattle.cts_core.specs.States.{Environment, State, passed, ahead, unsent}
 use Rattle.cts_core.specs.Cursors.{IsPassed}
-use Rattle.cts_told.specs.Routing.{spell, queue, walk}
-use Rattle.cts_told.proofs.Walks.{walk-append, queue-append, queue_walk, walk_none}
+use Rattle.cts_trace.specs.Routing.{spell, queue, walk}
+use Rattle.cts_trace.proofs.Walks.{walk-append, queue-append, queue_walk, walk_none}
 
 -- what stands after the last Opened is the end of the history
 

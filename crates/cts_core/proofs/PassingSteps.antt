@@ -15,7 +15,7 @@ use Rattle.cts_entry.specs.declared.event.Effect.TheVariants.{Logged, Routed, Wr
 use Rattle.cts_entry.specs.Histories.{is_connected}
 use Rattle.cts_entry.specs.Queues.{refused as refusals, spelled}
 use Rattle.cts_entry.specs.Workers.{is_interface, is_slot}
-use Rattle.cts_frame.specs.Framing.{plain}
+use Rattle.cts_framing.specs.Framing.{plain}
 use Rattle.cts_connection.specs.Connections.{HeldConnection, entries_ahead}
 use Rattle.cts_connection.specs.LinePlaces.{is_line, line_count, line_place}
 use Rattle.cts_connection.specs.Routings.{site_routing}
@@ -35,7 +35,7 @@ use Rattle.cts_core.proofs.Keeping.{cursor_grows, pieces_stay}
 use Rattle.cts_core.proofs.Puttings.{can_pass_is, passed_next, put_is}
 use Rattle.cts_core.proofs.WorldSteps.{connection_kept, connections_set, not_enabled, set_count, unmoved, wants_memory}
 use Rattle.cts_table.specs.declared.basis.Basis.{Basis}
-use Rattle.cts_told.specs.Routing.{queue, walk}
+use Rattle.cts_trace.specs.Routing.{queue, walk}
 
 -- An event by which a line passes `count` of the entries through which it goes, and which gives what of them is for its peer.
 pub record IsPassing (base : Basis) (s : State) (event : Event) (by count : ℕ) (gives : List ℕ → Effect) : Type 0 where

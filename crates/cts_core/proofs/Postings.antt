@@ -1,14 +1,10 @@
 -- What the history says when the entries of an event are appended.
-use Rattle.std.proofs.Common.{◌≡◌, ℕ, ◌+◌, Bool, true, false, List, ◌++◌, None, refl, sym, ◌∙◌, ap, unwrap_or}
+use Rattle.std.proofs.Common.{◌≡◌, ℕ, ◌+◌, Bool, true, false, List, ◌++◌, None, refl, sym, ◌∙◌, ap}
 use Rattle.std.specs.Prelude.{◌≢◌, Option, if◌then◌else◌}
 use Rattle.std.proofs.lemmas.Bool.{eq-eqb, ne_eqb}
 use Rattle.cts_entry.specs.declared.entry.Entry.{Entry}
-use Rattle.cts_entry.specs.Histories.{or_earlier, latest, connects, connects_maker, is_connected, entries_in, bytes_in}
-use Rattle.cts_entry.proofs.Appending.{connected-append, entries-append, bytes-append}
-
--- entries that open and close nothing leave a maker connected or not
-pub connected_kept : (by : ℕ) (history entries : List Entry) → latest (connects_maker by) entries ≡ None → is_connected by (history ++ entries) ≡ is_connected by history
-connected_kept by history entries h = connected-append by history entries ∙ ap (λ t. unwrap_or (or_earlier t (latest (connects_maker by) history)) false) h
+use Rattle.cts_entry.specs.Histories.{connects, connects_maker, entries_in, bytes_in}
+use Rattle.cts_entry.proofs.Appending.{entries-append, bytes-append}
 
 pub entries_grow : (history entries : List Entry) (n : ℕ) → entries_in entries ≡ n → entries_in (history ++ entries) ≡ entries_in history + n
 entries_grow history entries n h = entries-append history entries ∙ ap (λ t. entries_in history + t) h

@@ -9,8 +9,8 @@ use Rattle.cts_entry.specs.declared.entry.Entry.{Entry}
 use Rattle.cts_entry.specs.Histories.{is_connected}
 use Rattle.cts_entry.specs.Queues.{refused, spelled}
 use Rattle.cts_table.specs.declared.basis.Basis.{Basis}
-use Rattle.cts_told.specs.Routing.{Routing, queue, spell, walk}
-use Rattle.cts_told.proofs.Walks.{queue_walk, walk-append}
+use Rattle.cts_trace.specs.Routing.{Routing, queue, spell, walk}
+use Rattle.cts_trace.proofs.Walks.{queue_walk, walk-append}
 use Rattle.cts_connection.specs.Connections.{HeldConnection, HeldCursor, HoldsNext, entries_ahead}
 use Rattle.cts_connection.specs.LinePlaces.{is_line}
 use Rattle.cts_connection.specs.Routings.{site_routing, writers_at}

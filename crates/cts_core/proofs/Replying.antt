@@ -19,7 +19,7 @@ use Rattle.cts_core.proofs.Postings.{either_way}
 
 posted_quiet : (h : Point) (what : What) → MayPost h what → connects what ≡ None
 posted_quiet h Opened may = absurd may
-posted_quiet h (Packet ident bytes) may = refl
+posted_quiet h (Packet ident stored bytes) may = refl
 posted_quiet h (Closed why loss unposted unsent) may = absurd may
 posted_quiet h (Command interface command bytes) may = refl
 posted_quiet h (SetLimits enabled packet item persistence set limits) may = refl

@@ -21,17 +21,17 @@ use Rattle.cts_entry.specs.declared.event.Event.TheVariants.{SetTime, Opens, Pie
 use Rattle.cts_entry.specs.declared.event.Effect.TheVariants.{Posted, Reply}
 use Rattle.cts_entry.specs.Histories.{or_earlier, latest, connects, connects_maker, is_connected, is_stopped, entries_in, bytes_in}
 use Rattle.cts_entry.proofs.Appending.{latest-append, connected-append}
-use Rattle.cts_frame.specs.Chains.{framings_at, framings_of as framings_in, uses_at}
-use Rattle.cts_frame.specs.Framing.{Framing, Output, plain}
-use Rattle.cts_frame.specs.Cuts.{Pieces}
-use Rattle.cts_frame.specs.Packets.{IsPackets, loss_of, Fault, fault_of}
+use Rattle.cts_framing.specs.Chains.{framings_at, framings_of as framings_in, uses_at}
+use Rattle.cts_framing.specs.Framing.{Framing, Output, plain}
+use Rattle.cts_framing.specs.Cuts.{Pieces}
+use Rattle.cts_framing.specs.Packets.{IsPackets, loss_of, Fault, fault_of}
 use Rattle.cts_core.specs.States.{State, is_piece, is_enabled, has_room, takes_memory, takes_room, unsent, may_close, opening}
 use Rattle.cts_core.specs.Runs.{Did, Does, silent, Appends, Receives, after, pieces_for, closed_entry, closing}
 use Rattle.cts_chain.proofs.Anew.{all_renewed, same_framings}
 use Rattle.cts_core.proofs.Chaining.{begins, begins_anew, plain_more}
 use Rattle.cts_core.proofs.CursorSteps.{PassesOn, passes, passed_opened, waits, waiting_kept}
 use Rattle.cts_core.proofs.Keeping.{pieces_turned, pieces_grow, pieces_stay, cursor_turned}
-use Rattle.cts_told.proofs.Walks.{packets_connect}
+use Rattle.cts_trace.proofs.Walks.{connected_kept, packets_connect}
 use Rattle.cts_core.specs.Environments.{environment_of, site_environment}
 use Rattle.cts_api.specs.Points.{point_of}
 use Rattle.cts_api.specs.Replies.{IsReply, Reply as Answer, text_of}
@@ -46,12 +46,13 @@ use Rattle.cts_core.specs.Worlds.{Held, IsSoundHeld, IsUnmoved, HadRoom, Represe
 use Rattle.cts_core.specs.declared.fault.WorldFault.{WorldFault}
 use Rattle.cts_core.specs.declared.fault.WorldFault.TheVariants.{NotEnabled as RefusedEvent, Full, Memory}
 use Rattle.cts_connection.specs.LinePlaces.{is_line as is_line_of, line_count, line_place}
-use Rattle.cts_core.specs.LineChains.{line_chains}
-use Rattle.cts_core.proofs.Supplying.{chains_count, line_chain}
+use Rattle.cts_connection.specs.LineChains.{line_chains}
+use Rattle.cts_connection.proofs.Supplying.{chains_count, line_chain}
 use Rattle.cts_connection.proofs.Placing.{lines_have_places}
 use Rattle.cts_core.specs.Cursors.{IsPassed}
 use Rattle.cts_core.proofs.Building.{and_tells, below, place_shown, shown_other}
-use Rattle.cts_core.proofs.Postings.{connected_kept, tells_maker, tells_no_other, entries_grow, bytes_grow}
+use Rattle.cts_core.proofs.Holding.{none_stands}
+use Rattle.cts_core.proofs.Postings.{tells_maker, tells_no_other, entries_grow, bytes_grow}
 
 and_same : (a b c : Bool) → (a ≡ true → b ≡ c) → (a && b) ≡ (a && c)
 and_same true b c h = h refl
@@ -150,11 +151,6 @@ fresh_at site (uses ∷ chains) [] by f m = absurd f
 fresh_at site (uses ∷ chains) (c ∷ cs) zero f m = f.0
 fresh_at site (uses ∷ chains) (c ∷ cs) (suc by) f m = fresh_at site chains cs by f.1 (omega (arith, m))
 
-shut_at : (cs : List ChainData) (by : ℕ) → (connection_at (map shut cs) by).connected ≡ false
-shut_at [] by = refl
-shut_at (c ∷ cs) zero = refl
-shut_at (c ∷ cs) (suc by) = shut_at cs by
-
 pub fresh_count : (chains : List (List UseData)) (cs : List ChainData) → AreFresh chains cs → length cs ≡ length chains
 fresh_count [] [] f = refl
 fresh_count [] (c ∷ cs) f = absurd f
@@ -167,7 +163,7 @@ first_connection site cs by sound f line =
     let at : place < length cs = omega (arith, lines_have_places site by sound line, fresh_count (line_chains site) cs f, chains_count site) in
     let fresh = fresh_at site (line_chains site) cs place f at in
     let uses : slice_index_or (line_chains site) place [] ≡ uses_at site by = line_chain site by sound line in
-    begins site opening by (connection_at (map shut cs) place) (shut_at cs place) (fresh.framings ∙ ap framings_in uses) (fresh.writing ∙ ap (λ (us : List UseData). use_specs (filter writes us)) uses) refl fresh.idle.drained fresh.stands (λ stands. absurd (cc stands))
+    begins site opening by (connection_at (map shut cs) place) (none_stands cs place) (fresh.framings ∙ ap framings_in uses) (fresh.writing ∙ ap (λ (us : List UseData). use_specs (filter writes us)) uses) refl fresh.idle.drained fresh.stands (λ stands. absurd (cc stands))
 
 pub stands_first : (base : Basis) (w : Held) (cs : List ChainData) → IsSoundSite base.site → AreFresh (line_chains base.site) cs → w ≡ first_held base.site base.entries base.bytes cs → RepresentsWithin base w opening
 stands_first base w cs sound f e = subst (λ (x : Held). RepresentsWithin base x opening) (sym e) (record {

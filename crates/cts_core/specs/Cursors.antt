@@ -3,7 +3,7 @@ use Rattle.std.specs.Prelude.{◌≡◌, ℕ, ◌+◌, List, ◌++◌, length}
 use Rattle.cts_entry.specs.declared.entry.Entry.{Entry}
 use Rattle.cts_entry.specs.Histories.{since}
 use Rattle.cts_entry.specs.Queues.{refused}
-use Rattle.cts_told.specs.Routing.{spell, queue, walk}
+use Rattle.cts_trace.specs.Routing.{spell, queue, walk}
 use Rattle.cts_core.specs.States.{Environment, State}
 
 -- A maker has passed the history up to a place; of the entries of its queue that it passed, a number was refused.

@@ -11,6 +11,7 @@ use Rattle.cts_def.specs.declared.time.Time.{Time}
 use Rattle.cts_entry.specs.declared.entry.Entry.{Entry}
 use Rattle.cts_entry.specs.Legal.{most_entries as entries_limit, most_bytes as bytes_limit}
 use Rattle.cts_entry.specs.Workers.{is_slot}
+use Rattle.cts_framing.specs.Layouts.{has_flags}
 use Rattle.cts_log.specs.Logged.{laid_out}
 
 -- a desk replies by what the site's history says
@@ -24,7 +25,7 @@ environment_of base = record {
   is_slot = is_slot base.site;
   is_desk = λ desk. nat_lt desk base.site.desks;
   is_logged = is_logged base.site;
-  layout = laid_out;
+  layout = laid_out (has_flags base.site.log_layout);
   answers = IsAnswerOf base;
   most_entries = base.entries;
   most_bytes = base.bytes;

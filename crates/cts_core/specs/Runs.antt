@@ -11,10 +11,10 @@ use Rattle.cts_entry.specs.declared.event.Event.TheVariants.{SetTime, Opens, Pie
 use Rattle.cts_entry.specs.declared.event.Effect.{Effect}
 use Rattle.cts_entry.specs.declared.event.Effect.TheVariants.{Posted, Reply, Written, Logged, Routed}
 use Rattle.cts_entry.specs.Histories.{latest, connects_maker}
-use Rattle.cts_frame.specs.Framing.{Output}
-use Rattle.cts_frame.specs.Cuts.{Pieces}
-use Rattle.cts_frame.specs.Packets.{IsPackets, Fault, fault_of, loss_of}
-use Rattle.cts_told.specs.Routing.{posted_entries}
+use Rattle.cts_framing.specs.Framing.{Output}
+use Rattle.cts_framing.specs.Cuts.{Pieces}
+use Rattle.cts_framing.specs.Packets.{IsPackets, Fault, fault_of, loss_of}
+use Rattle.cts_trace.specs.Routing.{posted_entries}
 use Rattle.cts_api.specs.Replies.{Reply as Answer, text_of}
 use Rattle.cts_core.specs.States.{Environment, State, is_enabled, takes_room, has_room, put_next, unsent, log_ahead, packets_log, commands_log}
 

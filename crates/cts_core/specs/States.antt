@@ -8,10 +8,10 @@ use Rattle.cts_entry.specs.declared.event.Event.{Event}
 use Rattle.cts_entry.specs.declared.event.Event.TheVariants.{SetTime, Opens, Piece, Finish, Write, Call, DrainLog, DrainSlot, Stop}
 use Rattle.cts_entry.specs.Histories.{is_connected, is_stopped, entries_in, bytes_in, since}
 use Rattle.cts_entry.specs.Queues.{spelled, unsent_of}
-use Rattle.cts_frame.specs.Framing.{Heading}
-use Rattle.cts_frame.specs.Packets.{capped}
-use Rattle.cts_told.specs.Routing.{Routing, names_in, spell, queue, walk}
-use Rattle.cts_told.specs.Streams.{telemetry_log, command_log}
+use Rattle.cts_framing.specs.Framing.{Heading}
+use Rattle.cts_framing.specs.Packets.{capped}
+use Rattle.cts_trace.specs.Routing.{Routing, names_in, spell, queue, walk}
+use Rattle.cts_trace.specs.Streams.{telemetry_log, command_log}
 use Rattle.cts_api.specs.Replies.{Reply as Answer}
 
 -- what events stand on: the site, as far as they need it, what desks answer, and the limits of the history

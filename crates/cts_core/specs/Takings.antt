@@ -10,8 +10,8 @@ use Rattle.cts_entry.specs.declared.entry.Entry.{Entry}
 use Rattle.cts_entry.specs.declared.what.What.TheVariants.{Opened, Closed}
 use Rattle.cts_entry.specs.declared.why.Why.{Why}
 use Rattle.cts_entry.specs.Histories.{entries_in, bytes_in, is_connected, is_stopped}
-use Rattle.cts_frame.specs.Framing.{Output}
-use Rattle.cts_frame.specs.Packets.{Fault}
+use Rattle.cts_framing.specs.Framing.{Output}
+use Rattle.cts_framing.specs.Packets.{Fault}
 use Rattle.cts_table.specs.declared.fault.HallFault.{HallFault}
 use Rattle.cts_table.specs.declared.fault.HallFault.TheVariants.{Full as Crowded, Memory as Wanting}
 use Rattle.cts_table.specs.States.{is_within}

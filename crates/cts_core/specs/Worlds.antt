@@ -10,8 +10,8 @@ use Rattle.cts_entry.specs.declared.event.Event.{Event}
 use Rattle.cts_entry.specs.declared.event.Event.TheVariants.{SetTime, Opens, Piece, Finish, Write, Call, DrainLog, DrainSlot, Stop}
 use Rattle.cts_entry.specs.declared.event.Effect.{Effect}
 use Rattle.cts_entry.specs.Histories.{is_connected, entries_in, bytes_in}
-use Rattle.cts_frame.specs.Chains.{framings_at}
-use Rattle.cts_frame.specs.Framing.{Output, plain}
+use Rattle.cts_framing.specs.Chains.{framings_at}
+use Rattle.cts_framing.specs.Framing.{Output, plain}
 use Rattle.cts_core.specs.Environments.{basis_of, environment_of, site_environment}
 use Rattle.cts_connection.specs.Connections.{HeldConnection, connection_at, shut}
 use Rattle.cts_connection.specs.LinePlaces.{is_line, line_count, line_place}

@@ -7,7 +7,7 @@ use Rattle.cts_connection.specs.Writings.{Wrote}
 use Rattle.cts_core.specs.Worlds.{Held, IsUnmoved, connection_of, with_connection}
 use Rattle.cts_core.specs.declared.fault.WorldFault.{WorldFault}
 use Rattle.cts_core.specs.declared.fault.WorldFault.TheVariants.{NotEnabled, Full, Memory}
-use Rattle.cts_told.specs.Routing.{walk}
+use Rattle.cts_trace.specs.Routing.{walk}
 
 -- the entries that a line's connection has not passed
 abbrev pub ahead_in : Held → ℕ → List Entry

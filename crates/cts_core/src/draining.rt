@@ -6,7 +6,7 @@ ghost use Rattle.cts_core.specs.Drainings.{Drains, site_commands_log, site_packe
 use crate::fault::WorldFault;
 use cts_base::{Bytes, Memory};
 use cts_entry::{Effect, Stands};
-use cts_laying::Batch;
+use cts_log_batch::Batch;
 use cts_table::Hall;
 use std::alloc::Global;
 

@@ -3,17 +3,12 @@
 #![tactic(auto)]
 
 mod calling;
-mod chains;
 mod draining;
 mod enabling;
 mod fault;
 mod running;
-mod supplier;
 mod world;
 
-pub use chains::build_chains;
-pub use cts_connection::Framer;
-pub use enabling::takes_room;
+pub use cts_connection::{Framer, Supplier};
 pub use fault::WorldFault;
-pub use supplier::Supplier;
 pub use world::World;

@@ -36,7 +36,7 @@ impl<C: Framer> Model for Running<C> {
 impl<C: Framer> Running<C> {
     ghost use Rattle.std.specs.Prelude.{◌≡◌, ◌+◌, ◌^◌, ◌&&◌, ◌<◌, ◌≤◌, not, [], length, map, true, false, vec_len, vec_capacity, IfOk, MatchOption, OnErr, OnOk, Option};
     ghost use Rattle.cts_core.specs.States.{State, is_piece, may_close};
-    ghost use Rattle.cts_core.specs.LineChains.{line_chains};
+    ghost use Rattle.cts_connection.specs.LineChains.{line_chains};
     ghost use Rattle.cts_core.specs.Runs.{drained};
     ghost use Rattle.cts_core.specs.Takings.{Begins, CanPost, IsClosed, IsShut, Posts, Takes};
     ghost use Rattle.cts_core.specs.Worlds.{IsSoundHeld, IsUnmoved, RepresentsWithin, Steps, connection_of, first_held};

@@ -4,14 +4,12 @@ ghost use Rattle.std.specs.Arc.{arc_value};
 ghost use Rattle.cts_core.specs.Endings.{lasting};
 ghost use Rattle.cts_core.specs.Runs.{drained};
 
-use crate::chains::{build_chains, chains_of, count_of};
 use crate::fault::WorldFault;
 use crate::running::Running;
-use crate::supplier::Supplier;
 use cts_chain::ChainFault;
-use cts_connection::Framer;
+use cts_connection::{Framer, Supplier, build_chains, line_count, shortage_of};
 use cts_def::Site;
-use cts_entry::{Effect, Event, MOST_BYTES, MOST_ENTRIES};
+use cts_entry::{Effect, Event, MOST_ENTRIES, MOST_HISTORY_BYTES};
 use cts_table::Hall;
 use std::alloc::Global;
 use std::marker::Model;
@@ -42,7 +40,7 @@ impl<C: Framer> World<C> {
     ghost use Rattle.cts_chain.specs.declared.build.ChainFault.TheVariants.{Memory as NoMemory};
     ghost use Rattle.cts_chain.specs.Builds.{FaultIs, Taken, use_specs};
     ghost use Rattle.cts_chain.specs.Stocking.{first_short};
-    ghost use Rattle.cts_core.specs.LineChains.{line_uses};
+    ghost use Rattle.cts_connection.specs.LineChains.{line_uses};
     ghost use Rattle.cts_core.specs.States.{State, opening};
     ghost use Rattle.cts_core.specs.Endings.{GoesOn, HasPassed, LogPasses, held_in, lasting};
     ghost use Rattle.cts_core.specs.Worlds.{Represents, RepresentsWithin, Steps};
@@ -69,7 +67,7 @@ impl<C: Framer> World<C> {
         ensures fault { IfErr result (λ e. FaultIs (B.stock shelf.old) (line_uses (arc_value site)) e) }
         ensures kept { OnErr result (B.stock shelf.new ≡ B.stock shelf.old) }
     {
-        World::with_limits(alloc, site, shelf, MOST_ENTRIES, MOST_BYTES)
+        World::with_limits(alloc, site, shelf, MOST_ENTRIES, MOST_HISTORY_BYTES)
     }
 
     /// The same with these limits.
@@ -97,7 +95,7 @@ impl<C: Framer> World<C> {
         if let Some(fault) = World::<C>::shortage(&site, shelf) {
             return Err(fault);
         }
-        let count = count_of(&site);
+        let count = line_count(&site);
         let Ok(connections) = Vec::with_capacity(alloc, count) else {
             return Err(ChainFault::Memory);
         };
@@ -118,7 +116,7 @@ impl<C: Framer> World<C> {
         ensures short { IfSome result (λ e. (e ≡ NoMemory → ⊥) × FaultIs (B.stock shelf.now) (line_uses site.now) e) }
         ensures enough { IfNone result (first_short (B.stock shelf.now) (use_specs (line_uses site.now)) ≡ None) }
     {
-        shelf.shortage(&chains_of(site)[..count_of(site)])
+        shortage_of::<C, B>(site, shelf)
     }
 
     /// The history with its site.

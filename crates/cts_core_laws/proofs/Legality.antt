@@ -12,8 +12,8 @@ use Rattle.cts_entry.specs.Histories.{is_connected, is_stopped, entries_in, byte
 use Rattle.cts_entry.proofs.Allowing.{allowed_append}
 use Rattle.cts_entry.proofs.Appending.{entries-append, bytes-append}
 use Rattle.cts_entry.specs.Legal.{IsLine, IsLegal}
-use Rattle.cts_frame.specs.Cuts.{Pieces}
-use Rattle.cts_frame.specs.Packets.{Fault, fault_of}
+use Rattle.cts_framing.specs.Cuts.{Pieces}
+use Rattle.cts_framing.specs.Packets.{Fault, fault_of}
 use Rattle.cts_core.specs.States.{Environment, State, opening, is_line, may_close, has_room, unsent}
 use Rattle.cts_api.specs.Replies.{Reply as Answer}
 use Rattle.cts_table.specs.declared.basis.Basis.{Basis}
@@ -21,8 +21,8 @@ use Rattle.cts_core.specs.Environments.{environment_of}
 use Rattle.cts_core.specs.Runs.{Did, Does, Receives, Closes, after, closing, closed_entry, Ending, Runs}
 use Rattle.cts_core_laws.specs.Told.{history_of}
 use Rattle.cts_core_laws.specs.Laws.{IsAnsweredLegally, CoreIsLegal}
-use Rattle.cts_told.specs.Routing.{posted_entries}
-use Rattle.cts_told.proofs.Walks.{enough_of, connected_kept, packets_connect}
+use Rattle.cts_trace.specs.Routing.{posted_entries}
+use Rattle.cts_trace.proofs.Walks.{enough_of, connected_kept, packets_connect}
 use Rattle.cts_core.proofs.Following.{Follows, Lasting, lasting_append, one_follows, packets_follow, rules_by, stops_after}
 
 closing_follows : (env : Environment) (before : List Entry) (now : Time) (m unsent : ℕ) (cuts : List Pieces) (fault : Option Fault) → is_connected m before ≡ true → Lasting before → Follows env before (closing now m unsent cuts fault)

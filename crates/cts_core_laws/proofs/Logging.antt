@@ -17,9 +17,9 @@ use Rattle.cts_core.specs.Runs.{Did, Does, after, drained, effect_of, Ending, Ru
 use Rattle.cts_core_laws.specs.Told.{history_of}
 use Rattle.cts_core_laws.specs.Logs.{drained_by, packets_in, commands_in}
 use Rattle.cts_core_laws.specs.Laws.{CoreIsLogged}
-use Rattle.cts_told.specs.Routing.{names_in}
-use Rattle.cts_told.specs.Streams.{lay_out}
-use Rattle.cts_told.proofs.Walks.{enough_of}
+use Rattle.cts_trace.specs.Routing.{names_in}
+use Rattle.cts_trace.specs.Streams.{lay_out}
+use Rattle.cts_trace.proofs.Walks.{enough_of}
 
 -- the logs have passed no more than stands
 drained_within : (env : Environment) (s : State) (event : Event) → is_enabled env s event ≡ true → s.log_cursor ≤ length s.history → s.log_cursor + drained event ≤ length s.history

@@ -4,12 +4,12 @@ use Rattle.std.proofs.lemmas.List.{append_cancel_left}
 use Rattle.cts_entry.specs.declared.entry.Entry.{Entry}
 use Rattle.cts_entry.specs.declared.event.Event.{Event}
 use Rattle.cts_entry.specs.declared.event.Event.TheVariants.{SetTime, Opens, Piece, Finish, Write, Call, DrainLog, DrainSlot, Stop}
-use Rattle.cts_frame.specs.Framing.{Output}
-use Rattle.cts_frame.specs.Cuts.{Pieces}
-use Rattle.cts_frame.specs.Packets.{IsPackets, fault_of}
-use Rattle.cts_frame.specs.Laws.{AllSound}
-use Rattle.cts_frame.proofs.Stagings.{has_packets, has_one_packets, packets_grow}
-use Rattle.cts_told.specs.Routing.{posted_entries}
+use Rattle.cts_framing.specs.Framing.{Output}
+use Rattle.cts_framing.specs.Cuts.{Pieces}
+use Rattle.cts_framing.specs.Packets.{IsPackets, fault_of}
+use Rattle.cts_framing.specs.Laws.{AllSound}
+use Rattle.cts_framing.proofs.Stagings.{has_packets, has_one_packets, packets_grow}
+use Rattle.cts_trace.specs.Routing.{posted_entries}
 use Rattle.cts_api.specs.Replies.{Reply as Answer}
 use Rattle.cts_core.specs.States.{Environment, State, is_enabled, takes_room, has_room, unsent}
 use Rattle.cts_core.specs.Runs.{Receives, Closes, IsAnswered, silent, Appends, Did, Does, after, Ending, Finished, NotEnabled, HistoryFull, Refuses, Runs, closing, closed_entry, effect_of}

@@ -11,9 +11,9 @@ use Rattle.cts_entry.specs.declared.what.What.TheVariants.{Opened, Packet, Close
 use Rattle.cts_entry.specs.declared.what.NotSent.TheVariants.{Unknown as UnknownCommand, NotConnected as NoConnection}
 use Rattle.cts_entry.specs.declared.why.Why.TheVariants.{PeerEnded}
 use Rattle.cts_entry.specs.declared.event.Event.TheVariants.{Write, DrainSlot}
-use Rattle.cts_frame.specs.Framing.{Heading, plain}
+use Rattle.cts_framing.specs.Framing.{Heading, plain}
 use Rattle.cts_log.specs.Logged.{laid_out}
-use Rattle.cts_told.specs.Routing.{said_of}
+use Rattle.cts_trace.specs.Routing.{said_of}
 use Rattle.cts_core.specs.States.{Environment, State, is_enabled, put_next, unsent, packets_log, commands_log}
 
 -- a number in four bytes, the high one first
@@ -47,7 +47,7 @@ site = record {
   is_slot = λ by. by == 16 || by == 17;
   is_desk = λ desk. desk == 0;
   is_logged = λ interface. true;
-  layout = laid_out;
+  layout = laid_out false;
   answers = λ history desk time body a. a ≡ record { response = None; entries = [] };
   most_entries = 100;
   most_bytes = 1000;
@@ -116,8 +116,8 @@ later_alone = refl
 -- the demo: eight entries, of which five are after the slot's Opened
 
 demo : List Entry
-demo = made 0 Opened ∷ made 1 Opened ∷ made 16 Opened ∷ made 1 (Packet (Known 1) (72 ∷ 73 ∷ [])) ∷ made 0 (Packet (Known 0) (1 ∷ 128 ∷ 0 ∷ 1 ∷ [])) ∷ made 24 StopEntry
-    ∷ made 0 (Packet (Known 0) (1 ∷ 144 ∷ 0 ∷ 1 ∷ [])) ∷ made 24 (Command 0 0 ten) ∷ []
+demo = made 0 Opened ∷ made 1 Opened ∷ made 16 Opened ∷ made 1 (Packet (Known 1) false (72 ∷ 73 ∷ [])) ∷ made 0 (Packet (Known 0) false (1 ∷ 128 ∷ 0 ∷ 1 ∷ [])) ∷ made 24 StopEntry
+    ∷ made 0 (Packet (Known 0) false (1 ∷ 144 ∷ 0 ∷ 1 ∷ [])) ∷ made 24 (Command 0 0 ten) ∷ []
 
 five_stand : is_enabled site (at demo 0) (DrainSlot 16 5) ≡ true
 unfolding site at demo made noon ten
@@ -163,6 +163,11 @@ unknown : said_of site.routing demo 16 (plain (7 ∷ [])) ≡ Unrouted UnknownCo
 unfolding site demo made noon ten
 unknown = refl
 
-packet : said_of site.routing demo 0 (plain (7 ∷ [])) ≡ Packet Unknown (7 ∷ [])
+packet : said_of site.routing demo 0 (plain (7 ∷ [])) ≡ Packet Unknown false (7 ∷ [])
 unfolding site demo made noon ten
 packet = refl
+
+-- a frame that says so makes a stored one
+stored_packet : said_of site.routing demo 0 (record { bytes = 7 ∷ []; heading = Some (record { time = noon; target = []; packet = []; stored = true }) }) ≡ Packet Unknown true (7 ∷ [])
+unfolding site demo made noon ten
+stored_packet = refl

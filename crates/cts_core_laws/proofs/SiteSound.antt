@@ -10,7 +10,7 @@ use Rattle.cts_def.specs.Makers.{first_desk, first_slot, router_of, server}
 use Rattle.cts_def.specs.Sites.{IsSoundSite, SiteData}
 use Rattle.cts_table.specs.declared.basis.Basis.{Basis}
 use Rattle.cts_entry.specs.Workers.{is_desk}
-use Rattle.cts_frame.proofs.Sound.{chains_are_sound}
+use Rattle.cts_framing.proofs.Sound.{chains_are_sound}
 use Rattle.cts_core.specs.Environments.{environment_of}
 use Rattle.cts_core_laws.specs.Laws.{AreApart, IsAnsweredByDesks, IsAnsweredLegally, IsSoundEnvironment}
 use Rattle.cts_core.specs.States.{is_line}

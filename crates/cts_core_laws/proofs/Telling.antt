@@ -17,22 +17,22 @@ use Rattle.cts_entry.specs.Queues.{spelled}
 use Rattle.cts_entry.specs.Places.{Posts, Stays}
 use Rattle.cts_entry.proofs.Appending.{connected-append, latest-append}
 use Rattle.cts_entry.proofs.Queuing.{none_opened, none_connected, posts_none, since-append, any_append, stays_more}
-use Rattle.cts_frame.specs.Framing.{Framing, Output, IsSound}
-use Rattle.cts_frame.specs.Cuts.{Pieces}
-use Rattle.cts_frame.specs.Packets.{IsPackets, Stages, cut_by, Fault, fault_of, fault_from, or_fault, loss_of}
-use Rattle.cts_frame.specs.Laws.{AllSound}
-use Rattle.cts_frame.proofs.Framings.{taken_none, ends_nil}
-use Rattle.cts_frame.proofs.Stagings.{has_one_packets}
+use Rattle.cts_framing.specs.Framing.{Framing, Output, IsSound}
+use Rattle.cts_framing.specs.Cuts.{Pieces}
+use Rattle.cts_framing.specs.Packets.{IsPackets, Stages, cut_by, Fault, fault_of, fault_from, or_fault, loss_of}
+use Rattle.cts_framing.specs.Laws.{AllSound}
+use Rattle.cts_framing.proofs.Framings.{taken_none, ends_nil}
+use Rattle.cts_framing.proofs.Stagings.{has_one_packets}
 use Rattle.cts_core.specs.States.{Environment, State, is_line, opening, may_close, unsent, ahead, put_next}
 use Rattle.cts_core.specs.Runs.{Did, Does, after, pieces_for, passed_for, pieces_after, cursor_after, Ending, Runs, Receives, Closes, closing, closed_entry}
 use Rattle.cts_core_laws.specs.Told.{Line, Told, told_from, told_after, turned, heard, put_for, one_or_none, history_of}
 use Rattle.cts_core_laws.specs.Laws.{AreApart, IsSoundEnvironment, IsAnsweredByDesks, CoreIsTold}
 use Rattle.cts_outside.specs.Lines.{Connection, fresh}
-use Rattle.cts_told.specs.Told.{IsStay, Tells}
-use Rattle.cts_told.specs.Routing.{time_in, said_of, posted_entries, walk, queue, spell}
-use Rattle.cts_told.specs.Connections.{Says, Shows, is_bad_frame, Blames}
-use Rattle.cts_told.proofs.Connecting.{says_connects}
-use Rattle.cts_told.proofs.Walks.{enough_of, packets_connect, packets_open, packets_queue, packets_show}
+use Rattle.cts_trace.specs.Told.{IsStay, Tells}
+use Rattle.cts_trace.specs.Routing.{time_in, said_of, posted_entries, walk, queue, spell}
+use Rattle.cts_trace.specs.Connections.{Says, Shows, is_bad_frame, Blames}
+use Rattle.cts_trace.proofs.Connecting.{says_connects}
+use Rattle.cts_trace.proofs.Walks.{enough_of, packets_connect, packets_open, packets_queue, packets_show}
 use Rattle.cts_core.proofs.Keeping.{pieces_turned, cursor_turned, pieces_grow, cursor_grows, pieces_stay, cursor_stays}
 use Rattle.cts_core_laws.proofs.Going.{Going, GoingWell, going_connected, going_since, going_more, going_put, going_talks, going_closes, unsent_at, unsent_kept}
 

@@ -9,9 +9,9 @@ use Rattle.cts_entry.specs.declared.event.Event.{Event}
 use Rattle.cts_entry.specs.Legal.{is_ended, IsLegal}
 use Rattle.cts_table.specs.Keeping.{rules_of}
 use Rattle.cts_table.specs.declared.basis.Basis.{Basis}
-use Rattle.cts_frame.specs.Laws.{AllSound}
-use Rattle.cts_frame.specs.Packets.{capped}
-use Rattle.cts_told.specs.Routing.{queue, walk}
+use Rattle.cts_framing.specs.Laws.{AllSound}
+use Rattle.cts_framing.specs.Packets.{capped}
+use Rattle.cts_trace.specs.Routing.{queue, walk}
 use Rattle.cts_api.specs.Replies.{Reply as Answer}
 use Rattle.cts_core.specs.States.{Environment, State, is_line, opening, ahead, unsent, packets_log, commands_log}
 use Rattle.cts_core.specs.Runs.{Did, Ending, Runs}

@@ -7,8 +7,8 @@ use Rattle.cts_entry.specs.declared.event.Effect.{Effect}
 use Rattle.cts_entry.specs.declared.event.Effect.TheVariants.{Posted, Reply, Written, Logged, Routed}
 use Rattle.cts_entry.specs.Histories.{latest, connects_maker}
 use Rattle.cts_outside.specs.Lines.{Connection, fresh}
-use Rattle.cts_told.specs.Routing.{Routing}
-use Rattle.cts_told.specs.Told.{Tells}
+use Rattle.cts_trace.specs.Routing.{Routing}
+use Rattle.cts_trace.specs.Told.{Tells}
 use Rattle.cts_core.specs.Runs.{Did, pieces_for}
 
 -- ---- what is told of connections

@@ -1,7 +1,8 @@
 -- Protocols with their parameters: what contracts see of them, and the rules that they keep.
-use Rattle.std.specs.Prelude.{ℕ, ℤ, ◌+◌, Bool, true, false, not, ◌&&◌, ◌||◌, nat_le, List, [], ◌∷◌, length, Option, IsTrue}
+use Rattle.std.specs.Prelude.{ℕ, ℤ, ◌+◌, Bool, true, false, not, ◌&&◌, ◌||◌, ◌==◌, nat_le, List, [], ◌∷◌, length, Option, IsTrue}
 use Rattle.std.specs.List.{list_any, list_all}
 use Rattle.cts_bits.specs.Places.{reach_of}
+use Rattle.cts_def.specs.Most.{frame_limit, most_protocols}
 use Rattle.cts_def.specs.declared.proto_spec.Kind.{Kind}
 use Rattle.cts_def.specs.declared.proto_spec.Kind.TheVariants as kind
 use Rattle.cts_def.specs.declared.proto_spec.ProtoSpec.{ProtoSpec}
@@ -42,6 +43,7 @@ pub record TerminatedData : Type 0 where
 pub record PreidentifiedData : Type 0 where
   pub sync : List ℕ
   pub max : Option ℕ
+  pub layout : ℕ
 
 -- a protocol with its parameters
 pub data SpecData : Type 0 where
@@ -59,7 +61,7 @@ spec_data (spec.Length place value_offset per_count discard sync max fill) =
     Length (record { place = place_data place; value_offset = value_offset; per_count = per_count; discard = discard; sync = sync; max = max; fill = fill })
 spec_data (spec.Terminated write read strip discard sync fill) =
     Terminated (record { write = write; read = read; strip = strip; discard = discard; sync = sync; fill = fill })
-spec_data (spec.Preidentified sync max) = Preidentified (record { sync = sync; max = max })
+spec_data (spec.Preidentified sync max layout) = Preidentified (record { sync = sync; max = max; layout = layout })
 
 abbrev pub kind_of : SpecData → Kind
 kind_of (Burst b) = kind.Burst
@@ -80,9 +82,13 @@ pub record UseData : Type 0 where
 abbrev pub is_pattern : List ℕ → Bool
 is_pattern bytes = nat_le (length bytes) 64
 
+-- a layout of heads: 2, or 4, in which a head begins with flags
+abbrev pub is_layout : ℕ → Bool
+is_layout n = n == 2 || n == 4
+
 -- a number of bytes within the greatest frame
 abbrev pub is_within_frame : ℕ → Bool
-is_within_frame n = nat_le n 1048576
+is_within_frame n = nat_le n frame_limit
 
 -- an id field lies within the bytes that identify
 abbrev pub is_id_within : ℕ → IdField → Bool
@@ -101,7 +107,7 @@ is_sound_spec (Length l) =
     is_place l.place && nat_le 1 l.per_count && nat_le l.per_count 65535 && is_within_frame l.discard && is_pattern l.sync
 is_sound_spec (Terminated t) =
     is_pattern t.write && is_pattern t.read && nat_le 1 (length t.read) && is_within_frame t.discard && is_pattern t.sync
-is_sound_spec (Preidentified p) = is_pattern p.sync
+is_sound_spec (Preidentified p) = is_layout p.layout && is_pattern p.sync
 
 pub record IsSoundUse (u : UseData) : Type 0 where
   pub spec : IsTrue (is_sound_spec u.spec)
@@ -130,4 +136,4 @@ are_packets_last (u ∷ us) = not (reads_packets u && list_any reads us) && are_
 
 -- a chain has one to four protocols, one of which reads
 abbrev pub is_chain : List UseData → Bool
-is_chain us = nat_le (length us) 4 && list_any reads us && are_packets_last us
+is_chain us = nat_le (length us) most_protocols && list_any reads us && are_packets_last us

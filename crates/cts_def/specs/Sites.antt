@@ -1,11 +1,12 @@
 -- Interfaces, routers and sites: what contracts see of them, and the rules that they keep.
-use Rattle.std.specs.Prelude.{◌≡◌, ℕ, zero, suc, pos, ◌≤◌, Bool, false, not, ◌||◌, ◌==◌, int_le, nat_lt, nat_eq, List, [], ◌∷◌, map, length, IsTrue, if◌then◌else◌}
+use Rattle.std.specs.Prelude.{◌≡◌, ℕ, zero, suc, pos, ◌≤◌, Bool, true, false, not, ◌&&◌, ◌||◌, ◌==◌, int_le, nat_le, nat_lt, nat_eq, List, [], ◌∷◌, map, length, Option, None, Some, IsTrue, if◌then◌else◌}
 use Rattle.std.specs.List.{list_any, list_all, IsDistinct, AllByRecursion, flat_map}
 use Rattle.cts_base.specs.declared.decimal.Decimal.{Decimal}
 use Rattle.cts_def.specs.Items.{is_same}
 use Rattle.cts_def.specs.Beginnings.{start_of}
+use Rattle.cts_def.specs.Most.{least_cycle, most_cycle, most_desks, most_interfaces, most_routers}
 use Rattle.cts_def.specs.Packets.{PacketData, DefinitionsData, of_targets}
-use Rattle.cts_def.specs.Protocols.{SpecData, Fixed, UseData, is_chain}
+use Rattle.cts_def.specs.Protocols.{SpecData, Fixed, UseData, is_chain, is_layout}
 
 -- what contracts see of an interface: its fields
 pub record InterfaceData : Type 0 where
@@ -44,6 +45,8 @@ pub record SiteData : Type 0 where
   pub routers : List RouterData
   pub api_port : ℕ
   pub desks : ℕ
+  pub log_layout : ℕ
+  pub log_cycle : Option ℕ
 
 -- the targets of the interface of this number, and none where there is none
 abbrev pub targets_at : List InterfaceData → ℕ → List (List ℕ)
@@ -87,11 +90,18 @@ IsOfPackets d targets _ = Unit {0}
 abbrev pub AreOfPackets : DefinitionsData → List (List ℕ) → List UseData → Type 0
 AreOfPackets d targets chain = AllByRecursion (λ (u : UseData). IsOfPackets d targets u.spec) chain
 
+-- ---- logs
+
+-- the greatest size of a part of a log with more than one entry, where there is one
+abbrev pub is_cycle : Option ℕ → Bool
+is_cycle None = true
+is_cycle (Some bytes) = nat_le least_cycle bytes && nat_le bytes most_cycle
+
 -- ---- all that a site file has to keep
 
 pub record IsSoundSite (s : SiteData) : Type 0 where
-  pub few_interfaces : length s.interfaces ≤ 16
-  pub few_routers : length s.routers ≤ 4
+  pub few_interfaces : length s.interfaces ≤ most_interfaces
+  pub few_routers : length s.routers ≤ most_routers
   pub interface_names : IsDistinct is_same (map (λ (i : InterfaceData). i.name) s.interfaces)
   pub router_names : IsDistinct is_same (map (λ (r : RouterData). r.name) s.routers)
   pub targets : IsDistinct is_same (targets_of s.interfaces)
@@ -101,4 +111,6 @@ pub record IsSoundSite (s : SiteData) : Type 0 where
   pub router_packets : AllByRecursion (λ (r : RouterData). AreOfPackets s.definitions (routed_targets s.interfaces r.routes) r.chain) s.routers
   pub api_port : 1 ≤ s.api_port
   pub some_desks : 1 ≤ s.desks
-  pub few_desks : s.desks ≤ 4
+  pub few_desks : s.desks ≤ most_desks
+  pub log_layout : IsTrue (is_layout s.log_layout)
+  pub log_cycle : IsTrue (is_cycle s.log_cycle)

@@ -3,7 +3,7 @@
 use crate::Time;
 use cts_base::Name;
 
-/// The time and the names of a packet, as a log entry and a preidentified frame carry them.
+/// The time and the names of a packet and whether it was stored, as a log entry and a preidentified frame carry them.
 #[derive(Drop)]
 pub struct Label {
     /// The packet's time.
@@ -12,4 +12,6 @@ pub struct Label {
     pub target: Name,
     /// The packet's name.
     pub packet: Name,
+    /// Whether the packet was stored before it was sent. Layout 4 alone says so.
+    pub stored: bool,
 }

@@ -1,12 +1,12 @@
 -- What is true of a line without a cause.
 use Rattle.std.proofs.Common.{◌≡◌, ℕ, false, List, None, Some, refl, ap, sym, ◌∙◌, Option}
-use Rattle.cts_defline.specs.declared.details.Detail.{Detail}
-use Rattle.cts_defline.specs.declared.details.Detail.TheVariants as detail
-use Rattle.cts_defline.specs.declared.line.Line.{Line}
-use Rattle.cts_defline.specs.declared.line.Line.TheVariants as line
+use Rattle.cts_defstatement.specs.declared.details.Detail.{Detail}
+use Rattle.cts_defstatement.specs.declared.details.Detail.TheVariants as detail
+use Rattle.cts_defstatement.specs.declared.line.Line.{Line}
+use Rattle.cts_defstatement.specs.declared.line.Line.TheVariants as line
 use Rattle.cts_defread.specs.declared.drafted.Drafted.{Drafted}
 use Rattle.cts_defread.specs.Causes.{is_wrong_kind, is_text_id, is_double, is_little_append, is_bad_place, is_bad_id, is_bad_preset, is_too_large_in, is_bad_order, is_bad_format, is_too_many, open_item, passes, has_state, has_set, has_bound, has_all_states, has_all_segments, holds, place_order, place_cause}
-use Rattle.cts_defline.specs.Rules.{IsSoundLine}
+use Rattle.cts_defstatement.specs.Rules.{IsSoundLine}
 use Rattle.cts_defread.specs.Sound.{FitsLast}
 use Rattle.cts_def.specs.Items.{ItemData}
 use Rattle.cts_words.proofs.Finds.{none_passes}

@@ -4,15 +4,15 @@ use Rattle.std.specs.Prelude.{option_map, if◌then◌else◌}
 use Rattle.cts_bits.specs.declared.order.Order.{Order}
 use Rattle.cts_def.specs.Items.{ItemData, span_of}
 use Rattle.cts_def.specs.Spans.{end_of}
-use Rattle.cts_defline.specs.declared.keyword.Keyword.{Keyword}
-use Rattle.cts_defline.specs.declared.line.ItemLine.{ItemLine}
-use Rattle.cts_defline.specs.declared.line.Line.{Line}
-use Rattle.cts_defline.specs.declared.line.PacketLine.{PacketLine}
-use Rattle.cts_defline.specs.declared.open.Open.{Open}
-use Rattle.cts_defline.specs.Forms.{keyword_of, is_array_keyword}
-use Rattle.cts_defline.specs.Lines.{line_in, line_of}
-use Rattle.cts_defline.specs.declared.cause.DefCause.TheVariants.{ArrayItem}
-use Rattle.cts_defline.specs.Refusals.{word_cause, keyword_cause}
+use Rattle.cts_defstatement.specs.declared.keyword.Keyword.{Keyword}
+use Rattle.cts_defstatement.specs.declared.line.ItemLine.{ItemLine}
+use Rattle.cts_defstatement.specs.declared.line.Line.{Line}
+use Rattle.cts_defstatement.specs.declared.line.PacketLine.{PacketLine}
+use Rattle.cts_defstatement.specs.declared.open.Open.{Open}
+use Rattle.cts_defstatement.specs.Forms.{keyword_of, is_array_keyword}
+use Rattle.cts_defstatement.specs.Lines.{line_in, line_of}
+use Rattle.cts_defstatement.specs.declared.cause.DefCause.TheVariants.{ArrayItem}
+use Rattle.cts_defstatement.specs.Refusals.{word_cause, keyword_cause}
 use Rattle.cts_defread.specs.Causes.{opened}
 use Rattle.cts_defread.specs.Definitions.{refusal, at_end, lines_of, cause_of_line}
 use Rattle.cts_defread.specs.Laws.{RefusesTheFirst, TakesTheOthers, StatementsSayLines, head_of, said_of, said_in, end_after, OneForEachHead, OneForEachItem, ItemsHaveTheirOffsets}

@@ -7,12 +7,12 @@ use Rattle.cts_reader.specs.Reading.{Judged, Settles, at_line}
 use Rattle.cts_reader.proofs.FirstRefused.{no_cause}
 use Rattle.cts_words.specs.declared.statement.Statement.{Statement}
 use Rattle.cts_words.specs.Refusals.{Refusal, or_else}
-use Rattle.cts_defline.specs.declared.cause.DefCause.{DefCause}
-use Rattle.cts_defline.specs.declared.line.Line.{Line}
-use Rattle.cts_defline.specs.declared.open.PacketKind.{PacketKind}
-use Rattle.cts_defline.specs.Lines.{line_in}
-use Rattle.cts_defline.specs.Refusals.{word_cause}
-use Rattle.cts_defline.specs.Rules.{KeepsRules}
+use Rattle.cts_defstatement.specs.declared.cause.DefCause.{DefCause}
+use Rattle.cts_defstatement.specs.declared.line.Line.{Line}
+use Rattle.cts_defstatement.specs.declared.open.PacketKind.{PacketKind}
+use Rattle.cts_defstatement.specs.Lines.{line_in}
+use Rattle.cts_defstatement.specs.Refusals.{word_cause}
+use Rattle.cts_defstatement.specs.Rules.{KeepsRules}
 use Rattle.cts_defread.specs.declared.drafted.Drafted.{Drafted}
 use Rattle.cts_defread.specs.Causes.{opened, place_cause}
 use Rattle.cts_defread.specs.Definitions.{cause_of_line, refusal_in}

@@ -16,12 +16,12 @@ use Rattle.cts_def.specs.declared.state_def.StateDef.{StateDef}
 use Rattle.cts_def.specs.Items.{ItemData, span_of, is_same, is_to_the_end}
 use Rattle.cts_def.specs.Packets.{begins_with_set, default_set}
 use Rattle.cts_def.specs.Spans.{end_of}
-use Rattle.cts_defline.specs.declared.details.Detail.{Detail}
-use Rattle.cts_defline.specs.declared.details.Detail.TheVariants as detail
-use Rattle.cts_defline.specs.declared.line.Line.TheVariants as line
-use Rattle.cts_defline.specs.declared.open.PacketKind.TheVariants.{Telemetry, Command}
-use Rattle.cts_defline.specs.Refusals.{open_kind}
-use Rattle.cts_defline.specs.Rules.{suits}
+use Rattle.cts_defstatement.specs.declared.details.Detail.{Detail}
+use Rattle.cts_defstatement.specs.declared.details.Detail.TheVariants as detail
+use Rattle.cts_defstatement.specs.declared.line.Line.TheVariants as line
+use Rattle.cts_defstatement.specs.declared.open.PacketKind.TheVariants.{Telemetry, Command}
+use Rattle.cts_defstatement.specs.Refusals.{open_kind}
+use Rattle.cts_defstatement.specs.Rules.{suits}
 use Rattle.cts_defread.specs.declared.draft.Draft.{Draft}
 use Rattle.cts_defread.specs.declared.drafted.Drafted.{Drafted}
 use Rattle.cts_defread.specs.Causes.{drafted_items, open_items, open_item, open_end, is_open_ended, count_items, is_too_many, opened, place_cause}

@@ -20,12 +20,12 @@ use Rattle.cts_def.specs.Items.{ItemData, IsSoundItem, is_same, span_of, is_soun
 use Rattle.cts_def.specs.Packets.{received_count}
 use Rattle.cts_def.specs.Spans.{end_of, bytes_needed, is_variable, is_number, is_misplaced, is_spelled, is_too_far, is_refused_number, is_bad_from_end, is_split_text, is_text_past_end, ends_too_far}
 use Rattle.cts_def.proofs.Needs.{placed as placed_so}
-use Rattle.cts_defline.specs.declared.line.ItemLine.{ItemLine}
-use Rattle.cts_defline.specs.declared.line.Line.TheVariants as line
-use Rattle.cts_defline.specs.declared.open.PacketKind.TheVariants.{Telemetry, Command}
-use Rattle.cts_defline.specs.Numbers.{is_size}
-use Rattle.cts_defline.specs.Refusals.{open_kind}
-use Rattle.cts_defline.specs.Rules.{suits}
+use Rattle.cts_defstatement.specs.declared.line.ItemLine.{ItemLine}
+use Rattle.cts_defstatement.specs.declared.line.Line.TheVariants as line
+use Rattle.cts_defstatement.specs.declared.open.PacketKind.TheVariants.{Telemetry, Command}
+use Rattle.cts_defstatement.specs.Numbers.{is_size}
+use Rattle.cts_defstatement.specs.Refusals.{open_kind}
+use Rattle.cts_defstatement.specs.Rules.{suits}
 use Rattle.cts_defread.specs.declared.draft.Draft.{Draft}
 use Rattle.cts_defread.specs.declared.drafted.Drafted.{Drafted}
 use Rattle.cts_defread.specs.Causes.{drafted_items, open_items, open_end, order_in, span_in, is_open_ended, opened, is_command_in, of_place, is_after_open_end, is_id_from_end, is_from_end_in_command, is_after_rest_in_command, is_unfit_id, is_unfit_preset, fits, has_item, count_items}

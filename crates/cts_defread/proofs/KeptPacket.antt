@@ -11,10 +11,10 @@ use Rattle.cts_base.specs.Known.{Knows, pair_cmp}
 use Rattle.cts_base.proofs.Known.{knows_none, knows_more, pairs_total}
 use Rattle.cts_def.specs.Items.{ItemData, is_same, is_to_the_end}
 use Rattle.cts_def.specs.Packets.{PacketData, unknown, have_same_names}
-use Rattle.cts_defline.specs.declared.line.Line.TheVariants as line
-use Rattle.cts_defline.specs.declared.line.PacketLine.{PacketLine}
-use Rattle.cts_defline.specs.declared.open.PacketKind.{PacketKind}
-use Rattle.cts_defline.specs.declared.open.PacketKind.TheVariants.{Telemetry, Command}
+use Rattle.cts_defstatement.specs.declared.line.Line.TheVariants as line
+use Rattle.cts_defstatement.specs.declared.line.PacketLine.{PacketLine}
+use Rattle.cts_defstatement.specs.declared.open.PacketKind.{PacketKind}
+use Rattle.cts_defstatement.specs.declared.open.PacketKind.TheVariants.{Telemetry, Command}
 use Rattle.cts_defread.specs.declared.draft.Draft.{Draft}
 use Rattle.cts_defread.specs.declared.drafted.Drafted.{Drafted}
 use Rattle.cts_defread.specs.Causes.{drafted_items, open_items, is_open_ended, has_names, count_items}

@@ -10,13 +10,13 @@ use Rattle.cts_def.specs.declared.conversion.Segment.{Segment}
 use Rattle.cts_def.specs.Items.{ItemData, span_of}
 use Rattle.cts_def.specs.Packets.{greatest, length_of, are_variable}
 use Rattle.cts_def.specs.Spans.{end_of, bytes_needed, is_variable}
-use Rattle.cts_defline.specs.declared.details.Detail.{Detail}
-use Rattle.cts_defline.specs.declared.details.Detail.TheVariants as detail
-use Rattle.cts_defline.specs.declared.details.LimitsLine.{LimitsLine}
-use Rattle.cts_defline.specs.declared.line.ItemLine.{ItemLine}
-use Rattle.cts_defline.specs.declared.line.Line.{Line}
-use Rattle.cts_defline.specs.declared.line.Line.TheVariants as line
-use Rattle.cts_defline.specs.declared.line.PacketLine.{PacketLine}
+use Rattle.cts_defstatement.specs.declared.details.Detail.{Detail}
+use Rattle.cts_defstatement.specs.declared.details.Detail.TheVariants as detail
+use Rattle.cts_defstatement.specs.declared.details.LimitsLine.{LimitsLine}
+use Rattle.cts_defstatement.specs.declared.line.ItemLine.{ItemLine}
+use Rattle.cts_defstatement.specs.declared.line.Line.{Line}
+use Rattle.cts_defstatement.specs.declared.line.Line.TheVariants as line
+use Rattle.cts_defstatement.specs.declared.line.PacketLine.{PacketLine}
 use Rattle.cts_defread.specs.declared.drafted.Drafted.{Drafted}
 use Rattle.cts_defread.specs.Standing.{packet_in, item_in, set_limits, conversion_from, limits_from, item_at, end_from, items_from, items_of, packet_of, is_hazardous, standing}
 use Rattle.cts_defread.specs.Steps.{add_segment, add_limits, change_item, add_item, add_detail, make_hazardous, place}

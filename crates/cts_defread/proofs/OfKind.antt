@@ -12,17 +12,17 @@ use Rattle.cts_def.specs.declared.state_def.StateDef.{StateDef}
 use Rattle.cts_def.specs.Items.{ItemData, is_same, has_color, has_default_of, has_range_of_its_kind, has_sets_among, is_from_start, is_parameter, is_plain, is_telemetry_item, is_to_the_end, sets_in}
 use Rattle.cts_def.specs.Packets.{PacketData, are_before_the_end, is_command, is_telemetry}
 use Rattle.cts_def.specs.Spans.{is_number}
-use Rattle.cts_defline.specs.declared.details.Detail.{Detail}
-use Rattle.cts_defline.specs.declared.details.Detail.TheVariants as detail
-use Rattle.cts_defline.specs.declared.details.LimitsLine.{LimitsLine}
-use Rattle.cts_defline.specs.declared.line.ItemLine.{ItemLine}
-use Rattle.cts_defline.specs.declared.line.Line.{Line}
-use Rattle.cts_defline.specs.declared.line.Line.TheVariants as line
-use Rattle.cts_defline.specs.declared.line.PacketLine.{PacketLine}
-use Rattle.cts_defline.specs.declared.open.PacketKind.{PacketKind}
-use Rattle.cts_defline.specs.declared.open.PacketKind.TheVariants.{Telemetry, Command}
-use Rattle.cts_defline.specs.Refusals.{open_kind}
-use Rattle.cts_defline.specs.Rules.{has_wanted_default, has_wanted_range, is_of_kind, suits}
+use Rattle.cts_defstatement.specs.declared.details.Detail.{Detail}
+use Rattle.cts_defstatement.specs.declared.details.Detail.TheVariants as detail
+use Rattle.cts_defstatement.specs.declared.details.LimitsLine.{LimitsLine}
+use Rattle.cts_defstatement.specs.declared.line.ItemLine.{ItemLine}
+use Rattle.cts_defstatement.specs.declared.line.Line.{Line}
+use Rattle.cts_defstatement.specs.declared.line.Line.TheVariants as line
+use Rattle.cts_defstatement.specs.declared.line.PacketLine.{PacketLine}
+use Rattle.cts_defstatement.specs.declared.open.PacketKind.{PacketKind}
+use Rattle.cts_defstatement.specs.declared.open.PacketKind.TheVariants.{Telemetry, Command}
+use Rattle.cts_defstatement.specs.Refusals.{open_kind}
+use Rattle.cts_defstatement.specs.Rules.{has_wanted_default, has_wanted_range, is_of_kind, suits}
 use Rattle.cts_defread.specs.declared.drafted.Drafted.{Drafted}
 use Rattle.cts_defread.specs.Causes.{is_text_id, opened_in, opened_with}
 use Rattle.cts_defread.specs.Sound.{keeps_kind, keeps_its_kind}

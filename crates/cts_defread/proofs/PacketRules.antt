@@ -11,7 +11,7 @@ use Rattle.cts_def.specs.Items.{ItemData, is_same, span_of}
 use Rattle.cts_def.specs.Packets.{PacketData, IsSoundPacket, received_count, unknown}
 use Rattle.cts_def.specs.Spans.{bytes_needed, is_misplaced, is_variable}
 use Rattle.cts_def.proofs.Needs.{few_bytes}
-use Rattle.cts_defline.specs.declared.details.Detail.{Detail}
+use Rattle.cts_defstatement.specs.declared.details.Detail.{Detail}
 use Rattle.cts_defread.specs.declared.drafted.Drafted.{Drafted}
 use Rattle.cts_defread.specs.Causes.{has_item, drafted_items, open_item}
 use Rattle.cts_defread.specs.Sound.{Fits, FitsLast}

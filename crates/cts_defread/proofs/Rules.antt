@@ -17,9 +17,9 @@ use Rattle.cts_def.specs.declared.state_def.StateDef.{StateDef}
 use Rattle.cts_def.specs.Readings.{is_format}
 use Rattle.cts_def.specs.Items.{ItemData, IsSoundItem, HasSoundLimits, may_have_limits, IsSoundConversion, begins_with_default, are_in_order, has_coefficients, is_polynomial_of, is_sound_state, is_too_large, has_color, is_same, sets_in}
 use Rattle.cts_def.specs.Spans.{is_number}
-use Rattle.cts_defline.specs.declared.details.Detail.{Detail}
-use Rattle.cts_defline.specs.declared.details.Detail.TheVariants as detail
-use Rattle.cts_defline.specs.declared.details.LimitsLine.{LimitsLine}
+use Rattle.cts_defstatement.specs.declared.details.Detail.{Detail}
+use Rattle.cts_defstatement.specs.declared.details.Detail.TheVariants as detail
+use Rattle.cts_defstatement.specs.declared.details.LimitsLine.{LimitsLine}
 use Rattle.cts_defread.specs.Causes.{is_text, has_limits, has_state_colors, has_no_limits, has_all_segments, has_bound, is_large, is_segmented, is_poly}
 use Rattle.cts_defread.specs.Sound.{Fits}
 use Rattle.cts_defread.specs.Standing.{set_limits}

@@ -3,9 +3,9 @@ use Rattle.std.proofs.Common.{◌≡◌, ℕ, List, ◌∷◌, [], ◌++◌, Som
 use Rattle.cts_reader.specs.declared.fault.Fault.{Fault}
 use Rattle.cts_reader.specs.Reading.{Fails, Judged, TakesBehind, Reads}
 use Rattle.cts_reader.proofs.FirstRefused.{fails, said-more}
-use Rattle.cts_defline.specs.declared.cause.DefCause.{DefCause}
-use Rattle.cts_defline.specs.declared.line.Line.{Line}
-use Rattle.cts_defline.specs.Lines.{line_in}
+use Rattle.cts_defstatement.specs.declared.cause.DefCause.{DefCause}
+use Rattle.cts_defstatement.specs.declared.line.Line.{Line}
+use Rattle.cts_defstatement.specs.Lines.{line_in}
 use Rattle.cts_words.specs.declared.statement.Statement.{Statement}
 use Rattle.cts_defread.specs.declared.draft.Draft.{Draft}
 use Rattle.cts_defread.specs.declared.drafted.Drafted.{Drafted}

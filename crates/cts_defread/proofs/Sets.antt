@@ -6,9 +6,9 @@ use Rattle.std.proofs.lemmas.Cmp.{nat_list_eq_equiv}
 use Rattle.std.specs.List.{filter, filter_map, list_any, cons_option}
 use Rattle.cts_def.specs.Items.{is_same}
 use Rattle.cts_def.specs.Packets.{default_set}
-use Rattle.cts_defline.specs.declared.details.Detail.TheVariants as detail
-use Rattle.cts_defline.specs.declared.line.Line.{Line}
-use Rattle.cts_defline.specs.declared.line.Line.TheVariants as line
+use Rattle.cts_defstatement.specs.declared.details.Detail.TheVariants as detail
+use Rattle.cts_defstatement.specs.declared.line.Line.{Line}
+use Rattle.cts_defstatement.specs.declared.line.Line.TheVariants as line
 use Rattle.cts_defread.specs.Standing.{set_in, is_other, firsts, set_names_of}
 use Rattle.cts_defread.specs.Steps.{add_set, place_set}
 

@@ -6,12 +6,12 @@ use Rattle.cts_bits.specs.declared.order.Order.{Order}
 use Rattle.cts_def.specs.Items.{ItemData, span_of}
 use Rattle.cts_def.specs.Packets.{PacketData, DefinitionsData}
 use Rattle.cts_def.specs.Spans.{end_of}
-use Rattle.cts_defline.specs.declared.line.ItemLine.{ItemLine}
-use Rattle.cts_defline.specs.declared.line.Line.{Line}
-use Rattle.cts_defline.specs.declared.line.Line.TheVariants as line
-use Rattle.cts_defline.specs.declared.line.PacketLine.{PacketLine}
-use Rattle.cts_defline.specs.declared.open.PacketKind.{PacketKind}
-use Rattle.cts_defline.specs.declared.open.PacketKind.TheVariants.{Telemetry, Command}
+use Rattle.cts_defstatement.specs.declared.line.ItemLine.{ItemLine}
+use Rattle.cts_defstatement.specs.declared.line.Line.{Line}
+use Rattle.cts_defstatement.specs.declared.line.Line.TheVariants as line
+use Rattle.cts_defstatement.specs.declared.line.PacketLine.{PacketLine}
+use Rattle.cts_defstatement.specs.declared.open.PacketKind.{PacketKind}
+use Rattle.cts_defstatement.specs.declared.open.PacketKind.TheVariants.{Telemetry, Command}
 use Rattle.cts_defread.specs.declared.drafted.Drafted.{Drafted}
 use Rattle.cts_defread.specs.Defined.{BeginsAtHead, DefinitionsAreOfTheirLines, HasItemLine, HasPacketLine, IsBlock, IsDefinedBy, names_of_head, names_of_packet, names_said}
 use Rattle.cts_defread.specs.Definitions.{lines_of, refusal, at_end}
@@ -140,7 +140,7 @@ packet_found kind [] (q ∷ before) after p e = absurd cc
 packet_found kind (b ∷ bs) before after p e =
     found_step kind (are_same_kind kind b.0.kind) b bs before after p refl e (λ fs. packet_found kind bs fs after p)
 
-same_kinds : (kind own : PacketKind) → are_same_kind kind own ≡ true → own ≡ kind
+pub same_kinds : (kind own : PacketKind) → are_same_kind kind own ≡ true → own ≡ kind
 same_kinds Telemetry Telemetry e = refl
 same_kinds Telemetry Command e = absurd cc
 same_kinds Command Telemetry e = absurd cc

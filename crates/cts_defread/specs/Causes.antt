@@ -21,17 +21,17 @@ use Rattle.cts_def.specs.Items.{ItemData, is_same, has_room, has_color, is_too_l
 use Rattle.cts_def.specs.Most.{most_items, most_items_in_all, most_packets, most_segments, most_sets, most_states}
 use Rattle.cts_def.specs.Packets.{received_count, unknown}
 use Rattle.cts_def.specs.Spans.{is_number, is_little, is_spelled, is_too_far, is_refused_number, is_bad_from_end, is_split_text, is_text_past_end, ends_too_far}
-use Rattle.cts_defline.specs.declared.cause.DefCause.{DefCause}
-use Rattle.cts_defline.specs.declared.cause.DefCause.TheVariants.{WrongKind, IdNotWhole, DoubleName, AppendLittleBits, BadPlace, IdOutOfRange, DefaultOutOfRange, ConversionTooLarge, LimitsOrder, BadFormat, TooMany}
-use Rattle.cts_defline.specs.declared.details.Detail.TheVariants as detail
-use Rattle.cts_defline.specs.declared.line.Line.{Line}
-use Rattle.cts_defline.specs.declared.line.Line.TheVariants as line
-use Rattle.cts_defline.specs.declared.line.ItemLine.{ItemLine}
-use Rattle.cts_defline.specs.declared.open.Open.{Open}
-use Rattle.cts_defline.specs.declared.open.Open.TheVariants as open_
-use Rattle.cts_defline.specs.declared.open.PacketKind.{PacketKind}
-use Rattle.cts_defline.specs.declared.open.PacketKind.TheVariants.{Command}
-use Rattle.cts_defline.specs.Numbers.{is_size}
+use Rattle.cts_defstatement.specs.declared.cause.DefCause.{DefCause}
+use Rattle.cts_defstatement.specs.declared.cause.DefCause.TheVariants.{WrongKind, IdNotWhole, DoubleName, AppendLittleBits, BadPlace, IdOutOfRange, DefaultOutOfRange, ConversionTooLarge, LimitsOrder, BadFormat, TooMany}
+use Rattle.cts_defstatement.specs.declared.details.Detail.TheVariants as detail
+use Rattle.cts_defstatement.specs.declared.line.Line.{Line}
+use Rattle.cts_defstatement.specs.declared.line.Line.TheVariants as line
+use Rattle.cts_defstatement.specs.declared.line.ItemLine.{ItemLine}
+use Rattle.cts_defstatement.specs.declared.open.Open.{Open}
+use Rattle.cts_defstatement.specs.declared.open.Open.TheVariants as open_
+use Rattle.cts_defstatement.specs.declared.open.PacketKind.{PacketKind}
+use Rattle.cts_defstatement.specs.declared.open.PacketKind.TheVariants.{Command}
+use Rattle.cts_defstatement.specs.Numbers.{is_size}
 use Rattle.cts_defread.specs.declared.drafted.Drafted.{Drafted}
 use Rattle.cts_defread.specs.Standing.{end_from, offset_or, are_same_kind, packets_of}
 use Rattle.cts_words.specs.Blocks.{last_of}

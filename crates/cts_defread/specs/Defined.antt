@@ -5,12 +5,12 @@ use Rattle.cts_bits.specs.declared.order.Order.{Order}
 use Rattle.cts_def.specs.declared.item_kind.Overflow.TheVariants.{Error}
 use Rattle.cts_def.specs.Items.{ItemData}
 use Rattle.cts_def.specs.Packets.{PacketData, DefinitionsData, default_set}
-use Rattle.cts_defline.specs.declared.line.ItemLine.{ItemLine}
-use Rattle.cts_defline.specs.declared.line.Line.{Line}
-use Rattle.cts_defline.specs.declared.line.Line.TheVariants as line
-use Rattle.cts_defline.specs.declared.line.PacketLine.{PacketLine}
-use Rattle.cts_defline.specs.declared.open.PacketKind.{PacketKind}
-use Rattle.cts_defline.specs.declared.open.PacketKind.TheVariants.{Telemetry, Command}
+use Rattle.cts_defstatement.specs.declared.line.ItemLine.{ItemLine}
+use Rattle.cts_defstatement.specs.declared.line.Line.{Line}
+use Rattle.cts_defstatement.specs.declared.line.Line.TheVariants as line
+use Rattle.cts_defstatement.specs.declared.line.PacketLine.{PacketLine}
+use Rattle.cts_defstatement.specs.declared.open.PacketKind.{PacketKind}
+use Rattle.cts_defstatement.specs.declared.open.PacketKind.TheVariants.{Telemetry, Command}
 use Rattle.cts_defread.specs.Definitions.{definitions_of, lines_of}
 use Rattle.cts_defread.specs.Laws.{end_after}
 use Rattle.cts_defread.specs.Standing.{are_same_kind, conversion_of, firsts, format_in, is_hazardous, is_required, item_in, limits_from, limits_in, offset_or, overflow_in, packet_in, preset_or, set_in, state_in, units_in}

@@ -2,10 +2,10 @@
 use Rattle.std.specs.Prelude.{ℕ, List, Option, Some, None, Result}
 use Rattle.std.specs.List.{filter_map}
 use Rattle.cts_def.specs.Packets.{DefinitionsData}
-use Rattle.cts_defline.specs.declared.cause.DefCause.{DefCause}
-use Rattle.cts_defline.specs.declared.line.Line.{Line}
-use Rattle.cts_defline.specs.Lines.{line_in}
-use Rattle.cts_defline.specs.Refusals.{word_cause}
+use Rattle.cts_defstatement.specs.declared.cause.DefCause.{DefCause}
+use Rattle.cts_defstatement.specs.declared.line.Line.{Line}
+use Rattle.cts_defstatement.specs.Lines.{line_in}
+use Rattle.cts_defstatement.specs.Refusals.{word_cause}
 use Rattle.cts_defread.specs.declared.drafted.Drafted.{Drafted}
 use Rattle.cts_defread.specs.Causes.{opened, place_cause}
 use Rattle.cts_defread.specs.Standing.{standing, set_names_of, definitions_at}

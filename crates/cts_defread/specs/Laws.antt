@@ -5,11 +5,11 @@ use Rattle.cts_def.specs.declared.item_kind.ItemKind.{ItemKind}
 use Rattle.cts_def.specs.Items.{ItemData, span_of}
 use Rattle.cts_def.specs.Packets.{greatest}
 use Rattle.cts_def.specs.Spans.{end_of}
-use Rattle.cts_defline.specs.declared.cause.DefCause.{DefCause}
-use Rattle.cts_defline.specs.declared.line.ItemLine.{ItemLine}
-use Rattle.cts_defline.specs.declared.line.Line.{Line}
-use Rattle.cts_defline.specs.declared.line.PacketLine.{PacketLine}
-use Rattle.cts_defline.specs.Lines.{line_in}
+use Rattle.cts_defstatement.specs.declared.cause.DefCause.{DefCause}
+use Rattle.cts_defstatement.specs.declared.line.ItemLine.{ItemLine}
+use Rattle.cts_defstatement.specs.declared.line.Line.{Line}
+use Rattle.cts_defstatement.specs.declared.line.PacketLine.{PacketLine}
+use Rattle.cts_defstatement.specs.Lines.{line_in}
 use Rattle.cts_defread.specs.declared.drafted.Drafted.{Drafted}
 use Rattle.cts_defread.specs.Definitions.{cause, refusal, lines_of, definitions_of}
 use Rattle.cts_defread.specs.Standing.{packet_in, item_in, items_of, offset_or, standing, definitions_at}

@@ -4,12 +4,12 @@ use Rattle.std.specs.List.{list_all, IsDistinct}
 use Rattle.cts_def.specs.Items.{ItemData, is_same}
 use Rattle.cts_def.specs.Most.{most_sets}
 use Rattle.cts_def.specs.Packets.{PacketData, begins_with_set, default_set, have_same_names, is_command, is_telemetry}
-use Rattle.cts_defline.specs.declared.details.Detail.{Detail}
-use Rattle.cts_defline.specs.declared.details.Detail.TheVariants as detail
-use Rattle.cts_defline.specs.declared.line.Line.TheVariants as line
-use Rattle.cts_defline.specs.declared.open.PacketKind.{PacketKind}
-use Rattle.cts_defline.specs.declared.open.PacketKind.TheVariants.{Telemetry, Command}
-use Rattle.cts_defline.specs.Rules.{IsSoundLine}
+use Rattle.cts_defstatement.specs.declared.details.Detail.{Detail}
+use Rattle.cts_defstatement.specs.declared.details.Detail.TheVariants as detail
+use Rattle.cts_defstatement.specs.declared.line.Line.TheVariants as line
+use Rattle.cts_defstatement.specs.declared.open.PacketKind.{PacketKind}
+use Rattle.cts_defstatement.specs.declared.open.PacketKind.TheVariants.{Telemetry, Command}
+use Rattle.cts_defstatement.specs.Rules.{IsSoundLine}
 use Rattle.cts_defread.specs.declared.drafted.Drafted.{Drafted}
 use Rattle.cts_defread.specs.Causes.{has_state, has_set, has_bound, has_all_states, has_all_segments, is_wrong_kind, is_too_large_in, is_bad_order, is_bad_format}
 use Rattle.cts_defread.specs.Standing.{packets_of}

@@ -7,7 +7,7 @@ use crate::draft::Draft;
 use crate::kinds::{is_text_id, is_wrong_kind};
 use crate::values::{is_bad_format, is_bad_id, is_bad_order, is_bad_preset, is_too_large_in};
 use cts_base::Memory;
-use cts_defline::{DefCause, Line};
+use cts_defstatement::{DefCause, Line};
 use cts_reader::first_that_holds;
 
 /// The causes in the order in which they are tried, after those of the words.

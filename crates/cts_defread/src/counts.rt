@@ -12,7 +12,7 @@ use cts_base::Name;
 use cts_def::{
     Item, MOST_ITEMS, MOST_ITEMS_IN_ALL, MOST_PACKETS, MOST_SEGMENTS, MOST_SETS, MOST_STATES,
 };
-use cts_defline::{Detail, Line, PacketKind};
+use cts_defstatement::{Detail, Line, PacketKind};
 
 fn has_all_states(item: Option<&Item>) -> bool
     ensures { result ≡ passes has_all_states (option_copied item.entry) }

@@ -12,7 +12,7 @@ use crate::draft::Draft;
 use crate::packets::names_of;
 use cts_base::{Bytes, Decimal, List, Memory, Name};
 use cts_def::{Conversion, Item, Limits, LimitsSetup, Segment};
-use cts_defline::{Detail, Line, PacketKind, PacketLine};
+use cts_defstatement::{Detail, Line, PacketKind, PacketLine};
 
 fn is_unknown(target: &Name) -> bool
     ensures { result ≡ is_same target.now unknown }

@@ -7,7 +7,7 @@ ghost use Rattle.cts_defread.specs.Standing.{packets_of};
 use crate::drafted::Drafted;
 use cts_base::{Bytes, List, Memory, Name};
 use cts_def::{Definitions, Packet};
-use cts_defline::PacketKind;
+use cts_defstatement::PacketKind;
 use std::alloc::Global;
 use std::collections::BTreeSet;
 

@@ -2,7 +2,7 @@
 
 use cts_bits::Order;
 use cts_def::Packet;
-use cts_defline::PacketKind;
+use cts_defstatement::PacketKind;
 
 /// A packet or command with the items that were read so far.
 #[derive(Drop)]

@@ -2,7 +2,7 @@
 ghost use Rattle.std.specs.Prelude.{◌≡◌, ◌≤◌, [], unsigned_abs, IfOk, OnErr, OnOk, Some as SomeOf, None as NoneOf};
 ghost use Rattle.cts_def.specs.declared.conversion.Conversion.TheVariants.{Plain};
 ghost use Rattle.cts_def.specs.Items.{IsSoundItem, is_to_the_end};
-ghost use Rattle.cts_defline.specs.declared.details.Detail.TheVariants as detail_;
+ghost use Rattle.cts_defstatement.specs.declared.details.Detail.TheVariants as detail_;
 ghost use Rattle.cts_defread.specs.Causes.{is_open_ended};
 ghost use Rattle.cts_defread.specs.Sound.{Fits};
 ghost use Rattle.cts_defread.specs.Standing.{item_at, offset_or, preset_or};
@@ -11,7 +11,7 @@ ghost use Rattle.cts_defread.specs.Steps.{add_limits, add_segment, change_item};
 use cts_base::{Bytes, Decimal, List, Memory};
 use cts_bits::Order;
 use cts_def::{Conversion, Item, ItemKind, LimitsSetup, Overflow, Preset, Segment, StateDef};
-use cts_defline::{Detail, ItemLine, LimitsLine};
+use cts_defstatement::{Detail, ItemLine, LimitsLine};
 use std::alloc::Global;
 
 // A place within 8,388,608 bits of either side.

@@ -6,7 +6,7 @@ ghost use Rattle.cts_def.specs.Spans.{is_number};
 ghost use Rattle.cts_defread.specs.Causes.{passes, is_text, has_limits, has_state_colors, is_poly, is_segmented, is_wrong_kind, is_text_id};
 
 use cts_def::{Conversion, Item, StateDef};
-use cts_defline::{Detail, Line};
+use cts_defstatement::{Detail, Line};
 
 fn is_text(item: &Item) -> bool
     ensures { result ≡ is_text item.now }

@@ -20,7 +20,7 @@ mod places;
 mod reading;
 mod values;
 
-pub use cts_defline::{DefCause, DefFault};
+pub use cts_defstatement::{DefCause, DefFault};
 pub use laws::{
     definitions_are_in_order, definitions_are_of_their_lines, first_statement_is_refused,
 };

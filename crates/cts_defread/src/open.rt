@@ -8,7 +8,7 @@ use crate::draft::Draft;
 use crate::drafted::Drafted;
 use cts_bits::Order;
 use cts_def::Item;
-use cts_defline::{Open, PacketKind};
+use cts_defstatement::{Open, PacketKind};
 use cts_words::last;
 
 // The items of a definition, and none where there is none.

@@ -13,7 +13,7 @@ use crate::drafted::Drafted;
 use crate::items::change_item;
 use cts_base::{List, Memory, Name};
 use cts_def::{Item, Packet};
-use cts_defline::{Detail, PacketLine};
+use cts_defstatement::{Detail, PacketLine};
 use std::alloc::Global;
 
 /// The names of a definition: its target's and its own.

@@ -1,7 +1,7 @@
 // Places at which no item may lie.
 ghost use Rattle.std.specs.Prelude.{◌≡◌, ◌≤◌, ◌&&◌, ◌||◌, MatchOption, IsTrue, int_lt, pos, unsigned_abs, is_none, is_some};
 ghost use Rattle.std.specs.Int.{is_negative};
-ghost use Rattle.cts_defline.specs.declared.line.Line.TheVariants as line;
+ghost use Rattle.cts_defstatement.specs.declared.line.Line.TheVariants as line;
 ghost use Rattle.std.specs.List.{list_any};
 ghost use Rattle.cts_bits.specs.Places.{is_whole};
 ghost use Rattle.cts_def.specs.Items.{is_to_the_end};
@@ -14,7 +14,7 @@ ghost use Rattle.cts_words.specs.Blocks.{last_of};
 use crate::draft::Draft;
 use cts_bits::{LAST_PLACE, Order};
 use cts_def::{ItemKind, Span};
-use cts_defline::{ItemLine, Line};
+use cts_defstatement::{ItemLine, Line};
 
 // A number of bits that is not too far to either side.
 fn near(bits: i128) -> Option<i32>

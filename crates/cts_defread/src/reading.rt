@@ -2,16 +2,16 @@
 ghost use Rattle.std.specs.Prelude.{◌≡◌, IfOk, None};
 ghost use Rattle.cts_reader.specs.Reading.{Gives, Judged};
 ghost use Rattle.cts_def.specs.Packets.{AreSoundDefinitions};
-ghost use Rattle.cts_defline.specs.Lines.{line_in};
-ghost use Rattle.cts_defline.specs.Refusals.{open_kind};
-ghost use Rattle.cts_defline.specs.Rules.{KeepsRules};
+ghost use Rattle.cts_defstatement.specs.Lines.{line_in};
+ghost use Rattle.cts_defstatement.specs.Refusals.{open_kind};
+ghost use Rattle.cts_defstatement.specs.Rules.{KeepsRules};
 ghost use Rattle.cts_defread.specs.Causes.{opened, place_cause};
 ghost use Rattle.cts_defread.specs.Definitions.{refusal_in, definitions_of};
 ghost use Rattle.cts_defread.specs.Drafts.{IsKept};
 
 use crate::draft::Draft;
 use cts_def::Definitions;
-use cts_defline::{DefCause, DefFault, Line, read_line};
+use cts_defstatement::{DefCause, DefFault, Line, read_line};
 use cts_reader::{Reader, read_statements, unless_refused};
 use cts_words::Statement;
 use std::alloc::Global;

@@ -6,7 +6,7 @@ use Rattle.cts_outside.specs.declared.link.Dialed.TheVariants.{Linked, Later, Fi
 use Rattle.cts_http.specs.Readings.{Reading}
 use Rattle.cts_desk.specs.Exchanges.{Exchange, fronts_of}
 use Rattle.cts_desk.specs.Streams.{Cut, PeerEnded, ReadFault, WriteFault, LastAsked, Refused, NoMemory, Stopped, Served, last_front}
-use Rattle.cts_told.specs.Told.{HasFinished}
+use Rattle.cts_trace.specs.Told.{HasFinished}
 use Rattle.cts_desk.specs.Told.{Serves, MayEnd, Settled, past_of, IsIdle}
 use Rattle.cts_desk.specs.Serving.{StageSo, TalkingBy, Talks, is_stop_cut, halts_or, Dials}
 

@@ -12,7 +12,7 @@ use Rattle.cts_desk.specs.Ending.{CausesEnd, may_cut, stopped_if}
 use Rattle.cts_worker.specs.Holds.{Hold, Onward}
 use Rattle.cts_desk.specs.Serving.{Begins, Resting}
 use Rattle.cts_desk.proofs.Connections.{dials_failed, dials_finished, dials_later, dials_linked, settled_at}
-use Rattle.cts_desk.proofs.Histories.{stops_stay}
+use Rattle.cts_trace.proofs.Looking.{stop_kept}
 use Rattle.cts_desk.proofs.Steps.{resting_looked}
 
 -- ---- dials
@@ -49,7 +49,7 @@ cut_for false end seen is stands = sym (ap (λ o. may_cut o seen) is)
 
 -- a Stop that was seen stands
 pub causes_stay : {G : Type 0} (old new : View Entry G) (told : Option Line) (before now : ℕ) (why : DeskWhy) → Onward old new → CausesEnd old.seen told before now why → CausesEnd new.seen told before now why
-causes_stay old new told before now Stopped on h = ap is_stopped on.seen.1 ∙ stops_stay old.seen on.seen.0 h
+causes_stay old new told before now Stopped on h = ap is_stopped on.seen.1 ∙ stop_kept old.seen on.seen.0 h
 causes_stay old new told before now FinishedWhy on h = h
 causes_stay old new told before now DoorFailed on h = h
 causes_stay old new told before now Cancelled on h = h

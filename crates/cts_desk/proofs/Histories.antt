@@ -1,18 +1,14 @@
 -- The history grows: what stands of a desk's exchanges.
-use Rattle.std.proofs.Common.{◌≡◌, ℕ, ◌+◌, ◌==◌, Bool, true, false, cond, List, [], ◌∷◌, ◌++◌, length, sym, refl, ap, ◌∙◌, subst, arith, length-append, append-nil, append_assoc, Option, ⊎_elim, inr}
+use Rattle.std.proofs.Common.{◌≡◌, ℕ, ◌==◌, Bool, true, false, List, [], ◌∷◌, ◌++◌, length, sym, refl, ap, ◌∙◌, subst, append-nil, append_assoc, Option, inr}
 use Rattle.std.specs.Prelude.{◌&&◌, ◌||◌}
 use Rattle.std.specs.List.{All, list_any}
-use Rattle.std.proofs.lemmas.List.{nil_from_length, map-append}
-use Rattle.std.proofs.lemmas.List.Elements.{filter-append}
+use Rattle.std.proofs.lemmas.List.{map-append}
 use Rattle.std.proofs.lemmas.List.Elements.{All-head, All-tail}
-use Rattle.std.proofs.lemmas.Bool.Decides.{eqb_tells}
 use Rattle.std.proofs.lemmas.List.Folds.{list_any-append}
 use Rattle.cts_entry.specs.declared.entry.Entry.{Entry}
 use Rattle.cts_def.specs.Makers.{scribe}
 use Rattle.cts_def.specs.Sites.{SiteData}
 use Rattle.cts_entry.specs.Workers.{is_desk, is_interface, is_slot, is_worker}
-use Rattle.cts_entry.specs.Histories.{is_stopped}
-use Rattle.cts_entry.proofs.Appending.{stopped-append}
 use Rattle.cts_entry.specs.Legal.{has_ended, is_ended}
 use Rattle.cts_table.specs.declared.basis.Basis.{Basis}
 use Rattle.cts_turn.specs.declared.rule.View.{View}
@@ -20,21 +16,12 @@ use Rattle.cts_turn.specs.Lists.{has, StartsWith, AllBy}
 use Rattle.cts_turn.specs.Passes.{left}
 use Rattle.cts_turn.specs.Rule.{entered}
 use Rattle.cts_desk.specs.Exchanges.{Exchange, Exchanges, IsAnswered, Among}
-use Rattle.cts_told.specs.Makers.{of_maker}
+use Rattle.cts_trace.specs.Makers.{of_maker}
+use Rattle.cts_trace.proofs.Others.{nothing_own, of_maker_append, strange_ended}
 use Rattle.cts_worker.specs.Lasts.{MayEnd}
 use Rattle.cts_desk.specs.Holds.{AskedHold, IsReady}
 use Rattle.cts_worker.specs.Holds.{Hold}
 use Rattle.cts_desk.specs.Serving.{Going}
-
-pub of_append : (m : ℕ) (xs ys : List Entry) → of_maker m (xs ++ ys) ≡ of_maker m xs ++ of_maker m ys
-of_append m xs ys = filter-append (λ e. e.by == m) xs ys
-
--- what a pass has seen of its own maker's entries is all of them
-pub nothing_own : (m : ℕ) (whole seen rest : List Entry) → whole ≡ seen ++ rest → of_maker m whole ≡ of_maker m seen → of_maker m rest ≡ []
-nothing_own m whole seen rest e own =
-    let a : length (of_maker m whole) ≡ length (of_maker m seen) = ap length own in
-    let b : length (of_maker m whole) ≡ length (of_maker m seen) + length (of_maker m rest) = ap (λ l. length (of_maker m l)) e ∙ ap length (of_append m seen rest) ∙ length-append (of_maker m seen) (of_maker m rest) in
-    nil_from_length (of_maker m rest) (omega arith)
 
 -- a hold, from what the turn tells of it
 abbrev pub a_hold : {G : Type 0} (m : ℕ) (old held new : View Entry G) (whole added : List Entry) → held ≡ entered old whole → StartsWith whole old.seen
@@ -54,16 +41,6 @@ all_by m makers (e ∷ es) mine all =
     (subst (λ n. has n makers ≡ true) (sym (All-head P e es all)) mine, all_by m makers es mine (All-tail P e es all))
 
 -- ---- who has ended
-
--- entries of others end nobody else
-pub others_last : (by : ℕ) (es : List Entry) → of_maker by es ≡ [] → has_ended by es ≡ false
-others_last by [] none = refl
-others_last by (e ∷ es) none =
-    let P : Bool → Type 0 = λ b. cond b (e ∷ of_maker by es) (of_maker by es) ≡ [] in
-    ⊎_elim
-    (λ t. absurd (let f : e ∷ of_maker by es ≡ [] = subst P t.0 none in cc))
-    (λ t. ap (λ b. (b && is_ended e.what) || has_ended by es) t.0 ∙ others_last by es (subst P t.0 none))
-    (eqb_tells e.by by)
 
 or_false : (a b : Bool) → (a || b) ≡ false → (a ≡ false) × (b ≡ false)
 or_false true b e = absurd cc
@@ -85,12 +62,12 @@ ended_append by xs ys = list_any-append (λ (e : Entry). (e.by == by) && is_ende
 -- who had not ended has not in all entries, where its own are those that were seen
 pub active_whole : (by : ℕ) (whole seen : List Entry) → StartsWith whole seen → of_maker by whole ≡ of_maker by seen → has_ended by seen ≡ false → has_ended by whole ≡ false
 active_whole by whole seen begins own active =
-    ap (has_ended by) begins.1 ∙ ended_append by seen begins.0 ∙ ap (λ b. b || has_ended by begins.0) active ∙ others_last by begins.0 (nothing_own by whole seen begins.0 begins.1 own)
+    ap (has_ended by) begins.1 ∙ ended_append by seen begins.0 ∙ ap (λ b. b || has_ended by begins.0) active ∙ strange_ended by begins.0 (nothing_own by whole seen begins.0 begins.1 own)
 
 pub active_hold : (m : ℕ) (old new : View Entry Basis) (added : List Entry) → Hold m old new added → list_any (λ (e : Entry). is_ended e.what) added ≡ false → has_ended m old.seen ≡ false → has_ended m new.seen ≡ false
 active_hold m old new added hold lasts active =
     ap (has_ended m) hold.seen ∙ ended_append m old.seen (hold.others ++ added) ∙ ap (λ b. b || has_ended m (hold.others ++ added)) active
-    ∙ ended_append m hold.others added ∙ ap (λ b. b || has_ended m added) (others_last m hold.others hold.strange) ∙ none_last m added lasts
+    ∙ ended_append m hold.others added ∙ ap (λ b. b || has_ended m added) (strange_ended m hold.others hold.strange) ∙ none_last m added lasts
 
 pub ready_hold : (b : Basis) (m : ℕ) (old new : View Entry Basis) (added : List Entry) → Hold m old new added → list_any (λ (e : Entry). is_ended e.what) added ≡ false → IsReady b m old → IsReady b m new
 ready_hold b m old new added hold lasts ready = record {
@@ -103,7 +80,7 @@ ready_hold b m old new added hold lasts ready = record {
 
 -- more entries after them, and which of those are the desk's
 pub exchanges_more : (b : Basis) (by : ℕ) (before : List Entry) (xs : List Exchange) (last rest new : List Entry) → Exchanges b by before xs last rest → Exchanges b by before xs (last ++ of_maker by new) (rest ++ new)
-exchanges_more b by before [] last rest new s = of_append by rest new ∙ ap (λ l. l ++ of_maker by new) s
+exchanges_more b by before [] last rest new s = of_maker_append by rest new ∙ ap (λ l. l ++ of_maker by new) s
 exchanges_more b by before (x ∷ xs) last rest new s = (
   s.0,
   s.1,
@@ -124,7 +101,7 @@ exchanges_snoc b by before [] rest gap added x s none at answered = (
   added,
   [],
   sym (append_assoc rest gap added) ∙ ap (λ l. (rest ++ gap) ++ l) (sym (append-nil added)),
-  of_append by rest gap ∙ ap (λ l. l ++ of_maker by gap) s ∙ none,
+  of_maker_append by rest gap ∙ ap (λ l. l ++ of_maker by gap) s ∙ none,
   at,
   answered,
   refl,
@@ -172,13 +149,10 @@ going_ask b m body front text fronts old new xs asked g =
 
 -- ---- the last entries
 
-pub stops_stay : (seen more : List Entry) → is_stopped seen ≡ true → is_stopped (seen ++ more) ≡ true
-stops_stay seen more is = stopped-append seen more ∙ ap (λ b. b || is_stopped more) is
-
 -- the exchanges stand before the last entries
 pub exchanges_end : (b : Basis) (by : ℕ) (xs : List Exchange) (seen others last : List Entry) → Exchanges b by [] xs [] seen → of_maker by others ≡ [] → of_maker by last ≡ last → Exchanges b by [] xs last (seen ++ (others ++ last))
 exchanges_end b by xs seen others last s none own =
-    subst (λ l. Exchanges b by [] xs l (seen ++ (others ++ last))) (of_append by others last ∙ ap (λ l. l ++ of_maker by last) none ∙ own) (exchanges_more b by [] xs [] seen (others ++ last) s)
+    subst (λ l. Exchanges b by [] xs l (seen ++ (others ++ last))) (of_maker_append by others last ∙ ap (λ l. l ++ of_maker by last) none ∙ own) (exchanges_more b by [] xs [] seen (others ++ last) s)
 
 -- ---- a desk as a worker
 

@@ -12,7 +12,7 @@ use Rattle.cts_http.specs.declared.step.HttpStep.TheVariants.{Request, More, Ref
 use Rattle.cts_table.specs.declared.basis.Basis.{Basis}
 use Rattle.cts_turn.specs.declared.rule.View.{View}
 use Rattle.cts_desk.specs.Exchanges.{Exchange, Exchanges, Among, bodies_of, fronts_of}
-use Rattle.cts_told.specs.Makers.{of_maker}
+use Rattle.cts_trace.specs.Makers.{of_maker}
 use Rattle.cts_http.specs.Streams.{response_with}
 use Rattle.cts_desk.specs.Streams.{NoMemory, last_put, last_front}
 use Rattle.cts_desk.specs.Told.{Ends, past_of, IsIdle}
@@ -20,7 +20,8 @@ use Rattle.cts_worker.specs.Lasts.{last_entries}
 use Rattle.cts_desk.specs.Holds.{AskedHold}
 use Rattle.cts_worker.specs.Holds.{Hold, EndedHold}
 use Rattle.cts_desk.specs.Serving.{Going, Stage, Reads, Waits, Asks, Over, Halted, StageSo, TalksBy, Talks, Serving, Resting, Dials, Begins, goes_on, halts_or}
-use Rattle.cts_desk.proofs.Histories.{going_look, going_ask, among_more, stops_stay, exchanges_end}
+use Rattle.cts_desk.proofs.Histories.{going_look, going_ask, among_more, exchanges_end}
+use Rattle.cts_trace.proofs.Looking.{stop_kept}
 use Rattle.cts_worker.proofs.Lasting.{last_own}
 use Rattle.cts_desk.proofs.Connections.{hangs_up, settled_at, settled_first}
 use Rattle.cts_desk.proofs.Stages.{talks_at, talks_map, talks_put, answered_whole, answered_last, answered_part, unasked_whole, unasked_part, refused_whole, refused_part, halted}
@@ -174,6 +175,6 @@ resting_ends b by was stop stops time fronts v v' told ended stands s =
         fronts_are = s.going.fronts_are;
         among = subst (Among fronts) (sym ended.hold.found) (among_more fronts v.found (length (v.seen ++ ended.hold.others) ∷ []) s.going.among);
         stand = subst (Exchanges b by [] s.exchanges last) (sym seen) (exchanges_end b by s.exchanges v.seen ended.hold.others last s.going.stand ended.hold.strange (last_own by time stops before));
-        settled = settled_at stop (is_stopped v'.seen) was s.exchanges told (λ e. ap is_stopped ended.hold.seen ∙ stops_stay v.seen (ended.hold.others ++ ended.added) (stands e)) s.settled;
+        settled = settled_at stop (is_stopped v'.seen) was s.exchanges told (λ e. ap is_stopped ended.hold.seen ∙ stop_kept v.seen (ended.hold.others ++ ended.added) (stands e)) s.settled;
       };
     }

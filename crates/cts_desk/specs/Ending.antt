@@ -4,7 +4,7 @@ use Rattle.cts_entry.specs.declared.entry.Entry.{Entry}
 use Rattle.cts_entry.specs.Histories.{is_stopped}
 use Rattle.cts_outside.specs.Causes.{Rose}
 use Rattle.cts_outside.specs.Lines.{Line}
-use Rattle.cts_told.specs.Told.{HasFinished}
+use Rattle.cts_trace.specs.Told.{HasFinished}
 use Rattle.cts_desk.specs.declared.ending.DeskWhy.{DeskWhy}
 use Rattle.cts_desk.specs.declared.ending.DeskWhy.TheVariants.{Stopped, Finished, DoorFailed, Cancelled}
 

@@ -3,7 +3,7 @@ use Rattle.std.specs.Prelude.{◌≡◌, ℕ, ◌⊎◌, List, [], ◌∷◌, �
 use Rattle.cts_def.specs.declared.time.Time.{Time}
 use Rattle.cts_entry.specs.declared.entry.Entry.{Entry}
 use Rattle.cts_table.specs.declared.basis.Basis.{Basis}
-use Rattle.cts_told.specs.Makers.{of_maker}
+use Rattle.cts_trace.specs.Makers.{of_maker}
 use Rattle.cts_api.specs.Points.{point_of}
 use Rattle.cts_api.specs.Replies.{Reply, IsReply, text_of}
 

@@ -2,7 +2,7 @@
 ghost use Rattle.std.specs.Prelude.{◌≡◌, [], false, true};
 ghost use Rattle.cts_entry.specs.Histories.{is_stopped};
 ghost use Rattle.cts_entry.specs.Workers.{is_desk};
-ghost use Rattle.cts_told.specs.Makers.{LastEnded, of_maker};
+ghost use Rattle.cts_trace.specs.Makers.{LastEnded, of_maker};
 ghost use Rattle.cts_turn.specs.Lists.{StartsWith, has};
 ghost use Rattle.cts_turn.specs.Passes.{IsPassOf, view};
 ghost use Rattle.cts_desk.specs.Faults.{FaultsRise};

@@ -239,10 +239,51 @@ const DEMO_LOGS: &str = "\
 
 #[test]
 fn the_demo_is_logged(rt: HostRuntime) -> Result<(), Fail> {
-    let alloc = rt.alloc();
+    let texts = (DEMO_DEFINITIONS, DEMO_SITE);
+    logs_are(&rt, rt.alloc(), texts, DEMO, DEMO_LOGS)
+}
+
+// What is told of the logs of this history over a site with these texts, and their bytes after the heads.
+fn logs_are<R: Wait>(
+    rt: &R,
+    alloc: Global,
+    texts: (&str, &str),
+    words: &str,
+    wanted: &str,
+) -> Result<(), Fail> {
     let mut vault = MemVault::new(alloc, Vec::new(alloc));
-    let told = logged(&rt, alloc, (DEMO_DEFINITIONS, DEMO_SITE), DEMO, &mut vault)?;
-    same(&with_bytes(alloc, &told, &vault)?, DEMO_LOGS, DEMO)
+    let told = logged(rt, alloc, texts, words, &mut vault)?;
+    same(&with_bytes(alloc, &told, &vault)?, wanted, words)
+}
+
+/// A history with packets that were stored, of an interface that is logged and of one that is not.
+const STORED: &str = "\
+open:0 open:1 stored:0:0:0105 packet:0:0:0106 stored:1:1:02 stored:0:x:09 command:24:0:01 close:0";
+
+/// What is told of its logs, and their bytes after the heads, in layout 4.
+const STORED_LOGS: &str = "\
+(Drained, 17) E T 196/196 T A 0105 STORED;T A 0106;UNKNOWN UNKNOWN 09 STORED;end C 147/147 T GO 01;end
+80000000640003d0900154014100000002010500000000640003d0900154014100000002010680000000640003d09007554e4b4e4f574e07554e4b4e4f574e0000000109
+00000000640003d090015402474f0000000101";
+
+/// The same in layout 2.
+const PLAIN_LOGS: &str = "\
+(Drained, 17) E T 193/193 T A 0105;T A 0106;UNKNOWN UNKNOWN 09;end C 146/146 T GO 01;end
+000000640003d09001540141000000020105000000640003d09001540141000000020106000000640003d09007554e4b4e4f574e07554e4b4e4f574e0000000109
+000000640003d090015402474f0000000101";
+
+#[test]
+fn stored_packets_are_logged_in_the_layout_of_the_site(rt: HostRuntime) -> Result<(), Fail> {
+    let alloc = rt.alloc();
+    let site = format!(in alloc; "{SITE};LOG_LAYOUT 4")?;
+    logs_are(
+        &rt,
+        alloc,
+        (DEFINITIONS, site.as_str()),
+        STORED,
+        STORED_LOGS,
+    )?;
+    logs_are(&rt, alloc, (DEFINITIONS, SITE), STORED, PLAIN_LOGS)
 }
 
 // What was told of a scribe, what is told of its vault, and the bytes of both logs after their heads.

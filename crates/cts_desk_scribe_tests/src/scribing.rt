@@ -3,7 +3,7 @@ ghost use Rattle.std.specs.Prelude.{◌≡◌, ◌==◌, [], true};
 ghost use Rattle.std.specs.List.{list_any};
 ghost use Rattle.cts_entry.specs.declared.entry.Entry.{Entry as EntryData};
 ghost use Rattle.cts_scribe.specs.Vaults.{AreBlank};
-ghost use Rattle.cts_told.specs.Makers.{of_maker};
+ghost use Rattle.cts_trace.specs.Makers.{of_maker};
 ghost use Rattle.cts_turn.specs.Lists.{has};
 ghost use Rattle.cts_turn.specs.Passes.{IsPassOf, basis_of, view};
 

@@ -12,7 +12,7 @@ const LOSS: Loss = Loss {
     empty: 0,
 };
 
-// An entry of the moment 100.250000: what it is, its maker, the number of its packet or command, and its bytes. A command has the number of its interface.
+// An entry of the moment 100.250000: what it is, its maker, the number of its packet or command, and its bytes; `stored` is a packet that was stored. A command has the number of its interface.
 fn entry_of(alloc: Global, word: &str) -> Result<Entry, Fail> {
     let mut parts = word.splitn(3, ':');
     let what = parts.next().unwrap_or("");
@@ -64,9 +64,12 @@ pub fn closed() -> What {
 fn with_bytes(alloc: Global, what: &str, rest: &str) -> Result<What, Fail> {
     let (number, digits) = rest.split_once(':').unwrap_or((rest, ""));
     let bytes = Bytes::of(bytes_of(alloc, digits)?);
-    if what == "packet" {
-        let ident = ident_of(number);
-        return Ok(What::Packet { ident, bytes });
+    if what == "packet" || what == "stored" {
+        return Ok(What::Packet {
+            ident: ident_of(number),
+            stored: what == "stored",
+            bytes,
+        });
     }
     with_number(what, number.parse::<u32>()?, bytes)
 }

@@ -5,8 +5,8 @@ use Rattle.cts_entry.specs.declared.entry.Entry.{Entry}
 use Rattle.cts_scribe.specs.Ending.{stops_all}
 use Rattle.cts_scribe.specs.Following.{Ends}
 use Rattle.cts_scribe.specs.declared.ending.ScribeWhy.{ScribeWhy}
-use Rattle.cts_told.specs.Makers.{of_maker}
-use Rattle.cts_told.proofs.Others.{of_maker_append}
+use Rattle.cts_trace.specs.Makers.{of_maker}
+use Rattle.cts_trace.proofs.Others.{of_maker_append}
 use Rattle.cts_turn.specs.Lists.{StartsWith}
 use Rattle.cts_worker.specs.Lasts.{first_moment, last_entries}
 use Rattle.cts_worker.proofs.Lasting.{last_own}

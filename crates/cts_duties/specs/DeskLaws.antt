@@ -11,9 +11,9 @@ use Rattle.cts_outside.specs.Lines.{Connection, Line}
 use Rattle.cts_outside.specs.Seen.{LineSeen}
 use Rattle.cts_staff.specs.Lasting.{Lasts}
 use Rattle.cts_table.specs.declared.basis.Basis.{Basis}
-use Rattle.cts_told.specs.Makers.{of_maker}
-use Rattle.cts_told.proofs.Looking.{stop_kept}
-use Rattle.cts_told.proofs.Others.{nothing_own, of_maker_append}
+use Rattle.cts_trace.specs.Makers.{of_maker}
+use Rattle.cts_trace.proofs.Looking.{stop_kept}
+use Rattle.cts_trace.proofs.Others.{nothing_own, of_maker_append}
 use Rattle.cts_worker.specs.Lasts.{last_entries}
 use Rattle.cts_duties.specs.Desks.{OwesDesk, RanDesk}
 use Rattle.cts_duties.specs.OwnLaws.{last_more, lasts_by, look_more, unstarted_more}

@@ -12,7 +12,7 @@ use Rattle.cts_entry.specs.Workers.{is_desk}
 use Rattle.cts_outside.specs.Lines.{Connection, Line}
 use Rattle.cts_outside.specs.Seen.{LineSeen}
 use Rattle.cts_table.specs.declared.basis.Basis.{Basis}
-use Rattle.cts_told.specs.Makers.{LastEnded}
+use Rattle.cts_trace.specs.Makers.{LastEnded}
 use Rattle.cts_worker.specs.Lasts.{last_entries}
 use Rattle.cts_duties.specs.Workers.{IsUnstarted, LastLook}
 

@@ -6,8 +6,8 @@ use Rattle.cts_line.specs.declared.ending.LineWhy.{LineWhy}
 use Rattle.cts_outside.specs.Seen.{LineSeen}
 use Rattle.cts_staff.specs.Lasting.{Lasts}
 use Rattle.cts_table.specs.declared.basis.Basis.{Basis}
-use Rattle.cts_told.specs.Makers.{closes_for, is_fault, of_maker}
-use Rattle.cts_told.proofs.Looking.{entries_of_others_may_follow}
+use Rattle.cts_trace.specs.Makers.{closes_for, is_fault, of_maker}
+use Rattle.cts_trace.proofs.Looking.{entries_of_others_may_follow}
 use Rattle.cts_worker.specs.Counts.{RoseBy}
 use Rattle.cts_duties.specs.Lines.{OwesLine, RanLine}
 use Rattle.cts_duties.specs.OwnLaws.{any_of, counted_of, last_more, lasts_by, look_more, unstarted_more}

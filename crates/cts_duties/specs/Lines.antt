@@ -7,7 +7,7 @@ use Rattle.cts_connection.specs.Routings.{site_routing}
 use Rattle.cts_def.specs.Sites.{SiteData}
 use Rattle.cts_entry.specs.declared.entry.Entry.{Entry}
 use Rattle.cts_entry.specs.Histories.{is_stopped}
-use Rattle.cts_frame.specs.Chains.{uses_at}
+use Rattle.cts_framing.specs.Chains.{uses_at}
 use Rattle.cts_line.specs.Ending.{CausesEnd, has_stop, opened_in, reconnects, stops_all}
 use Rattle.cts_line.specs.Talks.{room_of}
 use Rattle.cts_line.specs.Telling.{Retells, made_by, since}
@@ -16,8 +16,8 @@ use Rattle.cts_line.specs.declared.ending.LineWhy.TheVariants.{Stopped, Finished
 use Rattle.cts_outside.specs.Lines.{hung_up, told_after}
 use Rattle.cts_outside.specs.Seen.{LineSeen}
 use Rattle.cts_table.specs.declared.basis.Basis.{Basis}
-use Rattle.cts_told.specs.Makers.{LastEnded, faults_of}
-use Rattle.cts_told.specs.Told.{ToldBy}
+use Rattle.cts_trace.specs.Makers.{LastEnded, faults_of}
+use Rattle.cts_trace.specs.Told.{ToldBy}
 use Rattle.cts_worker.specs.Counts.{RoseBy}
 use Rattle.cts_duties.specs.Workers.{IsUnstarted, LastLook}
 

@@ -4,8 +4,8 @@ use Rattle.std.specs.List.{list_any}
 use Rattle.cts_entry.specs.declared.entry.Entry.{Entry}
 use Rattle.cts_entry.specs.declared.what.What.{What}
 use Rattle.cts_staff.specs.Lasting.{Lasts}
-use Rattle.cts_told.specs.Makers.{LastEnded, of_maker}
-use Rattle.cts_told.proofs.Looking.{stop_kept}
+use Rattle.cts_trace.specs.Makers.{LastEnded, of_maker}
+use Rattle.cts_trace.proofs.Looking.{stop_kept}
 use Rattle.cts_turn.specs.Lists.{StartsWith}
 use Rattle.cts_duties.specs.Workers.{IsUnstarted, LastLook}
 

@@ -7,8 +7,8 @@ use Rattle.cts_outside.specs.Seen.{VaultSeen}
 use Rattle.cts_scribe.specs.Ending.{LogsEnd, stops_all}
 use Rattle.cts_scribe.specs.declared.ending.ScribeWhy.{ScribeWhy}
 use Rattle.cts_staff.specs.Lasting.{Lasts}
-use Rattle.cts_told.specs.Makers.{of_maker}
-use Rattle.cts_told.proofs.Looking.{stop_kept}
+use Rattle.cts_trace.specs.Makers.{of_maker}
+use Rattle.cts_trace.proofs.Looking.{stop_kept}
 use Rattle.cts_worker.specs.Lasts.{first_moment, last_entries}
 use Rattle.cts_duties.specs.Scribes.{EndedScribe, OwesScribe, RanScribe}
 use Rattle.cts_duties.specs.OwnLaws.{begins_more, last_more, lasts_by, unstarted_more}

@@ -11,7 +11,7 @@ use Rattle.cts_scribe.specs.Vaults.{AreBlank}
 use Rattle.cts_scribe.specs.declared.ending.ScribeWhy.{ScribeWhy}
 use Rattle.cts_scribe.specs.declared.ending.ScribeWhy.TheVariants.{Drained, VaultFailed, NoMemory, Cancelled}
 use Rattle.cts_table.specs.declared.basis.Basis.{Basis}
-use Rattle.cts_told.specs.Makers.{LastEnded, of_maker}
+use Rattle.cts_trace.specs.Makers.{LastEnded, of_maker}
 use Rattle.cts_turn.specs.Lists.{StartsWith}
 use Rattle.cts_worker.specs.Lasts.{first_moment, last_entries}
 use Rattle.cts_duties.specs.Workers.{IsUnstarted}

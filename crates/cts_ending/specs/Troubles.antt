@@ -11,7 +11,7 @@ use Rattle.cts_line.specs.declared.ending.LineWhy.TheVariants as line
 use Rattle.cts_scribe.specs.declared.ending.ScribeWhy.{ScribeWhy}
 use Rattle.cts_scribe.specs.declared.ending.ScribeWhy.TheVariants as scribe
 use Rattle.cts_server.specs.declared.worked.DeskNote.{DeskNote}
-use Rattle.cts_told.specs.Makers.{closes_for}
+use Rattle.cts_trace.specs.Makers.{closes_for}
 use Rattle.cts_ending.specs.declared.trouble.Trouble.{Trouble}
 use Rattle.cts_ending.specs.declared.trouble.Trouble.TheVariants.{Memory, WriteFault, HistoryFull, LogFault, NoWorker, DoorFault}
 

@@ -2,7 +2,7 @@
 ghost use Rattle.std.specs.Prelude.{◌≡◌};
 ghost use Rattle.std.specs.List.{list_any};
 ghost use Rattle.cts_ending.specs.Troubles.{closed_shows, has_desk, line_shows, order, shows, trouble_of};
-ghost use Rattle.cts_told.specs.Makers.{closes_for};
+ghost use Rattle.cts_trace.specs.Makers.{closes_for};
 
 use crate::Trouble;
 use cts_line::LineWhy;

@@ -1,7 +1,7 @@
 // What may trouble a server.
 ghost use Rattle.std.specs.Prelude.{◌≡◌};
 ghost use Rattle.cts_ending.specs.Troubles.{closed_shows, desk_shows, line_shows, scribe_shows};
-ghost use Rattle.cts_told.specs.Makers.{closes_for};
+ghost use Rattle.cts_trace.specs.Makers.{closes_for};
 
 use cts_desk::DeskWhy;
 use cts_entry::{What, Why};

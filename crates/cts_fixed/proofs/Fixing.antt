@@ -1,38 +1,26 @@
 -- What FIXED finds.
-use Rattle.std.proofs.Common.{◌≡◌, ℕ, ◌+◌, ◌≤◌, ◌<◌, Bool, true, false, cond, List, length, take, drop, refl, sym, ◌∙◌, ap, subst, arith, Option, Some, None, inl, inr, min, max}
-use Rattle.std.specs.Prelude.{nat_lt, nat_le}
+use Rattle.std.proofs.Common.{◌≡◌, ℕ, ◌≤◌, ◌<◌, true, false, List, length, take, drop, refl, sym, ◌∙◌, ap, subst, arith, Some, None, inl, inr, min, max}
+use Rattle.std.specs.Prelude.{nat_lt}
 use Rattle.std.proofs.lemmas.List.{length-take, take-append-drop, length-take-le}
 use Rattle.std.proofs.lemmas.Bool.{cases_lt}
 use Rattle.cts_def.specs.Protocols.{FixedData, Fixed}
 use Rattle.cts_def.specs.Starts.{StartData}
 use Rattle.cts_def.specs.declared.bad_cause.BadCause.{BadCause}
-use Rattle.cts_def.specs.declared.bad_cause.BadCause.TheVariants.{TooLong, UnknownStart}
-use Rattle.cts_frame.specs.Cuts.{Ends}
-use Rattle.cts_frame.specs.Framing.{Output, Agree, plain}
-use Rattle.cts_frame.specs.Patterns.{begins}
-use Rattle.cts_frame.specs.Rows.{frame_limit, long_within, decided_at, first_start, start_states, fixed_states, framing_of}
-use Rattle.cts_frame.specs.Stating.{Long, Wrong, is_open}
-use Rattle.cts_frame.proofs.Endings.{open_ends, part_ends}
-use Rattle.cts_frame.proofs.FixedSteady.{fixed_steady}
-use Rattle.cts_frame.proofs.Fronts.{lt_test, not_lt_tells, not_lt_test, begins_length}
-use Rattle.cts_frame.proofs.LengthSteady.{guard_open}
+use Rattle.cts_framing.specs.Cuts.{Ends}
+use Rattle.cts_framing.specs.Framing.{Output, Agree, plain}
+use Rattle.cts_framing.specs.Patterns.{begins}
+use Rattle.cts_framing.specs.Rows.{decided_at, first_start, start_states, fixed_states, framing_of}
+use Rattle.cts_framing.specs.Stating.{Long, Wrong, is_open}
+use Rattle.cts_framing.proofs.Endings.{open_ends, part_ends}
+use Rattle.cts_framing.proofs.FixedSteady.{fixed_steady}
+use Rattle.cts_framing.proofs.Fronts.{lt_test, not_lt_tells, not_lt_test, begins_length}
+use Rattle.cts_framing.proofs.LengthSteady.{guard_open}
+use Rattle.cts_framing.proofs.ShortRests.{start_decided_by}
 use Rattle.cts_fixed.specs.Finding.{fixed_row}
 use Rattle.cts_proto.specs.declared.step.Found.{Found}
 use Rattle.cts_proto.specs.declared.step.Found.TheVariants.{Frame, Nothing, Fault}
 use Rattle.cts_proto.specs.Founds.{Finds, FindsFrame, output_at}
 use Rattle.cts_proto.proofs.Finding.{span_front, few_ends, odd_ends, error_ends, frame_found}
-
-within_decided : (b : Bool) (n : ℕ) → is_open (cond b (Long n) (Wrong TooLong)) ≡ false
-within_decided true n = refl
-within_decided false n = refl
-
-raise_decided : (b : Bool) (n : ℕ) → is_open (cond b (Wrong UnknownStart) (long_within n)) ≡ false
-raise_decided true n = refl
-raise_decided false n = within_decided (nat_le n frame_limit) n
-
-start_decided : (f : FixedData) (o : Option StartData) → is_open (start_states f o) ≡ false
-start_decided f None = raise_decided f.raise (decided_at f)
-start_decided f (Some s) = within_decided (nat_le (f.discard + s.length) frame_limit) (f.discard + s.length)
 
 -- what is stated by the bytes that decide
 pub decided_states : (f : FixedData) (u : List ℕ) → decided_at f ≤ length u → fixed_states f u ≡ start_states f (first_start f (take (decided_at f) u))
@@ -72,7 +60,7 @@ module _ (f : FixedData) (u : List ℕ) (a : Agree f.sync u) (least : ℕ) (leas
   pub fixed_frame : (n : ℕ) → fixed_states f u ≡ Long n → least ≤ n → n ≤ length u → (start : ℕ) → start ≡ min f.discard n → FindsFrame (framing_of (Fixed f)) u n (output_at u start n None)
   fixed_frame n s enough fits start start_is =
       let there : nat_lt (length (take n u)) (decided_at f) ≡ false = not_lt_test (length (take n u)) (decided_at f) (omega (arith, least_is, enough, length-take-le n u fits)) in
-      let own : is_open (fixed_states f (take n u)) ≡ false = rw there (start_decided f (first_start f (take (decided_at f) (take n u)))) in
+      let own : is_open (fixed_states f (take n u)) ≡ false = rw there (start_decided_by f (first_start f (take (decided_at f) (take n u)))) in
       let states : fixed_states f (take n u) ≡ Long n = sym (fixed_steady f (take n u) (drop n u) own) ∙ (ap (fixed_states f) (take-append-drop n u) ∙ s) in
       frame_found f.sync (fixed_states f) (given f) (fixed_steady f) u a n (output_at u start n None) (omega (arith, least_is, enough)) (omega (arith, least_is, enough)) fits states
       (ap plain (sym (span_front u f.discard n start start_is)))

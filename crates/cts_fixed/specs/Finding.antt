@@ -3,7 +3,7 @@ use Rattle.std.specs.Prelude.{ℕ, Bool, true, false, List, Result, Ok, Err}
 use Rattle.cts_def.specs.Protocols.{FixedData}
 use Rattle.cts_def.specs.Starts.{StartData}
 use Rattle.cts_def.specs.declared.bad_cause.BadCause.{BadCause}
-use Rattle.cts_frame.specs.Stating.{Stated, Long, Wrong}
+use Rattle.cts_framing.specs.Stating.{Stated, Long, Wrong}
 
 -- the parameters of FIXED that are read
 abbrev pub fixed_row : ℕ → ℕ → List ℕ → Bool → List StartData → FixedData

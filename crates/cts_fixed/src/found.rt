@@ -1,15 +1,14 @@
 // What FIXED finds where a frame may begin.
 ghost use Rattle.std.specs.Prelude.{◌≡◌, ◌+◌, [], length};
 ghost use Rattle.cts_def.specs.Protocols.{Fixed};
-ghost use Rattle.cts_frame.specs.Framing.{Agree};
-ghost use Rattle.cts_frame.specs.Rows.{first_start, framing_of, start_states};
+ghost use Rattle.cts_framing.specs.Framing.{Agree};
+ghost use Rattle.cts_framing.specs.Rows.{first_start, framing_of, start_states};
 ghost use Rattle.cts_proto.specs.Founds.{Finds};
 ghost use Rattle.cts_fixed.specs.Finding.{fixed_row, stated_by};
 
 use crate::starts::first_start;
-use cts_def::{BadCause, Start};
+use cts_def::{BadCause, FRAME_LIMIT, Start};
 use cts_proto::Found;
-use cts_spell::FRAME_LIMIT;
 
 /// The length of a frame that begins with these bytes, which decide, or why there is none.
 fn judge(

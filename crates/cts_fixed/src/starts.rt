@@ -1,23 +1,11 @@
 // How packets of known length begin.
 ghost use Rattle.std.specs.Prelude.{◌≡◌, ◌≤◌, length, option_map};
 ghost use Rattle.std.specs.List.{find, list_all};
-ghost use Rattle.cts_bits.specs.Fields.{reach};
-ghost use Rattle.cts_def.specs.Beginnings.{begins_with, has_id, number_at};
+ghost use Rattle.cts_def.specs.Beginnings.{begins_with, has_id};
 ghost use Rattle.cts_def.specs.Starts.{id_field_data, place_data};
 
-use cts_bits::{Place, read_int, read_uint};
-use cts_def::Start;
-
-fn number_at(place: &Place, signed: bool, bytes: &[u8]) -> i128
-    requires { reach place.now ≤ length bytes.now }
-    ensures { result ≡ number_at (place_data place.now) signed bytes.now }
-{
-    if signed {
-        i128::from(read_int(bytes, place))
-    } else {
-        i128::from(read_uint(bytes, place))
-    }
-}
+use cts_bits::Place;
+use cts_def::{Start, number_at};
 
 /// Whether the field lies within the bytes and has its value there.
 fn has_id(id: &(Place, i128, bool), bytes: &[u8]) -> bool

@@ -1,7 +1,9 @@
-//! Tests of formats: requests over HTTP and the JSON-RPC bodies in them, log files, and rehearsals with their hashes. They stand above
+//! Tests of formats: requests over HTTP and the JSON-RPC bodies in them, log files and their parts, and rehearsals with their hashes. They stand above
 //! these crates, so that none of them is proved a second time for them.
 #![tactic(auto)]
 
+#[cfg(test)]
+mod cycles;
 #[cfg(test)]
 mod http;
 #[cfg(test)]

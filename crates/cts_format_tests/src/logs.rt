@@ -3,7 +3,9 @@
 use cts_base::Name;
 use cts_def::{Label, Time};
 use cts_log::{LogEntry, LogFault, LogKind, LogReader, digest_of, dump_line, encode_entry, head};
-use cts_rows::{Answers, bytes_of, cut, debug_of, in_one_line, number, part, rows_end_so, same};
+use cts_rows::{
+    Answers, bytes_of, cut, debug_of, digits_of, in_one_line, number, part, rows_end_so, same,
+};
 use std::alloc::Global;
 use std::test::Fail;
 
@@ -21,11 +23,11 @@ fn put(alloc: Global, out: &mut Vec<u8>, row: &str) -> Result<(), Fail> {
 }
 
 fn put_bytes(alloc: Global, out: &mut Vec<u8>, row: &str, bytes: &[u8]) -> Result<(), Fail> {
-    let label = label_of(alloc, row)?;
-    put_entry(out, &label, bytes)
+    let label = label_of(alloc, row, false)?;
+    put_entry(out, &label, bytes, 2)
 }
 
-fn label_of(alloc: Global, row: &str) -> Result<Label, Fail> {
+fn label_of(alloc: Global, row: &str, stored: bool) -> Result<Label, Fail> {
     let time = Time {
         seconds: number(row, 0)?,
         micros: number(row, 1)?,
@@ -36,28 +38,33 @@ fn label_of(alloc: Global, row: &str) -> Result<Label, Fail> {
         time,
         target,
         packet,
+        stored,
     })
 }
 
-fn put_entry(out: &mut Vec<u8>, label: &Label, bytes: &[u8]) -> Result<(), Fail> {
+fn put_entry(out: &mut Vec<u8>, label: &Label, bytes: &[u8], layout: u32) -> Result<(), Fail> {
     if bytes.len() > 1_000 {
         return Err(Fail::new("long"));
     }
-    match encode_entry(label, bytes, out) {
+    match encode_entry(label, bytes, layout, out) {
         Ok(()) => Ok(()),
         Err(_) => Err(Fail::new("no memory")),
     }
 }
 
-/// A log file of no definitions.
+/// A log file of no definitions with one entry.
 fn log_of(alloc: Global, kind: LogKind, row: &str) -> Result<Vec<u8>, Fail> {
-    let digest = digest_of(b"");
-    let mut out = match head(alloc, kind, &digest) {
-        Ok(bytes) => bytes.into_vec(),
-        Err(_) => return Err(Fail::new("no memory")),
-    };
+    let mut out = begun(alloc, kind, 2)?;
     put(alloc, &mut out, row)?;
     Ok(out)
+}
+
+/// A log file of no definitions without entries.
+fn begun(alloc: Global, kind: LogKind, layout: u32) -> Result<Vec<u8>, Fail> {
+    match head(alloc, kind, layout, &digest_of(b"")) {
+        Ok(bytes) => Ok(bytes.into_vec()),
+        Err(_) => Err(Fail::new("no memory")),
+    }
 }
 
 /// The lines of a file, and how its reading ends.
@@ -85,6 +92,7 @@ fn put_fault(out: &mut Vec<u8>, fault: LogFault) -> Result<(), Fail> {
         LogFault::BadHead => b"no head",
         LogFault::Cut { place: 128 } => b"cut at 128",
         LogFault::Cut { place: 146 } => b"cut at 146",
+        LogFault::Cut { place: 147 } => b"cut at 147",
         LogFault::Cut { place: _ } => b"cut at another place",
     };
     Ok(out.extend_from_slice(text)?)
@@ -198,7 +206,19 @@ COSMOS2_TLM_ d41d8cd98f00b204e9800998ecf8427e_ x 000000000000000001540141fffffff
 COSMOS2_TLM_ d41d8cd98f00b204e9800998ecf8427e_ x 000000000000000001540141000000030102|Some(Tlm) cut at 128
 COSMOS2_CMD_ d41d8cd98f00b204e9800998ecf8427e_ x 0000000000000000015401410000000201020000000000000000015401410000000201|Some(Cmd) 1970-01-01 00:00:00.000000 T A 0102;cut at 146
 COSMOS2_CMD_ d41d8cd98f00b204e9800998ecf8427e_ x 00000000000000000154014100000002010200000000000000000154014200000000|Some(Cmd) 1970-01-01 00:00:00.000000 T A 0102;1970-01-01 00:00:00.000000 T B ;end
-COSMOS2_TLM_ d41d8cd98f00b204e9800998ecf8427e_ x 00000000000000000320217e047f5cff0000000000|Some(Tlm) 1970-01-01 00:00:00.000000 \\x20!~ \\x7F\\x5C\\xFF\\x00 ;end";
+COSMOS2_TLM_ d41d8cd98f00b204e9800998ecf8427e_ x 00000000000000000320217e047f5cff0000000000|Some(Tlm) 1970-01-01 00:00:00.000000 \\x20!~ \\x7F\\x5C\\xFF\\x00 ;end
+COSMOS3_TLM_ d41d8cd98f00b204e9800998ecf8427e_ x |None no head
+COSMOS4_TLM- d41d8cd98f00b204e9800998ecf8427e_ x |None no head
+COSMOS4_CLM_ d41d8cd98f00b204e9800998ecf8427e_ x |None no head
+COSMOS4_TLM_ d41d8cd98f00b204e9800998ecf8427e_ x |Some(Tlm) end
+COSMOS4_TLM_ D41D8CD98F00B204E9800998ECF8427E_ - 00000000000000000001540141000000020102|Some(Tlm) 1970-01-01 00:00:00.000000 T A 0102;end
+COSMOS4_TLM_ d41d8cd98f00b204e9800998ecf8427e_ x 80000000000000000001540141000000020102|Some(Tlm) 1970-01-01 00:00:00.000000 T A 0102 STORED;end
+COSMOS4_TLM_ d41d8cd98f00b204e9800998ecf8427e_ x 8000000000000000000154014100000000|Some(Tlm) 1970-01-01 00:00:00.000000 T A  STORED;end
+COSMOS4_TLM_ d41d8cd98f00b204e9800998ecf8427e_ x 41000000000000000001540141000000020102|Some(Tlm) cut at 128
+COSMOS4_TLM_ d41d8cd98f00b204e9800998ecf8427e_ x 81000000000000000001540141000000020102|Some(Tlm) cut at 128
+COSMOS4_TLM_ d41d8cd98f00b204e9800998ecf8427e_ x 8000000000000000000154014100000002010241000000000000000001540141000000020102|Some(Tlm) 1970-01-01 00:00:00.000000 T A 0102 STORED;cut at 147
+COSMOS4_TLM_ d41d8cd98f00b204e9800998ecf8427e_ x 800000000000000000015401410000000201|Some(Tlm) cut at 128
+COSMOS4_CMD_ d41d8cd98f00b204e9800998ecf8427e_ x 8000000000000000000154014100000002010200000000000000000001540142000000020304|Some(Cmd) 1970-01-01 00:00:00.000000 T A 0102 STORED;1970-01-01 00:00:00.000000 T B 0304;end";
 
 #[test]
 fn files_from_outside_are_read(rt: HostRuntime) -> Result<(), Fail> {
@@ -211,12 +231,13 @@ struct Heads;
 impl Answers for Heads {
     fn answer(alloc: Global, asked: &str) -> Result<String, Fail> {
         let (kind, definitions) = cut(asked, ':')?;
-        let kind = if kind == "CMD" {
+        let layout = if kind.ends_with('4') { 4 } else { 2 };
+        let kind = if kind.starts_with("CMD") {
             LogKind::Cmd
         } else {
             LogKind::Tlm
         };
-        let head = head(alloc, kind, &digest_of(definitions.as_bytes()))?;
+        let head = head(alloc, kind, layout, &digest_of(definitions.as_bytes()))?;
         in_one_line(alloc, head.as_slice())
     }
 }
@@ -224,9 +245,47 @@ impl Answers for Heads {
 const HEADS: &str = "\
 TLM:|COSMOS2_TLM_d41d8cd98f00b204e9800998ecf8427e_cts                                                                                
 CMD:|COSMOS2_CMD_d41d8cd98f00b204e9800998ecf8427e_cts                                                                                
-TLM:TELEMETRY T A BIG_ENDIAN 'a'|COSMOS2_TLM_fb05438d56222051b015e328c53bc0a4_cts                                                                                ";
+TLM:TELEMETRY T A BIG_ENDIAN 'a'|COSMOS2_TLM_fb05438d56222051b015e328c53bc0a4_cts                                                                                
+TLM4:|COSMOS4_TLM_d41d8cd98f00b204e9800998ecf8427e_cts                                                                                
+CMD4:|COSMOS4_CMD_d41d8cd98f00b204e9800998ecf8427e_cts                                                                                ";
 
 #[test]
 fn heads_have_their_bytes(rt: HostRuntime) -> Result<(), Fail> {
     rows_end_so::<Heads>(rt.alloc(), HEADS)
+}
+
+/// A layout, and the log in it of a packet that was stored and of one that was not: how many bytes it has, how it begins, in which layout
+/// it is read, its entries, and its lines.
+const LAYOUTS: &str = "\
+2|176 COSMOS2_TLM_ 2 000000640003d09004494e53540248530000000401900001000000640003d09004494e53540248530000000401900001 1970-01-01 00:01:40.250000 INST HS 01900001;1970-01-01 00:01:40.250000 INST HS 01900001;end
+4|178 COSMOS4_TLM_ 4 80000000640003d09004494e5354024853000000040190000100000000640003d09004494e53540248530000000401900001 1970-01-01 00:01:40.250000 INST HS 01900001 STORED;1970-01-01 00:01:40.250000 INST HS 01900001;end";
+
+struct Layouts;
+
+impl Answers for Layouts {
+    fn answer(alloc: Global, asked: &str) -> Result<String, Fail> {
+        let layout = number(asked, 0)?;
+        let mut log = begun(alloc, LogKind::Tlm, layout)?;
+        put_stored(alloc, &mut log, true, layout)?;
+        put_stored(alloc, &mut log, false, layout)?;
+        told_of_log(alloc, &log)
+    }
+}
+
+fn put_stored(alloc: Global, out: &mut Vec<u8>, stored: bool, layout: u32) -> Result<(), Fail> {
+    let label = label_of(alloc, "100 250000 INST HS", stored)?;
+    put_entry(out, &label, &[1, 144, 0, 1], layout)
+}
+
+fn told_of_log(alloc: Global, log: &[u8]) -> Result<String, Fail> {
+    let marker = in_one_line(alloc, log.get(..12).unwrap_or(&[]))?;
+    let entries = digits_of(alloc, log.get(128..).unwrap_or(&[]))?;
+    let lines = in_one_line(alloc, &dump(alloc, log)?)?;
+    let layout = LogReader::new(log).layout().unwrap_or(0);
+    Ok(format!(in alloc; "{} {marker} {layout} {entries} {lines}", log.len())?)
+}
+
+#[test]
+fn a_log_is_read_in_its_layout(rt: HostRuntime) -> Result<(), Fail> {
+    rows_end_so::<Layouts>(rt.alloc(), LAYOUTS)
 }

@@ -1,14 +1,11 @@
 // Whether bytes begin as a packet does.
 ghost use Rattle.std.specs.Prelude.{◌≡◌, ◌≤◌, length};
 ghost use Rattle.std.specs.List.{list_all};
-ghost use Rattle.cts_bits.specs.Fields.{reach};
-ghost use Rattle.cts_def.specs.Beginnings.{id_field_of, number_at};
-ghost use Rattle.cts_def.specs.Starts.{place_data};
+ghost use Rattle.cts_def.specs.Beginnings.{id_field_of};
 ghost use Rattle.cts_ident.specs.Identification.{fits};
 ghost use Rattle.cts_ident.specs.Matches.{has_own_id};
 
-use cts_bits::{Place, read_int, read_uint};
-use cts_def::{Item, Packet};
+use cts_def::{Item, Packet, number_at};
 
 /// Whether all id fields of the packet lie within the bytes and have their values there.
 pub(crate) fn fits(packet: &Packet, bytes: &[u8]) -> bool
@@ -32,16 +29,5 @@ fn has_own_id(item: &Item, bytes: &[u8]) -> bool
             place.fits(bytes.len()) && number_at(&place, signed, bytes) == id
         }
         None => true,
-    }
-}
-
-fn number_at(place: &Place, signed: bool, bytes: &[u8]) -> i128
-    requires { reach place.now ≤ length bytes.now }
-    ensures { result ≡ number_at (place_data place.now) signed bytes.now }
-{
-    if signed {
-        i128::from(read_int(bytes, place))
-    } else {
-        i128::from(read_uint(bytes, place))
     }
 }

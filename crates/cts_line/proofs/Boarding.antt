@@ -17,13 +17,13 @@ use Rattle.cts_entry.specs.declared.why.Why.{Why}
 use Rattle.cts_entry.specs.Histories.{bytes_in, connects, entries_in, is_connected, is_stopped, or_earlier}
 use Rattle.cts_entry.specs.Legal.{has_ended}
 use Rattle.cts_entry.specs.Workers.{is_worker}
-use Rattle.cts_frame.specs.Framing.{Output}
+use Rattle.cts_framing.specs.Framing.{Output}
 use Rattle.cts_table.specs.Keeping.{IsKept}
 use Rattle.cts_table.specs.States.{Shown, added, fits}
 use Rattle.cts_table.specs.declared.fault.HallFault.{HallFault}
 use Rattle.cts_table.specs.declared.fault.HallFault.TheVariants.{Full as Crowded, Memory as Wanting}
 use Rattle.cts_turn.specs.Lists.{AllBy, has}
-use Rattle.cts_told.specs.Routing.{posted_entries}
+use Rattle.cts_trace.specs.Routing.{posted_entries}
 use Rattle.cts_worker.specs.Holds.{Adds}
 use Rattle.cts_worker.specs.Lasts.{IsShut, MayEnd, entry_of, stop_if}
 use Rattle.cts_worker.proofs.Holdings.{by_one}

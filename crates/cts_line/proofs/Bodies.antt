@@ -5,11 +5,11 @@ use Rattle.cts_def.specs.declared.time.Time.{Time}
 use Rattle.cts_entry.specs.declared.entry.Entry.{Entry}
 use Rattle.cts_entry.specs.Places.{Posts}
 use Rattle.cts_entry.proofs.Queuing.{posts_append, posts_none}
-use Rattle.cts_frame.specs.Framing.{Output}
-use Rattle.cts_told.specs.Connections.{Shows}
-use Rattle.cts_told.specs.Routing.{Routing, queue, posted_entries}
-use Rattle.cts_told.proofs.Others.{strange_own}
-use Rattle.cts_told.proofs.Walks.{queue-append, packets_show}
+use Rattle.cts_framing.specs.Framing.{Output}
+use Rattle.cts_trace.specs.Connections.{Shows}
+use Rattle.cts_trace.specs.Routing.{Routing, queue, posted_entries}
+use Rattle.cts_trace.proofs.Others.{strange_own}
+use Rattle.cts_trace.proofs.Walks.{queue-append, packets_show}
 use Rattle.cts_line.specs.Talks.{Body}
 use Rattle.cts_line.proofs.Growing.{Grows}
 

@@ -8,8 +8,5 @@ use Rattle.cts_line.specs.Talks.{Suits}
 pub suits_same : (site : SiteData) (m : ℕ) (c d : ChainData) → IsSameChain c d → Suits site m c → Suits site m d
 suits_same site m c d same s = record { framings = same_framings c d same ∙ s.framings; writing = same.writers ∙ s.writing }
 
-pub same_then : (a b c : ChainData) → IsSameChain a b → IsSameChain b c → IsSameChain a c
-same_then a b c s t = record { stages = t.stages ∙ s.stages; writers = t.writers ∙ s.writers }
-
 pub same_self : (c : ChainData) → IsSameChain c c
 same_self c = record { stages = refl; writers = refl }

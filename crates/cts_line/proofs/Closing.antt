@@ -13,16 +13,16 @@ use Rattle.cts_entry.specs.declared.why.Why.{Why}
 use Rattle.cts_entry.specs.Histories.{has_own}
 use Rattle.cts_entry.specs.Queues.{unsent_of, refused, spelled}
 use Rattle.cts_entry.proofs.Queuing.{stays_snoc}
-use Rattle.cts_frame.specs.Framing.{Output, Framing, plain}
-use Rattle.cts_frame.specs.Packets.{Fault, IsPackets, capped, loss_of}
+use Rattle.cts_framing.specs.Framing.{Output, Framing, plain}
+use Rattle.cts_framing.specs.Packets.{Fault, IsPackets, capped, loss_of}
 use Rattle.cts_outside.specs.Lines.{Connection, Line}
 use Rattle.cts_proto.specs.Meaning.{Meaning}
-use Rattle.cts_told.specs.Routing.{Routing, queue, spell}
-use Rattle.cts_told.specs.Connections.{Carries, Blames, Fed, Left, Stay, Tail}
-use Rattle.cts_told.specs.Lines.{Capacity, Causes, Looked, IsLook, LastTwo, PutsAll, PostsNone, looks}
-use Rattle.cts_told.specs.Told.{Said}
-use Rattle.cts_told.proofs.Looking.{looks_append, puts_all_map}
-use Rattle.cts_told.proofs.Walks.{queue-append}
+use Rattle.cts_trace.specs.Routing.{Routing, queue, spell}
+use Rattle.cts_trace.specs.Connections.{Carries, Blames, Fed, Left, Stay, Tail}
+use Rattle.cts_trace.specs.Lines.{Capacity, Causes, Looked, IsLook, LastTwo, PutsAll, PostsNone, looks}
+use Rattle.cts_trace.specs.Told.{Said}
+use Rattle.cts_trace.proofs.Looking.{looks_append, puts_all_map}
+use Rattle.cts_trace.proofs.Walks.{queue-append}
 use Rattle.cts_worker.specs.Lasts.{entry_of}
 use Rattle.cts_line.specs.Talks.{Body, Holds}
 use Rattle.cts_line.proofs.Bodies.{inside, drop_whole}

@@ -16,18 +16,18 @@ use Rattle.cts_entry.specs.declared.why.Why.TheVariants.{PeerEnded, ReadFault, W
 use Rattle.cts_entry.specs.Histories.{connects_maker, entries_in, has_own, is_connected, is_stopped, latest, opens, or_earlier}
 use Rattle.cts_entry.specs.Legal.{has_ended, is_ended}
 use Rattle.cts_entry.proofs.Appending.{connected-append, entries-append, stopped-append}
-use Rattle.cts_frame.specs.Packets.{capped}
+use Rattle.cts_framing.specs.Packets.{capped}
 use Rattle.cts_outside.specs.Lines.{Connection, Line, after_dial, fresh, hung_up, told_after}
 use Rattle.cts_outside.specs.declared.link.Dialed.TheVariants.{Linked, Finished as FinishedDial}
 use Rattle.cts_chain.specs.Shapes.{IsSameChain}
 use Rattle.cts_table.specs.States.{Shown}
 use Rattle.cts_table.specs.declared.basis.Basis.{Basis}
-use Rattle.cts_told.specs.Lines.{Capacity}
-use Rattle.cts_told.specs.Makers.{LastEnded, closes_for, faults_of, is_fault, of_maker}
-use Rattle.cts_told.specs.Routing.{Routing}
-use Rattle.cts_told.specs.Told.{HasFinished, Said, Settled, ToldBy, Unopened}
-use Rattle.cts_told.proofs.Looking.{settles_told, stop_kept, unopened_more}
-use Rattle.cts_told.proofs.Others.{of_maker_append, of_maker_one, strange_own}
+use Rattle.cts_trace.specs.Lines.{Capacity}
+use Rattle.cts_trace.specs.Makers.{LastEnded, closes_for, faults_of, is_fault, of_maker}
+use Rattle.cts_trace.specs.Routing.{Routing}
+use Rattle.cts_trace.specs.Told.{HasFinished, Said, Settled, ToldBy, Unopened}
+use Rattle.cts_trace.proofs.Looking.{settles_told, stop_kept, unopened_more}
+use Rattle.cts_trace.proofs.Others.{of_maker_append, of_maker_one, strange_own}
 use Rattle.cts_turn.specs.declared.rule.View.{View}
 use Rattle.cts_worker.specs.Counts.{RoseBy, RoseIf, one_if}
 use Rattle.cts_worker.specs.Holds.{EndedHold, Held, Hold, InHold, Onward}

@@ -22,16 +22,16 @@ use Rattle.cts_entry.specs.declared.why.Why.{Why}
 use Rattle.cts_entry.specs.declared.why.Why.TheVariants.{Full, NoMemory, PeerEnded, ReadFault}
 use Rattle.cts_entry.specs.Histories.{bytes_in, entries_in, is_stopped}
 use Rattle.cts_entry.specs.Places.{Posts}
-use Rattle.cts_frame.specs.Framing.{Output}
-use Rattle.cts_frame.specs.Packets.{capped}
+use Rattle.cts_framing.specs.Framing.{Output}
+use Rattle.cts_framing.specs.Packets.{capped}
 use Rattle.cts_outside.specs.Lines.{Line, at_now, after_take, told_after}
 use Rattle.cts_outside.specs.declared.link.Taken.TheVariants.{Got, Nothing, End, Failed}
 use Rattle.cts_table.specs.States.{Shown, fits}
 use Rattle.cts_table.specs.declared.basis.Basis.{Basis}
-use Rattle.cts_told.specs.Connections.{Shows}
-use Rattle.cts_told.specs.Lines.{Capacity, LacksRoom}
-use Rattle.cts_told.specs.Routing.{Routing, is_for, posted_entries, queue, said_of, spell, time_in}
-use Rattle.cts_told.specs.Told.{Said}
+use Rattle.cts_trace.specs.Connections.{Shows}
+use Rattle.cts_trace.specs.Lines.{Capacity, LacksRoom}
+use Rattle.cts_trace.specs.Routing.{Routing, is_for, posted_entries, queue, said_of, spell, time_in}
+use Rattle.cts_trace.specs.Told.{Said}
 use Rattle.cts_turn.specs.declared.rule.View.{View}
 use Rattle.cts_line.specs.Doing.{ClosesTaken, ClosesUnfed, IsRefused, PostsIn}
 use Rattle.cts_line.specs.Ending.{Keeps, has_stop}

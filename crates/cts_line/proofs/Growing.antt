@@ -4,12 +4,12 @@ use Rattle.std.specs.Prelude.{◌⊎◌, nat_le}
 use Rattle.cts_entry.specs.declared.entry.Entry.{Entry}
 use Rattle.cts_entry.specs.Histories.{has_own}
 use Rattle.cts_outside.specs.Lines.{Connection}
-use Rattle.cts_told.specs.Lines.{Capacity, IsLook, is_within, looks}
-use Rattle.cts_told.specs.Makers.{of_maker}
-use Rattle.cts_told.specs.Routing.{Routing}
-use Rattle.cts_told.specs.Told.{Said}
-use Rattle.cts_told.proofs.Looking.{said_found, said_more}
-use Rattle.cts_told.proofs.Others.{strange_own}
+use Rattle.cts_trace.specs.Lines.{Capacity, IsLook, is_within, looks}
+use Rattle.cts_trace.specs.Makers.{of_maker}
+use Rattle.cts_trace.specs.Routing.{Routing}
+use Rattle.cts_trace.specs.Told.{Said}
+use Rattle.cts_trace.proofs.Looking.{said_found, said_more}
+use Rattle.cts_trace.proofs.Others.{strange_own}
 use Rattle.cts_line.specs.Talks.{AllWithin, Holds, IsAmong, IsLast}
 
 -- others had appended entries, none of them m's, when a hold began, and then these were added

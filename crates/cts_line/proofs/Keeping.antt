@@ -18,12 +18,12 @@ use Rattle.cts_entry.specs.Histories.{bytes_for, bytes_in, bytes_of, connects_ma
 use Rattle.cts_entry.specs.Legal.{has_ended, is_ended}
 use Rattle.cts_entry.proofs.Appending.{connected-append, latest-append}
 use Rattle.cts_entry.proofs.Queuing.{none_connected, none_opened}
-use Rattle.cts_frame.specs.Framing.{Output}
-use Rattle.cts_told.specs.Makers.{closes_for, faults_of, is_fault, of_maker}
-use Rattle.cts_told.specs.Routing.{Routing, posted_entries, routed_as, said_of, sent_on, time_in}
-use Rattle.cts_told.proofs.Others.{strange_own}
-use Rattle.cts_told.proofs.Stretches.{filter_none}
-use Rattle.cts_told.proofs.Walks.{packets_connect, packets_open}
+use Rattle.cts_framing.specs.Framing.{Output, is_stored}
+use Rattle.cts_trace.specs.Makers.{closes_for, faults_of, is_fault, of_maker}
+use Rattle.cts_trace.specs.Routing.{Routing, posted_entries, routed_as, said_of, sent_on, time_in}
+use Rattle.cts_trace.proofs.Others.{strange_if, strange_own}
+use Rattle.cts_trace.proofs.Stretches.{filter_none}
+use Rattle.cts_trace.proofs.Walks.{packets_connect, packets_open}
 use Rattle.cts_worker.specs.Counts.{one_if}
 use Rattle.cts_line.specs.Ending.{Keeps, has_closed, has_stop, opened_in}
 
@@ -48,12 +48,12 @@ routed : (g : Routing) (history : List Entry) (ident : Ident) (bytes : List ℕ)
 routed g history (Known command) bytes = sent history (g.interface_of command) command bytes
 routed g history Unknown bytes = record { ended = refl; closes = λ test. refl; bytes_are = refl; stops = refl }
 
-said_if : (b : Bool) (g : Routing) (history : List Entry) (ident : Ident) (bytes : List ℕ) → SaysPacket (if b then Packet ident bytes else routed_as g history ident bytes) bytes
-said_if true g history ident bytes = record { ended = refl; closes = λ test. refl; bytes_are = refl; stops = refl }
-said_if false g history ident bytes = routed g history ident bytes
+said_if : (b : Bool) (g : Routing) (history : List Entry) (ident : Ident) (stored : Bool) (bytes : List ℕ) → SaysPacket (if b then Packet ident stored bytes else routed_as g history ident bytes) bytes
+said_if true g history ident stored bytes = record { ended = refl; closes = λ test. refl; bytes_are = refl; stops = refl }
+said_if false g history ident stored bytes = routed g history ident bytes
 
 says_packet : (g : Routing) (history : List Entry) (m : ℕ) (o : Output) → SaysPacket (said_of g history m o) o.bytes
-says_packet g history m o = said_if (g.is_interface m) g history (g.ident m o) o.bytes
+says_packet g history m o = said_if (g.is_interface m) g history (g.ident m o) (is_stored o.heading) o.bytes
 
 -- the entries of packets have their bytes
 pub packets_bytes : (g : Routing) (history : List Entry) (now : Time) (m : ℕ) (outs : List Output) → bytes_in (posted_entries g history now m outs) ≡ sum_by (λ (o : Output). length o.bytes) outs
@@ -81,10 +81,6 @@ pub record Quiet (m : ℕ) (es : List Entry) : Type 0 where
   pub ended : has_ended m es ≡ false
   pub opened : list_any (opens m) es ≡ false
   pub faults : list_any (λ (e : Entry). (e.by == m) && closes_for is_fault e.what) es ≡ false
-
-strange_if : (b : Bool) (e : Entry) (rest : List Entry) → cond b (e ∷ rest) rest ≡ [] → (b ≡ false) × (rest ≡ [])
-strange_if true e rest h = absurd (cc h)
-strange_if false e rest h = (refl, h)
 
 strange_kind : (m : ℕ) (kind : What → Bool) (es : List Entry) → of_maker m es ≡ [] → list_any (λ (e : Entry). (e.by == m) && kind e.what) es ≡ false
 strange_kind m kind [] none = refl

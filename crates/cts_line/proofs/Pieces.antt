@@ -15,17 +15,17 @@ use Rattle.cts_entry.specs.declared.entry.Entry.{Entry}
 use Rattle.cts_entry.specs.declared.why.Why.{Why}
 use Rattle.cts_entry.specs.declared.why.Why.TheVariants.{BadFrame, Full, NoMemory}
 use Rattle.cts_entry.specs.Places.{Posts}
-use Rattle.cts_frame.specs.Cuts.{Ends as EndsCut}
-use Rattle.cts_frame.specs.Framing.{Framing, Output, plain}
-use Rattle.cts_frame.specs.Packets.{Fault, IsPackets, capped}
-use Rattle.cts_frame.specs.Rows.{framing_of}
+use Rattle.cts_framing.specs.Cuts.{Ends as EndsCut}
+use Rattle.cts_framing.specs.Framing.{Framing, Output, plain}
+use Rattle.cts_framing.specs.Packets.{Fault, IsPackets, capped}
+use Rattle.cts_framing.specs.Rows.{framing_of}
 use Rattle.cts_outside.specs.Causes.{raised}
 use Rattle.cts_outside.specs.Lines.{Line, at_now, after_take}
 use Rattle.cts_outside.specs.declared.link.Taken.TheVariants.{Got}
 use Rattle.cts_proto.specs.Meaning.{Meaning, framing}
-use Rattle.cts_told.specs.Connections.{Blames, Fed, Left, Shows}
-use Rattle.cts_told.specs.Lines.{Capacity, Causes, PutsAll, PostsNone, Seen}
-use Rattle.cts_told.specs.Routing.{Routing}
+use Rattle.cts_trace.specs.Connections.{Blames, Fed, Left, Shows}
+use Rattle.cts_trace.specs.Lines.{Capacity, Causes, PutsAll, PostsNone, Seen}
+use Rattle.cts_trace.specs.Routing.{Routing}
 use Rattle.cts_line.specs.Talks.{Takes, Talking, Waits}
 use Rattle.cts_line.proofs.Bodies.{grown_body, inside}
 use Rattle.cts_line.proofs.Closing.{Closing}

@@ -9,10 +9,10 @@ use Rattle.cts_entry.specs.Queues.{spelled, refused, is_refused, bytes_or_none}
 use Rattle.cts_entry.proofs.Queuing.{spelled-append, refused-append}
 use Rattle.cts_outside.specs.Lines.{Connection, Line, at_now, with_put, with_failed_put}
 use Rattle.cts_chain.specs.Chains.{StagesStand}
-use Rattle.cts_frame.specs.Framing.{Output, plain}
+use Rattle.cts_framing.specs.Framing.{Output, plain}
 use Rattle.cts_proto.specs.Meaning.{Meaning}
-use Rattle.cts_told.specs.Lines.{Capacity}
-use Rattle.cts_told.specs.Routing.{Routing, spell}
+use Rattle.cts_trace.specs.Lines.{Capacity}
+use Rattle.cts_trace.specs.Routing.{Routing, spell}
 use Rattle.cts_line.specs.Talks.{Caught, Ends, Puts, Talking}
 use Rattle.cts_line.proofs.Bodies.{done_body}
 

@@ -8,18 +8,18 @@ use Rattle.cts_entry.specs.declared.why.Why.{Why}
 use Rattle.cts_entry.specs.declared.why.Why.TheVariants.{PeerEnded, ReadFault, WriteFault, BadFrame, Stopped, NoMemory, Full}
 use Rattle.cts_entry.specs.Histories.{has_own, is_stopped}
 use Rattle.cts_entry.specs.Queues.{spelled}
-use Rattle.cts_frame.specs.Framing.{Output, plain}
-use Rattle.cts_frame.specs.Packets.{Fault}
+use Rattle.cts_framing.specs.Framing.{Output, plain}
+use Rattle.cts_framing.specs.Packets.{Fault}
 use Rattle.cts_outside.specs.Causes.{raised}
 use Rattle.cts_outside.specs.Lines.{Connection, Line, fresh, told_after, at_now, after_take}
 use Rattle.cts_outside.specs.declared.link.Taken.TheVariants.{Nothing, End, Failed}
 use Rattle.cts_proto.specs.Meaning.{Meaning}
-use Rattle.cts_told.specs.Connections.{Blames, Says}
-use Rattle.cts_told.specs.Lines.{Capacity, Causes, PostsNone}
-use Rattle.cts_told.specs.Routing.{Routing, queue, spell}
-use Rattle.cts_told.specs.Told.{Said}
-use Rattle.cts_told.proofs.Looking.{posts_none_both, puts_all_map, said_found, said_more}
-use Rattle.cts_told.proofs.Others.{strange_own}
+use Rattle.cts_trace.specs.Connections.{Blames, Says}
+use Rattle.cts_trace.specs.Lines.{Capacity, Causes, PostsNone}
+use Rattle.cts_trace.specs.Routing.{Routing, queue, spell}
+use Rattle.cts_trace.specs.Told.{Said}
+use Rattle.cts_trace.proofs.Looking.{posts_none_both, puts_all_map, said_found, said_more}
+use Rattle.cts_trace.proofs.Others.{strange_own}
 use Rattle.cts_entry.proofs.Queuing.{any_append}
 use Rattle.cts_line.specs.Talks.{Begins, Body, Ends, HasCause, IsLast, Phase, Caught, Puts, Takes, Talking, Talks, Waits, after, stopped_by}
 use Rattle.cts_line.proofs.Bodies.{drop_whole, inside, grown_body, seen_body}

@@ -8,7 +8,7 @@ use Rattle.cts_entry.specs.declared.what.What.TheVariants.{Stop}
 use Rattle.cts_entry.specs.declared.why.Why.{Why}
 use Rattle.cts_entry.specs.declared.why.Why.TheVariants.{Full, NoMemory}
 use Rattle.cts_entry.specs.Histories.{entries_in, bytes_in, is_stopped}
-use Rattle.cts_frame.specs.Packets.{capped}
+use Rattle.cts_framing.specs.Packets.{capped}
 use Rattle.cts_table.specs.States.{Shown, fits}
 use Rattle.cts_table.specs.declared.fault.HallFault.{HallFault}
 use Rattle.cts_table.specs.declared.fault.HallFault.TheVariants.{Full as Crowded, Memory as Wanting}

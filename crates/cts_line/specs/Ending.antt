@@ -10,8 +10,8 @@ use Rattle.cts_entry.specs.Legal.{has_ended}
 use Rattle.cts_entry.specs.Workers.{is_interface}
 use Rattle.cts_outside.specs.Causes.{Rose}
 use Rattle.cts_outside.specs.Lines.{Line}
-use Rattle.cts_told.specs.Makers.{closes_for, faults_of, is_fault}
-use Rattle.cts_told.specs.Told.{HasFinished}
+use Rattle.cts_trace.specs.Makers.{closes_for, faults_of, is_fault}
+use Rattle.cts_trace.specs.Told.{HasFinished}
 use Rattle.cts_worker.specs.Counts.{RoseBy, one_if}
 use Rattle.cts_line.specs.declared.opening.Opening.{Opening}
 use Rattle.cts_line.specs.declared.opening.Opening.TheVariants.{Opened, Stopped as StoppedThere, Full as NoRoom, NoMemory as NoMemoryThere}

@@ -12,15 +12,15 @@ use Rattle.cts_entry.specs.declared.why.Why.TheVariants.{PeerEnded, ReadFault, W
 use Rattle.cts_entry.specs.Histories.{has_own, is_stopped}
 use Rattle.cts_entry.specs.Places.{Posts}
 use Rattle.cts_entry.specs.Queues.{spelled, refused}
-use Rattle.cts_frame.specs.Chains.{framings_at}
-use Rattle.cts_frame.specs.Framing.{Output, plain}
+use Rattle.cts_framing.specs.Chains.{framings_at}
+use Rattle.cts_framing.specs.Framing.{Output, plain}
 use Rattle.cts_outside.specs.Lines.{Connection, Line, fresh}
 use Rattle.cts_proto.specs.Meaning.{Meaning}
 use Rattle.cts_table.specs.declared.basis.Basis.{Basis}
-use Rattle.cts_told.specs.Routing.{Routing, queue, spell}
-use Rattle.cts_told.specs.Connections.{Says, Shows, Tail}
-use Rattle.cts_told.specs.Lines.{Capacity, PutsAll, PostsNone}
-use Rattle.cts_told.specs.Told.{Said, Settled, ToldBy}
+use Rattle.cts_trace.specs.Routing.{Routing, queue, spell}
+use Rattle.cts_trace.specs.Connections.{Says, Shows, Tail}
+use Rattle.cts_trace.specs.Lines.{Capacity, PutsAll, PostsNone}
+use Rattle.cts_trace.specs.Told.{Said, Settled, ToldBy}
 use Rattle.cts_turn.specs.declared.rule.View.{View}
 use Rattle.cts_line.specs.declared.ending.LineWhy.{LineWhy}
 use Rattle.cts_line.specs.declared.posting.Posting.{Posting}

@@ -2,7 +2,8 @@
 ghost use Rattle.std.specs.Prelude.{◌≡◌, ◌≤◌, ℕ, length, true, IfSome, None};
 ghost use Rattle.cts_entry.specs.Legal.{StopsAfter};
 ghost use Rattle.cts_turn.specs.Lists.{has};
-ghost use Rattle.cts_turn.specs.Passes.{IsPassOf, basis_of, view};
+ghost use Rattle.cts_worker.specs.Grounds.{ground};
+ghost use Rattle.cts_turn.specs.Passes.{IsPassOf, view};
 ghost use Rattle.cts_connection.specs.Routings.{site_routing};
 ghost use Rattle.cts_worker.specs.Counts.{RoseIf};
 ghost use Rattle.cts_worker.specs.Holds.{Onward};
@@ -44,7 +45,7 @@ pub(crate) fn catch_up<R: Wait, C: Framer, D: Dialer>(
     requires by { has by (view pass).makers ≡ true }
     requires linked { (D.seen dialer.old).linked ≡ true }
     requires place { connection.old.cursor.place ≤ length (view pass).seen }
-    requires suits { Suits (basis_of ⟦<Hall as Stands>⟧.basis turn.now).site by connection.old.chain }
+    requires suits { Suits (ground turn.now).site by connection.old.chain }
     ensures pass { IsPassOf turn.now result.0 }
     ensures onward { Onward (view pass) (view result.0) }
     ensures keeps { Keeps by (view pass).seen (view result.0).seen None }
@@ -56,8 +57,8 @@ pub(crate) fn catch_up<R: Wait, C: Framer, D: Dialer>(
     ensures dials { (D.seen dialer.new).failed_dials ≡ (D.seen dialer.old).failed_dials }
     ensures stop { has_stop by (view result.0).seen ≡ has_stop by (view pass).seen }
     ensures retells { Retells (D.seen dialer.old).told (D.seen dialer.new).told }
-    ensures talks { (k : ℕ) → TalksAt (site_routing (basis_of ⟦<Hall as Stands>⟧.basis turn.now).site) (room_of (basis_of ⟦<Hall as Stands>⟧.basis turn.now)) by Waits connection.old (view pass) (since k (D.seen dialer.old).told)
-        → TalksAt (site_routing (basis_of ⟦<Hall as Stands>⟧.basis turn.now).site) (room_of (basis_of ⟦<Hall as Stands>⟧.basis turn.now)) by (after Takes result.1) connection.new (view result.0) (since k (D.seen dialer.new).told) }
+    ensures talks { (k : ℕ) → TalksAt (site_routing (ground turn.now).site) (room_of (ground turn.now)) by Waits connection.old (view pass) (since k (D.seen dialer.old).told)
+        → TalksAt (site_routing (ground turn.now).site) (room_of (ground turn.now)) by (after Takes result.1) connection.new (view result.0) (since k (D.seen dialer.new).told) }
 {
     let (pass, sight) = look(rt, alloc, turn, pass, by, connection);
     match sight {

@@ -1,13 +1,14 @@
 // One connection of a line after another.
 ghost use Rattle.std.specs.Prelude.{◌≡◌, ◌≤◌, ◌<◌, ◌+◌, ℕ, None, length, true, false, IfSome};
 ghost use Rattle.cts_chain.specs.Shapes.{IsSameChain};
-ghost use Rattle.cts_frame.specs.Packets.{capped};
+ghost use Rattle.cts_framing.specs.Packets.{capped};
 ghost use Rattle.cts_turn.specs.Lists.{has};
-ghost use Rattle.cts_turn.specs.Passes.{IsPassOf, basis_of, view};
+ghost use Rattle.cts_worker.specs.Grounds.{ground};
+ghost use Rattle.cts_turn.specs.Passes.{IsPassOf, view};
 ghost use Rattle.cts_connection.specs.LinePlaces.{is_line};
 ghost use Rattle.cts_connection.specs.Routings.{site_routing};
 ghost use Rattle.cts_entry.specs.Workers.{is_interface};
-ghost use Rattle.cts_told.specs.Told.{Settled, ToldBy};
+ghost use Rattle.cts_trace.specs.Told.{Settled, ToldBy};
 ghost use Rattle.cts_worker.specs.Holds.{Onward};
 ghost use Rattle.cts_worker.specs.Lasts.{IsShut};
 ghost use Rattle.cts_line.specs.Ending.{CausesEnd, FaultsRise, after_closed, after_failed, has_stop, opened_in, reconnects, refused, stops_all, stops_then};
@@ -91,10 +92,10 @@ fn serve<R: Wait, C: Framer, D: Dialer, K: Clock, G: Gate>(
 ) -> (Pass<Hall>, Option<LineWhy>)
     requires pass { IsPassOf hand.now.turn.now pass }
     requires by { has hand.now.by (view pass).makers ≡ true }
-    requires site { hand.now.site.now ≡ (basis_of ⟦<Hall as Stands>⟧.basis hand.now.turn.now).site }
-    requires line { is_line (basis_of ⟦<Hall as Stands>⟧.basis hand.now.turn.now).site hand.now.by ≡ true }
+    requires site { hand.now.site.now ≡ (ground hand.now.turn.now).site }
+    requires line { is_line (ground hand.now.turn.now).site hand.now.by ≡ true }
     requires room { 0 < length buffer.old }
-    requires suits { Suits (basis_of ⟦<Hall as Stands>⟧.basis hand.now.turn.now).site hand.now.by connection.old.chain }
+    requires suits { Suits (ground hand.now.turn.now).site hand.now.by connection.old.chain }
     requires shut { IsShut hand.now.by (view pass).seen }
     requires count { connections.old ≡ capped (opened_in hand.now.by (view pass).seen) }
     requires linked { (D.seen dialer.old).linked ≡ true }
@@ -111,9 +112,9 @@ fn serve<R: Wait, C: Framer, D: Dialer, K: Clock, G: Gate>(
     ensures dials { (D.seen dialer.new).failed_dials ≡ (D.seen dialer.old).failed_dials }
     ensures again { result.1 ≡ None → reconnects hand.now.site.now hand.now.by ≡ true }
     ensures few { opened_in hand.now.by (view result.0).seen ≤ opened_in hand.now.by (view pass).seen + 1 }
-    ensures told { (k : ℕ) → Has k (D.seen dialer.old).told → Begins (site_routing (basis_of ⟦<Hall as Stands>⟧.basis hand.now.turn.now).site) (room_of (basis_of ⟦<Hall as Stands>⟧.basis hand.now.turn.now)) hand.now.by (view pass).found (view pass).seen (since k (D.seen dialer.old).told)
-        → ToldSoFar (site_routing (basis_of ⟦<Hall as Stands>⟧.basis hand.now.turn.now).site) (room_of (basis_of ⟦<Hall as Stands>⟧.basis hand.now.turn.now)) hand.now.by (view result.0).found (view result.0).seen (since k (D.seen dialer.new).told) result.1 }
-    ensures cause { IfSome result.1 (λ why. CausesEnd (basis_of ⟦<Hall as Stands>⟧.basis hand.now.turn.now).site (basis_of ⟦<Hall as Stands>⟧.basis hand.now.turn.now).entries hand.now.by (view result.0).seen (D.seen dialer.new).told (D.seen dialer.old).failed_dials (D.seen dialer.new).failed_dials why) }
+    ensures told { (k : ℕ) → Has k (D.seen dialer.old).told → Begins (site_routing (ground hand.now.turn.now).site) (room_of (ground hand.now.turn.now)) hand.now.by (view pass).found (view pass).seen (since k (D.seen dialer.old).told)
+        → ToldSoFar (site_routing (ground hand.now.turn.now).site) (room_of (ground hand.now.turn.now)) hand.now.by (view result.0).found (view result.0).seen (since k (D.seen dialer.new).told) result.1 }
+    ensures cause { IfSome result.1 (λ why. CausesEnd (ground hand.now.turn.now).site (ground hand.now.turn.now).entries hand.now.by (view result.0).seen (D.seen dialer.new).told (D.seen dialer.old).failed_dials (D.seen dialer.new).failed_dials why) }
 {
     let (pass, opening) = holds::open(hand.rt, hand.turn, pass, hand.by, hand.clock, connection);
     if let Some(why) = refused(opening) {
@@ -138,10 +139,10 @@ fn attempt<R: Wait, C: Framer, D: Dialer, K: Clock, G: Gate>(
 ) -> (Pass<Hall>, Option<LineWhy>)
     requires pass { IsPassOf hand.now.turn.now pass }
     requires by { has hand.now.by (view pass).makers ≡ true }
-    requires site { hand.now.site.now ≡ (basis_of ⟦<Hall as Stands>⟧.basis hand.now.turn.now).site }
-    requires line { is_line (basis_of ⟦<Hall as Stands>⟧.basis hand.now.turn.now).site hand.now.by ≡ true }
+    requires site { hand.now.site.now ≡ (ground hand.now.turn.now).site }
+    requires line { is_line (ground hand.now.turn.now).site hand.now.by ≡ true }
     requires room { 0 < length buffer.old }
-    requires suits { Suits (basis_of ⟦<Hall as Stands>⟧.basis hand.now.turn.now).site hand.now.by connection.old.chain }
+    requires suits { Suits (ground hand.now.turn.now).site hand.now.by connection.old.chain }
     requires shut { IsShut hand.now.by (view pass).seen }
     requires count { connections.old ≡ capped (opened_in hand.now.by (view pass).seen) }
     requires idle { (D.seen dialer.old).linked ≡ false }
@@ -158,9 +159,9 @@ fn attempt<R: Wait, C: Framer, D: Dialer, K: Clock, G: Gate>(
     ensures dials { (D.seen dialer.old).failed_dials ≤ (D.seen dialer.new).failed_dials }
     ensures again { reconnects hand.now.site.now hand.now.by ≡ false → result.1 ≡ None → opened_in hand.now.by (view result.0).seen ≡ opened_in hand.now.by (view pass).seen }
     ensures few { opened_in hand.now.by (view result.0).seen ≤ opened_in hand.now.by (view pass).seen + 1 }
-    ensures told { (k : ℕ) → Has k (D.seen dialer.old).told → Settled (site_routing (basis_of ⟦<Hall as Stands>⟧.basis hand.now.turn.now).site) (room_of (basis_of ⟦<Hall as Stands>⟧.basis hand.now.turn.now)) hand.now.by (view pass).found (view pass).seen (since k (D.seen dialer.old).told)
-        → ToldSoFar (site_routing (basis_of ⟦<Hall as Stands>⟧.basis hand.now.turn.now).site) (room_of (basis_of ⟦<Hall as Stands>⟧.basis hand.now.turn.now)) hand.now.by (view result.0).found (view result.0).seen (since k (D.seen dialer.new).told) result.1 }
-    ensures cause { IfSome result.1 (λ why. CausesEnd (basis_of ⟦<Hall as Stands>⟧.basis hand.now.turn.now).site (basis_of ⟦<Hall as Stands>⟧.basis hand.now.turn.now).entries hand.now.by (view result.0).seen (D.seen dialer.new).told (D.seen dialer.old).failed_dials (D.seen dialer.new).failed_dials why) }
+    ensures told { (k : ℕ) → Has k (D.seen dialer.old).told → Settled (site_routing (ground hand.now.turn.now).site) (room_of (ground hand.now.turn.now)) hand.now.by (view pass).found (view pass).seen (since k (D.seen dialer.old).told)
+        → ToldSoFar (site_routing (ground hand.now.turn.now).site) (room_of (ground hand.now.turn.now)) hand.now.by (view result.0).found (view result.0).seen (since k (D.seen dialer.new).told) result.1 }
+    ensures cause { IfSome result.1 (λ why. CausesEnd (ground hand.now.turn.now).site (ground hand.now.turn.now).entries hand.now.by (view result.0).seen (D.seen dialer.new).told (D.seen dialer.old).failed_dials (D.seen dialer.new).failed_dials why) }
 {
     match dialer.dial() {
         Dialed::Linked => serve(hand, pass, connection, dialer, buffer, connections),
@@ -181,10 +182,10 @@ pub(crate) fn connect<R: Wait, C: Framer, D: Dialer, K: Clock, G: Gate>(
 ) -> (Pass<Hall>, LineWhy)
     requires pass { IsPassOf hand.now.turn.now pass }
     requires by { has hand.now.by (view pass).makers ≡ true }
-    requires site { hand.now.site.now ≡ (basis_of ⟦<Hall as Stands>⟧.basis hand.now.turn.now).site }
-    requires line { is_line (basis_of ⟦<Hall as Stands>⟧.basis hand.now.turn.now).site hand.now.by ≡ true }
+    requires site { hand.now.site.now ≡ (ground hand.now.turn.now).site }
+    requires line { is_line (ground hand.now.turn.now).site hand.now.by ≡ true }
     requires room { 0 < length buffer.old }
-    requires suits { Suits (basis_of ⟦<Hall as Stands>⟧.basis hand.now.turn.now).site hand.now.by connection.old.chain }
+    requires suits { Suits (ground hand.now.turn.now).site hand.now.by connection.old.chain }
     requires shut { IsShut hand.now.by (view pass).seen }
     requires count { connections.old ≡ capped (opened_in hand.now.by (view pass).seen) }
     requires idle { (D.seen dialer.old).linked ≡ false }
@@ -200,9 +201,9 @@ pub(crate) fn connect<R: Wait, C: Framer, D: Dialer, K: Clock, G: Gate>(
     ensures stop { stops_all result.1 ≡ false → has_stop hand.now.by (view result.0).seen ≡ has_stop hand.now.by (view pass).seen }
     ensures dials { (D.seen dialer.old).failed_dials ≤ (D.seen dialer.new).failed_dials }
     ensures once { reconnects hand.now.site.now hand.now.by ≡ false → opened_in hand.now.by (view result.0).seen ≤ opened_in hand.now.by (view pass).seen + 1 }
-    ensures told { (k : ℕ) → Has k (D.seen dialer.old).told → Settled (site_routing (basis_of ⟦<Hall as Stands>⟧.basis hand.now.turn.now).site) (room_of (basis_of ⟦<Hall as Stands>⟧.basis hand.now.turn.now)) hand.now.by (view pass).found (view pass).seen (since k (D.seen dialer.old).told)
-        → ToldBy (site_routing (basis_of ⟦<Hall as Stands>⟧.basis hand.now.turn.now).site) (room_of (basis_of ⟦<Hall as Stands>⟧.basis hand.now.turn.now)) hand.now.by (view result.0).found (view result.0).seen (since k (D.seen dialer.new).told) }
-    ensures cause { CausesEnd (basis_of ⟦<Hall as Stands>⟧.basis hand.now.turn.now).site (basis_of ⟦<Hall as Stands>⟧.basis hand.now.turn.now).entries hand.now.by (view result.0).seen (D.seen dialer.new).told (D.seen dialer.old).failed_dials (D.seen dialer.new).failed_dials result.1 }
+    ensures told { (k : ℕ) → Has k (D.seen dialer.old).told → Settled (site_routing (ground hand.now.turn.now).site) (room_of (ground hand.now.turn.now)) hand.now.by (view pass).found (view pass).seen (since k (D.seen dialer.old).told)
+        → ToldBy (site_routing (ground hand.now.turn.now).site) (room_of (ground hand.now.turn.now)) hand.now.by (view result.0).found (view result.0).seen (since k (D.seen dialer.new).told) }
+    ensures cause { CausesEnd (ground hand.now.turn.now).site (ground hand.now.turn.now).entries hand.now.by (view result.0).seen (D.seen dialer.new).told (D.seen dialer.old).failed_dials (D.seen dialer.new).failed_dials result.1 }
 {
     'dials: for _ in hand.rt.forever() {
         let (next, stop) = sees_stop(hand.rt, hand.turn, pass, hand.by);

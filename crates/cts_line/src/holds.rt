@@ -4,9 +4,10 @@ ghost use Rattle.cts_chain.specs.Shapes.{writers};
 ghost use Rattle.cts_def.specs.declared.time.Time.{Time as TimeData};
 ghost use Rattle.cts_entry.specs.Histories.{is_connected, is_stopped};
 ghost use Rattle.cts_entry.specs.Legal.{StopsAfter};
-ghost use Rattle.cts_told.specs.Routing.{queue};
+ghost use Rattle.cts_trace.specs.Routing.{queue};
 ghost use Rattle.cts_turn.specs.Lists.{has};
-ghost use Rattle.cts_turn.specs.Passes.{IsPassOf, basis_of, view};
+ghost use Rattle.cts_worker.specs.Grounds.{ground};
+ghost use Rattle.cts_turn.specs.Passes.{IsPassOf, view};
 ghost use Rattle.cts_connection.specs.Connections.{entries_ahead};
 ghost use Rattle.cts_connection.specs.LinePlaces.{is_line};
 ghost use Rattle.cts_connection.specs.Postings.{Closes};
@@ -47,10 +48,10 @@ pub(crate) fn open<R: Wait, C: Framer, K: Clock>(
 ) -> (Pass<Hall>, Opening)
     requires pass { IsPassOf turn.now pass }
     requires by { has by (view pass).makers ≡ true }
-    requires line { is_line (basis_of ⟦<Hall as Stands>⟧.basis turn.now).site by ≡ true }
+    requires line { is_line (ground turn.now).site by ≡ true }
     requires shut { IsShut by (view pass).seen }
     ensures pass { IsPassOf turn.now result.0 }
-    ensures hold { (time : TimeData) × InHold (basis_of ⟦<Hall as Stands>⟧.basis turn.now) by (view pass) (view result.0) (λ s t. OpensIn by time s connection.old result.1 t connection.new) }
+    ensures hold { (time : TimeData) × InHold (ground turn.now) by (view pass) (view result.0) (λ s t. OpensIn by time s connection.old result.1 t connection.new) }
 {
     let mut held = turn.enter(rt, pass);
     let opening = board::open(held.state_mut(), by, time_of(clock), connection);
@@ -69,8 +70,8 @@ pub(crate) fn look<R: Wait, C: Framer>(
     requires pass { IsPassOf turn.now pass }
     requires by { has by (view pass).makers ≡ true }
     ensures pass { IsPassOf turn.now result.0 }
-    ensures hold { InHold (basis_of ⟦<Hall as Stands>⟧.basis turn.now) by (view pass) (view result.0) (λ s t. t ≡ s) }
-    ensures spellings { IfOk result.1 (λ s. s.spellings.items ≡ map (spell_by (basis_of ⟦<Hall as Stands>⟧.basis turn.now).site (writers connection.now.chain)) (queue (site_routing (basis_of ⟦<Hall as Stands>⟧.basis turn.now).site) by (entries_ahead connection.now (view result.0).seen))) }
+    ensures hold { InHold (ground turn.now) by (view pass) (view result.0) (λ s t. t ≡ s) }
+    ensures spellings { IfOk result.1 (λ s. s.spellings.items ≡ map (spell_by (ground turn.now).site (writers connection.now.chain)) (queue (site_routing (ground turn.now).site) by (entries_ahead connection.now (view result.0).seen))) }
     ensures place { IfOk result.1 (λ s. s.place ≡ length (view result.0).seen) }
     ensures stop { IfOk result.1 (λ s. s.stop ≡ is_stopped (view result.0).seen) }
 {
@@ -92,10 +93,10 @@ pub(crate) fn post<R: Wait, C: Framer, K: Clock>(
 ) -> (Pass<Hall>, Posting)
     requires pass { IsPassOf turn.now pass }
     requires by { has by (view pass).makers ≡ true }
-    requires line { is_line (basis_of ⟦<Hall as Stands>⟧.basis turn.now).site by ≡ true }
+    requires line { is_line (ground turn.now).site by ≡ true }
     requires on { is_connected by (view pass).seen ≡ true }
     ensures pass { IsPassOf turn.now result.0 }
-    ensures hold { (time : TimeData) × InHold (basis_of ⟦<Hall as Stands>⟧.basis turn.now) by (view pass) (view result.0) (λ s t. PostsIn by time s connection.old piece.now result.1 t connection.new) }
+    ensures hold { (time : TimeData) × InHold (ground turn.now) by (view pass) (view result.0) (λ s t. PostsIn by time s connection.old piece.now result.1 t connection.new) }
 {
     let mut held = turn.enter(rt, pass);
     let posting = board::post(
@@ -121,11 +122,11 @@ pub(crate) fn close<R: Wait, C: Framer, K: Clock>(
 ) -> Pass<Hall>
     requires pass { IsPassOf turn.now pass }
     requires by { has by (view pass).makers ≡ true }
-    requires line { is_line (basis_of ⟦<Hall as Stands>⟧.basis turn.now).site by ≡ true }
+    requires line { is_line (ground turn.now).site by ≡ true }
     requires on { is_connected by (view pass).seen ≡ true }
     requires stops { StopsAfter (view pass).seen why }
     ensures pass { IsPassOf turn.now result }
-    ensures hold { (time : TimeData) × InHold (basis_of ⟦<Hall as Stands>⟧.basis turn.now) by (view pass) (view result) (λ s t. Closes by time s connection.old why 0 t connection.new) }
+    ensures hold { (time : TimeData) × InHold (ground turn.now) by (view pass) (view result) (λ s t. Closes by time s connection.old why 0 t connection.new) }
 {
     let mut held = turn.enter(rt, pass);
     board::close(held.state_mut(), by, time_of(clock), connection, why);

@@ -2,8 +2,8 @@
 ghost use Rattle.std.specs.Prelude.{◌≡◌, ◌≤◌, ◌+◌, ℕ, List, length, true};
 ghost use Rattle.cts_entry.specs.declared.entry.Entry.{Entry};
 ghost use Rattle.cts_proto.specs.Meaning.{Meaning};
-ghost use Rattle.cts_told.specs.Lines.{Capacity};
-ghost use Rattle.cts_told.specs.Routing.{Routing};
+ghost use Rattle.cts_trace.specs.Lines.{Capacity};
+ghost use Rattle.cts_trace.specs.Routing.{Routing};
 ghost use Rattle.cts_worker.specs.Counts.{RoseIf};
 ghost use Rattle.cts_line.specs.Ending.{fails};
 ghost use Rattle.cts_line.specs.Putting.{PutCause, PutsOne, is_write};

@@ -2,12 +2,13 @@
 ghost use Rattle.std.specs.Prelude.{◌≡◌, ◌≤◌, ◌<◌, ℕ, List, Option, Some, length, take, true, false, IfNone};
 ghost use Rattle.cts_outside.specs.Lines.{Line, after_take, at_now, told_after};
 ghost use Rattle.cts_outside.specs.declared.link.Taken.TheVariants.{Got};
-ghost use Rattle.cts_told.specs.Makers.{is_fault};
+ghost use Rattle.cts_trace.specs.Makers.{is_fault};
 ghost use Rattle.cts_chain.specs.Shapes.{IsSameChain};
 ghost use Rattle.cts_entry.specs.Histories.{is_connected};
 ghost use Rattle.cts_entry.specs.Legal.{StopsAfter};
 ghost use Rattle.cts_turn.specs.Lists.{has};
-ghost use Rattle.cts_turn.specs.Passes.{IsPassOf, basis_of, view};
+ghost use Rattle.cts_worker.specs.Grounds.{ground};
+ghost use Rattle.cts_turn.specs.Passes.{IsPassOf, view};
 ghost use Rattle.cts_connection.specs.LinePlaces.{is_line};
 ghost use Rattle.cts_connection.specs.Routings.{site_routing};
 ghost use Rattle.cts_worker.specs.Counts.{RoseIf};
@@ -54,18 +55,18 @@ fn close<R: Wait, C: Framer, K: Clock, G: Gate>(
 ) -> (Pass<Hall>, Option<Why>)
     requires pass { IsPassOf hand.now.turn.now pass }
     requires by { has hand.now.by (view pass).makers ≡ true }
-    requires line { is_line (basis_of ⟦<Hall as Stands>⟧.basis hand.now.turn.now).site hand.now.by ≡ true }
+    requires line { is_line (ground hand.now.turn.now).site hand.now.by ≡ true }
     requires on { is_connected hand.now.by (view pass).seen ≡ true }
     requires stops { StopsAfter (view pass).seen why }
-    requires suits { Suits (basis_of ⟦<Hall as Stands>⟧.basis hand.now.turn.now).site hand.now.by connection.old.chain }
+    requires suits { Suits (ground hand.now.turn.now).site hand.now.by connection.old.chain }
     ensures pass { IsPassOf hand.now.turn.now result.0 }
     ensures onward { Onward (view pass) (view result.0) }
     ensures closed { result.1 ≡ Some why }
     ensures same { IsSameChain connection.old.chain connection.new.chain }
     ensures keeps { Keeps hand.now.by (view pass).seen (view result.0).seen (Some why) }
     ensures stop { has_stop hand.now.by (view result.0).seen ≡ has_stop hand.now.by (view pass).seen }
-    ensures talks { (told : Option Line) → TalksAt (site_routing (basis_of ⟦<Hall as Stands>⟧.basis hand.now.turn.now).site) (room_of (basis_of ⟦<Hall as Stands>⟧.basis hand.now.turn.now)) hand.now.by (Ends why) connection.old (view pass) told
-        → IsClosed (site_routing (basis_of ⟦<Hall as Stands>⟧.basis hand.now.turn.now).site) (room_of (basis_of ⟦<Hall as Stands>⟧.basis hand.now.turn.now)) hand.now.by (view result.0) told }
+    ensures talks { (told : Option Line) → TalksAt (site_routing (ground hand.now.turn.now).site) (room_of (ground hand.now.turn.now)) hand.now.by (Ends why) connection.old (view pass) told
+        → IsClosed (site_routing (ground hand.now.turn.now).site) (room_of (ground hand.now.turn.now)) hand.now.by (view result.0) told }
 {
     let pass = holds::close(
         hand.rt, hand.turn, pass, hand.by, hand.clock, connection, why,
@@ -83,10 +84,10 @@ fn post<R: Wait, C: Framer, K: Clock, G: Gate>(
 ) -> (Pass<Hall>, Option<Why>)
     requires pass { IsPassOf hand.now.turn.now pass }
     requires by { has hand.now.by (view pass).makers ≡ true }
-    requires line { is_line (basis_of ⟦<Hall as Stands>⟧.basis hand.now.turn.now).site hand.now.by ≡ true }
+    requires line { is_line (ground hand.now.turn.now).site hand.now.by ≡ true }
     requires on { is_connected hand.now.by (view pass).seen ≡ true }
     requires place { connection.old.cursor.place ≤ length (view pass).seen }
-    requires suits { Suits (basis_of ⟦<Hall as Stands>⟧.basis hand.now.turn.now).site hand.now.by connection.old.chain }
+    requires suits { Suits (ground hand.now.turn.now).site hand.now.by connection.old.chain }
     ensures pass { IsPassOf hand.now.turn.now result.0 }
     ensures onward { Onward (view pass) (view result.0) }
     ensures same { IsSameChain connection.old.chain connection.new.chain }
@@ -95,8 +96,8 @@ fn post<R: Wait, C: Framer, K: Clock, G: Gate>(
     ensures stop { has_stop hand.now.by (view result.0).seen ≡ has_stop hand.now.by (view pass).seen }
     ensures no_fault { fails result.1 ≡ false }
     ensures talks { (told : Option Line) (n : ℕ) (buffer : List ℕ) → piece.now ≡ take n buffer
-        → TalksAt (site_routing (basis_of ⟦<Hall as Stands>⟧.basis hand.now.turn.now).site) (room_of (basis_of ⟦<Hall as Stands>⟧.basis hand.now.turn.now)) hand.now.by Takes connection.old (view pass) told
-        → Went (site_routing (basis_of ⟦<Hall as Stands>⟧.basis hand.now.turn.now).site) (room_of (basis_of ⟦<Hall as Stands>⟧.basis hand.now.turn.now)) hand.now.by connection.new (view result.0) (told_after (at_now (after_take (Got n) buffer)) told) result.1 }
+        → TalksAt (site_routing (ground hand.now.turn.now).site) (room_of (ground hand.now.turn.now)) hand.now.by Takes connection.old (view pass) told
+        → Went (site_routing (ground hand.now.turn.now).site) (room_of (ground hand.now.turn.now)) hand.now.by connection.new (view result.0) (told_after (at_now (after_take (Got n) buffer)) told) result.1 }
 {
     hand.gate.pass(hand.rt, hand.by, GateStage::Took);
     let (pass, posting) = holds::post(
@@ -116,12 +117,12 @@ pub(crate) fn round<R: Wait, C: Framer, D: Dialer, K: Clock, G: Gate>(
 ) -> (Pass<Hall>, Option<Why>)
     requires pass { IsPassOf hand.now.turn.now pass }
     requires by { has hand.now.by (view pass).makers ≡ true }
-    requires line { is_line (basis_of ⟦<Hall as Stands>⟧.basis hand.now.turn.now).site hand.now.by ≡ true }
+    requires line { is_line (ground hand.now.turn.now).site hand.now.by ≡ true }
     requires linked { (D.seen dialer.old).linked ≡ true }
     requires room { 0 < length buffer.old }
     requires on { is_connected hand.now.by (view pass).seen ≡ true }
     requires place { connection.old.cursor.place ≤ length (view pass).seen }
-    requires suits { Suits (basis_of ⟦<Hall as Stands>⟧.basis hand.now.turn.now).site hand.now.by connection.old.chain }
+    requires suits { Suits (ground hand.now.turn.now).site hand.now.by connection.old.chain }
     ensures pass { IsPassOf hand.now.turn.now result.0 }
     ensures onward { Onward (view pass) (view result.0) }
     ensures linked { (D.seen dialer.new).linked ≡ true }
@@ -133,8 +134,8 @@ pub(crate) fn round<R: Wait, C: Framer, D: Dialer, K: Clock, G: Gate>(
     ensures cause { RoseIf (fails result.1) (D.seen dialer.old).faults (D.seen dialer.new).faults }
     ensures dials { (D.seen dialer.new).failed_dials ≡ (D.seen dialer.old).failed_dials }
     ensures retells { Retells (D.seen dialer.old).told (D.seen dialer.new).told }
-    ensures talks { (k : ℕ) → TalksAt (site_routing (basis_of ⟦<Hall as Stands>⟧.basis hand.now.turn.now).site) (room_of (basis_of ⟦<Hall as Stands>⟧.basis hand.now.turn.now)) hand.now.by Waits connection.old (view pass) (since k (D.seen dialer.old).told)
-        → Went (site_routing (basis_of ⟦<Hall as Stands>⟧.basis hand.now.turn.now).site) (room_of (basis_of ⟦<Hall as Stands>⟧.basis hand.now.turn.now)) hand.now.by connection.new (view result.0) (since k (D.seen dialer.new).told) result.1 }
+    ensures talks { (k : ℕ) → TalksAt (site_routing (ground hand.now.turn.now).site) (room_of (ground hand.now.turn.now)) hand.now.by Waits connection.old (view pass) (since k (D.seen dialer.old).told)
+        → Went (site_routing (ground hand.now.turn.now).site) (room_of (ground hand.now.turn.now)) hand.now.by connection.new (view result.0) (since k (D.seen dialer.new).told) result.1 }
 {
     let (pass, end) = catch_up(
         hand.rt, hand.alloc, hand.turn, pass, hand.by, connection, dialer,
@@ -160,12 +161,12 @@ pub(crate) fn talk<R: Wait, C: Framer, D: Dialer, K: Clock, G: Gate>(
 ) -> (Pass<Hall>, Why)
     requires pass { IsPassOf hand.now.turn.now pass }
     requires by { has hand.now.by (view pass).makers ≡ true }
-    requires line { is_line (basis_of ⟦<Hall as Stands>⟧.basis hand.now.turn.now).site hand.now.by ≡ true }
+    requires line { is_line (ground hand.now.turn.now).site hand.now.by ≡ true }
     requires linked { (D.seen dialer.old).linked ≡ true }
     requires room { 0 < length buffer.old }
     requires on { is_connected hand.now.by (view pass).seen ≡ true }
     requires place { connection.old.cursor.place ≤ length (view pass).seen }
-    requires suits { Suits (basis_of ⟦<Hall as Stands>⟧.basis hand.now.turn.now).site hand.now.by connection.old.chain }
+    requires suits { Suits (ground hand.now.turn.now).site hand.now.by connection.old.chain }
     ensures pass { IsPassOf hand.now.turn.now result.0 }
     ensures onward { Onward (view pass) (view result.0) }
     ensures linked { (D.seen dialer.new).linked ≡ true }
@@ -176,8 +177,8 @@ pub(crate) fn talk<R: Wait, C: Framer, D: Dialer, K: Clock, G: Gate>(
     ensures cause { RoseIf (is_fault result.1) (D.seen dialer.old).faults (D.seen dialer.new).faults }
     ensures dials { (D.seen dialer.new).failed_dials ≡ (D.seen dialer.old).failed_dials }
     ensures retells { Retells (D.seen dialer.old).told (D.seen dialer.new).told }
-    ensures closed { (k : ℕ) → TalksAt (site_routing (basis_of ⟦<Hall as Stands>⟧.basis hand.now.turn.now).site) (room_of (basis_of ⟦<Hall as Stands>⟧.basis hand.now.turn.now)) hand.now.by Waits connection.old (view pass) (since k (D.seen dialer.old).told)
-        → IsClosed (site_routing (basis_of ⟦<Hall as Stands>⟧.basis hand.now.turn.now).site) (room_of (basis_of ⟦<Hall as Stands>⟧.basis hand.now.turn.now)) hand.now.by (view result.0) (since k (D.seen dialer.new).told) }
+    ensures closed { (k : ℕ) → TalksAt (site_routing (ground hand.now.turn.now).site) (room_of (ground hand.now.turn.now)) hand.now.by Waits connection.old (view pass) (since k (D.seen dialer.old).told)
+        → IsClosed (site_routing (ground hand.now.turn.now).site) (room_of (ground hand.now.turn.now)) hand.now.by (view result.0) (since k (D.seen dialer.new).told) }
 {
     'rounds: for _ in hand.rt.forever() {
         let (next, closed) = round(hand, pass, connection, dialer, buffer);

@@ -4,15 +4,15 @@ ghost use Rattle.cts_chain.specs.Builds.{IsFresh};
 ghost use Rattle.cts_def.specs.declared.time.Time.{Time as TimeData};
 ghost use Rattle.cts_entry.specs.declared.entry.Entry.{Entry};
 ghost use Rattle.cts_entry.specs.Histories.{is_stopped};
-ghost use Rattle.cts_frame.specs.Chains.{uses_at};
-ghost use Rattle.cts_frame.specs.Packets.{capped};
+ghost use Rattle.cts_framing.specs.Chains.{uses_at};
+ghost use Rattle.cts_framing.specs.Packets.{capped};
 ghost use Rattle.cts_turn.specs.Lists.{has, StartsWith};
-ghost use Rattle.cts_turn.specs.Passes.{IsPassOf, basis_of, view};
+ghost use Rattle.cts_turn.specs.Passes.{IsPassOf, view};
 ghost use Rattle.cts_connection.specs.LinePlaces.{is_line};
 ghost use Rattle.cts_connection.specs.Routings.{site_routing};
 ghost use Rattle.cts_outside.specs.Lines.{hung_up, told_after};
-ghost use Rattle.cts_told.specs.Makers.{LastEnded, faults_of, of_maker};
-ghost use Rattle.cts_told.specs.Told.{ToldBy};
+ghost use Rattle.cts_trace.specs.Makers.{LastEnded, faults_of, of_maker};
+ghost use Rattle.cts_trace.specs.Told.{ToldBy};
 ghost use Rattle.cts_line.specs.declared.ending.LineWhy.TheVariants.{Cancelled};
 ghost use Rattle.cts_worker.specs.Counts.{RoseBy};
 ghost use Rattle.cts_worker.specs.Grounds.{ground};
@@ -64,17 +64,17 @@ impl LineWorker {
         requires pass { IsPassOf turn.now pass }
         requires by { has by (view pass).makers ≡ true }
         requires new { of_maker by (view pass).seen ≡ [] }
-        requires site { site.now ≡ (basis_of ⟦<Hall as Stands>⟧.basis turn.now).site }
+        requires site { site.now ≡ (ground turn.now).site }
         requires line { is_line site.now by ≡ true }
         requires chain { IsFresh (uses_at site.now by) (C.shape chain) }
         ensures pass { IsPassOf turn.now result.pass }
         ensures onward { Onward (view pass) (view result.pass) }
-        ensures told { ToldBy (site_routing site.now) (room_of (basis_of ⟦<Hall as Stands>⟧.basis turn.now)) by (view result.pass).found (view result.pass).seen (since (made_by (D.seen dialer.old).told) (D.seen dialer.new).told) }
+        ensures told { ToldBy (site_routing site.now) (room_of (ground turn.now)) by (view result.pass).found (view result.pass).seen (since (made_by (D.seen dialer.old).told) (D.seen dialer.new).told) }
         ensures retells { Retells (told_after hung_up (D.seen dialer.old).told) (D.seen dialer.new).told }
         ensures ended { LastEnded by (view result.pass).seen }
         ensures connections { result.connections ≡ opened_in by (view result.pass).seen }
         ensures once { reconnects site.now by ≡ false → result.connections ≤ 1 }
-        ensures cause { CausesEnd site.now (basis_of ⟦<Hall as Stands>⟧.basis turn.now).entries by (view result.pass).seen (D.seen dialer.new).told (D.seen dialer.old).failed_dials (D.seen dialer.new).failed_dials result.why }
+        ensures cause { CausesEnd site.now (ground turn.now).entries by (view result.pass).seen (D.seen dialer.new).told (D.seen dialer.old).failed_dials (D.seen dialer.new).failed_dials result.why }
         ensures stops { stops_all result.why ≡ true → is_stopped (view result.pass).seen ≡ true }
         ensures own_stop { has_stop by (view result.pass).seen ≡ true → stops_all result.why ≡ true }
         ensures faults { RoseBy (faults_of by (view result.pass).seen) (D.seen dialer.old).faults (D.seen dialer.new).faults }
@@ -108,7 +108,7 @@ impl LineWorker {
         requires pass { IsPassOf turn.now pass }
         requires by { has by (view pass).makers ≡ true }
         requires new { of_maker by (view pass).seen ≡ [] }
-        requires line { is_line (basis_of ⟦<Hall as Stands>⟧.basis turn.now).site by ≡ true }
+        requires line { is_line (ground turn.now).site by ≡ true }
         ensures pass { IsPassOf turn.now result.pass }
         ensures onward { Onward (view pass) (view result.pass) }
         ensures own { (stood : List Entry) × StartsWith stood (view pass).seen × StartsWith (view result.pass).seen stood × (of_maker by (view result.pass).seen ≡ last_entries true by first_moment stood) }
@@ -170,7 +170,7 @@ fn work<R: Wait, C: Framer, D: Dialer, K: Clock, G: Gate>(
     requires pass { IsPassOf hand.now.turn.now pass }
     requires by { has hand.now.by (view pass).makers ≡ true }
     requires new { of_maker hand.now.by (view pass).seen ≡ [] }
-    requires site { hand.now.site.now ≡ (basis_of ⟦<Hall as Stands>⟧.basis hand.now.turn.now).site }
+    requires site { hand.now.site.now ≡ (ground hand.now.turn.now).site }
     requires line { is_line hand.now.site.now hand.now.by ≡ true }
     requires chain { IsFresh (uses_at hand.now.site.now hand.now.by) (C.shape chain) }
     requires idle { (D.seen dialer.old).linked ≡ false }
@@ -186,8 +186,8 @@ fn work<R: Wait, C: Framer, D: Dialer, K: Clock, G: Gate>(
     ensures stop { stops_all result.1 ≡ false → has_stop hand.now.by (view result.0).seen ≡ false }
     ensures once { reconnects hand.now.site.now hand.now.by ≡ false → opened_in hand.now.by (view result.0).seen ≤ 1 }
     ensures told { (k : ℕ) → Has k (D.seen dialer.old).told → IsUndialed (since k (D.seen dialer.old).told)
-        → ToldBy (site_routing hand.now.site.now) (room_of (basis_of ⟦<Hall as Stands>⟧.basis hand.now.turn.now)) hand.now.by (view result.0).found (view result.0).seen (since k (D.seen dialer.new).told) }
-    ensures cause { CausesEnd hand.now.site.now (basis_of ⟦<Hall as Stands>⟧.basis hand.now.turn.now).entries hand.now.by (view result.0).seen (D.seen dialer.new).told (D.seen dialer.old).failed_dials (D.seen dialer.new).failed_dials result.1 }
+        → ToldBy (site_routing hand.now.site.now) (room_of (ground hand.now.turn.now)) hand.now.by (view result.0).found (view result.0).seen (since k (D.seen dialer.new).told) }
+    ensures cause { CausesEnd hand.now.site.now (ground hand.now.turn.now).entries hand.now.by (view result.0).seen (D.seen dialer.new).told (D.seen dialer.old).failed_dials (D.seen dialer.new).failed_dials result.1 }
 {
     let Ok(mut buffer) = buffer_of(hand.alloc) else {
         return (pass, LineWhy::NoMemory);

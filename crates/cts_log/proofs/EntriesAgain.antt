@@ -1,98 +1,133 @@
 -- Entries that were laid out are read again, and bytes hold an entry where they begin with one.
-use Rattle.std.proofs.Common.{◌≡◌, ℕ, ◌+◌, ◌-◌, ◌≤◌, true, List, ◌++◌, length, take, drop, refl, sym, ◌∙◌, ap, arith, append_assoc, length-append}
-use Rattle.std.specs.Prelude.{nat_le, slice_range}
+use Rattle.std.proofs.Common.{◌≡◌, ℕ, ◌+◌, ◌-◌, ◌≤◌, Bool, true, false, ◌&&◌, List, ◌++◌, length, take, drop, refl, sym, ◌∙◌, ap, arith, append_assoc, length-append}
+use Rattle.std.specs.Prelude.{nat_le, not, slice_range}
 use Rattle.std.proofs.lemmas.List.{take_at, drop_at, length-drop, length-take-le}
 use Rattle.std.proofs.lemmas.List.Folds.{drop_split}
-use Rattle.cts_frame.specs.Heads.{AreBytes, HeadData, FitsHead, head_bytes, has_head, head_of, head_end}
-use Rattle.cts_frame.proofs.Fronts.{and_tells, le_tells, le_test}
-use Rattle.cts_frame.proofs.HeadAgain.{end_again, head_again}
-use Rattle.cts_frame.proofs.HeadWhole.{fits_of, head_whole}
-use Rattle.cts_spell.specs.Spellings.{head_for}
+use Rattle.cts_framing.specs.Heads.{AreBytes, HeadData, FitsHead}
+use Rattle.cts_framing.specs.Layouts.{has_laid, has_wrong_flags, laid_end, laid_head, laid_of, stored_at}
+use Rattle.cts_framing.proofs.Fronts.{and_tells, le_tells, le_test}
+use Rattle.cts_framing.proofs.Laid.{flags_again, has_laid_again, laid_again, laid_end_again, laid_fits, laid_whole, stored_again}
+use Rattle.cts_encode.specs.Spellings.{head_for, head_in}
 use Rattle.cts_log.specs.Laws.{EntriesAreExact, EntriesAreRead, EntryIsRead}
 use Rattle.cts_log.specs.Logged.{Logged, FitsLogged, entry_bytes, entry_end, entry_of, has_entry}
 
-abbrev pub head_in : Logged → HeadData
-head_in e = head_for e.heading (length e.bytes)
+abbrev pub head_data : Logged → HeadData
+head_data e = head_for e.heading (length e.bytes)
 
-fits_in : (e : Logged) → FitsLogged e → FitsHead (head_in e)
-fits_in e f = record { seconds = f.heading.seconds; micros = f.heading.micros; target = f.heading.target; packet = f.heading.packet; count = f.bytes }
+fits_in : (fl : Bool) (e : Logged) → FitsLogged fl e → FitsHead (head_data e)
+fits_in fl e f = record { seconds = f.heading.seconds; micros = f.heading.micros; target = f.heading.target; packet = f.heading.packet; count = f.bytes }
 
-module _ (e : Logged) (x : List ℕ) (f : FitsLogged e) where
+-- without flags nothing is stored, and with them the flag is told
+told : (fl : Bool) (e : Logged) → FitsLogged fl e → (fl && e.heading.stored) ≡ e.heading.stored
+told true e f = refl
+told false e f = sym (f.unstored refl)
+
+untold : (fl : Bool) (u : List ℕ) → fl ≡ false → stored_at fl u ≡ false
+untold true u h = cc h
+untold false u h = refl
+
+module _ (fl : Bool) (e : Logged) (x : List ℕ) (f : FitsLogged fl e) where
+  head : List ℕ
+  head = head_in fl e.heading (length e.bytes)
+
   u : List ℕ
-  u = head_bytes (head_in e) ++ (e.bytes ++ x)
+  u = head ++ (e.bytes ++ x)
 
-  ends : head_end u ≡ length (head_bytes (head_in e))
-  unfolding u
-  ends = end_again (head_in e) (e.bytes ++ x)
+  ends : laid_end fl u ≡ length head
+  unfolding u head
+  ends = laid_end_again fl e.heading.stored (head_data e) (e.bytes ++ x)
 
-  says : head_of u ≡ head_in e
-  unfolding u
-  says = head_again (head_in e) (e.bytes ++ x) (fits_in e f)
+  says : laid_of fl u ≡ head_data e
+  unfolding u head
+  says = laid_again fl e.heading.stored (head_data e) (e.bytes ++ x) (fits_in fl e f)
 
-  counts : (head_of u).count ≡ length e.bytes
+  stored_is : stored_at fl u ≡ e.heading.stored
+  unfolding u head
+  stored_is = stored_again fl e.heading.stored (head_data e) (e.bytes ++ x) ∙ told fl e f
+
+  right : has_wrong_flags fl u ≡ false
+  unfolding u head
+  right = flags_again fl e.heading.stored (head_data e) (e.bytes ++ x)
+
+  there : has_laid fl u ≡ true
+  unfolding u head
+  there = has_laid_again fl e.heading.stored (head_data e) (e.bytes ++ x)
+
+  counts : (laid_of fl u).count ≡ length e.bytes
   counts = ap (λ (h : HeadData). h.count) says
 
-  end_is : entry_end u ≡ length (head_bytes (head_in e)) + length e.bytes
+  end_is : entry_end fl u ≡ length head + length e.bytes
   end_is = omega (arith, ends, counts)
 
-  long : length u ≡ length (head_bytes (head_in e)) + (length e.bytes + length x)
+  long : length u ≡ length head + (length e.bytes + length x)
   unfolding u
-  long = omega (arith, length-append (head_bytes (head_in e)) (e.bytes ++ x), length-append e.bytes x)
+  long = omega (arith, length-append head (e.bytes ++ x), length-append e.bytes x)
 
-  is_whole : has_entry u ≡ true
-  is_whole = rw (le_test (head_end u) (length u) (omega (arith, ends, long)), le_test (entry_end u) (length u) (omega (arith, end_is, long))) refl
+  is_whole : has_entry fl u ≡ true
+  is_whole = rw (right, there, le_test (entry_end fl u) (length u) (omega (arith, end_is, long))) refl
 
-  after : drop (head_end u) u ≡ e.bytes ++ x
+  after : drop (laid_end fl u) u ≡ e.bytes ++ x
   unfolding u
-  after = drop_at (head_bytes (head_in e)) (e.bytes ++ x) (head_end u) (sym ends)
+  after = drop_at head (e.bytes ++ x) (laid_end fl u) (sym ends)
 
-  bytes_are : slice_range u (head_end u) (entry_end u) ≡ e.bytes
-  bytes_are = ap (take (entry_end u - head_end u)) after ∙ take_at e.bytes x (entry_end u - head_end u) (omega (arith, ends, end_is))
+  bytes_are : slice_range u (laid_end fl u) (entry_end fl u) ≡ e.bytes
+  bytes_are = ap (take (entry_end fl u - laid_end fl u)) after ∙ take_at e.bytes x (entry_end fl u - laid_end fl u) (omega (arith, ends, end_is))
 
-  entry_is : entry_of u ≡ e
-  entry_is = λ i. record { heading = record { time = (says i).time; target = (says i).target; packet = (says i).packet }; bytes = bytes_are i }
+  entry_is : entry_of fl u ≡ e
+  entry_is = λ i. record { heading = record { time = (says i).time; target = (says i).target; packet = (says i).packet; stored = stored_is i }; bytes = bytes_are i }
 
-  laid : entry_bytes e ++ x ≡ u
-  unfolding u
-  laid = append_assoc (head_bytes (head_in e)) e.bytes x
+  laid : entry_bytes fl e ++ x ≡ u
+  unfolding u head
+  laid = append_assoc head e.bytes x
 
-  pub read_again : EntryIsRead e x
+  pub read_again : EntryIsRead fl e x
+  unfolding head
   read_again = record {
-    whole = ap has_entry laid ∙ is_whole;
-    entry = ap entry_of laid ∙ entry_is;
-    end = ap entry_end laid ∙ (end_is ∙ sym (length-append (head_bytes (head_in e)) e.bytes));
+    whole = ap (has_entry fl) laid ∙ is_whole;
+    entry = ap (entry_of fl) laid ∙ entry_is;
+    end = ap (entry_end fl) laid ∙ (end_is ∙ sym (length-append head e.bytes));
   }
 
 pub entries_are_read : EntriesAreRead
-entries_are_read e x f = read_again e x f
+entries_are_read fl e x f = read_again fl e x f
 
-module _ (u : List ℕ) (b : AreBytes u) (h : has_entry u ≡ true) where
-  head_there : head_end u ≤ length u
-  head_there = le_tells (head_end u) (length u) (and_tells (has_head u) (nat_le (entry_end u) (length u)) h).0
+not_tells : (b : Bool) → not b ≡ true → b ≡ false
+not_tells true h = cc h
+not_tells false h = refl
 
-  pub all_there : entry_end u ≤ length u
-  all_there = le_tells (entry_end u) (length u) (and_tells (has_head u) (nat_le (entry_end u) (length u)) h).1
+module _ (fl : Bool) (u : List ℕ) (b : AreBytes u) (h : has_entry fl u ≡ true) where
+  parts : (not (has_wrong_flags fl u) ≡ true) × ((has_laid fl u && nat_le (entry_end fl u) (length u)) ≡ true)
+  parts = and_tells (not (has_wrong_flags fl u)) (has_laid fl u && nat_le (entry_end fl u) (length u)) h
 
-  as_long : length (slice_range u (head_end u) (entry_end u)) ≡ (head_of u).count
-  as_long = omega (arith, all_there, length-drop (head_end u) u, length-take-le (entry_end u - head_end u) (drop (head_end u) u) (omega (arith, all_there, length-drop (head_end u) u)))
+  right_there : has_wrong_flags fl u ≡ false
+  right_there = not_tells (has_wrong_flags fl u) parts.0
 
-  pub fits_there : FitsLogged (entry_of u)
+  head_there : has_laid fl u ≡ true
+  head_there = (and_tells (has_laid fl u) (nat_le (entry_end fl u) (length u)) parts.1).0
+
+  pub all_there : entry_end fl u ≤ length u
+  all_there = le_tells (entry_end fl u) (length u) (and_tells (has_laid fl u) (nat_le (entry_end fl u) (length u)) parts.1).1
+
+  as_long : length (slice_range u (laid_end fl u) (entry_end fl u)) ≡ (laid_of fl u).count
+  as_long = omega (arith, all_there, length-drop (laid_end fl u) u, length-take-le (entry_end fl u - laid_end fl u) (drop (laid_end fl u) u) (omega (arith, all_there, length-drop (laid_end fl u) u)))
+
+  pub fits_there : FitsLogged fl (entry_of fl u)
   fits_there =
-      let f = fits_of u b head_there in
-      record { heading = record { seconds = f.seconds; micros = f.micros; target = f.target; packet = f.packet }; bytes = omega (arith, as_long, f.count) }
+      let f = laid_fits fl u b head_there in
+      record { heading = record { seconds = f.seconds; micros = f.micros; target = f.target; packet = f.packet }; bytes = omega (arith, as_long, f.count); unstored = untold fl u }
 
-  same_head : head_in (entry_of u) ≡ head_of u
-  same_head = λ i. record { time = (head_of u).time; target = (head_of u).target; packet = (head_of u).packet; count = as_long i }
+  same_head : head_data (entry_of fl u) ≡ laid_of fl u
+  same_head = λ i. record { time = (laid_of fl u).time; target = (laid_of fl u).target; packet = (laid_of fl u).packet; count = as_long i }
 
-  pub laid_there : u ≡ entry_bytes (entry_of u) ++ drop (entry_end u) u
+  pub laid_there : u ≡ entry_bytes fl (entry_of fl u) ++ drop (entry_end fl u) u
   laid_there =
-      head_whole u b head_there
-      ∙ (ap (λ v. head_bytes (head_of u) ++ v) (drop_split u (head_end u) (entry_end u) (omega arith))
-      ∙ (ap (λ (d : HeadData). head_bytes d ++ (slice_range u (head_end u) (entry_end u) ++ drop (entry_end u) u)) (sym same_head)
-      ∙ sym (append_assoc (head_bytes (head_in (entry_of u))) (slice_range u (head_end u) (entry_end u)) (drop (entry_end u) u))))
+      laid_whole fl u b right_there head_there
+      ∙ (ap (λ v. laid_head fl (stored_at fl u) (laid_of fl u) ++ v) (drop_split u (laid_end fl u) (entry_end fl u) (omega arith))
+      ∙ (ap (λ (d : HeadData). laid_head fl (stored_at fl u) d ++ (slice_range u (laid_end fl u) (entry_end fl u) ++ drop (entry_end fl u) u)) (sym same_head)
+      ∙ sym (append_assoc (laid_head fl (stored_at fl u) (head_data (entry_of fl u))) (slice_range u (laid_end fl u) (entry_end fl u)) (drop (entry_end fl u) u))))
 
 pub entries_are_exact : EntriesAreExact
-entries_are_exact u b = (
-  λ h. (entry_of u, drop (entry_end u) u, fits_there u b h, laid_there u b h),
-  λ t. ap has_entry t.3 ∙ (read_again t.0 t.1 t.2).whole,
+entries_are_exact fl u b = (
+  λ h. (entry_of fl u, drop (entry_end fl u) u, fits_there fl u b h, laid_there fl u b h),
+  λ t. ap (has_entry fl) t.3 ∙ (read_again fl t.0 t.1 t.2).whole,
 )

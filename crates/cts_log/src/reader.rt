@@ -1,13 +1,15 @@
 //! The reader of log files.
 
 ghost use Rattle.std.specs.Prelude.{◌≡◌, ◌≤◌, true, false, drop, length, MatchOption};
-ghost use Rattle.cts_frame.specs.Heads.{AreBytes};
+ghost use Rattle.cts_framing.specs.Heads.{AreBytes};
+ghost use Rattle.cts_framing.specs.Layouts.{are_flags, has_flags};
+ghost use Rattle.cts_log.specs.Files.{first_of, layout_of};
 ghost use Rattle.cts_log.specs.Logged.{entry_end, entry_of, has_entry};
 ghost use Rattle.cts_log.specs.Reading.{logged};
 
-use crate::heads::{HEAD_LEN, kind_of};
+use crate::heads::{HEAD_LEN, kind_by};
 use crate::{LogEntry, LogFault, LogKind};
-use cts_spell::read_head;
+use cts_encode::read_head;
 use std::marker::Model;
 
 /// Reads a log file, entry by entry. It lends each as parts of the file, which outlive the reader, and takes no memory.
@@ -17,26 +19,28 @@ pub struct LogReader<'a> {
     bytes: &'a [u8],
     // which log it is; none where it has no head
     kind: Option<LogKind>,
+    // whether its entries have flags
+    flagged: bool,
     // where the bytes begin that are in no entry so far
     place: usize,
 }
 
 impl<'a> Model for LogReader<'a> {
     ghost use Rattle.std.specs.Prelude.{◌≡◌, ◌≤◌, length};
-    ghost use Rattle.cts_log.specs.Files.{kind_of};
+    ghost use Rattle.cts_log.specs.Files.{flagged_of, kind_of};
     ghost use Rattle.cts_log.specs.Reading.{ReaderData};
 
     ghost Value = { ReaderData };
 
     ghost view = { λ r. record { file = r.bytes.now; place = r.place } };
 
-    ghost invariant = { λ r. (r.kind ≡ kind_of r.bytes.now) × (r.place ≤ length r.bytes.now) };
+    ghost invariant = { λ r. (r.kind ≡ kind_of r.bytes.now) × (r.flagged ≡ flagged_of r.bytes.now) × (r.place ≤ length r.bytes.now) };
 }
 
 impl<'a> LogReader<'a> {
     ghost use Rattle.std.specs.Prelude.{◌≡◌, ◌<◌, ◌^◌, List, [], length, min, true, is_some};
-    ghost use Rattle.cts_frame.specs.Heads.{AreBytes};
-    ghost use Rattle.cts_log.specs.Files.{kind_of, log_head_len};
+    ghost use Rattle.cts_framing.specs.Heads.{AreBytes};
+    ghost use Rattle.cts_log.specs.Files.{flagged_of, kind_of, layout_in, log_head_len};
     ghost use Rattle.cts_log.specs.Logged.{Logged};
     ghost use Rattle.cts_log.specs.Reading.{Answers, HasRead, ReadsOn};
 
@@ -45,9 +49,12 @@ impl<'a> LogReader<'a> {
         ensures value { result ≡ record { file = bytes.now; place = min log_head_len (length bytes.now) } }
         ensures reads { is_some (kind_of bytes.now) ≡ true → HasRead result [] }
     {
+        let plain = kind_by(false, bytes);
+        let marked = kind_by(true, bytes);
         LogReader {
             bytes,
-            kind: kind_of(bytes),
+            kind: first_of(plain, marked),
+            flagged: marked.is_some(),
             place: HEAD_LEN.min(bytes.len()),
         }
     }
@@ -57,6 +64,16 @@ impl<'a> LogReader<'a> {
         ensures { result ≡ kind_of self.now.file }
     {
         self.kind
+    }
+
+    /// In which layout its entries are, 2 or 4; none where the file has no head.
+    pub fn layout(&self) -> Option<u32>
+        ensures { result ≡ layout_in self.now.file }
+    {
+        match self.kind {
+            Some(_) => Some(layout_of(self.flagged)),
+            None => None,
+        }
     }
 
     /// The next entry, and none at the end of the file.
@@ -89,7 +106,7 @@ impl<'a> LogReader<'a> {
         if self.place == self.bytes.len() {
             return Ok(None);
         }
-        let Some((entry, end)) = entry_at(after(self.bytes, self.place)) else {
+        let Some((entry, end)) = entry_at(self.flagged, after(self.bytes, self.place)) else {
             return Err(LogFault::Cut {
                 place: self.place as u64,
             });
@@ -107,12 +124,25 @@ fn after(bytes: &[u8], place: usize) -> &[u8]
     &bytes[place..]
 }
 
-// The entry that these bytes begin with, and where it ends; none where they begin with no whole one.
-fn entry_at(left: &[u8]) -> Option<(LogEntry<'_>, usize)>
-    ensures { MatchOption result (has_entry left.now ≡ false)
-        (λ e. (has_entry left.now ≡ true) × (logged e.0 ≡ entry_of left.now) × (e.1 ≡ entry_end left.now)) }
+// The first of two answers that is one.
+fn first_of(kind: Option<LogKind>, other: Option<LogKind>) -> Option<LogKind>
+    ensures { result ≡ first_of kind other }
 {
-    let head = read_head(left)?;
+    match kind {
+        Some(kind) => Some(kind),
+        None => other,
+    }
+}
+
+// The entry that these bytes begin with, and where it ends; none where they begin with no whole one.
+fn entry_at(flagged: bool, left: &[u8]) -> Option<(LogEntry<'_>, usize)>
+    ensures { MatchOption result (has_entry flagged left.now ≡ false)
+        (λ e. (has_entry flagged left.now ≡ true) × (logged e.0 ≡ entry_of flagged left.now) × (e.1 ≡ entry_end flagged left.now)) }
+{
+    let head = read_head(left, layout_of(flagged))?;
+    if !are_flags(head.flags) {
+        return None;
+    }
     let count = head.count as usize;
     if left.len() - head.begin < count {
         return None;
@@ -123,10 +153,25 @@ fn entry_at(left: &[u8]) -> Option<(LogEntry<'_>, usize)>
             time: head.time,
             target: &left[head.target.0..head.target.1],
             packet: &left[head.packet.0..head.packet.1],
+            stored: head.flags == 128,
             bytes: &left[head.begin..end],
         },
         end,
     ))
+}
+
+// The layout of entries with flags, or of those without.
+fn layout_of(flagged: bool) -> u32
+    ensures layout { result ≡ layout_of flagged }
+    ensures flags { has_flags result ≡ flagged }
+{
+    if flagged { 4 } else { 2 }
+}
+
+fn are_flags(flags: u8) -> bool
+    ensures { result ≡ are_flags flags }
+{
+    flags == 0 || flags == 128
 }
 
 // Does nothing: each of these is a byte.

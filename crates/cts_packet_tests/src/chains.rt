@@ -33,7 +33,13 @@ FIXED 1 2 0x1acf|ff1acf0105061a cf0107081acf021a|010506 010708 02 More [1, 0, 0,
 LENGTH 0 32 0 1|00100000|More [4, 0, 0, 0] 0 0
 LENGTH 0 32 0 1|00100001|Bad { stage: 1, cause: TooLong } [4, 0, 0, 0] 0 0
 LENGTH 0 16 0 1|0004aabb0001 ff|0004aabb Bad { stage: 1, cause: Short(1) } [3, 0, 0, 0] 0 0
-TERMINATED 0x0a 0x0a;PROTOCOL READ LENGTH 0 8 0 1|000a020a01|Bad { stage: 2, cause: Short(0) } [1, 2, 0, 0] 0 0";
+TERMINATED 0x0a 0x0a;PROTOCOL READ LENGTH 0 8 0 1|000a020a01|Bad { stage: 2, cause: Short(0) } [1, 2, 0, 0] 0 0
+PREIDENTIFIED nil 3 2|0000000000000000000000000004|Bad { stage: 1, cause: OverMax(4) } [14, 0, 0, 0] 0 0
+PREIDENTIFIED nil nil 4|80000000640003d09004494e53540248530000000401900001 00000000640003d09004494e53540248530000000401900001 41|01900001 01900001 Bad { stage: 1, cause: Flags(65) } [1, 0, 0, 0] 0 0
+PREIDENTIFIED 0xc0 3 4|ffc0 81|Bad { stage: 1, cause: Flags(129) } [2, 0, 0, 0] 1 0
+PREIDENTIFIED nil 3 4|800000000000000000000000000004|Bad { stage: 1, cause: OverMax(4) } [15, 0, 0, 0] 0 0
+PREIDENTIFIED nil 3 4|010000000000000000000000000004|Bad { stage: 1, cause: Flags(1) } [15, 0, 0, 0] 0 0
+PREIDENTIFIED nil nil 4|000000000000000000000000100000|Bad { stage: 1, cause: TooLong } [15, 0, 0, 0] 0 0";
 
 /// The same of frames at the limit of 1,048,576 bytes, and one past it.
 const GREATEST: &str = "\
@@ -46,7 +52,9 @@ BURST| *1048577 |Bad { stage: 1, cause: TooLong } [1048577, 0, 0, 0] 0 0
 FIXED 1 1048573| *1048576 |010101 More [0, 0, 0, 0] 0 0
 FIXED 1 1048574| *1048575 |Bad { stage: 1, cause: TooLong } [1048575, 0, 0, 0] 0 0
 PREIDENTIFIED|00000000000000000000000ffff2 *1048562 |1048562 More [0, 0, 0, 0] 0 0
-PREIDENTIFIED|00000000000000000000000ffff3 *1048562 |Bad { stage: 1, cause: TooLong } [1048576, 0, 0, 0] 0 0";
+PREIDENTIFIED|00000000000000000000000ffff3 *1048562 |Bad { stage: 1, cause: TooLong } [1048576, 0, 0, 0] 0 0
+PREIDENTIFIED nil nil 4|8000000000000000000000000ffff1 *1048561 |1048561 More [0, 0, 0, 0] 0 0
+PREIDENTIFIED nil nil 4|8000000000000000000000000ffff2 *1048561 |Bad { stage: 1, cause: TooLong } [1048576, 0, 0, 0] 0 0";
 
 /// What the chain of a row's protocols gives of its pieces.
 struct Told;
@@ -200,11 +208,21 @@ fn cuts_hold(alloc: Global, row: &str, cuts: u32) -> Result<(), Fail> {
 const HEAD: &str =
     "PREIDENTIFIED 0xc0|c0000000050000000601540150000000027778c0|7778 More [1, 0, 0, 0] 0 0";
 
+/// The same with flags.
+const FLAGS: &str =
+    "PREIDENTIFIED 0xc0 nil 4|c080000000050000000601540150000000027778c0|7778 More [1, 0, 0, 0] 0 0";
+
 #[test]
 fn a_head_may_be_cut_at_each_byte(rt: HostRuntime) -> Result<(), Fail> {
+    each_cut_holds(rt.alloc(), HEAD)?;
+    each_cut_holds(rt.alloc(), FLAGS)
+}
+
+/// The row's connection gives what it should where it is cut after one of its first 20 bytes.
+fn each_cut_holds(alloc: Global, row: &str) -> Result<(), Fail> {
     let mut cuts: u32 = 1;
     for _ in 0..20 {
-        cuts_hold(rt.alloc(), HEAD, cuts)?;
+        cuts_hold(alloc, row, cuts)?;
         cuts = cuts.saturating_mul(2);
     }
     Ok(())

@@ -71,30 +71,36 @@ fn opens(hall: &mut Hall) -> Result<(), Fail>
     Ok(())
 }
 
-/// The interface receives a packet, where it is connected and there is room.
-fn receive(hall: &mut Hall, ident: Ident, bytes: Bytes) -> Result<(), HallFault> {
+/// The interface receives a packet, which was stored before or not, where it is connected and there is room.
+fn receive(hall: &mut Hall, ident: Ident, stored: bool, bytes: Bytes) -> Result<(), HallFault> {
     let known = match ident {
         Ident::Known(n) => (n as usize) < hall.site().definitions.telemetry.as_slice().len(),
         Ident::Unknown => true,
     };
     if known && !hall.site().interfaces.as_slice().is_empty() && hall.connected(0) {
         hall.room(1, bytes.as_slice().len() as u64)?;
-        hall.packet(0, NOW, ident, bytes);
+        hall.packet(0, NOW, ident, stored, bytes);
     }
     Ok(())
 }
 
 /// The bytes of these digits are received.
-pub fn receives(alloc: Global, hall: &mut Hall, ident: Ident, digits: &str) -> Result<(), Fail> {
+pub fn receives(
+    alloc: Global,
+    hall: &mut Hall,
+    ident: Ident,
+    stored: bool,
+    digits: &str,
+) -> Result<(), Fail> {
     let bytes = Bytes::of(bytes_of(alloc, digits)?);
-    match receive(hall, ident, bytes) {
+    match receive(hall, ident, stored, bytes) {
         Ok(()) => Ok(()),
         Err(_) => Err(Fail::new("no room")),
     }
 }
 
 /// A hall of these limits, in which the one interface received the packets between blanks: each is the number of its definition,
-/// or `?`, in front of `:`, and digits after it.
+/// or `?`, in front of `:`, and digits after it; a `*` first where it was stored.
 fn hall_after(alloc: Global, entries: u64, bytes: u64, packets: &str) -> Result<Hall, Fail> {
     let mut hall = connected(alloc, entries, bytes)?;
     receives_all(alloc, &mut hall, packets)?;
@@ -112,7 +118,10 @@ fn receives_text(alloc: Global, hall: &mut Hall, packet: &str) -> Result<(), Fai
     let Some((ident, digits)) = packet.split_once(':') else {
         return Err(Fail::new("no packet"));
     };
-    receives(alloc, hall, ident_of(ident)?, digits)
+    match ident.strip_prefix('*') {
+        Some(ident) => receives(alloc, hall, ident_of(ident)?, true, digits),
+        None => receives(alloc, hall, ident_of(ident)?, false, digits),
+    }
 }
 
 fn ident_of(text: &str) -> Result<Ident, Fail> {
@@ -189,7 +198,7 @@ impl Answers for Longer {
 
 fn receives_often(alloc: Global, hall: &mut Hall, times: u32) -> Result<(), Fail> {
     for _ in 0..times {
-        receives(alloc, hall, Ident::Known(0), "010500")?;
+        receives(alloc, hall, Ident::Known(0), false, "010500")?;
     }
     Ok(())
 }
@@ -240,6 +249,33 @@ fn short_and_long_packets_are_counted(rt: HostRuntime) -> Result<(), Fail> {
     same(found.as_str(), wanted, "the counts")
 }
 
+/// Packets of which a `*` marks those that were stored, and what is known after them: a value and the bytes of packet A, the counts,
+/// and how many entries stand.
+const STORED: &str = "\
+*0:010506|Err(NeverReceived) None (Counts { received: 0, short: 0, long: 0 }, Counts { received: 0, short: 0, long: 0 }, 0) 2
+*0:0105 0:010506|Ok(Whole(1286)) Some([1, 5, 6]) (Counts { received: 1, short: 0, long: 0 }, Counts { received: 0, short: 0, long: 0 }, 0) 3
+0:010500 *0:0105 *?:02 *0:01050607|Ok(Whole(1280)) Some([1, 5, 0]) (Counts { received: 1, short: 0, long: 0 }, Counts { received: 0, short: 0, long: 0 }, 0) 5";
+
+struct Stored;
+
+impl Answers for Stored {
+    fn answer(alloc: Global, asked: &str) -> Result<String, Fail> {
+        let hall = hall_after(alloc, 100, 100, asked)?;
+        told_of_now(alloc, &hall)
+    }
+}
+
+fn told_of_now(alloc: Global, hall: &Hall) -> Result<String, Fail> {
+    let value = looked_up(alloc, hall, "T|A|V");
+    let counts = counts_of(alloc, hall)?;
+    Ok(format!(in alloc; "{value:?} {:?} {counts} {}", hall.current(0), hall.count())?)
+}
+
+#[test]
+fn a_stored_packet_is_an_entry_and_says_nothing_of_now(rt: HostRuntime) -> Result<(), Fail> {
+    rows_end_so::<Stored>(rt.alloc(), STORED)
+}
+
 /// The connection ends after a Stop, where there is none and the interface is connected.
 pub fn ends(hall: &mut Hall) {
     if hall.stopped() || hall.site().interfaces.as_slice().is_empty() {
@@ -268,10 +304,21 @@ fn a_full_hall_takes_what_is_owed(rt: HostRuntime) -> Result<(), Fail> {
     same(found.as_str(), wanted, "a full hall")
 }
 
+/// Whether a hall of three bytes has room for one byte and for two after a packet of two bytes, also where that one was stored.
+const ROOM: &str = "\
+0:0105|(Ok(()), Err(Full { entries: 2, bytes: 2 }))
+*0:0105|(Ok(()), Err(Full { entries: 2, bytes: 2 }))";
+
+struct Room;
+
+impl Answers for Room {
+    fn answer(alloc: Global, asked: &str) -> Result<String, Fail> {
+        let mut hall = hall_after(alloc, 8, 3, asked)?;
+        debug_of(alloc, &(hall.room(1, 1), hall.room(1, 2)))
+    }
+}
+
 #[test]
 fn bytes_are_counted_against_their_limit(rt: HostRuntime) -> Result<(), Fail> {
-    let mut hall = hall_after(rt.alloc(), 8, 3, "0:0105")?;
-    let found = debug_of(rt.alloc(), &(hall.room(1, 1), hall.room(1, 2)))?;
-    let wanted = "(Ok(()), Err(Full { entries: 2, bytes: 2 }))";
-    same(found.as_str(), wanted, "room for a byte, and for two")
+    rows_end_so::<Room>(rt.alloc(), ROOM)
 }

@@ -1,10 +1,8 @@
-// What histories say of commands, and what outputs say in their entries: the calls on which the program does not stand yet.
+// What histories say of commands.
 use cts_base::Bytes;
-use cts_core::takes_room;
-use cts_def::{Ident, Time};
-use cts_entry::{Entry, Event, Stands, What, commands_for, is_command_for, place_after};
-use cts_rows::{Answers, debug_of, number, part, rows_end_so, same};
-use cts_told::said_of;
+use cts_def::Time;
+use cts_entry::{Entry, Stands, What, commands_for, is_command_for, place_after};
+use cts_rows::{Answers, debug_of, number, rows_end_so};
 use std::alloc::Global;
 use std::test::Fail;
 
@@ -124,62 +122,4 @@ fn place(history: &Listed, from: u64, commands: u64) -> (u64, Option<u64>) {
 #[test]
 fn commands_of_an_interface_are_found_in_their_order(rt: HostRuntime) -> Result<(), Fail> {
     rows_end_so::<Places>(rt.alloc(), PLACES)
-}
-
-/// An output of an interface or not, its packet or command or `?`, for which interface or `-`, and whether that one is connected;
-/// and what it says in its entry.
-const SAID: &str = "\
-true ? - false|Packet { ident: Unknown, bytes: Bytes { held: [7] } }
-false 3 1 true|Command { interface: 1, command: 3, bytes: Bytes { held: [7] } }
-false 3 1 false|Unrouted { why: NotConnected, bytes: Bytes { held: [7] } }
-false ? - true|Unrouted { why: Unknown, bytes: Bytes { held: [7] } }";
-
-struct Said;
-
-impl Answers for Said {
-    fn answer(alloc: Global, asked: &str) -> Result<String, Fail> {
-        let bytes = Bytes::copy(alloc, b"\x07")?;
-        debug_of(alloc, &output(asked, bytes))
-    }
-}
-
-fn output(row: &str, bytes: Bytes) -> What {
-    said_of(
-        part(row, 0) == "true",
-        ident_of(part(row, 1)),
-        part(row, 2).parse::<u32>().ok(),
-        part(row, 3) == "true",
-        bytes,
-    )
-}
-
-fn ident_of(word: &str) -> Ident {
-    match word.parse::<u32>() {
-        Ok(number) => Ident::Known(number),
-        Err(_) => Ident::Unknown,
-    }
-}
-
-#[test]
-fn an_output_of_a_slot_is_a_command_only_for_a_connected_interface(
-    rt: HostRuntime,
-) -> Result<(), Fail> {
-    rows_end_so::<Said>(rt.alloc(), SAID)
-}
-
-/// Whether an opening, a piece, a stop and a write take room.
-fn room_takers(piece: Bytes) -> (bool, bool, bool, bool) {
-    (
-        takes_room(&Event::Opens(0)),
-        takes_room(&Event::Piece(0, piece)),
-        takes_room(&Event::Stop),
-        takes_room(&Event::Write(0, 1)),
-    )
-}
-
-#[test]
-fn an_opened_and_a_piece_take_room(rt: HostRuntime) -> Result<(), Fail> {
-    let piece = Bytes::copy(rt.alloc(), b"\x00")?;
-    let found = debug_of(rt.alloc(), &room_takers(piece))?;
-    same(found.as_str(), "(true, true, false, false)", "four events")
 }

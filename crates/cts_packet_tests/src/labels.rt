@@ -38,12 +38,24 @@ pub fn name_text(alloc: Global, text: &str) -> Result<String, Fail> {
     }
 }
 
-/// The label of these names.
+/// The label of these names, of a packet that was not stored.
 pub fn label_of(alloc: Global, time: Time, target: &str, packet: &str) -> Result<Label, Fail> {
+    marked(alloc, time, target, packet, false)
+}
+
+/// The label of these names, of a packet that was stored or not.
+pub fn marked(
+    alloc: Global,
+    time: Time,
+    target: &str,
+    packet: &str,
+    stored: bool,
+) -> Result<Label, Fail> {
     Ok(Label {
         time,
         target: name_of(alloc, target)?,
         packet: name_of(alloc, packet)?,
+        stored,
     })
 }
 

@@ -16,7 +16,7 @@ LIMITS DEFAULT 3 ENABLED -80 -70 60 80;\
 TELEMETRY T C BIG_ENDIAN;APPEND_ID_ITEM K 8 UINT 3;APPEND_ITEM W 8 UINT;\
 STATE ON 1 RED;STATE OFF 0";
 
-/// The entry from which events are asked, what happened, and the events: a packet P or one put in its place I, a set chosen S, sampling
+/// The entry from which events are asked, what happened, and the events: a packet P, one that was stored R or one put in its place I, a set chosen S, sampling
 /// turned on or off E, the limits of the set NIGHT given in a set with persistence 2 L.
 const EVENTS: &str = "\
 0|P 0 010500;S NIGHT;P 0 010500|[LimitsEvent { at: 1, packet: 0, item: 1, before: Stale, after: RedHigh }, LimitsEvent { at: 3, packet: 0, item: 1, before: RedHigh, after: Green }]
@@ -27,7 +27,9 @@ const EVENTS: &str = "\
 0|P 0 010500;S DAWN;L 0 DAWN;P 0 010500;P 0 010500|[LimitsEvent { at: 1, packet: 0, item: 1, before: Stale, after: RedHigh }, LimitsEvent { at: 5, packet: 0, item: 1, before: RedHigh, after: Green }]
 0|P 0 010500;S DAWN;P 0 010500|[LimitsEvent { at: 1, packet: 0, item: 1, before: Stale, after: RedHigh }]
 0|P 2 0301;P 2 0300;P 2 0302|[LimitsEvent { at: 1, packet: 2, item: 1, before: Stale, after: StateRed }]
-0|P 2 0300|[]";
+0|P 2 0300|[]
+0|R 0 010500;P 0 010500|[LimitsEvent { at: 2, packet: 0, item: 1, before: Stale, after: RedHigh }]
+0|P 0 010500;R 0 010032;R 2 0301|[LimitsEvent { at: 1, packet: 0, item: 1, before: Stale, after: RedHigh }]";
 
 /// Two commands, of which the interface takes one.
 const COMMANDS: &str = "\
@@ -101,7 +103,8 @@ fn step_of(
     rest: &str,
 ) -> Result<(), Fail> {
     match what {
-        "P" => return receives(alloc, hall, Ident::Known(packet), rest),
+        "P" => return receives(alloc, hall, Ident::Known(packet), false, rest),
+        "R" => return receives(alloc, hall, Ident::Known(packet), true, rest),
         "I" => inject(hall, packet, Bytes::of(bytes_of(alloc, rest)?)),
         "E" => turn(hall, packet, rest == "on"),
         _ => give(hall, packet, Name::read(alloc, rest.as_bytes())?),

@@ -71,19 +71,22 @@ fn text_at(
     debug_of(alloc, &as_text(lines.as_slice())?)
 }
 
-/// What entry 9 of this maker says, at second 7 and 5 micros.
+/// What a copy of entry 9 of this maker says, at second 7 and 5 micros.
 fn line_of(alloc: Global, by: u32, what: What) -> Result<String, Fail> {
     let entry = Entry {
         by,
         time: TIME,
         what,
     };
-    text_of(alloc, 9, &entry, &[])
+    text_of(alloc, 9, &entry.copy()?, &[])
 }
 
 /// A maker, what the entry is, a number or `-`, and bytes; and the line of entry 9.
 const HELD: &str = r#"0 packet - 0004aabb|"9 7.000005 I PACKET UNKNOWN UNKNOWN 0004aabb\n"
 1 packet 1|"9 7.000005 INST_INT PACKET AUX LINE -\n"
+0 stored - 0004aabb|"9 7.000005 I STORED UNKNOWN UNKNOWN 0004aabb\n"
+1 stored 0 07|"9 7.000005 INST_INT STORED INST HS 07\n"
+1 stored 1|"9 7.000005 INST_INT STORED AUX LINE -\n"
 24 injected 0 4849|"9 7.000005 DESK/0 INJECTED INST HS 4849\n"
 27 command 1 07000a|"9 7.000005 DESK/3 COMMAND AUX CLEAR 07000a\n"
 16 unrouted - ff|"9 7.000005 OUT/0 UNROUTED NOTCONNECTED ff\n""#;
@@ -108,7 +111,11 @@ fn ident_of(word: &str) -> Ident {
 /// An entry of these bytes. The injected packet is the first one, and the command the second one, for the first interface.
 fn kept(word: &str, ident: Ident, bytes: Bytes) -> What {
     match word {
-        "packet" => What::Packet { ident, bytes },
+        "packet" | "stored" => What::Packet {
+            ident,
+            stored: word == "stored",
+            bytes,
+        },
         "injected" => What::Injected { packet: 0, bytes },
         "command" => What::Command {
             interface: 0,
@@ -165,7 +172,8 @@ const CLOSES: &str =
     r#"memory|"9 7.000005 BACK/1 CLOSED MEMORY held 3 40 500 6000 skipped 7 empty 8 unposted 9 unsent 10\n"
 short|"9 7.000005 BACK/1 CLOSED BAD 2 SHORT -32768 held 3 40 500 6000 skipped 7 empty 8 unposted 9 unsent 10\n"
 over|"9 7.000005 BACK/1 CLOSED BAD 3 OVERMAX 1048577 held 3 40 500 6000 skipped 7 empty 8 unposted 9 unsent 10\n"
-unknown|"9 7.000005 BACK/1 CLOSED BAD 4 UNKNOWN held 3 40 500 6000 skipped 7 empty 8 unposted 9 unsent 10\n""#;
+unknown|"9 7.000005 BACK/1 CLOSED BAD 4 UNKNOWN held 3 40 500 6000 skipped 7 empty 8 unposted 9 unsent 10\n"
+flags|"9 7.000005 BACK/1 CLOSED BAD 1 FLAGS 65 held 3 40 500 6000 skipped 7 empty 8 unposted 9 unsent 10\n""#;
 
 struct Closes;
 
@@ -186,6 +194,7 @@ fn why_of(word: &str) -> Why {
         "short" => bad(2, BadCause::Short(-32768)),
         "over" => bad(3, BadCause::OverMax(1048577)),
         "unknown" => bad(4, BadCause::UnknownStart),
+        "flags" => bad(1, BadCause::Flags(65)),
         _ => Why::NoMemory,
     }
 }
@@ -258,6 +267,7 @@ fn sampled(alloc: Global) -> Result<Entry, Fail> {
         },
         what: What::Packet {
             ident: Ident::Known(0),
+            stored: false,
             bytes: Bytes::copy(alloc, b"\x01\x02\x03")?,
         },
     })

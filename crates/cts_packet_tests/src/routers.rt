@@ -7,7 +7,7 @@ use cts_core::{Framer, Supplier, World, WorldFault};
 use cts_def::Site;
 use cts_entry::{Effect, Event, Why};
 use cts_proto::Shelf;
-use cts_rows::{Answers, as_text, bytes_of, debug_of, digits_of, number, part, rows_end_so};
+use cts_rows::{Answers, as_text, bytes_of, cut, debug_of, digits_of, number, part, rows_end_so};
 use cts_samples::site_of;
 use cts_script::effect_line;
 use std::alloc::Global;
@@ -161,6 +161,36 @@ impl Answers for Logs {
 #[test]
 fn logs_take_each_entry_once(rt: HostRuntime) -> Result<(), Fail> {
     rows_end_so::<Logs>(rt.alloc(), LOGS)
+}
+
+/// What comes and goes in heads of layout 4 is logged in that layout: with the flag of a packet that was stored, which a slot is put too,
+/// and with none of a command. A log of layout 2, and a slot with heads of it, leave the flags out.
+const STORED: &str = "\
+LOG_LAYOUT 4|4|open 0;open 16;from 0 8000000005000000060154014100000003030107;from 0 0000000005000000060154014100000003030108;T C with N 4;log 5;drain 16 3|\
+;;;;REPLY DESK/0 4 -;\
+TLM 80000000050000000601540141000000030301070000000005000000060154014100000003030108 CMD 0000000000000000000154014300000003030204;\
+ROUTED R/0 80000000050000000601540141000000030301070000000005000000060154014100000003030108; \
+0 0.000000 I OPENED;1 0.000000 R/0 OPENED;2 5.000006 I STORED T A 030107;3 5.000006 I PACKET T A 030108;4 0.000000 DESK/0 COMMAND T C 030204;
+LOG_LAYOUT 2|2|open 0;open 16;from 0 8000000005000000060154014100000003030107;log 3;drain 16 1|\
+;;;TLM 00000005000000060154014100000003030107 CMD ;ROUTED R/0 00000005000000060154014100000003030107; \
+0 0.000000 I OPENED;1 0.000000 R/0 OPENED;2 5.000006 I STORED T A 030107;";
+
+struct Stored;
+
+impl Answers for Stored {
+    fn answer(alloc: Global, asked: &str) -> Result<String, Fail> {
+        let (logs, rest) = cut(asked, '|')?;
+        let (layout, events) = cut(rest, '|')?;
+        let site = format!(in alloc;
+            "{logs};INTERFACE I tcpip_client_interface.rb h 1 1 nil nil PREIDENTIFIED nil nil 4;TARGET T;ROUTER R tcpip_server_interface.rb 3 3 nil nil PREIDENTIFIED nil nil {layout};ROUTE I"
+        )?;
+        told_of::<Chain, Shelf>(alloc, site.as_str(), events, &mut stocked(alloc, 3)?)
+    }
+}
+
+#[test]
+fn stored_packets_are_logged_and_routed_with_their_flag(rt: HostRuntime) -> Result<(), Fail> {
+    rows_end_so::<Stored>(rt.alloc(), STORED)
 }
 
 /// A packet whose spelling a slot's chain refuses, since it has the mark that ends a frame, is passed over and counts as unsent.

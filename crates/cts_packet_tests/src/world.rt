@@ -254,11 +254,13 @@ fn commands_are_sent_up_to_the_last_place_of_the_history(rt: HostRuntime) -> Res
     rows_end_so::<Sent>(rt.alloc(), SENT)
 }
 
-/// The same of a world whose interface has a target, after protocols: packets bring their own time and names, and chains end with
-/// all losses.
+/// The same of a world whose interface has a target, after protocols: packets bring their own time and names, and whether they were
+/// stored, and chains end with all losses.
 const CHAINS: &str = "\
 BURST|opens;piece 0105060708|Ok(Posted);Ok(Posted); 0 0.000000 I OPENED;1 0.000000 I PACKET T A 0105060708;
 PREIDENTIFIED 0xab|opens;piece ab000000050000000601540141000000030205;piece 06|Ok(Posted);Ok(Posted);Ok(Posted); 0 0.000000 I OPENED;1 5.000006 I PACKET T A 020506;
+PREIDENTIFIED 0xab nil 4|opens;piece ab80000000050000000601540141000000030205;piece 06;piece ab000000000700000008015401420000000101|Ok(Posted);Ok(Posted);Ok(Posted);Ok(Posted); 0 0.000000 I OPENED;1 5.000006 I STORED T A 020506;2 7.000008 I PACKET UNKNOWN UNKNOWN 01;
+PREIDENTIFIED 0xab nil 4|opens;piece ab80000000050000000601540141000000010aab41|Ok(Posted);Ok(Posted); 0 0.000000 I OPENED;1 5.000006 I STORED T A 0a;2 0.000000 I CLOSED BAD 1 FLAGS 65 held 2 0 0 0 skipped 0 empty 0 unposted 0 unsent 0;
 TERMINATED 0x0a 0x0a;PROTOCOL READ LENGTH 0 8 0 1|opens;piece 03110a00;piece 0a01|Ok(Posted);Ok(Posted);Ok(Posted); 0 0.000000 I OPENED;1 0.000000 I PACKET UNKNOWN UNKNOWN 031100;
 TERMINATED 0x0a 0x0a;PROTOCOL READ LENGTH 0 8 0 1|opens;piece 000a020a01|Ok(Posted);Ok(Posted); 0 0.000000 I OPENED;1 0.000000 I CLOSED BAD 2 SHORT 0 held 1 2 0 0 skipped 0 empty 0 unposted 0 unsent 0;";
 

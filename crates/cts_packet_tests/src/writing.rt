@@ -2,11 +2,11 @@
 ghost use Rattle.cts_chain.specs.Shapes.{IsChain, IsIdle};
 
 use crate::chains::feed;
-use crate::labels::{bytes_in, label_of, name_text, shown};
+use crate::labels::{bytes_in, label_of, marked, name_text, shown};
 use crate::shelves::chain_of;
 use cts_chain::{Chain, ChainStep, Chained};
 use cts_def::{Label, Time};
-use cts_rows::{Answers, bytes_of, cut, rows_end_so};
+use cts_rows::{Answers, bytes_of, cut, debug_of, part, rows_end_so};
 use std::alloc::Global;
 use std::test::Fail;
 
@@ -33,7 +33,9 @@ LENGTH 16 16 2 2 BIG_ENDIAN 4 0x1acf 4 true|61626364|ee1acf000361626364
 LENGTH 16 16 2 2 BIG_ENDIAN 4 0x1acf 4 true|616263|NoPlace ee
 LENGTH 16 16 2 2 BIG_ENDIAN 4 0x1acf 4 true|6162636465666768|LengthTooLarge ee
 PREIDENTIFIED 0xc0 3|7778797a|LengthTooLarge ee
-PREIDENTIFIED 0xc0 4|7778797a|eec0000000050000000606544152474554065041434b4554000000047778797a";
+PREIDENTIFIED 0xc0 4|7778797a|eec0000000050000000606544152474554065041434b4554000000047778797a
+PREIDENTIFIED 0xc0 3 4|7778797a|LengthTooLarge ee
+PREIDENTIFIED 0xc0 4 4|7778797a|eec000000000050000000606544152474554065041434b4554000000047778797a";
 
 /// The greatest frames, and one byte more.
 const GREATEST: &str = "\
@@ -46,7 +48,9 @@ LENGTH 0 8 0 1 BIG_ENDIAN 1 nil nil true|*255|LengthTooLarge ee
 LENGTH 0 16 0 1 BIG_ENDIAN 2 nil nil true|*65533|65536
 LENGTH 0 16 0 1 BIG_ENDIAN 2 nil nil true|*65534|LengthTooLarge ee
 PREIDENTIFIED|*1048550|1048577
-PREIDENTIFIED|*1048551|LengthTooLarge ee";
+PREIDENTIFIED|*1048551|LengthTooLarge ee
+PREIDENTIFIED nil nil 4|*1048549|1048577
+PREIDENTIFIED nil nil 4|*1048550|LengthTooLarge ee";
 
 /// What the chain of a row's protocols writes of its bytes.
 struct Written;
@@ -198,4 +202,46 @@ fn read_again(
         "{} {} {same} {same_target} {same_packet}",
         time.seconds, time.micros
     )?)
+}
+
+/// A layout, whether a packet was stored, and whether it is told to be after it was written in that layout and read again.
+const STORED: &str = "\
+2 false|false
+2 true|false
+4 false|false
+4 true|true";
+
+struct Stored;
+
+impl Answers for Stored {
+    fn answer(alloc: Global, asked: &str) -> Result<String, Fail> {
+        let protocols = format!(in alloc; "PREIDENTIFIED nil nil {}", part(asked, 0))?;
+        let label = marked(alloc, MOMENT, "T", "A", part(asked, 1) == "true")?;
+        let mut chain = chain_of(alloc, protocols.as_str())?;
+        stored_again(alloc, &mut chain, &label)
+    }
+}
+
+#[test]
+fn a_packet_says_whether_it_was_stored(rt: HostRuntime) -> Result<(), Fail> {
+    rows_end_so::<Stored>(rt.alloc(), STORED)
+}
+
+/// Whether the chain's packet is told to be stored, which it writes with this label and reads again.
+fn stored_again(alloc: Global, chain: &mut Chain, label: &Label) -> Result<String, Fail>
+    requires { IsIdle (⟦<Chain as Chained>⟧.shape chain.old) }
+{
+    let mut frame = Vec::new(alloc);
+    write(chain, label, b"x", &mut frame)?;
+    feed(chain, &frame)?;
+    stored_next(alloc, chain)
+}
+
+fn stored_next(alloc: Global, chain: &mut Chain) -> Result<String, Fail>
+    requires { IsChain (⟦<Chain as Chained>⟧.shape chain.old) }
+{
+    let ChainStep::Packet(_) = chain.next() else {
+        return Err(Fail::new("no packet"));
+    };
+    debug_of(alloc, &chain.packet_stored())
 }

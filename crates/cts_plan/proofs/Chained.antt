@@ -3,6 +3,7 @@ use Rattle.std.proofs.Common.{◌≡◌, ℕ, ◌≤◌, ◌+◌, Bool, true, fa
 use Rattle.std.specs.Prelude.{IsTrue, IfOk, nat_le}
 use Rattle.std.specs.List.{list_any}
 use Rattle.std.proofs.lemmas.List.{length-map}
+use Rattle.cts_def.specs.Most.{most_protocols}
 use Rattle.cts_def.specs.Packets.{DefinitionsData}
 use Rattle.cts_def.specs.Protocols.{SpecData, UseData, reads, reads_packets, is_packet_kind, is_chain}
 use Rattle.cts_def.specs.Protocols as uses
@@ -95,18 +96,18 @@ uses_last d targets (s ∷ ss) =
     ∙ ap (λ b. not (step_reads_packets s && b) && uses.are_packets_last (map (use_of d targets) ss)) (any_use_reads d targets ss)
     ∙ ap (λ b. not (step_reads_packets s && list_any step_reads ss) && b) (uses_last d targets ss)
 
-not_above : (n : ℕ) → nat_lt 4 n ≡ false → nat_le n 4 ≡ true
-not_above n e = grind arith
+not_above : (most n : ℕ) → nat_lt most n ≡ false → nat_le n most ≡ true
+not_above most n e = grind arith
 
 -- a chain that is not too long, and in which none reads after one that reads packets
-pub sound_chain : (d : DefinitionsData) (targets : List (List ℕ)) (ss : List StepData) → nat_lt 4 (length (whole_chain ss)) ≡ false → IsTrue (are_packets_last ss)
+pub sound_chain : (d : DefinitionsData) (targets : List (List ℕ)) (ss : List StepData) → nat_lt most_protocols (length (whole_chain ss)) ≡ false → IsTrue (are_packets_last ss)
     → IsTrue (is_chain (map (use_of d targets) (whole_chain ss)))
 sound_chain d targets ss few last =
     let chain = whole_chain ss in
     let f = use_of d targets in
-    and_true (nat_le (length (map f chain)) 4 && list_any reads (map f chain)) (uses.are_packets_last (map f chain))
-    (and_true (nat_le (length (map f chain)) 4) (list_any reads (map f chain))
-    (ap (λ n. nat_le n 4) (length-map chain f) ∙ not_above (length chain) few)
+    and_true (nat_le (length (map f chain)) most_protocols && list_any reads (map f chain)) (uses.are_packets_last (map f chain))
+    (and_true (nat_le (length (map f chain)) most_protocols) (list_any reads (map f chain))
+    (ap (λ n. nat_le n most_protocols) (length-map chain f) ∙ not_above most_protocols (length chain) few)
     (any_use_reads d targets chain ∙ with_added_reads (list_any step_reads ss) ss refl))
     (uses_last d targets chain ∙ with_added_last (list_any step_reads ss) ss refl last)
 
@@ -115,8 +116,8 @@ long_or_not true o r e = absurd cc
 long_or_not false o r e = refl
 
 -- an interface or router without fault has no chain that is too long
-pub not_too_long : (d : DefinitionsData) (targets : List (List ℕ)) (n : ℕ) (ss : List StepData) → fault_of d targets n ss ≡ None → nat_lt 4 (length (whole_chain ss)) ≡ false
-not_too_long d targets n ss none = long_or_not (nat_lt 4 (length (whole_chain ss))) (first_step_fault d targets ss) (n, ChainTooLong) none
+pub not_too_long : (d : DefinitionsData) (targets : List (List ℕ)) (n : ℕ) (ss : List StepData) → fault_of d targets n ss ≡ None → nat_lt most_protocols (length (whole_chain ss)) ≡ false
+not_too_long d targets n ss none = long_or_not (nat_lt most_protocols (length (whole_chain ss))) (first_step_fault d targets ss) (n, ChainTooLong) none
 
 -- what a chain is made to is one
 pub sound_uses : (d : DefinitionsData) (targets : List (List ℕ)) (n : ℕ) (ss : List StepData) (r : Result (List UseData) (Fault SiteCause)) → IsTrue (are_packets_last ss) → Settles r (fault_of d targets n ss)
@@ -124,6 +125,6 @@ pub sound_uses : (d : DefinitionsData) (targets : List (List ℕ)) (n : ℕ) (ss
 sound_uses d targets n ss (Ok us) last none made = subst (λ (xs : List UseData). IsTrue (is_chain xs)) (sym made) (sound_chain d targets ss (not_too_long d targets n ss none) last)
 sound_uses d targets n ss (Err e) last fault made = tt
 
--- a chain of fewer than four has room for one more
-pub room_for : (n : ℕ) → nat_le 4 n ≡ false → n + 1 ≤ 4
-room_for n e = grind arith
+-- a chain of fewer than so many has room for one more
+pub room_for : (most n : ℕ) → nat_le most n ≡ false → n + 1 ≤ most
+room_for most n e = grind arith

@@ -8,6 +8,7 @@ use Rattle.std.proofs.lemmas.Grind.{flat_map-append}
 use Rattle.std.proofs.lemmas.List.Folds.{list_all-append}
 use Rattle.cts_words.specs.Refusals.{or_else}
 use Rattle.cts_def.specs.Items.{is_same}
+use Rattle.cts_def.specs.Most.{most_interfaces, most_protocols, most_routers}
 use Rattle.cts_def.specs.Packets.{PacketData, DefinitionsData, is_of}
 use Rattle.cts_def.specs.Protocols as spec
 use Rattle.cts_def.specs.Protocols.{SpecData}
@@ -74,7 +75,7 @@ right_steps false r o e = e
 chain_packets : (d : DefinitionsData) (targets : List (List ℕ)) (n : ℕ) (ss : List StepData) → fault_of d targets n ss ≡ None → AreOfPackets d targets (chain_of d targets ss)
 chain_packets d targets n ss e =
     chain_at d targets ss (list_any step_reads ss)
-    (steps_packets d targets ss (right_steps (nat_lt 4 (length (whole_chain ss))) (n, ChainTooLong) (first_step_fault d targets ss) e))
+    (steps_packets d targets ss (right_steps (nat_lt most_protocols (length (whole_chain ss))) (n, ChainTooLong) (first_step_fault d targets ss) e))
 
 -- ---- routes, with an interface more
 
@@ -141,7 +142,7 @@ interface_added s i sound new right =
     let more = interface_of s.definitions i in
     let longer : length (is ++ more ∷ []) ≡ suc (length is) = one_longer is more in
     record {
-      few_interfaces = subst (λ n. n ≤ 16) (sym longer) (few_more (length is) 16 new.few);
+      few_interfaces = subst (λ n. n ≤ most_interfaces) (sym longer) (few_more (length is) most_interfaces new.few);
       few_routers = sound.few_routers;
       interface_names = names_more (λ (j : InterfaceData). j.name) is more sound.interface_names new.name;
       router_names = sound.router_names;
@@ -153,6 +154,8 @@ interface_added s i sound new right =
       api_port = sound.api_port;
       some_desks = sound.some_desks;
       few_desks = sound.few_desks;
+      log_layout = sound.log_layout;
+      log_cycle = sound.log_cycle;
     }
 
 pub router_added : (s : SiteData) (r : RouterDraftData) → IsSoundSite s → IsNewRouter s.interfaces s.routers r.name r.routes → fault_in s (current.Router r) ≡ None → IsSoundSite (completed s (current.Router r))
@@ -161,7 +164,7 @@ router_added s r sound new right =
     let more = router_of s r in
     record {
       few_interfaces = sound.few_interfaces;
-      few_routers = subst (λ n. n ≤ 4) (sym (one_longer rs more)) (few_more (length rs) 4 new.few);
+      few_routers = subst (λ n. n ≤ most_routers) (sym (one_longer rs more)) (few_more (length rs) most_routers new.few);
       interface_names = sound.interface_names;
       router_names = names_more (λ (q : RouterData). q.name) rs more sound.router_names new.name;
       targets = sound.targets;
@@ -173,6 +176,8 @@ router_added s r sound new right =
       api_port = sound.api_port;
       some_desks = sound.some_desks;
       few_desks = sound.few_desks;
+      log_layout = sound.log_layout;
+      log_cycle = sound.log_cycle;
     }
 
 pub sound_completed : (s : SiteData) (c : Current) → IsSoundSite s → IsNew s.definitions s.interfaces s.routers c → fault_in s c ≡ None → IsSoundSite (completed s c)

@@ -1,7 +1,8 @@
 -- A statement without a cause keeps what is true of all that stands.
 use Rattle.std.proofs.Common.{◌≡◌, ℕ, zero, suc, pos, negsuc, ◌≤◌, Bool, true, false, cond, ◌||◌, List, [], ◌∷◌, ◌++◌, length, Option, Some, None, Ok, Err, refl, sym, ap, subst, ◌∙◌, append_assoc, nat_lt, arith, IsTrue}
-use Rattle.std.specs.Prelude.{ℤ, find, int_le, unsigned_abs, unwrap_or, Result}
+use Rattle.std.specs.Prelude.{ℤ, codes, find, int_le, nat_le, unsigned_abs, unwrap_or, Result}
 use Rattle.std.specs.Int.{is_negative}
+use Rattle.std.specs.Str.{bytes_eq}
 use Rattle.std.specs.List.{list_any, list_all, IsDistinct}
 use Rattle.std.proofs.lemmas.Bool.Decides.{nat_tests}
 use Rattle.std.proofs.lemmas.List.{append-nil}
@@ -11,8 +12,10 @@ use Rattle.cts_base.specs.declared.decimal.NotDecimal.{NotDecimal}
 use Rattle.cts_base.specs.Decimals.{decimal_of}
 use Rattle.cts_base.specs.Wholes.{whole_of}
 use Rattle.cts_def.specs.Items.{is_same}
+use Rattle.cts_def.specs.Most.{least_cycle, most_cycle, most_desks}
 use Rattle.cts_def.specs.Packets.{DefinitionsData}
-use Rattle.cts_def.specs.Sites.{InterfaceData, RouterData, SiteData, IsSoundSite, is_known_target, targets_of}
+use Rattle.cts_def.specs.Protocols.{is_layout}
+use Rattle.cts_def.specs.Sites.{InterfaceData, RouterData, SiteData, IsSoundSite, is_cycle, is_known_target, targets_of}
 use Rattle.cts_words.specs.declared.statement.Statement.{Statement}
 use Rattle.cts_words.specs.Refusals.{or_else}
 use Rattle.cts_words.proofs.Finds.{none_passes}
@@ -26,9 +29,9 @@ use Rattle.cts_plan.specs.declared.line.Line.{Line}
 use Rattle.cts_plan.specs.declared.line.Line.TheVariants as line
 use Rattle.cts_plan.specs.declared.line.Detail.{Detail}
 use Rattle.cts_plan.specs.declared.line.Detail.TheVariants as detail
-use Rattle.cts_plan.specs.Words.{word, way_of, natural_in, port_of, desks_of, delay_in, delay_of}
+use Rattle.cts_plan.specs.Words.{word, way_of, natural_in, port_of, desks_of, log_layout_of, cycle_of, delay_in, delay_of}
 use Rattle.cts_plan.specs.Lines.{name_of, step_at, interface_by, router_by, said_or_nothing, line_of}
-use Rattle.cts_plan.specs.Standing.{start, has_name, number_of, closed, change, place}
+use Rattle.cts_plan.specs.Standing.{first_site, start, has_name, number_of, closed, change, place}
 use Rattle.cts_plan.specs.Causes.{holds, order, is_file_unknown, is_unrouted, is_double, is_unknown_target, maps, is_in, is_target_twice, is_chain_too_long, is_not_last, is_too_many}
 use Rattle.cts_reader.specs.Reading.{at_line}
 use Rattle.cts_plan.specs.Completing.{due}
@@ -43,7 +46,9 @@ use Rattle.cts_plan.proofs.Completed.{sound_completed, none_left, all_joined}
 -- what is true of each line, refused or not
 abbrev IsSoundLine : Line → Type 0
 IsSoundLine (line.ApiPort port) = 1 ≤ port
-IsSoundLine (line.Desks desks) = (1 ≤ desks) × (desks ≤ 4)
+IsSoundLine (line.Desks desks) = (1 ≤ desks) × (desks ≤ most_desks)
+IsSoundLine (line.LogLayout layout) = IsTrue (is_layout layout)
+IsSoundLine (line.LogCycle bytes) = IsTrue (is_cycle (Some bytes))
 IsSoundLine (line.Interface i) = i.targets ≡ []
 IsSoundLine (line.Router r) = r.routes ≡ []
 IsSoundLine (line.Detail (detail.Delay delay)) = IsTrue (int_le (pos 0) delay.parts)
@@ -61,6 +66,14 @@ within negative least most m n false is e =
 natural_within : (least most : ℕ) (o : Option ℤ) (n : ℕ) → natural_in least most o ≡ Some n → (least ≤ n) × (n ≤ most)
 natural_within least most None n e = absurd cc
 natural_within least most (Some z) n e = within (is_negative z) least most (unsigned_abs z) n (is_negative z || nat_lt (unsigned_abs z) least || nat_lt most (unsigned_abs z)) refl e
+
+layout_sound : (two four : Bool) (n : ℕ) → cond two (Some 2) (cond four (Some 4) None) ≡ Some n → is_layout n ≡ true
+layout_sound true four n e = let same : 2 ≡ n = cc in ap is_layout (sym same)
+layout_sound false true n e = let same : 4 ≡ n = cc in ap is_layout (sym same)
+layout_sound false false n e = absurd cc
+
+cycle_sound : (n : ℕ) → (least_cycle ≤ n) × (n ≤ most_cycle) → is_cycle (Some n) ≡ true
+cycle_sound n h = and_true (nat_le least_cycle n) (nat_le n most_cycle) (grind (arith, h)) (grind (arith, h))
 
 from_zero : (z : ℤ) → is_negative z ≡ false → int_le (pos 0) z ≡ true
 from_zero (pos n) e = grind arith
@@ -81,7 +94,9 @@ sound_said f (Some x) h = h x refl
 sound_line : (n : ℕ) (k : Keyword) (ws : List (List ℕ)) → IsSoundLine (line_of n k ws)
 sound_line n keyword.Title ws = tt
 sound_line n keyword.Port ws = sound_said (λ port. line.ApiPort port) (port_of (word ws 1)) (λ x e. (natural_within 1 65535 (whole_of (word ws 1)) x e).0)
-sound_line n keyword.Desks ws = sound_said (λ desks. line.Desks desks) (desks_of (word ws 0)) (λ x e. natural_within 1 4 (whole_of (word ws 0)) x e)
+sound_line n keyword.Desks ws = sound_said (λ desks. line.Desks desks) (desks_of (word ws 0)) (λ x e. natural_within 1 most_desks (whole_of (word ws 0)) x e)
+sound_line n keyword.LogLayout ws = sound_said (λ layout. line.LogLayout layout) (log_layout_of (word ws 0)) (λ x e. layout_sound (bytes_eq (word ws 0) (codes "2")) (bytes_eq (word ws 0) (codes "4")) x e)
+sound_line n keyword.LogCycle ws = sound_said (λ bytes. line.LogCycle bytes) (cycle_of (word ws 0)) (λ x e. cycle_sound x (natural_within least_cycle most_cycle (whole_of (word ws 0)) x e))
 sound_line n keyword.Interface ws = sound_said (λ name. line.Interface (interface_by n ws name)) (name_of (word ws 0)) (λ x e. refl)
 sound_line n keyword.Router ws = sound_said (λ name. line.Router (router_by n ws name)) (name_of (word ws 0)) (λ x e. refl)
 sound_line n keyword.Target ws = sound_said (λ name. line.Detail (detail.Target name)) (name_of (word ws 0)) (λ x e. tt)
@@ -118,28 +133,30 @@ free s n k ws e =
       many = none.1.1.1.1.1.1.1.1.1.1.1.1.1.0;
     }
 
-fits_current : (s : SiteData) (c : Current) (d : Detail) → IsSoundLine (line.Detail d) → IsFree (record { site = s; current = c }) (line.Detail d) → FitsCurrent s d c
-fits_current s current.Nothing d sound is_free = tt
-fits_current s (current.Interface i) (detail.Target name) sound is_free =
+fits_current : (s : SiteData) (c : Current) (given : Bool) (d : Detail) → IsSoundLine (line.Detail d) → IsFree (record { site = s; current = c; layout_said = given }) (line.Detail d) → FitsCurrent s d c
+fits_current s current.Nothing given d sound is_free = tt
+fits_current s (current.Interface i) given (detail.Target name) sound is_free =
     let once = neither (list_any (maps name) s.interfaces) (is_in i.targets name) is_free.twice in
     (not_false (is_known_target s.definitions name) is_free.unknown, once.0, once.1)
-fits_current s (current.Interface i) (detail.Step step) sound is_free = (is_free.long, is_free.last)
-fits_current s (current.Interface i) (detail.Route name) sound is_free = tt
-fits_current s (current.Interface i) (detail.Delay delay) sound is_free = sound
-fits_current s (current.Interface i) detail.DontReconnect sound is_free = tt
-fits_current s (current.Interface i) (detail.Logged logged) sound is_free = tt
-fits_current s (current.Router r) (detail.Target name) sound is_free = tt
-fits_current s (current.Router r) (detail.Step step) sound is_free = (is_free.long, is_free.last)
-fits_current s (current.Router r) (detail.Route None) sound is_free = tt
-fits_current s (current.Router r) (detail.Route (Some name)) sound is_free = (not_false (list_any (has_name name) s.interfaces) is_free.routed, is_free.double)
-fits_current s (current.Router r) (detail.Delay delay) sound is_free = tt
-fits_current s (current.Router r) detail.DontReconnect sound is_free = tt
-fits_current s (current.Router r) (detail.Logged logged) sound is_free = tt
+fits_current s (current.Interface i) given (detail.Step step) sound is_free = (is_free.long, is_free.last)
+fits_current s (current.Interface i) given (detail.Route name) sound is_free = tt
+fits_current s (current.Interface i) given (detail.Delay delay) sound is_free = sound
+fits_current s (current.Interface i) given detail.DontReconnect sound is_free = tt
+fits_current s (current.Interface i) given (detail.Logged logged) sound is_free = tt
+fits_current s (current.Router r) given (detail.Target name) sound is_free = tt
+fits_current s (current.Router r) given (detail.Step step) sound is_free = (is_free.long, is_free.last)
+fits_current s (current.Router r) given (detail.Route None) sound is_free = tt
+fits_current s (current.Router r) given (detail.Route (Some name)) sound is_free = (not_false (list_any (has_name name) s.interfaces) is_free.routed, is_free.double)
+fits_current s (current.Router r) given (detail.Delay delay) sound is_free = tt
+fits_current s (current.Router r) given detail.DontReconnect sound is_free = tt
+fits_current s (current.Router r) given (detail.Logged logged) sound is_free = tt
 
 fits : (s : Draft) (l : Line) → IsSoundSite s.site → IsSoundLine l → IsFree s l → Fits l s
 fits s line.Nothing site sound is_free = tt
 fits s (line.ApiPort port) site sound is_free = sound
 fits s (line.Desks desks) site sound is_free = sound
+fits s (line.LogLayout layout) site sound is_free = sound
+fits s (line.LogCycle bytes) site sound is_free = sound
 fits s (line.Interface i) site sound is_free = record {
   few = is_free.many;
   name = is_free.double;
@@ -147,7 +164,7 @@ fits s (line.Interface i) site sound is_free = record {
   known = ap (list_all (is_known_target s.site.definitions)) sound;
 }
 fits s (line.Router r) site sound is_free = record { few = is_free.many; name = is_free.double; routes = ap (list_all (λ n. nat_lt n (length s.site.interfaces))) sound }
-fits s (line.Detail d) site sound is_free = fits_current s.site s.current d sound is_free
+fits s (line.Detail d) site sound is_free = fits_current s.site s.current s.layout_said d sound is_free
 
 pub line_fits : (s : Draft) (n : ℕ) (k : Keyword) (ws : List (List ℕ)) → KeepsRules s → find (λ c. holds c s k ws (line_of n k ws)) order ≡ None → Fits (line_of n k ws) s
 line_fits s n k ws so_far e = fits s (line_of n k ws) so_far.site (sound_line n k ws) (free s n k ws e)
@@ -206,7 +223,7 @@ changed s (current.Router r) (detail.Delay delay) new can = new
 changed s (current.Router r) detail.DontReconnect new can = new
 changed s (current.Router r) (detail.Logged logged) new can = new
 
--- the site with another port, or another number of desks
+-- the site with another port, another number of desks, or another layout or cycle of logs
 pub site_with_port : (s : SiteData) (port : ℕ) → IsSoundSite s → 1 ≤ port → IsSoundSite (record s { api_port = port })
 site_with_port s port sound some = record {
   few_interfaces = sound.few_interfaces;
@@ -221,9 +238,11 @@ site_with_port s port sound some = record {
   api_port = some;
   some_desks = sound.some_desks;
   few_desks = sound.few_desks;
+  log_layout = sound.log_layout;
+  log_cycle = sound.log_cycle;
 }
 
-pub site_with_desks : (s : SiteData) (desks : ℕ) → IsSoundSite s → 1 ≤ desks → desks ≤ 4 → IsSoundSite (record s { desks = desks })
+pub site_with_desks : (s : SiteData) (desks : ℕ) → IsSoundSite s → 1 ≤ desks → desks ≤ most_desks → IsSoundSite (record s { desks = desks })
 site_with_desks s desks sound some few = record {
   few_interfaces = sound.few_interfaces;
   few_routers = sound.few_routers;
@@ -237,12 +256,52 @@ site_with_desks s desks sound some few = record {
   api_port = sound.api_port;
   some_desks = some;
   few_desks = few;
+  log_layout = sound.log_layout;
+  log_cycle = sound.log_cycle;
+}
+
+pub site_with_layout : (s : SiteData) (layout : ℕ) → IsSoundSite s → IsTrue (is_layout layout) → IsSoundSite (record s { log_layout = layout })
+site_with_layout s layout sound is = record {
+  few_interfaces = sound.few_interfaces;
+  few_routers = sound.few_routers;
+  interface_names = sound.interface_names;
+  router_names = sound.router_names;
+  targets = sound.targets;
+  known_targets = sound.known_targets;
+  routes = sound.routes;
+  interface_packets = sound.interface_packets;
+  router_packets = sound.router_packets;
+  api_port = sound.api_port;
+  some_desks = sound.some_desks;
+  few_desks = sound.few_desks;
+  log_layout = is;
+  log_cycle = sound.log_cycle;
+}
+
+pub site_with_cycle : (s : SiteData) (bytes : ℕ) → IsSoundSite s → IsTrue (is_cycle (Some bytes)) → IsSoundSite (record s { log_cycle = Some bytes })
+site_with_cycle s bytes sound is = record {
+  few_interfaces = sound.few_interfaces;
+  few_routers = sound.few_routers;
+  interface_names = sound.interface_names;
+  router_names = sound.router_names;
+  targets = sound.targets;
+  known_targets = sound.known_targets;
+  routes = sound.routes;
+  interface_packets = sound.interface_packets;
+  router_packets = sound.router_packets;
+  api_port = sound.api_port;
+  some_desks = sound.some_desks;
+  few_desks = sound.few_desks;
+  log_layout = sound.log_layout;
+  log_cycle = is;
 }
 
 placed : (s : Draft) (l : Line) → KeepsRules s → Fits l s → KeepsRules (place l s)
 placed s line.Nothing so_far can = so_far
 placed s (line.ApiPort port) so_far can = record { site = site_with_port s.site port so_far.site can; current = so_far.current }
 placed s (line.Desks desks) so_far can = record { site = site_with_desks s.site desks so_far.site can.0 can.1; current = so_far.current }
+placed s (line.LogLayout layout) so_far can = record { site = site_with_layout s.site layout so_far.site can; current = so_far.current }
+placed s (line.LogCycle bytes) so_far can = record { site = site_with_cycle s.site bytes so_far.site can; current = so_far.current }
 placed s (line.Interface i) so_far can = record { site = so_far.site; current = can }
 placed s (line.Router r) so_far can = record { site = so_far.site; current = can }
 placed s (line.Detail d) so_far can = record { site = so_far.site; current = changed s.site s.current d so_far.current can }
@@ -269,10 +328,10 @@ unfolding IsDistinct
 no_two e = tt
 
 -- a site without interfaces and routers
-pub empty_site : (d : DefinitionsData) (is : List InterfaceData) (rs : List RouterData) → is ≡ [] → rs ≡ [] → IsSoundSite (record { definitions = d; interfaces = is; routers = rs; api_port = 7777; desks = 4 })
+pub empty_site : (d : DefinitionsData) (is : List InterfaceData) (rs : List RouterData) → is ≡ [] → rs ≡ [] → IsSoundSite (record (first_site d) { interfaces = is; routers = rs })
 empty_site d is rs none others =
-    subst (λ (js : List InterfaceData). IsSoundSite (record { definitions = d; interfaces = js; routers = rs; api_port = 7777; desks = 4 })) (sym none)
-    (subst (λ (qs : List RouterData). IsSoundSite (record { definitions = d; interfaces = []; routers = qs; api_port = 7777; desks = 4 })) (sym others) (record {
+    subst (λ (js : List InterfaceData). IsSoundSite (record (first_site d) { interfaces = js; routers = rs })) (sym none)
+    (subst (λ (qs : List RouterData). IsSoundSite (record (first_site d) { interfaces = []; routers = qs })) (sym others) (record {
       few_interfaces = omega arith;
       few_routers = omega arith;
       interface_names = no_two is_same;
@@ -285,6 +344,8 @@ empty_site d is rs none others =
       api_port = omega arith;
       some_desks = omega arith;
       few_desks = omega arith;
+      log_layout = refl;
+      log_cycle = refl;
     }))
 
 pub at_start : (d : DefinitionsData) → KeepsRules (start d)

@@ -1,10 +1,11 @@
 -- Each cause, judged by what stands before a statement and by the statement.
-use Rattle.std.specs.Prelude.{ℕ, ◌+◌, Bool, true, false, not, ◌||◌, ◌&&◌, nat_eq, nat_lt, nat_le, List, [], ◌∷◌, length, Option, Some, None, is_none, codes, if◌then◌else◌}
+use Rattle.std.specs.Prelude.{ℕ, ◌+◌, Bool, true, false, not, ◌||◌, ◌&&◌, nat_eq, nat_lt, nat_le, List, [], ◌∷◌, length, Option, Some, None, is_none, is_some, codes, if◌then◌else◌}
 use Rattle.std.specs.List.{list_any}
 use Rattle.std.specs.Option.{option_eq}
 use Rattle.cts_def.specs.declared.proto_spec.Kind.{Kind}
 use Rattle.cts_def.specs.declared.proto_spec.Kind.TheVariants as kind
 use Rattle.cts_def.specs.Items.{is_same}
+use Rattle.cts_def.specs.Most.{most_interfaces, most_protocols, most_routers}
 use Rattle.cts_def.specs.Sites.{InterfaceData, RouterData, is_known_target}
 use Rattle.cts_plan.specs.declared.draft.Draft.{Draft}
 use Rattle.cts_plan.specs.declared.opened.Current.{Current}
@@ -56,6 +57,8 @@ abbrev pub is_outside : Current → Keyword → Bool
 is_outside c keyword.Title = false
 is_outside c keyword.Port = false
 is_outside c keyword.Desks = false
+is_outside c keyword.LogLayout = false
+is_outside c keyword.LogCycle = false
 is_outside c keyword.Interface = false
 is_outside c keyword.Router = false
 is_outside c keyword.Protocol = is_nothing c
@@ -131,11 +134,13 @@ abbrev pub has_route : List InterfaceData → List ℕ → Option (List ℕ) →
 has_route interfaces routes None = false
 has_route interfaces routes (Some name) = list_any (λ route. nat_eq route (number_of interfaces name)) routes
 
--- a name of an interface or router, or a route, that stands already
+-- a name of an interface or router, or a route, that stands already, or a second line of a setting that is given once
 abbrev pub is_double : Draft → Line → Bool
 is_double s (line.Interface i) = list_any (has_name i.name) s.site.interfaces
 is_double s (line.Router r) = list_any (is_router_named r.name) s.site.routers
 is_double s (line.Detail (detail.Route name)) = has_route s.site.interfaces (routes_in s.current) name
+is_double s (line.LogLayout layout) = s.layout_said
+is_double s (line.LogCycle bytes) = is_some s.site.log_cycle
 is_double s _ = false
 
 -- neither a packet nor a command has the target
@@ -156,7 +161,7 @@ is_target_twice s _ = false
 
 -- a fifth protocol
 abbrev pub is_chain_too_long : Draft → Line → Bool
-is_chain_too_long s (line.Detail (detail.Step step)) = nat_le 4 (length (chain_in s.current))
+is_chain_too_long s (line.Detail (detail.Step step)) = nat_le most_protocols (length (chain_in s.current))
 is_chain_too_long s _ = false
 
 -- a reading protocol after one that reads packets
@@ -166,8 +171,8 @@ is_not_last s _ = false
 
 -- a 17th interface or a 5th router
 abbrev pub is_too_many : Draft → Line → Bool
-is_too_many s (line.Interface i) = nat_le 16 (length s.site.interfaces)
-is_too_many s (line.Router r) = nat_le 4 (length s.site.routers)
+is_too_many s (line.Interface i) = nat_le most_interfaces (length s.site.interfaces)
+is_too_many s (line.Router r) = nat_le most_routers (length s.site.routers)
 is_too_many s _ = false
 
 -- ---- all of them

@@ -1,6 +1,7 @@
 -- What is judged when an interface or router is complete: at the statement that opens the next one, or at the end.
 use Rattle.std.specs.Prelude.{ℕ, ◌+◌, Bool, not, ◌&&◌, ◌||◌, ◌==◌, nat_lt, List, [], ◌∷◌, length, Option, Some, None, if◌then◌else◌}
 use Rattle.std.specs.List.{list_any, list_all}
+use Rattle.cts_def.specs.Most.{most_protocols}
 use Rattle.cts_def.specs.Packets.{PacketData, DefinitionsData, is_of}
 use Rattle.cts_def.specs.Protocols as spec
 use Rattle.cts_def.specs.Protocols.{FixedData, SpecData, is_start_within}
@@ -51,7 +52,7 @@ first_step_fault d targets (s ∷ ss) = or_else (step_fault d targets s) (first_
 -- first of its FIXED protocols is wrong for the targets.
 abbrev pub fault_of : DefinitionsData → List (List ℕ) → ℕ → List StepData → Option Refused
 fault_of d targets n steps =
-    if nat_lt 4 (length (whole_chain steps)) then Some (n, ChainTooLong)
+    if nat_lt most_protocols (length (whole_chain steps)) then Some (n, ChainTooLong)
     else first_step_fault d targets steps
 
 -- FIXED looks among the packets of the targets of the interface, or of all interfaces that are routed to the router.

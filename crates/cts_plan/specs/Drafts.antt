@@ -2,10 +2,11 @@
 use Rattle.std.specs.Prelude.{ℕ, pos, ◌≤◌, Bool, not, ◌||◌, ◌==◌, nat_eq, int_le, List, length, IsTrue}
 use Rattle.std.specs.List.{IsDistinct}
 use Rattle.cts_base.specs.declared.decimal.Decimal.{Decimal}
+use Rattle.cts_def.specs.Most.{most_protocols}
 use Rattle.cts_plan.specs.Steps.{StepData, are_packets_last}
 
 pub record IsSoundChain (steps : List StepData) : Type 0 where
-  pub few : length steps ≤ 4
+  pub few : length steps ≤ most_protocols
   pub packets_last : IsTrue (are_packets_last steps)
 
 -- what contracts see of an interface that is not complete: its fields

@@ -14,13 +14,15 @@ use Rattle.cts_plan.specs.declared.keyword.Field.{Field}
 use Rattle.cts_plan.specs.declared.keyword.Field.TheVariants as field
 use Rattle.cts_plan.specs.declared.keyword.Check.{Check}
 use Rattle.cts_plan.specs.declared.keyword.Check.TheVariants as check
-use Rattle.cts_plan.specs.Words.{word, is_nil, flag_of, order_of, way_of, kind_of, port_of, desks_of, size_of, bits_of, per_count_of, max_of, signed_of, is_decimal, delay_of, is_pattern_word, is_empty_pattern}
+use Rattle.cts_plan.specs.Words.{word, is_nil, flag_of, order_of, way_of, kind_of, port_of, desks_of, size_of, bits_of, per_count_of, max_of, layout_of, log_layout_of, cycle_of, signed_of, is_decimal, delay_of, is_pattern_word, is_empty_pattern}
 
 abbrev pub keywords : List (List ℕ × Keyword)
 keywords =
     (codes "TITLE", keyword.Title)
     ∷ (codes "PORT", keyword.Port)
     ∷ (codes "DESKS", keyword.Desks)
+    ∷ (codes "LOG_LAYOUT", keyword.LogLayout)
+    ∷ (codes "LOG_CYCLE", keyword.LogCycle)
     ∷ (codes "INTERFACE", keyword.Interface)
     ∷ (codes "TARGET", keyword.Target)
     ∷ (codes "PROTOCOL", keyword.Protocol)
@@ -55,6 +57,8 @@ unfoldable pub head_fields : Keyword → List (List ℕ) → List Field
 head_fields keyword.Title ws = field.Text ∷ []
 head_fields keyword.Port ws = field.ApiWord ∷ field.Port ∷ []
 head_fields keyword.Desks ws = field.Desks ∷ []
+head_fields keyword.LogLayout ws = field.LogLayout ∷ []
+head_fields keyword.LogCycle ws = field.Cycle ∷ []
 head_fields keyword.Target ws = field.Name ∷ []
 head_fields keyword.Protocol ws = field.Way ∷ []
 head_fields keyword.ReconnectDelay ws = field.Delay ∷ []
@@ -72,7 +76,7 @@ parameter_fields kind.Fixed = field.Size ∷ field.Size ∷ field.Sync ∷ field
 parameter_fields kind.Length =
     field.Bits ∷ field.Bits ∷ field.ValueOffset ∷ field.PerCount ∷ field.Endianness ∷ field.Size ∷ field.Sync ∷ field.Max ∷ field.Flag ∷ []
 parameter_fields kind.Terminated = field.Pattern ∷ field.Termination ∷ field.Flag ∷ field.Size ∷ field.Sync ∷ field.Flag ∷ []
-parameter_fields kind.Preidentified = field.Sync ∷ field.Max ∷ []
+parameter_fields kind.Preidentified = field.Sync ∷ field.Max ∷ field.Layout ∷ []
 
 -- how many of them are required
 abbrev pub required : Kind → ℕ
@@ -111,6 +115,7 @@ is_other_choice field.DefaultWord word = not (bytes_eq word (codes "DEFAULT"))
 is_other_choice field.Way word = is_none (way_of word)
 is_other_choice field.Flag word = is_none (flag_of word)
 is_other_choice field.Endianness word = is_none (order_of word)
+is_other_choice field.LogLayout word = is_none (log_layout_of word)
 is_other_choice _ word = false
 
 abbrev pub is_bad_name : Field → List ℕ → Bool
@@ -122,6 +127,7 @@ abbrev pub is_no_number : Field → List ℕ → Bool
 is_no_number field.Port word = is_none (port_of word)
 is_no_number field.PortOrNil word = not (is_nil word) && is_none (port_of word)
 is_no_number field.Desks word = is_none (desks_of word)
+is_no_number field.Cycle word = is_none (cycle_of word)
 is_no_number field.Timeout word = not (is_nil word) && not (is_decimal word)
 is_no_number field.Delay word = is_none (delay_of word)
 is_no_number field.Size word = is_none (size_of word)
@@ -129,6 +135,7 @@ is_no_number field.Bits word = is_none (bits_of word)
 is_no_number field.ValueOffset word = is_none (signed_of word)
 is_no_number field.PerCount word = is_none (per_count_of word)
 is_no_number field.Max word = not (is_nil word) && is_none (max_of word)
+is_no_number field.Layout word = is_none (layout_of word)
 is_no_number field.Sync word = not (is_pattern_word word)
 is_no_number field.Pattern word = not (is_pattern_word word)
 is_no_number field.Termination word = not (is_pattern_word word)

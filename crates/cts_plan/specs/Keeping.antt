@@ -2,8 +2,10 @@
 use Rattle.std.specs.Prelude.{◌≡◌, ℕ, pos, ◌≤◌, true, false, ◌&&◌, nat_le, nat_lt, nat_eq, int_le, List, ◌++◌, length, Some, None, Option, IsTrue}
 use Rattle.std.specs.List.{list_any, list_all, IsDistinct}
 use Rattle.cts_def.specs.Items.{is_same}
+use Rattle.cts_def.specs.Most.{most_desks, most_interfaces, most_protocols, most_routers}
 use Rattle.cts_def.specs.Packets.{DefinitionsData}
-use Rattle.cts_def.specs.Sites.{InterfaceData, RouterData, SiteData, IsSoundSite, is_known_target, targets_of}
+use Rattle.cts_def.specs.Protocols.{is_layout}
+use Rattle.cts_def.specs.Sites.{InterfaceData, RouterData, SiteData, IsSoundSite, is_cycle, is_known_target, targets_of}
 use Rattle.cts_plan.specs.declared.draft.Draft.{Draft}
 use Rattle.cts_plan.specs.declared.opened.Current.{Current}
 use Rattle.cts_plan.specs.declared.opened.Current.TheVariants as current
@@ -21,14 +23,14 @@ use Rattle.cts_plan.specs.Causes.{is_router_named, maps, is_in}
 -- an interface of the name and the targets: the site has room for it, no other has the name, and each target is known and
 -- no other's
 pub record IsNewInterface (d : DefinitionsData) (interfaces : List InterfaceData) (own : List ℕ) (its : List (List ℕ)) : Type 0 where
-  pub few : nat_le 16 (length interfaces) ≡ false
+  pub few : nat_le most_interfaces (length interfaces) ≡ false
   pub name : list_any (has_name own) interfaces ≡ false
   pub targets : IsDistinct is_same (targets_of interfaces ++ its)
   pub known : list_all (is_known_target d) its ≡ true
 
 -- a router of the name and the routes: the site has room for it, no other has the name, and each route is an interface
 pub record IsNewRouter (interfaces : List InterfaceData) (routers : List RouterData) (own : List ℕ) (its : List ℕ) : Type 0 where
-  pub few : nat_le 4 (length routers) ≡ false
+  pub few : nat_le most_routers (length routers) ≡ false
   pub name : list_any (is_router_named own) routers ≡ false
   pub routes : list_all (λ n. nat_lt n (length interfaces)) its ≡ true
 
@@ -45,7 +47,7 @@ pub record KeepsRules (s : Draft) : Type 0 where
 -- ---- when a line can be placed
 
 abbrev pub HasRoom : StepData → List StepData → Type 0
-HasRoom step chain = (nat_le 4 (length chain) ≡ false) × ((step_reads step && list_any step_reads_packets chain) ≡ false)
+HasRoom step chain = (nat_le most_protocols (length chain) ≡ false) × ((step_reads step && list_any step_reads_packets chain) ≡ false)
 
 abbrev pub FitsInterface : SiteData → Detail → InterfaceDraftData → Type 0
 FitsInterface site (detail.Target name) i =
@@ -73,7 +75,9 @@ FitsCurrent site d (current.Router r) = FitsRouter site d r
 abbrev pub Fits : Line → Draft → Type 0
 Fits line.Nothing s = Unit {0}
 Fits (line.ApiPort port) s = 1 ≤ port
-Fits (line.Desks desks) s = (1 ≤ desks) × (desks ≤ 4)
+Fits (line.Desks desks) s = (1 ≤ desks) × (desks ≤ most_desks)
+Fits (line.LogLayout layout) s = IsTrue (is_layout layout)
+Fits (line.LogCycle bytes) s = IsTrue (is_cycle (Some bytes))
 Fits (line.Interface i) s = IsNewInterface s.site.definitions s.site.interfaces i.name i.targets
 Fits (line.Router r) s = IsNewRouter s.site.interfaces s.site.routers r.name r.routes
 Fits (line.Detail d) s = FitsCurrent s.site d s.current

@@ -20,7 +20,7 @@ use Rattle.cts_plan.specs.declared.line.Line.TheVariants as line
 use Rattle.cts_plan.specs.declared.line.Detail.TheVariants as detail
 use Rattle.cts_plan.specs.Steps.{StepData}
 use Rattle.cts_plan.specs.Drafts.{InterfaceDraftData, RouterDraftData}
-use Rattle.cts_plan.specs.Words.{word, flag_of, order_of, way_of, way_reads, way_writes, port_of, desks_of, size_of, bits_of, per_count_of, max_of, signed_of, delay_of, pattern_of}
+use Rattle.cts_plan.specs.Words.{word, flag_of, order_of, way_of, way_reads, way_writes, port_of, desks_of, size_of, bits_of, per_count_of, max_of, layout_of, log_layout_of, cycle_of, signed_of, delay_of, pattern_of}
 use Rattle.cts_plan.specs.Forms.{role_of, protocol_of, parameters}
 
 abbrev pub flag_or : Bool → List ℕ → Bool
@@ -28,6 +28,9 @@ flag_or default word = unwrap_or (flag_of word) default
 
 abbrev pub size_or_zero : List ℕ → ℕ
 size_or_zero word = unwrap_or (size_of word) 0
+
+abbrev pub layout_or_two : List ℕ → ℕ
+layout_or_two word = unwrap_or (layout_of word) 2
 
 -- the name that a word writes, in upper case
 abbrev pub name_of : List ℕ → Option (List ℕ)
@@ -98,7 +101,7 @@ abbrev pub terminated_of : List (List ℕ) → Option SpecData
 terminated_of ws = if nat_eq (length (pattern_of (word ws 1))) 0 then None else Some (terminated_with ws)
 
 abbrev pub preidentified_of : List (List ℕ) → SpecData
-preidentified_of ws = Preidentified (record { sync = pattern_of (word ws 0); max = max_of (word ws 1) })
+preidentified_of ws = Preidentified (record { sync = pattern_of (word ws 0); max = max_of (word ws 1); layout = layout_or_two (word ws 2) })
 
 abbrev pub step_with : ℕ → Way → SpecData → StepData
 step_with n way spec = record { line = n; used = record { spec = spec; reads = way_reads way; writes = way_writes way } }
@@ -176,6 +179,12 @@ port_line ws = said_or_nothing (λ port. line.ApiPort port) (port_of (word ws 1)
 abbrev pub desks_line : List (List ℕ) → Line
 desks_line ws = said_or_nothing (λ desks. line.Desks desks) (desks_of (word ws 0))
 
+abbrev pub layout_line : List (List ℕ) → Line
+layout_line ws = said_or_nothing (λ layout. line.LogLayout layout) (log_layout_of (word ws 0))
+
+abbrev pub cycle_line : List (List ℕ) → Line
+cycle_line ws = said_or_nothing (λ bytes. line.LogCycle bytes) (cycle_of (word ws 0))
+
 abbrev pub interface_line : ℕ → List (List ℕ) → Line
 interface_line n ws = said_or_nothing (λ name. line.Interface (interface_by n ws name)) (name_of (word ws 0))
 
@@ -197,6 +206,8 @@ abbrev pub line_of : ℕ → Keyword → List (List ℕ) → Line
 line_of n keyword.Title ws = line.Nothing
 line_of n keyword.Port ws = port_line ws
 line_of n keyword.Desks ws = desks_line ws
+line_of n keyword.LogLayout ws = layout_line ws
+line_of n keyword.LogCycle ws = cycle_line ws
 line_of n keyword.Interface ws = interface_line n ws
 line_of n keyword.Router ws = router_line n ws
 line_of n keyword.Target ws = target_line ws

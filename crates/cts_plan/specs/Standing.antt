@@ -1,5 +1,5 @@
 -- What stands after some statements: a site of the interfaces and routers that are complete, and the one that is read.
-use Rattle.std.specs.Prelude.{ℕ, zero, suc, false, Bool, List, [], ◌∷◌, ◌++◌, map, Option, Some, None, if◌then◌else◌}
+use Rattle.std.specs.Prelude.{ℕ, zero, suc, true, false, Bool, List, [], ◌∷◌, ◌++◌, map, Option, Some, None, if◌then◌else◌}
 use Rattle.cts_def.specs.Beginnings.{start_of}
 use Rattle.cts_def.specs.Items.{is_same}
 use Rattle.cts_def.specs.Packets.{PacketData, DefinitionsData, of_targets}
@@ -17,9 +17,12 @@ use Rattle.cts_plan.specs.declared.line.Detail.TheVariants as detail
 use Rattle.cts_plan.specs.Steps.{StepData, whole_chain}
 use Rattle.cts_plan.specs.Drafts.{InterfaceDraftData, RouterDraftData}
 
--- nothing, the desks at port 7777, and four of them
+-- nothing, the desks at port 7777, four of them, and logs of layout 2, each in one part
+abbrev pub first_site : DefinitionsData → SiteData
+first_site d = record { definitions = d; interfaces = []; routers = []; api_port = 7777; desks = 4; log_layout = 2; log_cycle = None }
+
 abbrev pub start : DefinitionsData → Draft
-start d = record { site = record { definitions = d; interfaces = []; routers = []; api_port = 7777; desks = 4 }; current = current.Nothing }
+start d = record { site = first_site d; current = current.Nothing; layout_said = false }
 
 -- ---- a chain
 
@@ -71,7 +74,7 @@ completed site (current.Router r) = record site { routers = site.routers ++ rout
 
 -- an INTERFACE or ROUTER statement completes what is read
 abbrev pub closed : Draft → Draft
-closed s = record { site = completed s.site s.current; current = current.Nothing }
+closed s = record s { site = completed s.site s.current; current = current.Nothing }
 
 -- ---- a line more
 
@@ -115,11 +118,19 @@ with_port port site = record site { api_port = port }
 abbrev pub with_desks : ℕ → SiteData → SiteData
 with_desks desks site = record site { desks = desks }
 
+abbrev pub with_log_layout : ℕ → SiteData → SiteData
+with_log_layout layout site = record site { log_layout = layout }
+
+abbrev pub with_log_cycle : ℕ → SiteData → SiteData
+with_log_cycle bytes site = record site { log_cycle = Some bytes }
+
 -- Of the ports and numbers of desks, and of the delays of an interface and what is said of its logging, the last one counts.
 abbrev pub place : Line → Draft → Draft
 place line.Nothing s = s
 place (line.ApiPort port) s = record s { site = with_port port s.site }
 place (line.Desks desks) s = record s { site = with_desks desks s.site }
+place (line.LogLayout layout) s = record s { site = with_log_layout layout s.site; layout_said = true }
+place (line.LogCycle bytes) s = record s { site = with_log_cycle bytes s.site }
 place (line.Interface i) s = record s { current = current.Interface i }
 place (line.Router r) s = record s { current = current.Router r }
 place (line.Detail t) s = record s { current = change s.site.interfaces t s.current }

@@ -14,6 +14,8 @@ use Rattle.cts_bits.specs.declared.order.Order.{Order}
 use Rattle.cts_bits.specs.declared.order.Order.TheVariants.{Big, Little}
 use Rattle.cts_def.specs.declared.proto_spec.Kind.{Kind}
 use Rattle.cts_def.specs.declared.proto_spec.Kind.TheVariants as kind
+use Rattle.cts_def.specs.Most.{frame_limit, least_cycle, most_cycle, most_desks}
+use Rattle.cts_def.specs.Protocols.{is_layout}
 use Rattle.cts_plan.specs.declared.words.Way.{Way}
 use Rattle.cts_plan.specs.declared.words.Way.TheVariants.{Read, Write, ReadWrite}
 
@@ -54,6 +56,13 @@ abbrev pub way_writes : Way → Bool
 way_writes Read = false
 way_writes _ = true
 
+-- the layout in which logs are written: `2` or `4`, in no other spelling
+abbrev pub log_layout_of : List ℕ → Option ℕ
+log_layout_of word =
+    if bytes_eq word (codes "2") then Some 2
+    else if bytes_eq word (codes "4") then Some 4
+    else None
+
 -- one of a protocol's three names
 unfoldable pub is_one_of : List ℕ → List ℕ → List ℕ → List ℕ → Bool
 is_one_of short class file word = spells word short || spells word class || spells word file
@@ -82,11 +91,11 @@ abbrev pub port_of : List ℕ → Option ℕ
 port_of word = natural 1 65535 word
 
 abbrev pub desks_of : List ℕ → Option ℕ
-desks_of word = natural 1 4 word
+desks_of word = natural 1 most_desks word
 
 -- a number of bytes within the greatest frame
 abbrev pub size_of : List ℕ → Option ℕ
-size_of word = natural 0 1048576 word
+size_of word = natural 0 frame_limit word
 
 -- an offset or size in bits
 abbrev pub bits_of : List ℕ → Option ℕ
@@ -98,6 +107,19 @@ per_count_of word = natural 1 65535 word
 -- the greatest count, none where the word is `nil`
 abbrev pub max_of : List ℕ → Option ℕ
 max_of word = natural 0 18446744073709551615 word
+
+-- the layout of heads that a number is
+abbrev pub layout_in : Option ℕ → Option ℕ
+layout_in None = None
+layout_in (Some n) = if is_layout n then Some n else None
+
+-- a layout of heads, as a number
+abbrev pub layout_of : List ℕ → Option ℕ
+layout_of word = layout_in (natural 2 4 word)
+
+-- the greatest size of a part of a log
+abbrev pub cycle_of : List ℕ → Option ℕ
+cycle_of word = natural least_cycle most_cycle word
 
 abbrev pub signed_in : Option ℤ → Option ℤ
 signed_in None = None

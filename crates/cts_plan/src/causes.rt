@@ -18,7 +18,10 @@ use crate::opened::Current;
 use crate::step::{Parameters, Step};
 use crate::words::{is_nil, port_of, word};
 use cts_base::{Bytes, Name};
-use cts_def::{Definitions, Interface, Kind, Packet, ProtoSpec, Router};
+use cts_def::{
+    Definitions, Interface, Kind, MOST_INTERFACES, MOST_PROTOCOLS, MOST_ROUTERS, Packet, ProtoSpec,
+    Router,
+};
 use cts_reader::first_that_holds;
 
 /// The causes of a statement with a known keyword, in the order in which they are tried.
@@ -106,6 +109,8 @@ fn is_outside(current: &Current, keyword: Keyword) -> bool
         Keyword::Title => false,
         Keyword::Port => false,
         Keyword::Desks => false,
+        Keyword::LogLayout => false,
+        Keyword::LogCycle => false,
         Keyword::Interface => false,
         Keyword::Router => false,
         Keyword::Protocol => is_nothing(current),
@@ -251,6 +256,8 @@ fn is_double(draft: &Draft, line: &Line) -> bool
         Line::Router(new) => has_router(draft.site.routers.as_slice(), &new.name),
         Line::Detail(Detail::Route(Some(name))) => has_route(draft, name),
         Line::Detail(Detail::Route(None)) => false,
+        Line::LogLayout(_) => draft.layout_said,
+        Line::LogCycle(_) => draft.site.log_cycle.is_some(),
         _ => false,
     }
 }
@@ -301,7 +308,7 @@ fn is_chain_too_long(draft: &Draft, line: &Line) -> bool
     ensures { result ≡ is_chain_too_long draft.now line.now }
 {
     match line {
-        Line::Detail(Detail::Step(_)) => 4 <= chain_in(&draft.current).len(),
+        Line::Detail(Detail::Step(_)) => MOST_PROTOCOLS <= chain_in(&draft.current).len(),
         _ => false,
     }
 }
@@ -354,8 +361,8 @@ fn is_too_many(draft: &Draft, line: &Line) -> bool
     ensures { result ≡ is_too_many draft.now line.now }
 {
     match line {
-        Line::Interface(_) => 16 <= draft.site.interfaces.len(),
-        Line::Router(_) => 4 <= draft.site.routers.len(),
+        Line::Interface(_) => MOST_INTERFACES <= draft.site.interfaces.len(),
+        Line::Router(_) => MOST_ROUTERS <= draft.site.routers.len(),
         _ => false,
     }
 }

@@ -20,7 +20,9 @@ use crate::step::{Parameters, Step};
 use crate::targets::Targets;
 use cts_base::{Bytes, List, Memory, Name};
 use cts_bits::Place;
-use cts_def::{Definitions, Interface, Packet, ProtoSpec, ProtoUse, Router, Site, Start};
+use cts_def::{
+    Definitions, Interface, MOST_PROTOCOLS, Packet, ProtoSpec, ProtoUse, Router, Site, Start,
+};
 use cts_reader::unless_refused;
 use std::alloc::Global;
 
@@ -243,7 +245,7 @@ fn chain_of(
 {
     let steps = chain.into_steps();
     let reads = any_reads(steps.as_slice());
-    if !reads && 4 <= steps.len() {
+    if !reads && MOST_PROTOCOLS <= steps.len() {
         return Err(SiteFault::Refused {
             line,
             cause: SiteCause::ChainTooLong,

@@ -1,10 +1,14 @@
 // The site as it grows, statement by statement.
-ghost use Rattle.std.specs.Prelude.{◌≡◌, ◌≤◌, length, Some, OnOk, IfOk};
-ghost use Rattle.cts_plan.specs.Standing.{start, closed, number_of, change_interface, change_router, change, with_port, with_desks, place};
+ghost use Rattle.std.specs.Prelude.{◌≡◌, ◌≤◌, length, Some, OnOk, IfOk, IsTrue};
+ghost use Rattle.cts_def.specs.Most.{most_desks, most_interfaces};
+ghost use Rattle.cts_def.specs.Protocols.{is_layout};
+ghost use Rattle.cts_def.specs.Sites.{is_cycle};
+ghost use Rattle.cts_plan.specs.Standing.{start, closed, number_of, change_interface, change_router, change, with_port, with_desks, with_log_layout, with_log_cycle, place};
 ghost use Rattle.cts_plan.specs.Completing.{due};
 ghost use Rattle.cts_plan.specs.Keeping.{KeepsRules, FitsInterface, IsNewRoute, FitsRouter, FitsCurrent, Fits};
 ghost use Rattle.cts_reader.specs.Reading.{Settles};
 ghost use Rattle.cts_plan.specs.declared.line.Detail.TheVariants as detail;
+ghost use Rattle.cts_plan.specs.declared.line.Line.TheVariants as line;
 
 use crate::completing::{add_interface, add_router};
 use crate::fault::SiteFault;
@@ -18,10 +22,12 @@ use std::mem;
 /// What stands so far.
 #[derive(Drop)]
 pub struct Draft {
-    /// The interfaces and routers that are complete, and the desks.
+    /// The interfaces and routers that are complete, and the settings of the whole server.
     pub site: Site,
     /// The interface or router that is read.
     pub current: Current,
+    /// Whether a statement gave the layout of logs: the one that is the default leaves the site as it was.
+    pub layout_said: bool,
 }
 
 fn change_interface(site: &Site, draft: &mut InterfaceDraft, detail: Detail) -> Result<(), Memory>
@@ -41,7 +47,7 @@ fn change_interface(site: &Site, draft: &mut InterfaceDraft, detail: Detail) -> 
 
 /// The number of the interface of this name, counted from 0.
 pub(crate) fn number_of(interfaces: &[Interface], name: &Name) -> u32
-    requires few { length interfaces.now ≤ 16 }
+    requires few { length interfaces.now ≤ most_interfaces }
     ensures { result ≡ number_of interfaces.now name.now }
 {
     let mut number: u32 = 0;
@@ -102,10 +108,24 @@ fn set_port(site: &mut Site, port: u16)
 
 fn set_desks(site: &mut Site, desks: u32)
     requires some { 1 ≤ desks }
-    requires few { desks ≤ 4 }
+    requires few { desks ≤ most_desks }
     ensures { site.new ≡ with_desks desks site.old }
 {
     site.desks = desks;
+}
+
+fn set_log_layout(site: &mut Site, layout: u32)
+    requires layout { IsTrue (is_layout layout) }
+    ensures { site.new ≡ with_log_layout layout site.old }
+{
+    site.log_layout = layout;
+}
+
+fn set_log_cycle(site: &mut Site, bytes: u64)
+    requires cycle { IsTrue (is_cycle (Some bytes)) }
+    ensures { site.new ≡ with_log_cycle bytes site.old }
+{
+    site.log_cycle = Some(bytes);
 }
 
 impl Draft {
@@ -120,8 +140,11 @@ impl Draft {
                 routers: List::new(alloc),
                 api_port: 7777,
                 desks: 4,
+                log_layout: 2,
+                log_cycle: None,
             },
             current: Current::Nothing,
+            layout_said: false,
         }
     }
 
@@ -145,6 +168,15 @@ impl Draft {
         self.current = current;
     }
 
+    // Takes the layout of logs that a statement gives.
+    fn take_layout(&mut self, layout: u32)
+        requires layout { IsTrue (is_layout layout) }
+        ensures { self.new ≡ place (line.LogLayout layout) self.old }
+    {
+        set_log_layout(&mut self.site, layout);
+        self.layout_said = true;
+    }
+
     /// Adds what a statement without a cause says. After `Memory` the draft is of no use.
     pub(crate) fn add(&mut self, line: Line) -> Result<(), Memory>
         requires fits { Fits line self.old }
@@ -154,6 +186,8 @@ impl Draft {
             Line::Nothing => {}
             Line::ApiPort(port) => set_port(&mut self.site, port),
             Line::Desks(desks) => set_desks(&mut self.site, desks),
+            Line::LogLayout(layout) => self.take_layout(layout),
+            Line::LogCycle(bytes) => set_log_cycle(&mut self.site, bytes),
             Line::Interface(draft) => self.begin(Current::Interface(draft)),
             Line::Router(draft) => self.begin(Current::Router(draft)),
             Line::Detail(detail) => change(&self.site, &mut self.current, detail)?,
@@ -165,7 +199,11 @@ impl Draft {
     pub(crate) fn into_site(self) -> Site
         ensures { result ≡ self.site }
     {
-        let Draft { site, current: _ } = self;
+        let Draft {
+            site,
+            current: _,
+            layout_said: _,
+        } = self;
         site
     }
 }

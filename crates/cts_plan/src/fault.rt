@@ -20,7 +20,7 @@ pub enum SiteCause {
     BadName,
     /// A number or pattern has another form or is out of its bounds.
     NotNumber,
-    /// An interface, router or route stands already.
+    /// An interface, router or route stands already, or the layout or the cycle of logs is given already.
     DoubleName,
     /// The ports differ, or one is `nil`.
     TwoPorts,

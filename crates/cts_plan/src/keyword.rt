@@ -6,8 +6,9 @@ ghost use Rattle.cts_reader.specs.Words.{keyword_in};
 ghost use Rattle.cts_plan.specs.Forms.{keyword_of, role_of, opening_fields, head_fields, parameter_fields, required, takes_protocol, has_protocol, protocol_of, parameters, fields_of, is_other_choice, is_bad_name, is_no_number, is_empty_sync, fails, any_field};
 
 use crate::words::{
-    bits_of, delay_of, desks_of, flag_of, is_decimal, is_empty_pattern, is_nil, is_pattern_word,
-    kind_of, max_of, order_of, per_count_of, port_of, signed_of, size_of, way_of, word,
+    bits_of, cycle_of, delay_of, desks_of, flag_of, is_decimal, is_empty_pattern, is_nil,
+    is_pattern_word, kind_of, layout_of, log_layout_of, max_of, order_of, per_count_of, port_of,
+    signed_of, size_of, way_of, word,
 };
 use cts_base::{Bytes, is_name};
 use cts_def::Kind;
@@ -22,6 +23,10 @@ pub enum Keyword {
     Port,
     /// The number of desks.
     Desks,
+    /// The layout in which logs are written.
+    LogLayout,
+    /// The greatest size of a part of a log.
+    LogCycle,
     /// Opens an interface.
     Interface,
     /// Maps a target to the interface.
@@ -74,6 +79,10 @@ pub enum Field {
     PortOrNil,
     /// A number of desks.
     Desks,
+    /// `2` or `4`.
+    LogLayout,
+    /// The greatest size of a part of a log.
+    Cycle,
     /// A decimal or `nil`.
     Timeout,
     /// A decimal of at least 0.
@@ -88,6 +97,8 @@ pub enum Field {
     PerCount,
     /// The greatest count, or `nil`.
     Max,
+    /// A layout of heads: the number 2 or 4.
+    Layout,
     /// A sync pattern: not `0x`.
     Sync,
     /// A pattern.
@@ -97,7 +108,7 @@ pub enum Field {
 }
 
 /// All keywords.
-const KEYWORDS: [Spelled<Keyword>; 12] = [
+const KEYWORDS: [Spelled<Keyword>; 14] = [
     Spelled {
         text: b"TITLE",
         keyword: Keyword::Title,
@@ -109,6 +120,14 @@ const KEYWORDS: [Spelled<Keyword>; 12] = [
     Spelled {
         text: b"DESKS",
         keyword: Keyword::Desks,
+    },
+    Spelled {
+        text: b"LOG_LAYOUT",
+        keyword: Keyword::LogLayout,
+    },
+    Spelled {
+        text: b"LOG_CYCLE",
+        keyword: Keyword::LogCycle,
     },
     Spelled {
         text: b"INTERFACE",
@@ -215,6 +234,8 @@ pub(crate) fn head_fields(keyword: Keyword, words: &[Bytes]) -> &'static [Field]
         Keyword::Title => &[Field::Text],
         Keyword::Port => &[Field::ApiWord, Field::Port],
         Keyword::Desks => &[Field::Desks],
+        Keyword::LogLayout => &[Field::LogLayout],
+        Keyword::LogCycle => &[Field::Cycle],
         Keyword::Target => &[Field::Name],
         Keyword::Protocol => &[Field::Way],
         Keyword::ReconnectDelay => &[Field::Delay],
@@ -260,7 +281,7 @@ pub(crate) fn parameter_fields(kind: Kind) -> &'static [Field]
             Field::Sync,
             Field::Flag,
         ],
-        Kind::Preidentified => &[Field::Sync, Field::Max],
+        Kind::Preidentified => &[Field::Sync, Field::Max, Field::Layout],
     }
 }
 
@@ -334,6 +355,7 @@ impl Field {
             Field::Way => way_of(word).is_none(),
             Field::Flag => flag_of(word).is_none(),
             Field::Endianness => order_of(word).is_none(),
+            Field::LogLayout => log_layout_of(word).is_none(),
             _ => false,
         }
     }
@@ -356,6 +378,7 @@ impl Field {
             Field::Port => port_of(word).is_none(),
             Field::PortOrNil => !is_nil(word) && port_of(word).is_none(),
             Field::Desks => desks_of(word).is_none(),
+            Field::Cycle => cycle_of(word).is_none(),
             Field::Timeout => !is_nil(word) && !is_decimal(word),
             Field::Delay => delay_of(word).is_none(),
             Field::Size => size_of(word).is_none(),
@@ -363,6 +386,7 @@ impl Field {
             Field::ValueOffset => signed_of(word).is_none(),
             Field::PerCount => per_count_of(word).is_none(),
             Field::Max => !is_nil(word) && max_of(word).is_none(),
+            Field::Layout => layout_of(word).is_none(),
             Field::Sync | Field::Pattern | Field::Termination => !is_pattern_word(word),
             _ => false,
         }

@@ -1,20 +1,21 @@
 // What a statement says.
 ghost use Rattle.std.specs.Prelude.{◌≡◌, ◌≤◌, false, option_to_list, option_map, unwrap_or, pos, IfOk, IfSome, IsTrue};
 ghost use Rattle.cts_def.specs.Protocols as spec;
-ghost use Rattle.cts_def.specs.Protocols.{spec_data, is_sound_spec};
+ghost use Rattle.cts_def.specs.Most.{frame_limit};
+ghost use Rattle.cts_def.specs.Protocols.{spec_data, is_sound_spec, is_layout};
 ghost use Rattle.cts_def.specs.Starts.{is_place, place_data};
 ghost use Rattle.cts_plan.specs.declared.words.Way.TheVariants.{ReadWrite};
 ghost use Rattle.cts_plan.specs.Words.{signed_of, per_count_of};
 ghost use Rattle.cts_plan.specs.Steps.{is_fixed};
-ghost use Rattle.cts_plan.specs.Lines.{flag_or, size_or_zero, name_of, length_offset, length_bits, length_order, length_place, is_bad_length, burst_of, fixed_of, length_of, terminated_of, preidentified_of, step_with, step_of, step_at, is_server, port_at, host_of, port_or_one, interface_by, router_by, place_at, interface_line, router_line, target_line, protocol_line, port_line, desks_line, delay_line, line_of};
+ghost use Rattle.cts_plan.specs.Lines.{flag_or, size_or_zero, layout_or_two, name_of, length_offset, length_bits, length_order, length_place, is_bad_length, burst_of, fixed_of, length_of, terminated_of, preidentified_of, step_with, step_of, step_at, is_server, port_at, host_of, port_or_one, interface_by, router_by, place_at, interface_line, router_line, target_line, protocol_line, port_line, desks_line, layout_line, cycle_line, delay_line, line_of};
 
 use crate::fixed::FixedParameters;
 use crate::keyword::{Keyword, Role, parameters, protocol_of, role_of};
 use crate::opened::{Chain, InterfaceDraft, RouterDraft};
 use crate::step::{Parameters, Step};
 use crate::words::{
-    Way, bits_of, delay_of, desks_of, flag_of, max_of, order_of, pattern_of, per_count_of, port_of,
-    signed_of, size_of, way_of, word,
+    Way, bits_of, cycle_of, delay_of, desks_of, flag_of, layout_of, log_layout_of, max_of,
+    order_of, pattern_of, per_count_of, port_of, signed_of, size_of, way_of, word,
 };
 use cts_base::{Bytes, Decimal, List, Memory, Name, NameFault};
 use cts_bits::{Order, Place, PlaceFault, places_are_not_refused};
@@ -33,6 +34,10 @@ pub enum Line {
     ApiPort(u16),
     /// The number of desks.
     Desks(u32),
+    /// The layout in which logs are written.
+    LogLayout(u32),
+    /// The greatest size of a part of a log.
+    LogCycle(u64),
     /// An interface.
     Interface(InterfaceDraft),
     /// A router.
@@ -66,11 +71,21 @@ fn flag_or(default: bool, word: &[u8]) -> bool
 
 fn size_or_zero(word: &[u8]) -> u32
     ensures value { result ≡ size_or_zero word.now }
-    ensures within { result ≤ 1048576 }
+    ensures within { result ≤ frame_limit }
 {
     match size_of(word) {
         Some(size) => size,
         None => 0,
+    }
+}
+
+fn layout_or_two(word: &[u8]) -> u32
+    ensures value { result ≡ layout_or_two word.now }
+    ensures layout { IsTrue (is_layout result) }
+{
+    match layout_of(word) {
+        Some(layout) => layout,
+        None => 2,
     }
 }
 
@@ -262,6 +277,7 @@ fn preidentified_of(alloc: Global, line: u32, way: Way, words: &[Bytes]) -> Resu
         ProtoSpec::Preidentified {
             sync: pattern_of(alloc, word(words, 0))?,
             max: max_of(word(words, 1)),
+            layout: layout_or_two(word(words, 2)),
         },
     ))
 }
@@ -447,6 +463,24 @@ fn desks_line(words: &[Bytes]) -> Line
     }
 }
 
+fn layout_line(words: &[Bytes]) -> Line
+    ensures { result ≡ layout_line words.now }
+{
+    match log_layout_of(word(words, 0)) {
+        Some(layout) => Line::LogLayout(layout),
+        None => Line::Nothing,
+    }
+}
+
+fn cycle_line(words: &[Bytes]) -> Line
+    ensures { result ≡ cycle_line words.now }
+{
+    match cycle_of(word(words, 0)) {
+        Some(bytes) => Line::LogCycle(bytes),
+        None => Line::Nothing,
+    }
+}
+
 fn delay_line(words: &[Bytes]) -> Line
     ensures { result ≡ delay_line words.now }
 {
@@ -469,6 +503,8 @@ pub(crate) fn line_of(
         Keyword::Title => Ok(Line::Nothing),
         Keyword::Port => Ok(port_line(words)),
         Keyword::Desks => Ok(desks_line(words)),
+        Keyword::LogLayout => Ok(layout_line(words)),
+        Keyword::LogCycle => Ok(cycle_line(words)),
         Keyword::Interface => interface_line(alloc, line, words),
         Keyword::Router => router_line(alloc, line, words),
         Keyword::Target => target_line(alloc, words),

@@ -1,6 +1,7 @@
 // Interfaces and routers as far as their statements are read.
 ghost use Rattle.std.specs.Prelude.{◌≡◌, false, ◌&&◌, nat_le, length, IfOk, OnOk, [], ◌∷◌, ◌++◌};
 ghost use Rattle.std.specs.List.{list_any};
+ghost use Rattle.cts_def.specs.Most.{most_protocols};
 ghost use Rattle.cts_plan.specs.Steps.{step_reads, step_reads_packets};
 
 use crate::step::Step;
@@ -38,7 +39,7 @@ impl Chain {
 
     /// Adds a protocol.
     pub(crate) fn push(&mut self, step: Step) -> Result<(), Memory>
-        requires room { nat_le 4 (length self.old) ≡ false }
+        requires room { nat_le most_protocols (length self.old) ≡ false }
         requires last { (step_reads step && list_any step_reads_packets self.old) ≡ false }
         ensures { OnOk result (self.new ≡ self.old ++ step ∷ []) }
     {

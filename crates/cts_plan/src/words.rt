@@ -4,16 +4,16 @@ ghost use Rattle.std.specs.Int.{is_negative};
 ghost use Rattle.std.specs.List.{list_all, slice_index_or};
 ghost use Rattle.std.specs.Str.{bytes_eq};
 ghost use Rattle.hex.specs.Hex.{is_hex_digit, decode_of};
-ghost use Rattle.cts_plan.specs.Words.{word, is_nil, flag_of, order_of, way_of, way_reads, way_writes, is_one_of, kind_of, natural, port_of, desks_of, size_of, bits_of, per_count_of, max_of, signed_of, is_decimal, delay_of, hex_digits, are_byte_digits, is_pattern_word, pattern_of, bytes_in, is_empty_pattern};
+ghost use Rattle.cts_def.specs.Most.{frame_limit, most_desks};
+ghost use Rattle.cts_def.specs.Protocols.{is_layout};
+ghost use Rattle.cts_def.specs.Sites.{is_cycle};
+ghost use Rattle.cts_plan.specs.Words.{word, is_nil, flag_of, order_of, way_of, way_reads, way_writes, log_layout_of, is_one_of, kind_of, natural, port_of, desks_of, size_of, bits_of, per_count_of, max_of, layout_of, cycle_of, signed_of, is_decimal, delay_of, hex_digits, are_byte_digits, is_pattern_word, pattern_of, bytes_in, is_empty_pattern};
 
 use cts_base::{Bytes, Decimal, Memory, read_decimal, read_whole, spells};
 use cts_bits::Order;
-use cts_def::Kind;
+use cts_def::{FRAME_LIMIT, Kind, LEAST_CYCLE, MOST_CYCLE, MOST_DESKS};
 use hex::FromHexError;
 use std::alloc::Global;
-
-/// The greatest frame, in bytes.
-const MOST_BYTES: u64 = 1_048_576;
 
 /// The last bit to which a field may reach.
 const MOST_BITS: u64 = 8_388_608;
@@ -109,6 +109,20 @@ pub(crate) fn way_of(word: &[u8]) -> Option<Way>
     }
 }
 
+/// The layout in which logs are written that a word says: `2` or `4`, in no other spelling.
+pub(crate) fn log_layout_of(word: &[u8]) -> Option<u32>
+    ensures value { result ≡ log_layout_of word.now }
+    ensures layout { IfSome result (λ n. IsTrue (is_layout n)) }
+{
+    if word == b"2".as_slice() {
+        Some(2)
+    } else if word == b"4".as_slice() {
+        Some(4)
+    } else {
+        None
+    }
+}
+
 #[tactic(auto, unfolding(crate::specs::Words::is_one_of))]
 fn is_one_of(short: &[u8], class: &[u8], file: &[u8], word: &[u8]) -> bool
     ensures { result ≡ is_one_of short.now class.now file.now word.now }
@@ -175,18 +189,18 @@ pub(crate) fn port_of(word: &[u8]) -> Option<u16>
 pub(crate) fn desks_of(word: &[u8]) -> Option<u32>
     ensures value { result ≡ desks_of word.now }
     ensures least { IfSome result (λ n. 1 ≤ n) }
-    ensures most { IfSome result (λ n. n ≤ 4) }
+    ensures most { IfSome result (λ n. n ≤ most_desks) }
 {
-    let desks = natural(1, 4, word)?;
+    let desks = natural(1, u64::from(MOST_DESKS), word)?;
     Some(desks as u32)
 }
 
 /// A number of bytes within the greatest frame.
 pub(crate) fn size_of(word: &[u8]) -> Option<u32>
     ensures value { result ≡ size_of word.now }
-    ensures most { IfSome result (λ n. n ≤ 1048576) }
+    ensures most { IfSome result (λ n. n ≤ frame_limit) }
 {
-    let size = natural(0, MOST_BYTES, word)?;
+    let size = natural(0, FRAME_LIMIT as u64, word)?;
     Some(size as u32)
 }
 
@@ -214,6 +228,27 @@ pub(crate) fn max_of(word: &[u8]) -> Option<u64>
     ensures { result ≡ max_of word.now }
 {
     natural(0, u64::MAX, word)
+}
+
+/// The layout of heads that a word says as a number.
+pub(crate) fn layout_of(word: &[u8]) -> Option<u32>
+    ensures value { result ≡ layout_of word.now }
+    ensures layout { IfSome result (λ n. IsTrue (is_layout n)) }
+{
+    let number = natural(2, 4, word)?;
+    if number == 2 || number == 4 {
+        Some(number as u32)
+    } else {
+        None
+    }
+}
+
+/// The greatest size of a part of a log.
+pub(crate) fn cycle_of(word: &[u8]) -> Option<u64>
+    ensures value { result ≡ cycle_of word.now }
+    ensures cycle { IfSome result (λ n. IsTrue (is_cycle (Some n))) }
+{
+    natural(LEAST_CYCLE, MOST_CYCLE, word)
 }
 
 /// A whole number of 32 bits.

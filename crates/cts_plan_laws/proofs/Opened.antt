@@ -1,6 +1,7 @@
 -- Interfaces and routers by their own statements and those that belong to them.
 use Rattle.std.proofs.Common.{◌≡◌, ℕ, Bool, true, false, List, [], ◌∷◌, ◌++◌, map, Option, Some, None, refl, sym, ap, ◌∙◌, subst, append_assoc}
-use Rattle.std.specs.Prelude.{not, ◌&&◌, ◌||◌, option_map, option_to_list, unwrap_or, cond}
+use Rattle.std.specs.Prelude.{not, ◌&&◌, ◌||◌, is_some, option_map, option_to_list, unwrap_or, cond}
+use Rattle.std.specs.Option.{option_or}
 use Rattle.std.specs.List.{filter_map, list_any, cons_option}
 use Rattle.std.proofs.lemmas.List.{append-nil, map-append}
 use Rattle.std.proofs.lemmas.List.Elements.{filter_map-append}
@@ -23,7 +24,7 @@ use Rattle.cts_plan.specs.SiteFiles.{parts, opening, opens, step, later, after, 
 use Rattle.cts_plan.proofs.Lists.{any_snoc}
 use Rattle.cts_plan_laws.specs.SiteLaws.{of_parts, said, all_said, last_said, target, route, logging, waiting, is_dont_reconnect, protocol_said, Opener, opener_with, opener_by, opener, five_seconds}
 use Rattle.cts_plan_laws.specs.Laws.{IsInterfaceDraft, IsRouterDraft, IsOpened, OpenNothing, ConnectionsHaveTheirStatements, NoneStandsBefore}
-use Rattle.cts_plan_laws.proofs.Readings.{Says, says_of, opened_by, interface_with, router_with, change_by, placed_by, step_by}
+use Rattle.cts_plan_laws.proofs.Readings.{Says, says_of, opened_by, interface_with, router_with, change_by, site_with, placed_by, step_by}
 
 -- ---- what statements say, with one more
 
@@ -42,6 +43,15 @@ pub last_more : {X : Type 0} (says : Keyword → List (List ℕ) → Option X) (
     → unwrap_or (said says t) now ≡ last_said says default (body ++ t ∷ [])
 last_more says default now body t e =
     ap (unwrap_or (said says t)) e ∙ sym (last_with (all_said says body) (said says t) default) ∙ ap (λ xs. unwrap_or (last_of xs) default) (sym (said_more (said says) body t))
+
+last_one_with : {X : Type 0} (xs : List X) (o : Option X) → last_of (xs ++ option_to_list o) ≡ option_or o (last_of xs)
+last_one_with xs None = ap last_of (append-nil xs)
+last_one_with xs (Some x) = last_snoc xs x
+
+pub last_one_more : {X : Type 0} (says : Keyword → List (List ℕ) → Option X) (now : Option X) (body : List Statement) (t : Statement) → now ≡ last_of (all_said says body)
+    → option_or (said says t) now ≡ last_of (all_said says (body ++ t ∷ []))
+last_one_more says now body t e =
+    ap (option_or (said says t)) e ∙ sym (last_one_with (all_said says body) (said says t)) ∙ ap last_of (sym (said_more (said says) body t))
 
 not_either : (a b : Bool) → (not a && not b) ≡ not (a || b)
 not_either true b = refl
@@ -95,14 +105,16 @@ no_opener n (Some p) e = not_opened (opening p.0) (option_map (opener_with n p.0
 -- what stands with what a statement says of the interface or router that is read
 abbrev pub detailed : Says → Draft → Draft
 detailed r s = record {
-  site = record s.site { api_port = unwrap_or r.port s.site.api_port; desks = unwrap_or r.desks s.site.desks };
+  site = site_with r s.site;
   current = change_by s.site.interfaces r s.current;
+  layout_said = is_some r.layout || s.layout_said;
 }
 
 abbrev with_opened : Option Current → Says → Draft → Draft
 with_opened o r s = record {
-  site = record s.site { api_port = unwrap_or r.port s.site.api_port; desks = unwrap_or r.desks s.site.desks };
+  site = site_with r s.site;
   current = unwrap_or o (change_by s.site.interfaces r s.current);
+  layout_said = is_some r.layout || s.layout_said;
 }
 
 pub details : (s : Draft) (t : Statement) → opens (parts t.words) ≡ false → step s t ≡ detailed (says_of t) s
@@ -166,6 +178,8 @@ opened_at is n keyword.Router ws o e = opened_router is n ws (name_of (word ws 0
 opened_at is n keyword.Title ws o e = absurd cc
 opened_at is n keyword.Port ws o e = absurd cc
 opened_at is n keyword.Desks ws o e = absurd cc
+opened_at is n keyword.LogLayout ws o e = absurd cc
+opened_at is n keyword.LogCycle ws o e = absurd cc
 opened_at is n keyword.Target ws o e = absurd cc
 opened_at is n keyword.Protocol ws o e = absurd cc
 opened_at is n keyword.ReconnectDelay ws o e = absurd cc

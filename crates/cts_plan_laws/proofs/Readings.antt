@@ -1,6 +1,7 @@
 -- What the line of a statement says, by the statement's keyword.
 use Rattle.std.proofs.Common.{◌≡◌, ℕ, Bool, true, false, List, ◌++◌, map, Option, Some, None, refl, ap, ◌∙◌}
-use Rattle.std.specs.Prelude.{not, ◌&&◌, option_map, option_to_list, unwrap_or}
+use Rattle.std.specs.Prelude.{not, ◌&&◌, ◌||◌, is_some, option_map, option_to_list, unwrap_or}
+use Rattle.std.specs.Option.{option_or}
 use Rattle.std.proofs.lemmas.List.{append-nil}
 use Rattle.cts_base.specs.declared.decimal.Decimal.{Decimal}
 use Rattle.cts_def.specs.Sites.{InterfaceData, SiteData}
@@ -15,13 +16,13 @@ use Rattle.cts_plan.specs.declared.line.Line.{Line}
 use Rattle.cts_plan.specs.declared.line.Line.TheVariants as line
 use Rattle.cts_plan.specs.declared.line.Detail.{Detail}
 use Rattle.cts_plan.specs.declared.line.Detail.TheVariants as detail
-use Rattle.cts_plan.specs.Words.{word, way_of, port_of, desks_of, delay_of}
+use Rattle.cts_plan.specs.Words.{word, way_of, port_of, desks_of, log_layout_of, cycle_of, delay_of}
 use Rattle.cts_plan.specs.Steps.{StepData}
 use Rattle.cts_plan.specs.Drafts.{InterfaceDraftData, RouterDraftData}
 use Rattle.cts_plan.specs.Lines.{name_of, step_at, interface_by, router_by, said_or_nothing, line_of}
 use Rattle.cts_plan.specs.Standing.{number_of, change, place}
 use Rattle.cts_plan.specs.SiteFiles.{parts, ready, with_line, step}
-use Rattle.cts_plan_laws.specs.SiteLaws.{of_parts, target, route, logging, waiting, ends, protocol, api_port, desk_count, Opener, opener_with, opener_by}
+use Rattle.cts_plan_laws.specs.SiteLaws.{of_parts, target, route, logging, waiting, ends, protocol, api_port, desk_count, log_layout, log_cycle, Opener, opener_with, opener_by}
 
 -- all that a line or a statement says
 pub record Says : Type 0 where
@@ -33,10 +34,12 @@ pub record Says : Type 0 where
   pub logged : Option Bool
   pub port : Option ℕ
   pub desks : Option ℕ
+  pub layout : Option ℕ
+  pub cycle : Option ℕ
   pub opened : Option Current
 
 abbrev pub silent : Says
-silent = record { target = None; step = None; route = None; delay = None; ends = false; logged = None; port = None; desks = None; opened = None }
+silent = record { target = None; step = None; route = None; delay = None; ends = false; logged = None; port = None; desks = None; layout = None; cycle = None; opened = None }
 
 abbrev pub reads_of : Detail → Says
 reads_of (detail.Target name) = record silent { target = Some name }
@@ -50,6 +53,8 @@ abbrev pub reads : Line → Says
 reads line.Nothing = silent
 reads (line.ApiPort port) = record silent { port = Some port }
 reads (line.Desks desks) = record silent { desks = Some desks }
+reads (line.LogLayout layout) = record silent { layout = Some layout }
+reads (line.LogCycle bytes) = record silent { cycle = Some bytes }
 reads (line.Interface i) = record silent { opened = Some (current.Interface i) }
 reads (line.Router r) = record silent { opened = Some (current.Router r) }
 reads (line.Detail d) = reads_of d
@@ -73,6 +78,8 @@ says_at n p = record {
   logged = of_parts logging p;
   port = of_parts api_port p;
   desks = of_parts desk_count p;
+  layout = of_parts log_layout p;
+  cycle = of_parts log_cycle p;
   opened = option_map opened_by (of_parts (opener_by n) p);
 }
 
@@ -88,6 +95,8 @@ pub reads_as : (n : ℕ) (k : Keyword) (ws : List (List ℕ)) → reads (line_of
 reads_as n keyword.Title ws = refl
 reads_as n keyword.Port ws = found (λ port. line.ApiPort port) (λ o. record silent { port = o }) (port_of (word ws 1)) (λ x. refl) refl
 reads_as n keyword.Desks ws = found (λ desks. line.Desks desks) (λ o. record silent { desks = o }) (desks_of (word ws 0)) (λ x. refl) refl
+reads_as n keyword.LogLayout ws = found (λ layout. line.LogLayout layout) (λ o. record silent { layout = o }) (log_layout_of (word ws 0)) (λ x. refl) refl
+reads_as n keyword.LogCycle ws = found (λ bytes. line.LogCycle bytes) (λ o. record silent { cycle = o }) (cycle_of (word ws 0)) (λ x. refl) refl
 reads_as n keyword.Interface ws =
     found (λ name. line.Interface (interface_by n ws name)) (λ o. record silent { opened = option_map opened_by (option_map (opener_with n keyword.Interface ws) o) }) (name_of (word ws 0)) (λ x. refl) refl
 reads_as n keyword.Router ws =
@@ -131,10 +140,20 @@ change_by is r current.Nothing = current.Nothing
 change_by is r (current.Interface i) = current.Interface (interface_with r i)
 change_by is r (current.Router q) = current.Router (router_with is r q)
 
+-- the site with its settings
+abbrev pub site_with : Says → SiteData → SiteData
+site_with r site = record site {
+  api_port = unwrap_or r.port site.api_port;
+  desks = unwrap_or r.desks site.desks;
+  log_layout = unwrap_or r.layout site.log_layout;
+  log_cycle = option_or r.cycle site.log_cycle;
+}
+
 abbrev pub placed_by : Says → Draft → Draft
 placed_by r s = record {
-  site = record s.site { api_port = unwrap_or r.port s.site.api_port; desks = unwrap_or r.desks s.site.desks };
+  site = site_with r s.site;
   current = unwrap_or r.opened (change_by s.site.interfaces r s.current);
+  layout_said = is_some r.layout || s.layout_said;
 }
 
 and_true : (b : Bool) → (b && true) ≡ b
@@ -166,11 +185,11 @@ changed_by is (detail.Delay delay) (current.Router r) = rw (append-nil r.chain, 
 changed_by is detail.DontReconnect (current.Router r) = rw (append-nil r.chain, append-nil r.routes) refl
 changed_by is (detail.Logged logged) (current.Router r) = rw (append-nil r.chain, append-nil r.routes) refl
 
-abbrev draft_with : SiteData → Current → Draft
-draft_with site c = record { site = site; current = c }
+abbrev draft_with : SiteData → Bool → Current → Draft
+draft_with site given c = record { site = site; current = c; layout_said = given }
 
--- a detail says nothing of the desks, and opens nothing
-detail_by : (d : Detail) (s : Draft) → draft_with s.site (change_by s.site.interfaces (reads_of d) s.current) ≡ placed_by (reads_of d) s
+-- a detail says nothing of the whole server, and opens nothing
+detail_by : (d : Detail) (s : Draft) → draft_with s.site s.layout_said (change_by s.site.interfaces (reads_of d) s.current) ≡ placed_by (reads_of d) s
 detail_by (detail.Target name) s = refl
 detail_by (detail.Step step) s = refl
 detail_by (detail.Route name) s = refl
@@ -179,15 +198,17 @@ detail_by detail.DontReconnect s = refl
 detail_by (detail.Logged logged) s = refl
 
 place_by : (l : Line) (s : Draft) → place l s ≡ placed_by (reads l) s
-place_by line.Nothing s = ap (draft_with s.site) (same_current s.site.interfaces s.current)
-place_by (line.ApiPort port) s = ap (draft_with (record s.site { api_port = port })) (same_current s.site.interfaces s.current)
-place_by (line.Desks desks) s = ap (draft_with (record s.site { desks = desks })) (same_current s.site.interfaces s.current)
+place_by line.Nothing s = ap (draft_with s.site s.layout_said) (same_current s.site.interfaces s.current)
+place_by (line.ApiPort port) s = ap (draft_with (record s.site { api_port = port }) s.layout_said) (same_current s.site.interfaces s.current)
+place_by (line.Desks desks) s = ap (draft_with (record s.site { desks = desks }) s.layout_said) (same_current s.site.interfaces s.current)
+place_by (line.LogLayout layout) s = ap (draft_with (record s.site { log_layout = layout }) true) (same_current s.site.interfaces s.current)
+place_by (line.LogCycle bytes) s = ap (draft_with (record s.site { log_cycle = Some bytes }) s.layout_said) (same_current s.site.interfaces s.current)
 place_by (line.Interface i) s = refl
 place_by (line.Router r) s = refl
-place_by (line.Detail d) s = ap (draft_with s.site) (changed_by s.site.interfaces d s.current) ∙ detail_by d s
+place_by (line.Detail d) s = ap (draft_with s.site s.layout_said) (changed_by s.site.interfaces d s.current) ∙ detail_by d s
 
 line_by : (n : ℕ) (p : Option (Keyword × List (List ℕ))) (s : Draft) → with_line n p s ≡ placed_by (says_at n p) (ready p s)
-line_by n None s = ap (draft_with s.site) (same_current s.site.interfaces s.current)
+line_by n None s = ap (draft_with s.site s.layout_said) (same_current s.site.interfaces s.current)
 line_by n (Some p) s = place_by (line_of n p.0 p.1) (ready (Some p) s) ∙ ap (λ r. placed_by r (ready (Some p) s)) (reads_as n p.0 p.1)
 
 -- What stands after one more statement, by what it says.

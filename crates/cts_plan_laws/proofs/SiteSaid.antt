@@ -1,6 +1,7 @@
 -- What a site has of its statements.
-use Rattle.std.proofs.Common.{◌≡◌, ℕ, zero, suc, Bool, true, false, List, [], ◌∷◌, ◌++◌, length, map, Option, Some, None, Ok, refl, sym, ◌∙◌, ap, subst}
-use Rattle.std.specs.Prelude.{◌||◌, not, option_map, option_to_list, cond}
+use Rattle.std.proofs.Common.{◌≡◌, ◌≤◌, ℕ, zero, suc, Bool, true, false, List, [], ◌∷◌, ◌++◌, length, map, Option, Some, None, Ok, refl, sym, ◌∙◌, ap, subst, arith}
+use Rattle.std.specs.Prelude.{◌&&◌, ◌||◌, not, is_some, option_map, option_to_list, cond}
+use Rattle.std.specs.Option.{option_or}
 use Rattle.std.specs.List.{filter, list_any, list_all}
 use Rattle.std.proofs.lemmas.List.{append-nil}
 use Rattle.std.proofs.lemmas.List.Elements.{filter-append}
@@ -22,22 +23,22 @@ use Rattle.cts_plan.specs.Words.{word}
 use Rattle.cts_plan.specs.Drafts.{InterfaceDraftData, RouterDraftData}
 use Rattle.cts_plan.specs.Lines.{name_of, line_of}
 use Rattle.cts_plan.specs.Standing.{start, chain_of, interface_of, router_of, completed, closed, has_name, number_of}
-use Rattle.cts_plan.specs.Causes.{holds, order, is_file_unknown, is_unrouted}
+use Rattle.cts_plan.specs.Causes.{holds, order, is_file_unknown, is_unrouted, is_double}
 use Rattle.cts_reader.specs.Reading.{at_line, unless_refused}
 use Rattle.cts_plan.specs.Completing.{Refused, due}
-use Rattle.cts_plan.specs.SiteFiles.{parts, opening, opens, ready, cause_in, step, after, refusal, at_end, site_in}
+use Rattle.cts_plan.specs.SiteFiles.{parts, opening, opens, ready, cause_in, step, after, refusal, refusal_in, at_end, site_in}
 use Rattle.cts_plan.specs.Keeping.{KeepsRules}
 use Rattle.cts_plan.proofs.Lists.{both, neither, not_false, and_true, but_last, but_last_snoc, but_last_kept}
 use Rattle.cts_plan.proofs.Completed.{routed_kept, all_joined}
 use Rattle.cts_plan.proofs.Kept.{keeps_rules, at_start}
 use Rattle.cts_plan.proofs.Runs.{after_more}
 use Rattle.cts_words.proofs.Finds.{none_passes}
-use Rattle.cts_plan_laws.specs.SiteLaws.{of_parts, said, all_said, last_said, target, route, api_port, desk_count, Opener, opener_with, opener_by, opener, groups, is_router_group, is_interface_group, router_groups, protocols, IsInterface, IsRouter, Each, IsSite, SitesAreOfTheirStatements}
+use Rattle.cts_plan_laws.specs.SiteLaws.{of_parts, said, all_said, last_said, target, route, api_port, desk_count, log_layout, log_cycle, Opener, opener_with, opener_by, opener, groups, is_router_group, is_interface_group, router_groups, protocols, IsInterface, IsRouter, Each, IsSite, SitesAreOfTheirStatements}
 use Rattle.cts_plan_laws.specs.Laws.{IsInterfaceDraft, IsRouterDraft, IsOpened}
 use Rattle.cts_plan_laws.proofs.FirstRefused.{none_holds, through}
 use Rattle.cts_plan_laws.proofs.Fitting.{words_fit}
-use Rattle.cts_plan_laws.proofs.Readings.{Says, reads, reads_as, says_of, opened_by, change_by}
-use Rattle.cts_plan_laws.proofs.Opened.{said_more, last_more, opened_more, details, opened_now, opened_new}
+use Rattle.cts_plan_laws.proofs.Readings.{Says, reads, reads_as, says_at, says_of, opened_by, change_by}
+use Rattle.cts_plan_laws.proofs.Opened.{said_more, last_more, last_one_more, opened_more, details, opened_now, opened_new}
 
 abbrev Group : Type 0
 Group = Opener × List Statement
@@ -175,6 +176,64 @@ split_last [] = refl
 split_last (x ∷ []) = refl
 split_last (x ∷ y ∷ xs) = ap (λ ys. x ∷ ys) (split_last (y ∷ xs))
 
+-- ---- what is said once at most
+
+-- where it was not given it is not said, and it is said once at most
+abbrev IsOnce : {X : Type 0} → Bool → List X → Type 0
+IsOnce given xs = (given ≡ false → xs ≡ []) × (length xs ≤ 1)
+
+once_with : {X : Type 0} (given : Bool) (o : Option X) (xs : List X) → IsOnce given xs → (is_some o && given) ≡ false → IsOnce (is_some o || given) (xs ++ option_to_list o)
+once_with given None xs h e = subst (IsOnce given) (sym (append-nil xs)) h
+once_with given (Some x) xs h e = (λ never. absurd (cc never), subst (λ ys. length (ys ++ x ∷ []) ≤ 1) (sym (h.0 e)) (omega arith))
+
+once_more : {X : Type 0} (says : Keyword → List (List ℕ) → Option X) (given : Bool) (before : List Statement) (t : Statement) → IsOnce given (all_said says before)
+    → (is_some (said says t) && given) ≡ false → IsOnce (is_some (said says t) || given) (all_said says (before ++ t ∷ []))
+once_more says given before t h e = subst (IsOnce (is_some (said says t) || given)) (sym (said_more (said says) before t)) (once_with given (said says t) (all_said says before) h e)
+
+either_there : {X : Type 0} (o p : Option X) → is_some (option_or o p) ≡ (is_some o || is_some p)
+either_there None p = refl
+either_there (Some x) p = refl
+
+-- a line without a cause gives neither again
+record GivesAnew (s : Draft) (r : Says) : Type 0 where
+  pub layout : (is_some r.layout && s.layout_said) ≡ false
+  pub cycle : (is_some r.cycle && is_some s.site.log_cycle) ≡ false
+
+line_anew : (s : Draft) (l : Line) → is_double s l ≡ false → GivesAnew s (reads l)
+line_anew s line.Nothing e = record { layout = refl; cycle = refl }
+line_anew s (line.ApiPort port) e = record { layout = refl; cycle = refl }
+line_anew s (line.Desks desks) e = record { layout = refl; cycle = refl }
+line_anew s (line.LogLayout layout) e = record { layout = e; cycle = refl }
+line_anew s (line.LogCycle bytes) e = record { layout = refl; cycle = e }
+line_anew s (line.Interface i) e = record { layout = refl; cycle = refl }
+line_anew s (line.Router r) e = record { layout = refl; cycle = refl }
+line_anew s (line.Detail (detail.Target name)) e = record { layout = refl; cycle = refl }
+line_anew s (line.Detail (detail.Step step)) e = record { layout = refl; cycle = refl }
+line_anew s (line.Detail (detail.Route name)) e = record { layout = refl; cycle = refl }
+line_anew s (line.Detail (detail.Delay delay)) e = record { layout = refl; cycle = refl }
+line_anew s (line.Detail detail.DontReconnect) e = record { layout = refl; cycle = refl }
+line_anew s (line.Detail (detail.Logged logged)) e = record { layout = refl; cycle = refl }
+
+anew_at : (s : Draft) (n : ℕ) (p : Option (Keyword × List (List ℕ))) → or_else (cond (opens p) (due s) None) (at_line n (cause_in (ready p s) n p)) ≡ None → GivesAnew (ready p s) (says_at n p)
+anew_at s n None e = record { layout = refl; cycle = refl }
+anew_at s n (Some p) e =
+    let stands = ready (Some p) s in
+    let l = line_of n p.0 p.1 in
+    let passes = none_passes (λ c. holds c stands p.0 p.1 l) order (none_holds s n p e) in
+    subst (GivesAnew stands) (reads_as n p.0 p.1) (line_anew stands l passes.1.1.1.1.1.0)
+
+same_cycle : (s : SiteData) (c : Current) → (completed s c).log_cycle ≡ s.log_cycle
+same_cycle s current.Nothing = refl
+same_cycle s (current.Interface i) = refl
+same_cycle s (current.Router r) = refl
+
+anew_before : (b : Bool) (s : Draft) (r : Says) → GivesAnew (cond b (closed s) s) r → GivesAnew s r
+anew_before true s r h = record { layout = h.layout; cycle = ap (λ o. is_some r.cycle && is_some o) (sym (same_cycle s.site s.current)) ∙ h.cycle }
+anew_before false s r h = h
+
+gives_anew : (s : Draft) (t : Statement) → refusal_in s t ≡ None → GivesAnew s (says_of t)
+gives_anew s t none = anew_before (opens (parts t.words)) s (says_of t) (anew_at s t.line (parts t.words) none)
+
 -- ---- a statement more
 
 record IsSoFar (d : DefinitionsData) (before : List Statement) (s : Draft) : Type 0 where
@@ -183,6 +242,10 @@ record IsSoFar (d : DefinitionsData) (before : List Statement) (s : Draft) : Typ
   pub current : IsRead s.site.interfaces (last_of (groups before)) s.current
   pub port : s.site.api_port ≡ last_said api_port 7777 before
   pub desks : s.site.desks ≡ last_said desk_count 4 before
+  pub layout : s.site.log_layout ≡ last_said log_layout 2 before
+  pub cycle : s.site.log_cycle ≡ last_of (all_said log_cycle before)
+  pub one_layout : IsOnce s.layout_said (all_said log_layout before)
+  pub one_cycle : IsOnce (is_some s.site.log_cycle) (all_said log_cycle before)
   pub kept : KeepsRules s
 
 -- all groups, with what is read complete
@@ -206,11 +269,18 @@ same_desks s current.Nothing = refl
 same_desks s (current.Interface i) = refl
 same_desks s (current.Router r) = refl
 
+same_layout : (s : SiteData) (c : Current) → (completed s c).log_layout ≡ s.log_layout
+same_layout s current.Nothing = refl
+same_layout s (current.Interface i) = refl
+same_layout s (current.Router r) = refl
+
 -- the route that a line names is known
 line_known : (s : Draft) (l : Line) → is_unrouted s l ≡ false → are_known s.site.interfaces (option_to_list (reads l).route) ≡ true
 line_known s line.Nothing e = refl
 line_known s (line.ApiPort port) e = refl
 line_known s (line.Desks desks) e = refl
+line_known s (line.LogLayout layout) e = refl
+line_known s (line.LogCycle bytes) e = refl
 line_known s (line.Interface i) e = refl
 line_known s (line.Router r) e = refl
 line_known s (line.Detail (detail.Target name)) e = refl
@@ -261,8 +331,8 @@ last_changed f (x ∷ []) = refl
 last_changed f (x ∷ y ∷ []) = refl
 last_changed f (x ∷ y ∷ z ∷ xs) = last_changed f (y ∷ z ∷ xs)
 
-more_opened : (d : DefinitionsData) (before : List Statement) (s : Draft) (t : Statement) (o : Opener) → opener t ≡ Some o → IsSoFar d before s → KeepsRules (step s t) → IsSoFar d (before ++ t ∷ []) (step s t)
-more_opened d before s t o e h kept =
+more_opened : (d : DefinitionsData) (before : List Statement) (s : Draft) (t : Statement) (o : Opener) → opener t ≡ Some o → GivesAnew s (says_of t) → IsSoFar d before s → KeepsRules (step s t) → IsSoFar d (before ++ t ∷ []) (step s t)
+more_opened d before s t o e anew h kept =
     let now = opened_now s t o e in
     let gs : groups (before ++ t ∷ []) ≡ groups before ++ (o, []) ∷ [] = blocks-more opener before t o e in
     let whole = all_complete d before s h in
@@ -275,12 +345,18 @@ more_opened d before s t o e h kept =
           (subst (λ (g : Option Group). IsRead (site_in s).interfaces g (opened_by o)) (sym (ap last_of gs ∙ last_snoc (groups before) (o, []))) (opened_new (site_in s).interfaces t o e, refl));
       port = ap (λ (x : Draft). x.site.api_port) now ∙ last_more api_port 7777 (site_in s).api_port before t (same_port s.site s.current ∙ h.port);
       desks = ap (λ (x : Draft). x.site.desks) now ∙ last_more desk_count 4 (site_in s).desks before t (same_desks s.site s.current ∙ h.desks);
+      layout = ap (λ (x : Draft). x.site.log_layout) now ∙ last_more log_layout 2 (site_in s).log_layout before t (same_layout s.site s.current ∙ h.layout);
+      cycle = ap (λ (x : Draft). x.site.log_cycle) now ∙ last_one_more log_cycle (site_in s).log_cycle before t (same_cycle s.site s.current ∙ h.cycle);
+      one_layout = subst (λ b. IsOnce b (all_said log_layout (before ++ t ∷ []))) (sym (ap (λ (x : Draft). x.layout_said) now)) (once_more log_layout s.layout_said before t h.one_layout anew.layout);
+      one_cycle = subst (λ b. IsOnce b (all_said log_cycle (before ++ t ∷ [])))
+          (sym (ap (λ (x : Draft). is_some x.site.log_cycle) now ∙ ap (λ o. is_some (option_or (said log_cycle t) o)) (same_cycle s.site s.current) ∙ either_there (said log_cycle t) s.site.log_cycle))
+          (once_more log_cycle (is_some s.site.log_cycle) before t h.one_cycle anew.cycle);
       kept = kept;
     }
 
 more_said : (d : DefinitionsData) (before : List Statement) (s : Draft) (t : Statement) → opens (parts t.words) ≡ false → opener t ≡ None → are_known s.site.interfaces (option_to_list (said route t)) ≡ true
-    → IsSoFar d before s → KeepsRules (step s t) → IsSoFar d (before ++ t ∷ []) (step s t)
-more_said d before s t opens_not none known h kept =
+    → GivesAnew s (says_of t) → IsSoFar d before s → KeepsRules (step s t) → IsSoFar d (before ++ t ∷ []) (step s t)
+more_said d before s t opens_not none known anew h kept =
     let now = details s t opens_not in
     let gs : groups (before ++ t ∷ []) ≡ on_last (with_statement t) (groups before) = blocks-joined opener before t none in
     record {
@@ -292,25 +368,33 @@ more_said d before s t opens_not none known h kept =
           (read_more s.site.interfaces t (last_of (groups before)) s.current known h.current));
       port = ap (λ (x : Draft). x.site.api_port) now ∙ last_more api_port 7777 s.site.api_port before t h.port;
       desks = ap (λ (x : Draft). x.site.desks) now ∙ last_more desk_count 4 s.site.desks before t h.desks;
+      layout = ap (λ (x : Draft). x.site.log_layout) now ∙ last_more log_layout 2 s.site.log_layout before t h.layout;
+      cycle = ap (λ (x : Draft). x.site.log_cycle) now ∙ last_one_more log_cycle s.site.log_cycle before t h.cycle;
+      one_layout = subst (λ b. IsOnce b (all_said log_layout (before ++ t ∷ []))) (sym (ap (λ (x : Draft). x.layout_said) now)) (once_more log_layout s.layout_said before t h.one_layout anew.layout);
+      one_cycle = subst (λ b. IsOnce b (all_said log_cycle (before ++ t ∷ []))) (sym (ap (λ (x : Draft). is_some x.site.log_cycle) now ∙ either_there (said log_cycle t) s.site.log_cycle))
+          (once_more log_cycle (is_some s.site.log_cycle) before t h.one_cycle anew.cycle);
       kept = kept;
     }
 
 one_more : (d : DefinitionsData) (before : List Statement) (t : Statement) (b : Bool) (o : Option Opener) → opens (parts t.words) ≡ b → opener t ≡ o → IsSoFar d before (after d before)
     → refusal d before t ≡ None → IsSoFar d (before ++ t ∷ []) (step (after d before) t)
-one_more d before t b (Some o) is e h none = more_opened d before (after d before) t o e h (keeps_rules (after d before) t h.kept none)
+one_more d before t b (Some o) is e h none = more_opened d before (after d before) t o e (gives_anew (after d before) t none) h (keeps_rules (after d before) t h.kept none)
 one_more d before t true None is e h none = absurd (gives_name (after d before) t.line (parts t.words) none is e)
 one_more d before t false None is e h none =
     let s = after d before in
     let known : are_known s.site.interfaces (option_to_list (said route t)) ≡ true =
     sym (ap (λ c. are_known (cond c (closed s) s).site.interfaces (option_to_list (said route t))) is) ∙ route_known s t.line (parts t.words) none in
-    more_said d before s t is e known h (keeps_rules s t h.kept none)
+    more_said d before s t is e known (gives_anew s t none) h (keeps_rules s t h.kept none)
 
 so_far : (d : DefinitionsData) (before : List Statement) (t : Statement) → IsSoFar d before (after d before) → refusal d before t ≡ None → IsSoFar d (before ++ t ∷ []) (after d (before ++ t ∷ []))
 so_far d before t h none =
     subst (IsSoFar d (before ++ t ∷ [])) (sym (after_more d before t)) (one_more d before t (opens (parts t.words)) (opener t) refl refl h none)
 
+nothing_said : {X : Type 0} → IsOnce {X = X} false []
+nothing_said = (λ e. refl, omega arith)
+
 begins : (d : DefinitionsData) → IsSoFar d [] (start d)
-begins d = record { definitions = refl; complete = record { interfaces = tt; routers = tt }; current = refl; port = refl; desks = refl; kept = at_start d }
+begins d = record { definitions = refl; complete = record { interfaces = tt; routers = tt }; current = refl; port = refl; desks = refl; layout = refl; cycle = refl; one_layout = nothing_said; one_cycle = nothing_said; kept = at_start d }
 
 -- ---- the site
 
@@ -330,6 +414,10 @@ is_site d all h =
       routers = each_said d (site_in s).interfaces (router_groups all) (site_in s).routers whole.routers;
       port = same_port s.site s.current ∙ h.port;
       desks = same_desks s.site s.current ∙ h.desks;
+      layout = same_layout s.site s.current ∙ h.layout;
+      cycle = same_cycle s.site s.current ∙ h.cycle;
+      one_layout = h.one_layout.1;
+      one_cycle = h.one_cycle.1;
     }
 
 answered : (d : DefinitionsData) (all : List Statement) (s : SiteData) (o : Option Refused) → first_refusal (refusal d) (at_end d) [] all ≡ o → unless_refused (site_in (after d all)) o ≡ Ok s → IsSite d all s

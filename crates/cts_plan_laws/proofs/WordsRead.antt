@@ -5,6 +5,7 @@ use Rattle.std.specs.List.{list_any}
 use Rattle.cts_base.specs.Wholes.{whole_of}
 use Rattle.cts_bits.specs.Places.{is_refused}
 use Rattle.cts_bits.specs.declared.order.Order.TheVariants.{Big}
+use Rattle.cts_def.specs.Most.{frame_limit}
 use Rattle.cts_def.specs.Packets.{DefinitionsData}
 use Rattle.cts_def.specs.declared.proto_spec.Kind.{Kind}
 use Rattle.cts_def.specs.declared.proto_spec.Kind.TheVariants as kind
@@ -12,9 +13,9 @@ use Rattle.cts_plan.specs.declared.keyword.Field.{Field}
 use Rattle.cts_plan.specs.declared.keyword.Field.TheVariants as field
 use Rattle.cts_plan.specs.declared.words.Way.{Way}
 use Rattle.cts_plan.specs.Steps.{StepData}
-use Rattle.cts_plan.specs.Words.{word, flag_of, order_of, size_of, bits_of, per_count_of, max_of, signed_of, signed_in, natural_in, pattern_of}
+use Rattle.cts_plan.specs.Words.{word, flag_of, order_of, size_of, bits_of, per_count_of, max_of, layout_of, layout_in, signed_of, signed_in, natural_in, pattern_of}
 use Rattle.cts_plan.specs.Forms.{parameter_fields, is_other_choice, is_no_number}
-use Rattle.cts_plan.specs.Lines.{flag_or, size_or_zero, length_offset, length_bits, length_order, length_with, terminated_with, step_with}
+use Rattle.cts_plan.specs.Lines.{flag_or, size_or_zero, layout_or_two, length_offset, length_bits, length_order, length_with, terminated_with, step_with}
 use Rattle.cts_plan.specs.Standing.{use_of}
 use Rattle.cts_plan_laws.specs.Parameters.{IsRead, some_pattern, some_max, IsUse, Fit, ParametersAreOfTheirWords}
 use Rattle.cts_plan.proofs.Lists.{neither}
@@ -58,7 +59,7 @@ unfolding whole_of
 no_number = refl
 
 size_at : (kind : Kind) (ws : List (List ℕ)) (k : ℕ) → Fit kind ws → slice_get (parameter_fields kind) k ≡ Some field.Size → IsRead size_of 0 (slice_get ws k) (size_or_zero (word ws k))
-size_at kind ws k fit at = read_or size_of 0 ws k (slice_get ws k) refl (ap (natural_in 0 1048576) no_number) (λ w there. fits_at is_no_number (parameter_fields kind) ws k field.Size w fit.numbers at there)
+size_at kind ws k fit at = read_or size_of 0 ws k (slice_get ws k) refl (ap (natural_in 0 frame_limit) no_number) (λ w there. fits_at is_no_number (parameter_fields kind) ws k field.Size w fit.numbers at there)
 
 bits_at : (kind : Kind) (ws : List (List ℕ)) (k default : ℕ) → Fit kind ws → slice_get (parameter_fields kind) k ≡ Some field.Bits → IsRead bits_of default (slice_get ws k) (unwrap_or (bits_of (word ws k)) default)
 bits_at kind ws k default fit at = read_or bits_of default ws k (slice_get ws k) refl (ap (natural_in 0 8388608) no_number) (λ w there. fits_at is_no_number (parameter_fields kind) ws k field.Bits w fit.numbers at there)
@@ -71,6 +72,10 @@ pattern_at ws k = read_always pattern_of [] ws k (slice_get ws k) refl refl
 
 max_at : (ws : List (List ℕ)) (k : ℕ) → IsRead some_max None (slice_get ws k) (max_of (word ws k))
 max_at ws k = read_always max_of None ws k (slice_get ws k) refl (ap (natural_in 0 18446744073709551615) no_number)
+
+layout_at : (ws : List (List ℕ)) → Fit kind.Preidentified ws → IsRead layout_of 2 (slice_get ws 2) (layout_or_two (word ws 2))
+layout_at ws fit =
+    read_or layout_of 2 ws 2 (slice_get ws 2) refl (ap (λ o. layout_in (natural_in 2 4 o)) no_number) (λ w there. fits_at is_no_number (parameter_fields kind.Preidentified) ws 2 field.Layout w fit.numbers refl there)
 
 the_same : {X : Type 0} (x y : X) → Some x ≡ Some y → x ≡ y
 the_same x y e = cc
@@ -138,7 +143,7 @@ parameters_are_of_their_words d targets n way kind.Length ws step fit e = length
 parameters_are_of_their_words d targets n way kind.Terminated ws step fit e = terminated_use d targets n way ws step (nat_eq (length (pattern_of (word ws 1))) 0) fit e
 parameters_are_of_their_words d targets n way kind.Preidentified ws step fit e = subst (λ s. IsUse way kind.Preidentified ws (use_of d targets s)) (the_same _ _ e) (record {
   same_kind = refl;
-  parameters = record { sync = pattern_at ws 0; max = max_at ws 1 };
+  parameters = record { sync = pattern_at ws 0; max = max_at ws 1; layout = layout_at ws fit };
   reads = refl;
   writes = refl;
 })

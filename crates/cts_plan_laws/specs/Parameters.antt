@@ -7,7 +7,7 @@ use Rattle.cts_def.specs.Packets.{DefinitionsData}
 use Rattle.cts_def.specs.Protocols.{BurstData, FixedData, LengthData, TerminatedData, PreidentifiedData, SpecData, Burst, Fixed, Length, Terminated, Preidentified, UseData, kind_of}
 use Rattle.cts_plan.specs.declared.words.Way.{Way}
 use Rattle.cts_plan.specs.Steps.{StepData}
-use Rattle.cts_plan.specs.Words.{flag_of, order_of, way_reads, way_writes, size_of, bits_of, per_count_of, max_of, signed_of, pattern_of}
+use Rattle.cts_plan.specs.Words.{flag_of, order_of, way_reads, way_writes, size_of, bits_of, per_count_of, max_of, layout_of, signed_of, pattern_of}
 use Rattle.cts_plan.specs.Forms.{parameter_fields, is_other_choice, is_no_number}
 use Rattle.cts_plan.specs.Lines.{step_of}
 use Rattle.cts_plan.specs.Standing.{use_of}
@@ -64,10 +64,11 @@ pub record IsTerminated (ws : List (List ℕ)) (t : TerminatedData) : Type 0 whe
   pub sync : IsRead some_pattern [] (slice_get ws 4) t.sync
   pub fill : IsRead flag_of false (slice_get ws 5) t.fill
 
--- the sync pattern and the greatest count
+-- the sync pattern, the greatest count, and the layout of heads
 pub record IsPreidentified (ws : List (List ℕ)) (p : PreidentifiedData) : Type 0 where
   pub sync : IsRead some_pattern [] (slice_get ws 0) p.sync
   pub max : IsRead some_max None (slice_get ws 1) p.max
+  pub layout : IsRead layout_of 2 (slice_get ws 2) p.layout
 
 -- the protocol has the parameters that the words write
 abbrev pub HasParameters : List (List ℕ) → SpecData → Type 0

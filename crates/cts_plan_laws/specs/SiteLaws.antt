@@ -1,5 +1,5 @@
 -- What a site has of the statements of its file.
-use Rattle.std.specs.Prelude.{◌≡◌, ℕ, pos, Bool, true, false, not, List, [], ◌∷◌, ◌++◌, map, option_to_list, option_map, Option, Some, None, Ok, unwrap_or, if◌then◌else◌}
+use Rattle.std.specs.Prelude.{◌≡◌, ◌≤◌, ℕ, pos, Bool, true, false, not, List, [], ◌∷◌, ◌++◌, map, length, option_to_list, option_map, Option, Some, None, Ok, unwrap_or, if◌then◌else◌}
 use Rattle.std.specs.List.{filter, filter_map, list_any}
 use Rattle.cts_base.specs.declared.decimal.Decimal.{Decimal}
 use Rattle.cts_def.specs.Packets.{DefinitionsData}
@@ -10,7 +10,7 @@ use Rattle.cts_plan.specs.declared.keyword.Keyword.{Keyword}
 use Rattle.cts_plan.specs.declared.keyword.Keyword.TheVariants as keyword
 use Rattle.cts_plan.specs.declared.words.Way.TheVariants.{ReadWrite}
 use Rattle.cts_plan.specs.Steps.{StepData}
-use Rattle.cts_plan.specs.Words.{word, way_of, port_of, desks_of, delay_of}
+use Rattle.cts_plan.specs.Words.{word, way_of, port_of, desks_of, log_layout_of, cycle_of, delay_of}
 use Rattle.cts_def.specs.declared.proto_spec.Kind.{Kind}
 use Rattle.cts_plan.specs.Forms.{role_of, protocol_of, parameters}
 use Rattle.cts_plan_laws.specs.Parameters.{Fit}
@@ -87,6 +87,16 @@ abbrev pub desk_count : Keyword → List (List ℕ) → Option ℕ
 desk_count keyword.Desks ws = desks_of (word ws 0)
 desk_count _ ws = None
 
+-- LOG_LAYOUT: the layout in which logs are written
+abbrev pub log_layout : Keyword → List (List ℕ) → Option ℕ
+log_layout keyword.LogLayout ws = log_layout_of (word ws 0)
+log_layout _ ws = None
+
+-- LOG_CYCLE: the greatest size of a part of a log
+abbrev pub log_cycle : Keyword → List (List ℕ) → Option ℕ
+log_cycle keyword.LogCycle ws = cycle_of (word ws 0)
+log_cycle _ ws = None
+
 -- ---- interfaces and routers with their statements
 
 -- An INTERFACE or ROUTER statement: its number, its keyword, the name that it gives, and the words after the keyword.
@@ -159,13 +169,18 @@ Each R [] (y ∷ ys) = ⊥
 Each R (x ∷ xs) [] = ⊥
 Each R (x ∷ xs) (y ∷ ys) = R x y × Each R xs ys
 
--- A site has an interface for each INTERFACE statement and a router for each ROUTER statement, in their order.
+-- A site has an interface for each INTERFACE statement and a router for each ROUTER statement, in their order. Of the port and the number of
+-- desks the last statement counts; the layout and the cycle of logs are said once at most.
 pub record IsSite (d : DefinitionsData) (all : List Statement) (s : SiteData) : Type 0 where
   pub definitions : s.definitions ≡ d
   pub interfaces : Each (IsInterface d) (interface_groups all) s.interfaces
   pub routers : Each (IsRouter d s.interfaces) (router_groups all) s.routers
   pub port : s.api_port ≡ last_said api_port 7777 all
   pub desks : s.desks ≡ last_said desk_count 4 all
+  pub layout : s.log_layout ≡ last_said log_layout 2 all
+  pub cycle : s.log_cycle ≡ last_of (all_said log_cycle all)
+  pub one_layout : length (all_said log_layout all) ≤ 1
+  pub one_cycle : length (all_said log_cycle all) ≤ 1
 
 -- The site of statements has what they say.
 abbrev pub SitesAreOfTheirStatements : Type 0

@@ -1,11 +1,11 @@
 -- What the store of a protocol's bytes does.
 use Rattle.std.proofs.Common.{◌≡◌, ℕ, ◌+◌, ◌-◌, ◌^◌, ◌≤◌, ◌<◌, List, [], ◌∷◌, length, take, drop, refl, sym, ◌∙◌, ap, subst, arith, true, Option, Some, None, slice_range}
 use Rattle.std.proofs.lemmas.List.{take-append-drop, drop-drop, length-take-le}
-use Rattle.cts_frame.specs.Framing.{Framing, Output}
-use Rattle.cts_frame.specs.Cuts.{Part, Taken, and_output, one_if_empty, outputs, empties}
-use Rattle.cts_frame.specs.Packets.{capped}
-use Rattle.cts_frame.proofs.Framings.{taken_none}
-use Rattle.cts_frame.proofs.Takings.{taken_frame, taken_join}
+use Rattle.cts_framing.specs.Framing.{Framing, Output}
+use Rattle.cts_framing.specs.Cuts.{Part, Taken, and_output, one_if_empty, outputs, empties}
+use Rattle.cts_framing.specs.Packets.{capped}
+use Rattle.cts_framing.proofs.Framings.{taken_none}
+use Rattle.cts_framing.proofs.Takings.{taken_frame, taken_join}
 use Rattle.cts_proto.specs.declared.step.Stamp.{Stamp}
 use Rattle.cts_proto.specs.Founds.{IsFirstPlace, FindsFrame, StampFits, output_at, heading_at}
 use Rattle.cts_proto.specs.Meaning.{Meaning, framing, Advances}
@@ -121,7 +121,7 @@ advances_join a b c outs h k = record {
 }
 
 -- a span of what is left is a span of what is held
-moved_range : (held : List ℕ) (by start end : ℕ) → slice_range (drop by held) start end ≡ slice_range held (by + start) (by + end)
+pub moved_range : (held : List ℕ) (by start end : ℕ) → slice_range (drop by held) start end ≡ slice_range held (by + start) (by + end)
 moved_range held by start end =
     let e : end - start ≡ (by + end) - (by + start) = omega arith in
     ap (take (end - start)) (drop-drop start by held) ∙ ap (λ k. take k (drop (by + start) held)) e
@@ -131,7 +131,7 @@ moved_heading held by None = refl
 moved_heading held by (Some s) =
     let target = moved_range held by s.target.0 s.target.1 in
     let packet = moved_range held by s.packet.0 s.packet.1 in
-    ap Some (λ i. record { time = s.time; target = target i; packet = packet i })
+    ap Some (λ i. record { time = s.time; target = target i; packet = packet i; stored = s.stored })
 
 pub moved_output : (held : List ℕ) (by start end : ℕ) (stamp : Option Stamp) → output_at (drop by held) start end stamp ≡ output_at held (by + start) (by + end) (moved_stamp by stamp)
 moved_output held by start end stamp =

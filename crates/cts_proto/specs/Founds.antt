@@ -4,8 +4,8 @@ use Rattle.cts_def.specs.declared.bad_cause.BadCause.{BadCause}
 use Rattle.cts_proto.specs.declared.step.Found.{Found}
 use Rattle.cts_proto.specs.declared.step.Found.TheVariants.{Frame, Nothing, Fault}
 use Rattle.cts_proto.specs.declared.step.Stamp.{Stamp}
-use Rattle.cts_frame.specs.Framing.{Framing, Output, Heading, Agree}
-use Rattle.cts_frame.specs.Cuts.{Ends, NoneBegins}
+use Rattle.cts_framing.specs.Framing.{Framing, Output, Heading, Agree}
+use Rattle.cts_framing.specs.Cuts.{Ends, NoneBegins}
 
 -- a span lies within so many bytes
 abbrev pub IsSpan : ℕ → ℕ × ℕ → Type 0
@@ -18,7 +18,7 @@ StampFits len (Some s) = IsSpan len s.target × IsSpan len s.packet
 -- the heading whose names stand in these spans
 abbrev pub heading_at : List ℕ → Option Stamp → Option Heading
 heading_at held None = None
-heading_at held (Some s) = Some (record { time = s.time; target = slice_range held s.target.0 s.target.1; packet = slice_range held s.packet.0 s.packet.1 })
+heading_at held (Some s) = Some (record { time = s.time; target = slice_range held s.target.0 s.target.1; packet = slice_range held s.packet.0 s.packet.1; stored = s.stored })
 
 -- the output that stands in this span
 abbrev pub output_at : List ℕ → ℕ → ℕ → Option Stamp → Output

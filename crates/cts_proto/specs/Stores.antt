@@ -1,7 +1,7 @@
 -- What the store of a protocol's bytes means.
 use Rattle.std.specs.Prelude.{ℕ, ◌+◌, ◌-◌, List, take, drop, vec_len, vec_capacity, Option, Some, None}
 use Rattle.cts_def.specs.Protocols.{SpecData}
-use Rattle.cts_frame.specs.Framing.{Framing}
+use Rattle.cts_framing.specs.Framing.{Framing}
 use Rattle.cts_proto.specs.declared.step.Stamp.{Stamp}
 use Rattle.cts_proto.specs.declared.store.Store.{Store}
 use Rattle.cts_proto.specs.Founds.{NothingStands}
@@ -26,4 +26,4 @@ moved_span by s = (by + s.0, by + s.1)
 
 abbrev pub moved_stamp : ℕ → Option Stamp → Option Stamp
 moved_stamp by None = None
-moved_stamp by (Some s) = Some (record { time = s.time; target = moved_span by s.target; packet = moved_span by s.packet })
+moved_stamp by (Some s) = Some (record { time = s.time; target = moved_span by s.target; packet = moved_span by s.packet; stored = s.stored })

@@ -3,7 +3,7 @@ ghost use Rattle.std.specs.Prelude.{◌≡◌, ℕ, ◌+◌, ◌-◌, ◌^◌, �
 ghost use Rattle.cts_def.specs.Protocols.{SpecData, kind_of, spec_data, is_sound_spec};
 ghost use Rattle.cts_proto.specs.Founds.{StampFits};
 ghost use Rattle.cts_proto.specs.Meaning.{LendsFew, Meaning, Steps, Unset};
-ghost use Rattle.cts_frame.specs.Rows.{framing_of};
+ghost use Rattle.cts_framing.specs.Rows.{framing_of};
 ghost use Rattle.cts_proto.specs.Stores.{Looked, left, meaning_of, moved_stamp as moved_by};
 
 use crate::gap::first_place;
@@ -13,7 +13,7 @@ use crate::step::{Found, Given, Stamp, Step};
 use crate::store::Store;
 use cts_base::Memory;
 use cts_def::{Kind, Label, ProtoSpec};
-use cts_spell::{EncodeFault, encode};
+use cts_encode::{EncodeFault, encode};
 use std::alloc::Global;
 
 /// A protocol that cuts what it is fed by a search.
@@ -139,6 +139,7 @@ fn moved_stamp(stamp: Option<Stamp>, by: usize) -> Option<Stamp>
             time: stamp.time,
             target: (by + stamp.target.0, by + stamp.target.1),
             packet: (by + stamp.packet.0, by + stamp.packet.1),
+            stored: stamp.stored,
         }),
     }
 }

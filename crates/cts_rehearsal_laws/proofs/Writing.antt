@@ -9,8 +9,8 @@ use Rattle.cts_entry.specs.Workers.{is_interface}
 use Rattle.cts_entry.specs.declared.entry.Entry.{Entry}
 use Rattle.cts_entry.specs.declared.event.Event.TheVariants.{Call, Write}
 use Rattle.cts_entry.proofs.Queuing.{since-append}
-use Rattle.cts_told.specs.Routing.{Routing, walk}
-use Rattle.cts_told.proofs.Walks.{connected_kept, walk-append}
+use Rattle.cts_trace.specs.Routing.{Routing, walk}
+use Rattle.cts_trace.proofs.Walks.{connected_kept, walk-append}
 use Rattle.cts_core.specs.Environments.{site_environment}
 use Rattle.cts_core.specs.Runs.{Did, Does, after}
 use Rattle.cts_core.specs.Sendings.{command_entry}

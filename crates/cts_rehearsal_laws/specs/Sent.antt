@@ -6,7 +6,7 @@ use Rattle.cts_cmd.specs.declared.refused.Refused.TheVariants.{OutOfRange}
 use Rattle.cts_def.specs.Sites.{SiteData}
 use Rattle.cts_entry.specs.Histories.{is_connected, since}
 use Rattle.cts_entry.specs.declared.event.Event.TheVariants.{Call, Write}
-use Rattle.cts_told.specs.Routing.{walk}
+use Rattle.cts_trace.specs.Routing.{walk}
 use Rattle.cts_core.specs.Environments.{basis_of, site_environment}
 use Rattle.cts_table.specs.States.{is_within}
 use Rattle.cts_core.specs.Runs.{Did, Does, after}

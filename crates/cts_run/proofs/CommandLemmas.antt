@@ -8,7 +8,7 @@ use Rattle.cts_chain.specs.declared.build.ChainFault.{ChainFault}
 use Rattle.cts_chain.specs.declared.build.ChainFault.TheVariants as chain
 use Rattle.cts_core_laws.proofs.OneRun.{has_run}
 use Rattle.cts_core_laws.proofs.SiteSound.{site_sound}
-use Rattle.cts_core.specs.LineChains.{line_uses}
+use Rattle.cts_connection.specs.LineChains.{line_uses}
 use Rattle.cts_core.specs.Environments.{basis_of, site_environment}
 use Rattle.cts_core.specs.Runs.{Did, Ending, Finished, NotEnabled, HistoryFull}
 use Rattle.cts_core.specs.States.{opening}

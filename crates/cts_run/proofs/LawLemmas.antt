@@ -59,12 +59,12 @@ Same acts other due answer = (acts ≡ other) × (due ≡ answer)
 
 one_dump : (file : List ℕ) (acts other : List Act) (due answer : Result (Unit {0}) Halt) → IsDump file acts due → IsDump file other answer → Same acts other due answer
 one_dump file acts other due answer (inl a) (inl b) =
-    let same = logs_are_read_once file a.kind b.kind a.entries b.entries a.place b.place a.read b.read in (
-      one_text b.entries acts other (subst (λ (es : List Logged). AreLines es acts) same.1 a.lines) b.lines,
-      a.due_is ∙ (ap (λ (n : ℕ). dump_answer n (length file)) same.2 ∙ sym b.due_is),
+    let same = logs_are_read_once file a.kind b.kind a.flagged b.flagged a.entries b.entries a.place b.place a.read b.read in (
+      one_text b.entries acts other (subst (λ (es : List Logged). AreLines es acts) same.2 a.lines) b.lines,
+      a.due_is ∙ (ap (λ (n : ℕ). dump_answer n (length file)) same.3 ∙ sym b.due_is),
     )
-one_dump file acts other due answer (inl a) (inr b) = absurd (no_head_no_read file a.kind a.entries a.place b.none a.read)
-one_dump file acts other due answer (inr a) (inl b) = absurd (no_head_no_read file b.kind b.entries b.place a.none b.read)
+one_dump file acts other due answer (inl a) (inr b) = absurd (no_head_no_read file a.kind a.flagged a.entries a.place b.none a.read)
+one_dump file acts other due answer (inr a) (inl b) = absurd (no_head_no_read file b.kind b.flagged b.entries b.place a.none b.read)
 one_dump file acts other due answer (inr a) (inr b) = (a.nothing ∙ sym b.nothing, a.refused ∙ sym b.refused)
 
 -- a script's events have one run
@@ -341,9 +341,9 @@ before_end place n e = rw e refl
 -- where it is refused it is no whole log
 never_whole : (file : List ℕ) (acts : List Act) (due : Result (Unit {0}) Halt) → IsDump file acts due → (outcome_of [] due).status ≡ is.LogRefused → IsWholeLog file → ⊥
 never_whole file acts due (inl a) e w =
-    let same = logs_are_read_once file a.kind w.0 a.entries w.1 a.place (length file) a.read w.2 in
-    at_end a.place (length file) same.2 (subst (λ (d : Result (Unit {0}) Halt). (outcome_of [] d).status ≡ is.LogRefused) a.due_is e)
-never_whole file acts due (inr a) e w = no_head_no_read file w.0 w.1 (length file) a.none w.2
+    let same = logs_are_read_once file a.kind w.0 a.flagged w.1 a.entries w.2 a.place (length file) a.read w.3 in
+    at_end a.place (length file) same.3 (subst (λ (d : Result (Unit {0}) Halt). (outcome_of [] d).status ≡ is.LogRefused) a.due_is e)
+never_whole file acts due (inr a) e w = no_head_no_read file w.0 w.1 w.2 (length file) a.none w.3
 
 -- and where it is none it is refused
 by_place : (file : List ℕ) (place : ℕ) (whole : Bool) → nat_eq place (length file) ≡ whole → (place ≡ length file → ⊥) → (outcome_of [] (dump_answer place (length file))).status ≡ is.LogRefused
@@ -353,7 +353,7 @@ by_place file place true e n = absurd (n (grind (arith, nat_tests)))
 is_refused : (file : List ℕ) (acts : List Act) (due : Result (Unit {0}) Halt) → IsDump file acts due → (IsWholeLog file → ⊥) → (outcome_of [] due).status ≡ is.LogRefused
 is_refused file acts due (inl a) n =
     subst (λ (d : Result (Unit {0}) Halt). (outcome_of [] d).status ≡ is.LogRefused) (sym a.due_is)
-    (by_place file a.place (nat_eq a.place (length file)) refl (λ e. n (a.kind, a.entries, subst (λ (p : ℕ). IsLogRead file a.kind a.entries p) e a.read)))
+    (by_place file a.place (nat_eq a.place (length file)) refl (λ e. n (a.kind, a.flagged, a.entries, subst (λ (p : ℕ). IsLogRead file a.kind a.flagged a.entries p) e a.read)))
 is_refused file acts due (inr a) n = ap (λ (d : Result (Unit {0}) Halt). (outcome_of [] d).status) a.refused
 
 module _ (files : List ℕ → Option (List ℕ)) (log : List ℕ) (acts : List Act) (due : Result (Unit {0}) Halt) where

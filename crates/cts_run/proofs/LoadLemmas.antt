@@ -5,7 +5,7 @@ use Rattle.std.specs.Result.{result_unwrap_or}
 use Rattle.std.proofs.lemmas.Bool.Decides.{nat_tests}
 use Rattle.cts_def.specs.Packets.{DefinitionsData}
 use Rattle.cts_def.specs.Sites.{IsSoundSite, SiteData}
-use Rattle.cts_defline.specs.declared.cause.DefCause.{DefCause}
+use Rattle.cts_defstatement.specs.declared.cause.DefCause.{DefCause}
 use Rattle.cts_defread.specs.Definitions.{definitions_of}
 use Rattle.cts_entry.specs.declared.event.Event.{Event}
 use Rattle.cts_plan.proofs.Kept.{at_start}

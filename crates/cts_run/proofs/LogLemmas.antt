@@ -20,16 +20,15 @@ use Rattle.cts_entry.specs.declared.entry.Entry.{Entry}
 use Rattle.cts_entry.specs.declared.event.Effect.{Effect}
 use Rattle.cts_entry.specs.declared.event.Effect.TheVariants.{Posted, Reply, Written, Logged, Routed}
 use Rattle.cts_entry.specs.declared.event.Event.{Event}
-use Rattle.cts_log.specs.Files.{log_head}
 use Rattle.cts_log.specs.declared.kind.LogKind.TheVariants.{Tlm as Telemetry, Cmd as Commands}
 use Rattle.cts_outside.specs.declared.vault.LogKind.{LogKind}
 use Rattle.cts_outside.specs.declared.vault.LogKind.TheVariants.{Tlm, Cmd}
 use Rattle.cts_run.specs.Acts.{appended_by, logged_of, put_by, puts, text_of}
 use Rattle.cts_run.specs.Lines.{end_line}
-use Rattle.cts_run.specs.Replay.{IsReplay, did_acts, event_acts, kept_entries, last_acts, log_acts, replay_acts, replay_answer, replay_text}
+use Rattle.cts_run.specs.Replay.{IsReplay, did_acts, event_acts, head_for, kept_entries, last_acts, log_acts, replay_acts, replay_answer, replay_text}
 use Rattle.cts_run.specs.Transcript.{events_of, event_text, transcript}
-use Rattle.cts_told.specs.Routing.{names_in}
-use Rattle.cts_told.specs.Streams.{lay_out}
+use Rattle.cts_trace.specs.Routing.{names_in}
+use Rattle.cts_trace.specs.Streams.{lay_out}
 
 -- ---- one put
 
@@ -134,14 +133,14 @@ module _ (site : SiteData) (events : List (ℕ × Event)) (dids : List Did) wher
   commands_last NotEnabled = append-nil (commands_log env (take place (history_of dids)))
   commands_last HistoryFull = append-nil (commands_log env (take place (history_of dids)))
 
-  replay_packets : (digest : List ℕ) (ending : Ending) → packets_logged dids ≡ packets_log env (take place (history_of dids)) → logged_of Tlm (replay_acts digest site events dids ending) ≡ log_head Telemetry digest ++ packets_log env (kept_entries events dids ending)
+  replay_packets : (digest : List ℕ) (ending : Ending) → packets_logged dids ≡ packets_log env (take place (history_of dids)) → logged_of Tlm (replay_acts digest site events dids ending) ≡ head_for site Telemetry digest ++ packets_log env (kept_entries events dids ending)
   replay_packets digest ending law =
-      ap (λ (t : List ℕ). log_head Telemetry digest ++ t)
+      ap (λ (t : List ℕ). head_for site Telemetry digest ++ t)
       (replay_logs Tlm packets_in tlm_logs site events dids ending ∙ (ap (λ (t : List ℕ). t ++ logged_of Tlm (last_acts site events dids ending)) law ∙ packets_last ending))
 
-  replay_commands : (digest : List ℕ) (ending : Ending) → commands_logged dids ≡ commands_log env (take place (history_of dids)) → logged_of Cmd (replay_acts digest site events dids ending) ≡ log_head Commands digest ++ commands_log env (kept_entries events dids ending)
+  replay_commands : (digest : List ℕ) (ending : Ending) → commands_logged dids ≡ commands_log env (take place (history_of dids)) → logged_of Cmd (replay_acts digest site events dids ending) ≡ head_for site Commands digest ++ commands_log env (kept_entries events dids ending)
   replay_commands digest ending law =
-      ap (λ (t : List ℕ). log_head Commands digest ++ t)
+      ap (λ (t : List ℕ). head_for site Commands digest ++ t)
       (replay_logs Cmd commands_in cmd_logs site events dids ending ∙ (ap (λ (t : List ℕ). t ++ logged_of Cmd (last_acts site events dids ending)) law ∙ commands_last ending))
 
 -- ---- a run is a replay

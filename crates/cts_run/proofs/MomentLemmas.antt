@@ -1,5 +1,5 @@
 -- Each time that a log can hold has a moment on the calendar, and each entry a line.
-use Rattle.std.proofs.Common.{◌≡◌, ℕ, zero, suc, ◌+◌, ◌*◌, ◌/◌, ◌%◌, ◌<◌, ◌^◌, inl, inr, List, [], ◌∷◌, ◌++◌, refl, sym, ◌∙◌, ap, arith, rules, ℤ, pos, ◌+ℤ◌, ◌<ℤ◌, false, Some}
+use Rattle.std.proofs.Common.{◌≡◌, ℕ, zero, suc, ◌+◌, ◌*◌, ◌/◌, ◌%◌, ◌<◌, ◌^◌, inl, inr, List, [], ◌∷◌, ◌++◌, refl, sym, ◌∙◌, ap, arith, rules, ℤ, pos, ◌+ℤ◌, ◌<ℤ◌, Bool, false, Some}
 use Rattle.std.specs.List.{All}
 use Rattle.std.proofs.lemmas.Bool.{cases_order}
 use Rattle.std.proofs.lemmas.List.Elements.{All-head, All-tail}
@@ -16,7 +16,7 @@ use Rattle.jiff_core.specs.declared.civil.date.Date.{Date}
 use Rattle.jiff_core.specs.declared.civil.datetime.DateTime.{DateTime}
 use Rattle.jiff_core.specs.declared.civil.time.Time.{Time as TimeOfDay}
 use Rattle.cts_def.specs.declared.time.Time.{Time}
-use Rattle.cts_log.specs.Dumping.{IsDumpLine, IsMoment, shown_name}
+use Rattle.cts_log.specs.Dumping.{IsDumpLine, IsMoment, mark, shown_name}
 use Rattle.cts_log.specs.Logged.{Logged, FitsLogged}
 use Rattle.cts_run.specs.Acts.{Act, puts}
 use Rattle.cts_run.specs.Dump.{AreLines}
@@ -100,14 +100,14 @@ moment_of t h k =
 
 -- ---- lines
 
-pub line_of : (e : Logged) → FitsLogged e → (line : List ℕ) × IsDumpLine e line
-line_of e f =
+pub line_of : (fl : Bool) (e : Logged) → FitsLogged fl e → (line : List ℕ) × IsDumpLine e line
+line_of fl e f =
     let m = moment_of e.heading.time f.heading.seconds f.heading.micros in
-    (m.0 ++ (32 ∷ (shown_name e.heading.target ++ (32 ∷ (shown_name e.heading.packet ++ (32 ∷ (encode_lower e.bytes ++ 10 ∷ [])))))), (m.0, m.1, refl))
+    (m.0 ++ (32 ∷ (shown_name e.heading.target ++ (32 ∷ (shown_name e.heading.packet ++ (32 ∷ (encode_lower e.bytes ++ (mark e.heading.stored ++ 10 ∷ []))))))), (m.0, m.1, refl))
 
-pub lines_of : (es : List Logged) → All FitsLogged es → (acts : List Act) × AreLines es acts
-lines_of [] a = ([], refl)
-lines_of (e ∷ es) a =
-    let line = line_of e (All-head FitsLogged e es a) in
-    let more = lines_of es (All-tail FitsLogged e es a) in
+pub lines_of : (fl : Bool) (es : List Logged) → All (FitsLogged fl) es → (acts : List Act) × AreLines es acts
+lines_of fl [] a = ([], refl)
+lines_of fl (e ∷ es) a =
+    let line = line_of fl e (All-head (FitsLogged fl) e es a) in
+    let more = lines_of fl es (All-tail (FitsLogged fl) e es a) in
     (puts line.0 ++ more.0, (line.0, more.0, line.1, more.1, refl))

@@ -36,7 +36,7 @@ use Rattle.cts_run.specs.declared.halt.Halt.{Halt}
 use Rattle.cts_run.specs.declared.halt.Halt.TheVariants as halt
 use Rattle.cts_run.specs.declared.putting.Undone.{Undone}
 use Rattle.cts_table.specs.declared.basis.Basis.{Basis}
-use Rattle.cts_watch.specs.Events.{events}
+use Rattle.cts_monitor.specs.Events.{events}
 use Rattle.cts_run.proofs.ActLemmas.{all_of, put_done}
 
 -- ---- how many events there are

@@ -200,23 +200,23 @@ ends_so site script events w acts p answer old mid new m e =
 -- ---- the heads of the logs, and then the events
 
 pub heads_then : (digest : List ℕ) (site : SiteData) (script : List ℕ) (events : List (ℕ × Event)) (answer : Result (Unit {0}) Halt) (old mid new : Outside)
-    → AreDone (head_acts digest) old mid → DoesEvents site script events answer mid new → Replays digest site script events answer old new
+    → AreDone (head_acts site digest) old mid → DoesEvents site script events answer mid new → Replays digest site script events answer old new
 heads_then digest site script events answer old mid new h k = record {
   dids = k.dids;
   ending = k.ending;
   runs = k.runs;
-  does = all_then old mid new (head_acts digest) (all_acts site events k.dids k.ending) (replay_answer script events k.dids k.ending) answer h k.does;
+  does = all_then old mid new (head_acts site digest) (all_acts site events k.dids k.ending) (replay_answer script events k.dids k.ending) answer h k.does;
 }
 
 pub heads_fail : (digest : List ℕ) (site : SiteData) (script : List ℕ) (events : List (ℕ × Event)) (why : Undone) (old new : Outside)
-    → DoesActs (head_acts digest) (Err why) old new → Replays digest site script events (put_answer (Err why)) old new
+    → DoesActs (head_acts site digest) (Err why) old new → Replays digest site script events (put_answer (Err why)) old new
 heads_fail digest site script events why old new h =
     let r = has_run (site_environment site) (site_sound (basis_of site)) opening (events_of events) in
     record {
       dids = r.0;
       ending = r.1;
       runs = r.2;
-      does = all_first old new (head_acts digest) (all_acts site events r.0 r.1) (replay_answer script events r.0 r.1) why h;
+      does = all_first old new (head_acts site digest) (all_acts site events r.0 r.1) (replay_answer script events r.0 r.1) why h;
     }
 
 -- ---- one event

@@ -19,8 +19,8 @@ use Rattle.cts_script.specs.Effects.{effect_line}
 use Rattle.cts_run.specs.Story.{Drains, Moves, Stands, StoryData, Tells}
 use Rattle.cts_run.specs.Transcript.{event_text, lines_of}
 use Rattle.cts_table.specs.declared.basis.Basis.{Basis}
-use Rattle.cts_watch.specs.Events.{is_from}
-use Rattle.cts_watch.specs.declared.types.LimitsEvent.{LimitsEvent as Change}
+use Rattle.cts_monitor.specs.Events.{is_from}
+use Rattle.cts_monitor.specs.declared.types.LimitsEvent.{LimitsEvent as Change}
 
 -- the site of the basis that a story stands on is its site
 pub site_is : (site : SiteData) (s : State) (story : StoryData) → Stands site s story → (held_in story.world).basis.site ≡ site

@@ -2,7 +2,7 @@
 use Rattle.std.specs.Prelude.{ℕ, List, codes, Result, Ok, Err}
 use Rattle.cts_chain.specs.declared.build.ChainFault.{ChainFault}
 use Rattle.cts_chain.specs.declared.build.ChainFault.TheVariants as chain
-use Rattle.cts_defline.specs.Causes.{cause_name}
+use Rattle.cts_defstatement.specs.Causes.{cause_name}
 use Rattle.cts_plan.specs.Causes.{name_of_cause}
 use Rattle.cts_scriptread.specs.Causes.{name_of_cause as name_of_script_cause}
 use Rattle.cts_words.specs.declared.fault.WordFault.{WordFault}

@@ -1,7 +1,7 @@
 -- What a command answers, puts and appends, from the boxes on the shelf and the content of the files alone.
 use Rattle.std.specs.Prelude.{◌≡◌, ℕ, ◌≤◌, Bool, true, false, List, [], ◌∷◌, ◌++◌, take, Option, Some, None, MatchOption, Result, Ok, Err, ◌⊎◌}
 use Rattle.cts_chain.specs.Builds.{Taken}
-use Rattle.cts_core.specs.LineChains.{line_uses}
+use Rattle.cts_connection.specs.LineChains.{line_uses}
 use Rattle.cts_outside.specs.Causes.{Rose}
 use Rattle.cts_outside.specs.Seen.{FilesSeen, SinkSeen, VaultSeen}
 use Rattle.cts_def.specs.Sites.{SiteData}

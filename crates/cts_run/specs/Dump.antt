@@ -1,5 +1,5 @@
 -- A dump: the lines of the entries of a log, and where the log is refused.
-use Rattle.std.specs.Prelude.{◌≡◌, ℕ, nat_eq, List, [], ◌∷◌, ◌++◌, length, Option, None, ◌⊎◌, Result, Ok, Err, if◌then◌else◌}
+use Rattle.std.specs.Prelude.{◌≡◌, ℕ, nat_eq, Bool, List, [], ◌∷◌, ◌++◌, length, Option, None, ◌⊎◌, Result, Ok, Err, if◌then◌else◌}
 use Rattle.cts_log.specs.Dumping.{IsDumpLine}
 use Rattle.cts_log.specs.Logged.{Logged}
 use Rattle.cts_log.specs.Reading.{HasNoHead, IsLogRead}
@@ -23,12 +23,13 @@ AreLines (e ∷ es) acts = (line : List ℕ) × (more : List Act) × IsDumpLine 
 abbrev pub dump_answer : ℕ → ℕ → Result (Unit {0}) Halt
 dump_answer place len = if nat_eq place len then Ok tt else Err (halt.LogRefused place)
 
--- The lines of all whole entries of a log. It is refused at the first byte that is in no entry, if there is one.
+-- The lines of all whole entries of a log, of the layout with flags or of that without. It is refused at the first byte that is in no entry, if there is one.
 pub record IsPrinted (file : List ℕ) (acts : List Act) (due : Result (Unit {0}) Halt) : Type 0 where
   pub kind : LogKind
+  pub flagged : Bool
   pub entries : List Logged
   pub place : ℕ
-  pub read : IsLogRead file kind entries place
+  pub read : IsLogRead file kind flagged entries place
   pub lines : AreLines entries acts
   pub due_is : due ≡ dump_answer place (length file)
 

@@ -1,5 +1,5 @@
 -- Laws of outcomes.
-use Rattle.std.specs.Prelude.{◌≡◌, ◌↔◌, ◌<◌, ◌⊎◌, ◌++◌, ℕ, List, length, Option, Some, None, option_map}
+use Rattle.std.specs.Prelude.{◌≡◌, ◌↔◌, ◌<◌, ◌⊎◌, ◌++◌, ℕ, Bool, List, length, Option, Some, None, option_map}
 use Rattle.cts_def.specs.declared.proto_spec.Kind.{Kind}
 use Rattle.cts_log.specs.Logged.{Logged}
 use Rattle.cts_log.specs.Reading.{IsLogRead}
@@ -43,9 +43,9 @@ IsShort stock files asked = ⊥
 abbrev pub ShortExactly : Type 0
 ShortExactly = (stock : List Meaning) (files : List ℕ → Option (List ℕ)) (asked : Option Command) (o : Outcome) → IsOutcome stock files asked o → (o.status ≡ ShelfEmpty) ↔ IsShort stock files asked
 
--- the head of a log, and whole entries alone after it
+-- the head of a log of either layout, and whole entries alone after it
 abbrev pub IsWholeLog : List ℕ → Type 0
-IsWholeLog file = (kind : LogKind) × (es : List Logged) × IsLogRead file kind es (length file)
+IsWholeLog file = (kind : LogKind) × (flagged : Bool) × (es : List Logged) × IsLogRead file kind flagged es (length file)
 
 -- A dump is asked for of a file that is too large, or is no head with whole entries alone after it.
 pub record IsBadLog (files : List ℕ → Option (List ℕ)) (asked : Option Command) : Type 0 where

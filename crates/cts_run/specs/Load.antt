@@ -1,5 +1,5 @@
 -- The files of a site and its script: the phases in which they are read, and what they say.
-use Rattle.std.specs.Prelude.{ℕ, List, [], ◌∷◌, Option, Result, Ok, Err, unwrap_or}
+use Rattle.std.specs.Prelude.{ℕ, List, [], ◌∷◌, Option, None, Result, Ok, Err, unwrap_or}
 use Rattle.std.specs.Result.{result_unwrap_or}
 use Rattle.md5.specs.Md5.{md5}
 use Rattle.cts_words.specs.declared.statement.Statement.{Statement}
@@ -51,7 +51,7 @@ abbrev pub no_definitions : DefinitionsData
 no_definitions = record { telemetry = []; commands = []; set_names = [] }
 
 abbrev pub no_site : SiteData
-no_site = record { definitions = no_definitions; interfaces = []; routers = []; api_port = 7777; desks = 4 }
+no_site = record { definitions = no_definitions; interfaces = []; routers = []; api_port = 7777; desks = 4; log_layout = 2; log_cycle = None }
 
 abbrev pub no_events : List (ℕ × Event)
 no_events = []

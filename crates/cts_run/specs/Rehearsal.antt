@@ -22,13 +22,13 @@ use Rattle.cts_run.specs.Replay.{not_enabled}
 use Rattle.cts_run.specs.Story.{Stands, StoryData}
 use Rattle.cts_run.specs.declared.halt.Halt.{Halt}
 use Rattle.cts_run.specs.declared.halt.Halt.TheVariants as halt
-use Rattle.cts_watch.specs.Events.{events}
+use Rattle.cts_monitor.specs.Events.{events}
 
 -- ---- what is counted
 
 abbrev pub says_packet : What → Bool
 says_packet Opened = false
-says_packet (Packet ident bytes) = true
+says_packet (Packet ident stored bytes) = true
 says_packet (Closed why loss unposted unsent) = false
 says_packet (Command interface command bytes) = false
 says_packet (SetLimits enabled packet item persistence set limits) = false
@@ -41,7 +41,7 @@ says_packet Ended = false
 
 abbrev pub says_command : What → Bool
 says_command Opened = false
-says_command (Packet ident bytes) = false
+says_command (Packet ident stored bytes) = false
 says_command (Closed why loss unposted unsent) = false
 says_command (Command interface command bytes) = true
 says_command (SetLimits enabled packet item persistence set limits) = false

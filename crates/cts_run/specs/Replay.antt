@@ -15,7 +15,9 @@ use Rattle.cts_entry.specs.declared.entry.Entry.{Entry}
 use Rattle.cts_entry.specs.declared.event.Effect.{Effect}
 use Rattle.cts_entry.specs.declared.event.Effect.TheVariants.{Posted, Reply, Written, Logged, Routed}
 use Rattle.cts_entry.specs.declared.event.Event.{Event}
+use Rattle.cts_framing.specs.Layouts.{has_flags}
 use Rattle.cts_log.specs.Files.{log_head}
+use Rattle.cts_log.specs.declared.kind.LogKind.{LogKind}
 use Rattle.cts_log.specs.declared.kind.LogKind.TheVariants.{Tlm as Telemetry, Cmd as Commands}
 use Rattle.cts_outside.specs.declared.vault.LogKind.TheVariants.{Tlm, Cmd}
 use Rattle.cts_run.specs.Acts.{Act, AreDone, DoesAll, LogFails, Outside, PutFails, appends, logged_of, puts, syncs, text_of}
@@ -46,9 +48,13 @@ abbrev pub did_acts : SiteData → List Entry → List Did → List Act
 did_acts site history [] = []
 did_acts site history (did ∷ dids) = event_acts site history did ++ did_acts site (history ++ did.entries) dids
 
--- how the logs begin: with their heads, which have the digest of the definitions
-abbrev pub head_acts : List ℕ → List Act
-head_acts digest = appends (log_head Telemetry digest) (log_head Commands digest)
+-- the head of a log of this kind in the site's layout, with the digest of the definitions
+abbrev pub head_for : SiteData → LogKind → List ℕ → List ℕ
+head_for site kind digest = log_head kind (has_flags site.log_layout) digest
+
+-- how the logs begin: with their heads
+abbrev pub head_acts : SiteData → List ℕ → List Act
+head_acts site digest = appends (head_for site Telemetry digest) (head_for site Commands digest)
 
 -- the logs get what they have to have of these entries
 abbrev pub rest_acts : SiteData → List Entry → List Act
@@ -63,7 +69,7 @@ last_acts site events dids HistoryFull = []
 
 -- all acts of a replay, by the digest of its definitions
 abbrev pub replay_acts : List ℕ → SiteData → List (ℕ × Event) → List Did → Ending → List Act
-replay_acts digest site events dids ending = head_acts digest ++ (did_acts site [] dids ++ last_acts site events dids ending)
+replay_acts digest site events dids ending = head_acts site digest ++ (did_acts site [] dids ++ last_acts site events dids ending)
 
 -- ---- what they put and append in all
 
@@ -107,8 +113,8 @@ pub record IsReplay (digest : List ℕ) (site : SiteData) (script : List ℕ) (e
   pub runs : Runs (site_environment site) opening (events_of events) dids ending
   pub acts_are : acts ≡ replay_acts digest site events dids ending
   pub text : text_of acts ≡ replay_text site dids ending
-  pub packets : logged_of Tlm acts ≡ log_head Telemetry digest ++ packets_log (site_environment site) (kept_entries events dids ending)
-  pub commands : logged_of Cmd acts ≡ log_head Commands digest ++ commands_log (site_environment site) (kept_entries events dids ending)
+  pub packets : logged_of Tlm acts ≡ head_for site Telemetry digest ++ packets_log (site_environment site) (kept_entries events dids ending)
+  pub commands : logged_of Cmd acts ≡ head_for site Commands digest ++ commands_log (site_environment site) (kept_entries events dids ending)
   pub legal : IsLegal (rules_of (basis_of site)) (history_of dids)
   pub lines : (m : ℕ) → is_line (site_environment site) m ≡ true → Told (site_environment site).routing m (history_of dids) (told m (events_of events) dids)
   pub judged : AreJudged site opening (events_of events) dids

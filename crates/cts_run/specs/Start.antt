@@ -1,7 +1,7 @@
 -- The phase in which the world of a site is made: the shelf has the boxes of all its chains.
 use Rattle.std.specs.Prelude.{List, Option, option_map}
 use Rattle.cts_chain.specs.Builds.{use_specs}
-use Rattle.cts_core.specs.LineChains.{line_uses}
+use Rattle.cts_connection.specs.LineChains.{line_uses}
 use Rattle.cts_chain.specs.Stocking.{first_short, needed}
 use Rattle.cts_def.specs.declared.proto_spec.Kind.{Kind}
 use Rattle.cts_def.specs.Protocols.{SpecData}

@@ -5,8 +5,8 @@ use Rattle.cts_def.specs.Sites.{SiteData}
 use Rattle.cts_entry.specs.declared.entry.Entry.{Entry}
 use Rattle.cts_entry.specs.declared.event.Event.{Event}
 use Rattle.cts_script.specs.declared.limits_event.LimitsEvent.{LimitsEvent}
-use Rattle.cts_watch.specs.Events.{events_at}
-use Rattle.cts_watch.specs.declared.types.LimitsEvent.{LimitsEvent as Change}
+use Rattle.cts_monitor.specs.Events.{events_at}
+use Rattle.cts_monitor.specs.declared.types.LimitsEvent.{LimitsEvent as Change}
 use Rattle.cts_script.specs.Effects.{effect_line}
 use Rattle.cts_script.specs.Transcripts.{lines_after}
 

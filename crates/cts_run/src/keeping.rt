@@ -5,21 +5,23 @@ ghost use Rattle.cts_run.specs.Replay.{head_acts, log_acts};
 
 use crate::digest::Digest;
 use crate::putting::Undone;
+use cts_def::Site;
 use cts_entry::Effect;
 use cts_log::{LogKind as Log, head};
 use cts_outside::{LogKind, Vault};
 use std::alloc::Global;
 
-/// Appends the heads of both logs, which have the digest of the definitions.
+/// Appends the heads of both logs, of the site's layout and with the digest of the definitions.
 pub(crate) fn begin_logs<V: Vault>(
     alloc: Global,
+    site: &Site,
     digest: &Digest,
     vault: &mut V,
 ) -> Result<(), Undone>
-    ensures { (out : SinkSeen) → DoesActs (head_acts digest.now) result (outside out (V.seen vault.old)) (outside out (V.seen vault.new)) }
+    ensures { (out : SinkSeen) → DoesActs (head_acts site.now digest.now) result (outside out (V.seen vault.old)) (outside out (V.seen vault.new)) }
 {
-    let tlm = head(alloc, Log::Tlm, digest.bytes())?;
-    let cmd = head(alloc, Log::Cmd, digest.bytes())?;
+    let tlm = head(alloc, Log::Tlm, site.log_layout, digest.bytes())?;
+    let cmd = head(alloc, Log::Cmd, site.log_layout, digest.bytes())?;
     append_both(vault, tlm.as_slice(), cmd.as_slice())
 }
 

@@ -1,7 +1,7 @@
 // The room of `replay`: the events of a script, one after another, in the world of a site.
 ghost use Rattle.std.specs.Prelude.{◌≡◌, ◌∷◌, ◌++◌, [], IfSome, OnErr, OnOk};
 ghost use Rattle.cts_chain.specs.Builds.{Taken};
-ghost use Rattle.cts_core.specs.LineChains.{line_uses};
+ghost use Rattle.cts_connection.specs.LineChains.{line_uses};
 ghost use Rattle.cts_core.specs.States.{State, opening};
 ghost use Rattle.cts_def.specs.Sites.{SiteData};
 ghost use Rattle.cts_run.specs.Acts.{DoesActs, TakesNoMemory, outside, puts, syncs};
@@ -119,7 +119,7 @@ fn do_script<'a, C: Framer, O: Sink, V: Vault>(
     requires { Stands (site_told story.old) opening story.old }
     ensures { Replays digest.now (site_told story.old) script.now events.now result (outside (O.seen out.old) (V.seen vault.old)) (outside (O.seen out.new) (V.seen vault.new)) }
 {
-    match begin_logs(alloc, digest, vault) {
+    match begin_logs(alloc, story.site(), digest, vault) {
         Ok(()) => do_events(alloc, script, events, story, out, vault),
         Err(why) => Err(Halt::from(why)),
     }

@@ -29,13 +29,13 @@ impl<C: Framer> Model for Story<C> {
 impl<C: Framer> Story<C> {
     ghost use Rattle.std.specs.Prelude.{◌≡◌, length, true, IfErr, IfOk, None, OnErr, OnOk};
     ghost use Rattle.cts_chain.specs.Builds.{FaultIs, Taken};
-    ghost use Rattle.cts_core.specs.LineChains.{line_uses};
+    ghost use Rattle.cts_connection.specs.LineChains.{line_uses};
     ghost use Rattle.cts_core.specs.Endings.{held_in};
     ghost use Rattle.cts_core.specs.States.{State, opening};
     ghost use Rattle.cts_def.specs.Sites.{IsSoundSite, SiteData};
     ghost use Rattle.cts_run.specs.Start.{short_kind};
     ghost use Rattle.cts_run.specs.Story.{Drains, Moves, Stands, Tells, site_told};
-    ghost use Rattle.cts_watch.specs.Events.{events};
+    ghost use Rattle.cts_monitor.specs.Events.{events};
 
     /// A story of a site before anything has happened. The boxes of its chains are taken from the shelf.
     ///

@@ -11,6 +11,7 @@ use Rattle.cts_entry.specs.declared.what.What.{What}
 use Rattle.cts_entry.specs.declared.what.What.TheVariants.{Opened, Packet, Closed, Command, SetLimits, Enable, LimitsSetIs, Injected, Unrouted, Stop, Ended}
 use Rattle.cts_entry.specs.Legal.{AllAllowed, Allows, IsAllowed, IsOn, Rules, has_ended, is_ended}
 use Rattle.cts_entry.specs.Workers.{is_desk, is_interface, is_slot, is_worker}
+use Rattle.cts_framing.specs.Layouts.{has_flags}
 use Rattle.cts_log.specs.Logged.{entry_bytes}
 use Rattle.cts_outside.specs.declared.vault.LogKind.{LogKind}
 use Rattle.cts_outside.specs.declared.vault.LogKind.TheVariants.{Tlm, Cmd}
@@ -47,8 +48,8 @@ command_other b before by sound maker = elim maker [
 logged_other : (what : What) (kind : LogKind) (b : Basis) (before : List Entry) (by : ℕ) (time : Time) → IsSoundSite b.site → Allows (rules_of b) before by what → is_in_log kind b.site (entry by time what) ≡ true → IsOther b.site by
 logged_other Opened Tlm b before by time sound says h = absurd cc
 logged_other Opened Cmd b before by time sound says h = absurd cc
-logged_other (Packet ident bytes) Tlm b before by time sound says h = interface_other b.site by sound says.0
-logged_other (Packet ident bytes) Cmd b before by time sound says h = absurd cc
+logged_other (Packet ident stored bytes) Tlm b before by time sound says h = interface_other b.site by sound says.0
+logged_other (Packet ident stored bytes) Cmd b before by time sound says h = absurd cc
 logged_other (Closed why loss unposted unsent) Tlm b before by time sound says h = absurd cc
 logged_other (Closed why loss unposted unsent) Cmd b before by time sound says h = absurd cc
 logged_other (Command interface command bytes) Tlm b before by time sound says h = absurd cc
@@ -101,5 +102,5 @@ allowed_after r before (x ∷ xs) ys all = subst (λ l. AllAllowed r l ys) (appe
 pub closed : ClosedLogsAreWhole
 closed b stood more sound kept have kind digest =
     let none = nothing_more kind b stood more sound have (allowed_after (rules_of b) [] stood more kept.legal.each) in
-    let gives : entries_log kind b.site more ≡ [] = log_laid kind b.site more ∙ ap (λ (l : List Entry). flat_map (λ e. entry_bytes (logged_as b.site e)) l) none in
+    let gives : entries_log kind b.site more ≡ [] = log_laid kind b.site more ∙ ap (λ (l : List Entry). flat_map (λ e. entry_bytes (has_flags b.site.log_layout) (logged_as b.site e)) l) none in
     log_more kind b.site digest stood more ∙ ap (λ l. log kind b.site digest stood ++ l) gives ∙ append-nil (log kind b.site digest stood)

@@ -6,6 +6,7 @@ use Rattle.std.proofs.lemmas.List.Elements.{All-append, All-cons, All-filter, Al
 use Rattle.std.proofs.lemmas.Grind.{elements, common_steps}
 use Rattle.cts_def.specs.Sites.{SiteData}
 use Rattle.cts_entry.specs.declared.entry.Entry.{Entry}
+use Rattle.cts_framing.specs.Layouts.{has_flags}
 use Rattle.cts_log.specs.Logged.{FitsLogged}
 use Rattle.cts_outside.specs.declared.vault.LogKind.{LogKind}
 use Rattle.cts_turn.specs.Lists.{StartsWith}
@@ -13,7 +14,7 @@ use Rattle.cts_scribe.specs.Logs.{is_in_log, logged, logged_as}
 use Rattle.cts_scribe.proofs.NextEntries.{take_next}
 
 abbrev pub Fits : SiteData → Entry → Type 0
-Fits site e = FitsLogged (logged_as site e)
+Fits site e = FitsLogged (has_flags site.log_layout) (logged_as site e)
 
 pub fits_next : (site : SiteData) (es : List Entry) (n : ℕ) (e : Entry) → slice_get es n ≡ Some e → All (Fits site) (take n es) → Fits site e → All (Fits site) (take (n + 1) es)
 fits_next site es n e at before this =
@@ -26,7 +27,7 @@ fits_first site xs ys all k d lt =
     subst (Fits site) same (all k d within)
 
 -- and so do those of a beginning of the history that stand in a log
-pub fits_logged : (kind : LogKind) (site : SiteData) (history entries : List Entry) → StartsWith history entries → All (Fits site) history → All FitsLogged (logged kind site entries)
+pub fits_logged : (kind : LogKind) (site : SiteData) (history entries : List Entry) → StartsWith history entries → All (Fits site) history → All (FitsLogged (has_flags site.log_layout)) (logged kind site entries)
 fits_logged kind site history entries begins all =
     let these = fits_first site entries begins.0 (subst (All (Fits site)) begins.1 all) in
-    All-map FitsLogged (logged_as site) (filter (is_in_log kind site) entries) (All-filter (is_in_log kind site) (Fits site) entries these)
+    All-map (FitsLogged (has_flags site.log_layout)) (logged_as site) (filter (is_in_log kind site) entries) (All-filter (is_in_log kind site) (Fits site) entries these)

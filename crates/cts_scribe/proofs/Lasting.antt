@@ -8,8 +8,8 @@ use Rattle.cts_entry.specs.Histories.{is_stopped}
 use Rattle.cts_entry.proofs.Appending.{stopped-append}
 use Rattle.cts_table.specs.States.{Shown}
 use Rattle.cts_table.specs.declared.basis.Basis.{Basis}
-use Rattle.cts_told.specs.Makers.{LastEnded, of_maker}
-use Rattle.cts_told.proofs.Others.{of_maker_append}
+use Rattle.cts_trace.specs.Makers.{LastEnded, of_maker}
+use Rattle.cts_trace.proofs.Others.{of_maker_append}
 use Rattle.cts_turn.specs.declared.rule.View.{View}
 use Rattle.cts_worker.specs.Holds.{EndedHold, Held}
 use Rattle.cts_worker.specs.Lasts.{entry_of, first_moment, last_entries, stop_if}

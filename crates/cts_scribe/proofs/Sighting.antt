@@ -5,6 +5,7 @@ use Rattle.cts_def.specs.Sites.{SiteData}
 use Rattle.cts_entry.specs.declared.entry.Entry.{Entry}
 use Rattle.cts_entry.specs.Legal.{has_ended}
 use Rattle.cts_entry.specs.Workers.{is_desk, is_interface, is_slot, is_worker}
+use Rattle.cts_framing.specs.Layouts.{has_flags}
 use Rattle.cts_log.specs.Files.{log_head}
 use Rattle.cts_outside.specs.Vaults.{Logs}
 use Rattle.cts_outside.specs.declared.sink.PutFailed.{PutFailed}
@@ -13,14 +14,14 @@ use Rattle.cts_outside.specs.declared.vault.LogKind.TheVariants.{Tlm, Cmd}
 use Rattle.cts_base.specs.declared.memory.Memory.{Memory}
 use Rattle.cts_table.specs.States.{Shown}
 use Rattle.cts_table.specs.declared.basis.Basis.{Basis}
-use Rattle.cts_told.specs.Makers.{of_maker}
-use Rattle.cts_told.proofs.Others.{of_maker_append, strange_ended}
+use Rattle.cts_trace.specs.Makers.{of_maker}
+use Rattle.cts_trace.proofs.Others.{of_maker_append, strange_ended}
 use Rattle.cts_turn.specs.declared.rule.View.{View}
 use Rattle.cts_turn.specs.Lists.{StartsWith, has}
 use Rattle.cts_worker.proofs.Lasting.{last_by}
 use Rattle.cts_worker.specs.Holds.{Adds, Held, InHold, Onward}
 use Rattle.cts_worker.specs.Lasts.{MayEnd, first_moment, last_entries}
-use Rattle.cts_laying.specs.declared.batch.Batch.{Batch}
+use Rattle.cts_log_batch.specs.declared.batch.Batch.{Batch}
 use Rattle.cts_scribe.specs.declared.progress.Progress.{Progress}
 use Rattle.cts_scribe.specs.declared.sight.Sight.{Sight}
 use Rattle.cts_scribe.specs.declared.sight.Sight.TheVariants.{More, Still, Drained}
@@ -104,7 +105,7 @@ drained_others site by p entries d = subst (HaveEnded site by) (sym (take_all p.
 
 log_next : (kind : LogKind) (site : SiteData) (digest : List ℕ) (xs ys : List Entry) (bytes : List ℕ) → entries_log kind site xs ++ bytes ≡ entries_log kind site ys → log kind site digest xs ++ bytes ≡ log kind site digest ys
 log_next kind site digest xs ys bytes e =
-    let head = log_head (file_kind kind) digest in
+    let head = log_head (file_kind kind) (has_flags site.log_layout) digest in
     append_assoc head (entries_log kind site xs) bytes ∙ ap (λ l. head ++ l) e
 
 -- what was laid out is put after logs that were whole
@@ -119,17 +120,17 @@ logs_put site digest entries p q tlm cmd old new result lays puts whole =
     (puts (log Tlm site digest before) (log Cmd site digest before) whole))
 
 -- the log of no entries is its head
-pub log_none : (kind : LogKind) (site : SiteData) (digest : List ℕ) → log kind site digest [] ≡ log_head (file_kind kind) digest
-log_none Tlm site digest = append-nil (log_head (file_kind Tlm) digest)
-log_none Cmd site digest = append-nil (log_head (file_kind Cmd) digest)
+pub log_none : (kind : LogKind) (site : SiteData) (digest : List ℕ) → log kind site digest [] ≡ log_head (file_kind kind) (has_flags site.log_layout) digest
+log_none Tlm site digest = append-nil (log_head (file_kind Tlm) (has_flags site.log_layout) digest)
+log_none Cmd site digest = append-nil (log_head (file_kind Cmd) (has_flags site.log_layout) digest)
 
 -- the heads are put first
 pub heads_put : (site : SiteData) (digest : List ℕ) (old new : Option Logs) (result : Result (Unit {0}) PutFailed)
-    → PutsBoth old new (log_head (file_kind Tlm) digest) (log_head (file_kind Cmd) digest) result → LogsSo IsWhole [] [] old
+    → PutsBoth old new (log_head (file_kind Tlm) (has_flags site.log_layout) digest) (log_head (file_kind Cmd) (has_flags site.log_layout) digest) result → LogsSo IsWhole [] [] old
     → LogsSo (IsLeft result) (log Tlm site digest []) (log Cmd site digest []) new
 heads_put site digest old new result puts blank =
     subst (λ t. LogsSo (IsLeft result) t (log Cmd site digest []) new) (sym (log_none Tlm site digest))
-    (subst (λ c. LogsSo (IsLeft result) (log_head (file_kind Tlm) digest) c new) (sym (log_none Cmd site digest)) (puts [] [] blank))
+    (subst (λ c. LogsSo (IsLeft result) (log_head (file_kind Tlm) (has_flags site.log_layout) digest) c new) (sym (log_none Cmd site digest)) (puts [] [] blank))
 
 -- ---- a look at the hall, in a hold
 

@@ -4,7 +4,8 @@ use Rattle.std.specs.List.{All}
 use Rattle.cts_def.specs.Makers.{scribe}
 use Rattle.cts_def.specs.Sites.{IsSoundSite, SiteData}
 use Rattle.cts_entry.specs.declared.entry.Entry.{Entry}
-use Rattle.cts_frame.specs.Heads.{AreBytes}
+use Rattle.cts_framing.specs.Heads.{AreBytes}
+use Rattle.cts_framing.specs.Layouts.{has_flags}
 use Rattle.cts_log.specs.Files.{log_file, log_head_len}
 use Rattle.cts_log.specs.Laws.{whole_within}
 use Rattle.cts_log.specs.Logged.{FitsLogged, Logged}
@@ -31,19 +32,20 @@ pub record IsAfterStop (l : Log) (left : List ℕ) : Type 0 where
 
 -- the entries of a log that lie whole in the first bytes of it
 abbrev pub logged_within : LogKind → SiteData → List Entry → ℕ → List Logged
-logged_within kind site entries n = whole_within (n - log_head_len) (logged kind site entries)
+logged_within kind site entries n = whole_within (has_flags site.log_layout) (n - log_head_len) (logged kind site entries)
 
 -- Bytes are a beginning of the log of some entries. With the whole head, they are read as those of the log's entries that lie whole in them; with less
 -- they are no log.
 pub record IsReadable (kind : LogKind) (site : SiteData) (digest : List ℕ) (entries : List Entry) (left : List ℕ) : Type 0 where
   pub beginning : StartsWith (log kind site digest entries) left
   pub read : log_head_len ≤ length left
-      → IsLogRead left (file_kind kind) (logged_within kind site entries (length left)) (length (log_file (file_kind kind) digest (logged_within kind site entries (length left))))
+      → IsLogRead left (file_kind kind) (has_flags site.log_layout) (logged_within kind site entries (length left))
+      (length (log_file (file_kind kind) (has_flags site.log_layout) digest (logged_within kind site entries (length left))))
   pub none : length left < log_head_len → HasNoHead left
 
 -- What a stop leaves of a log that is a beginning of the log of some entries is readable.
 abbrev pub StopsLeaveLogs : Type 0
-StopsLeaveLogs = (kind : LogKind) (site : SiteData) (digest : List ℕ) (entries : List Entry) (l : Log) (left : List ℕ) → length digest ≡ 16 → AreBytes digest → All FitsLogged (logged kind site entries)
+StopsLeaveLogs = (kind : LogKind) (site : SiteData) (digest : List ℕ) (entries : List Entry) (l : Log) (left : List ℕ) → length digest ≡ 16 → AreBytes digest → All (FitsLogged (has_flags site.log_layout)) (logged kind site entries)
     → IsPart l (log kind site digest entries) → IsAfterStop l left → IsReadable kind site digest entries left
 
 -- The same of a site's history: what a stop leaves of a log that is a beginning of the log of some beginning of the history is readable.

@@ -1,18 +1,19 @@
 -- The packet logs of a site's history: what stands in each of them after some of its entries.
-use Rattle.std.specs.Prelude.{ℕ, Bool, List, ◌++◌, map}
+use Rattle.std.specs.Prelude.{ℕ, Bool, ◌&&◌, List, ◌++◌, map}
 use Rattle.std.specs.List.{filter}
 use Rattle.cts_connection.specs.Routings.{is_logged}
 use Rattle.cts_def.specs.Sites.{SiteData}
 use Rattle.cts_entry.specs.declared.entry.Entry.{Entry}
-use Rattle.cts_entry.specs.Histories.{bytes_of, commands_to, packets_from}
-use Rattle.cts_laying.specs.Laying.{commands_log, names, packets_log}
+use Rattle.cts_entry.specs.Histories.{bytes_of, commands_to, packets_from, stored_of}
+use Rattle.cts_framing.specs.Layouts.{has_flags}
+use Rattle.cts_log_batch.specs.Laying.{commands_log, names, packets_log}
 use Rattle.cts_log.specs.Files.{log_head}
 use Rattle.cts_log.specs.Logged.{Logged}
 use Rattle.cts_log.specs.declared.kind.LogKind.{LogKind as FileKind}
 use Rattle.cts_log.specs.declared.kind.LogKind.TheVariants.{Tlm as TlmFile, Cmd as CmdFile}
 use Rattle.cts_outside.specs.declared.vault.LogKind.{LogKind}
 use Rattle.cts_outside.specs.declared.vault.LogKind.TheVariants.{Tlm, Cmd}
-use Rattle.cts_told.specs.Routing.{heading_of}
+use Rattle.cts_trace.specs.Routing.{heading_of}
 
 -- which log file a log of the vault is
 abbrev pub file_kind : LogKind → FileKind
@@ -24,9 +25,9 @@ abbrev pub entries_log : LogKind → SiteData → List Entry → List ℕ
 entries_log Tlm site entries = packets_log site entries
 entries_log Cmd site entries = commands_log site entries
 
--- a log after some entries, with the digest of the definitions in its head
+-- a log after some entries, in the site's layout and with the digest of the definitions in its head
 abbrev pub log : LogKind → SiteData → List ℕ → List Entry → List ℕ
-log kind site digest entries = log_head (file_kind kind) digest ++ entries_log kind site entries
+log kind site digest entries = log_head (file_kind kind) (has_flags site.log_layout) digest ++ entries_log kind site entries
 
 -- ---- as a reader of the log sees it
 
@@ -35,9 +36,9 @@ abbrev pub is_in_log : LogKind → SiteData → Entry → Bool
 is_in_log Tlm site e = packets_from (is_logged site) e
 is_in_log Cmd site e = commands_to (is_logged site) e
 
--- what a log says of an entry
+-- what a log says of an entry: where its layout has no flags, no packet is told to be stored
 abbrev pub logged_as : SiteData → Entry → Logged
-logged_as site e = record { heading = heading_of (names site e.what) e.time; bytes = bytes_of e.what }
+logged_as site e = record { heading = heading_of (names site e.what) (has_flags site.log_layout && stored_of e.what) e.time; bytes = bytes_of e.what }
 
 -- the entries of a log
 abbrev pub logged : LogKind → SiteData → List Entry → List Logged

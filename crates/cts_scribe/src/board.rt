@@ -8,7 +8,7 @@ use crate::sight::Sight;
 use cts_base::Memory;
 use cts_def::{Site, Time};
 use cts_entry::Stands;
-use cts_laying::Batch;
+use cts_log_batch::Batch;
 use cts_table::Hall;
 use std::alloc::Global;
 

@@ -2,6 +2,7 @@
 ghost use Rattle.std.specs.Prelude.{◌<◌, ◌≤◌, ◌∷◌, ◌^◌, [], All, List, length};
 ghost use Rattle.cts_entry.specs.declared.entry.Entry.{Entry as EntryData};
 ghost use Rattle.cts_entry.specs.Histories.{bytes_in};
+ghost use Rattle.cts_framing.specs.Layouts.{has_flags};
 ghost use Rattle.cts_log.specs.Logged.{FitsLogged};
 ghost use Rattle.cts_scribe.specs.Logs.{logged_as};
 ghost use Rattle.cts_table.specs.Keeping.{IsOfSite};
@@ -32,7 +33,7 @@ fn recall_time(time: Time)
 fn recall_entry(site: &Site, entry: &Entry)
     requires of_site { (before : List EntryData) × IsOfSite site.now before entry.now }
     requires small { bytes_in (entry.now ∷ []) < 2 ^ 32 }
-    ensures { FitsLogged (logged_as site.now entry.now) }
+    ensures { FitsLogged (has_flags site.now.log_layout) (logged_as site.now entry.now) }
 {
     recall_time(entry.time);
     match &entry.what {
@@ -49,7 +50,7 @@ fn recall_entry(site: &Site, entry: &Entry)
 
 /// What each entry of a hall says fits into a log. It goes over the entries, and does nothing.
 pub(crate) fn recall_entries(hall: &Hall)
-    ensures { All (λ (e : EntryData). FitsLogged (logged_as hall.now.basis.site e)) hall.now.entries }
+    ensures { All (λ (e : EntryData). FitsLogged (has_flags hall.now.basis.site.log_layout) (logged_as hall.now.basis.site e)) hall.now.entries }
 {
     hall.is_kept();
     let mut place = 0;

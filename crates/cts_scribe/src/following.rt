@@ -7,7 +7,7 @@ ghost use Rattle.cts_scribe.specs.Vaults.{AreBlank, AreWhole};
 ghost use Rattle.cts_turn.specs.Passes.{IsPassOf, view};
 ghost use Rattle.cts_worker.specs.Grounds.{ground};
 ghost use Rattle.cts_worker.specs.Holds.{Onward};
-ghost use Rattle.cts_def.specs.Sites.{SiteData};
+ghost use Rattle.cts_framing.specs.Layouts.{has_flags};
 ghost use Rattle.cts_log.specs.Files.{log_head};
 ghost use Rattle.cts_log.specs.declared.kind.LogKind.TheVariants.{Cmd, Tlm};
 
@@ -31,30 +31,31 @@ use std::time::Duration;
 /// its processors to others.
 const NAP: u64 = 5;
 
-// The heads of both logs.
-fn heads(alloc: Global, digest: &[u8; 16]) -> Result<(Bytes, Bytes), Memory>
-    ensures { IfOk result (λ r. (r.0 ≡ log_head Tlm digest.now) × (r.1 ≡ log_head Cmd digest.now)) }
+// The heads of both logs, in this layout.
+fn heads(alloc: Global, layout: u32, digest: &[u8; 16]) -> Result<(Bytes, Bytes), Memory>
+    ensures { IfOk result (λ r. (r.0 ≡ log_head Tlm (has_flags layout) digest.now) × (r.1 ≡ log_head Cmd (has_flags layout) digest.now)) }
 {
-    let tlm = head(alloc, LogKind::Tlm, digest)?;
-    let cmd = head(alloc, LogKind::Cmd, digest)?;
+    let tlm = head(alloc, LogKind::Tlm, layout, digest)?;
+    let cmd = head(alloc, LogKind::Cmd, layout, digest)?;
     Ok((tlm, cmd))
 }
 
-/// Puts the heads of both logs, which have the digest of the definitions.
+/// Puts the heads of both logs, which are in the site's layout and have the digest of the definitions.
 ///
 /// # Errors
 ///
 /// Why the scribe ends: `VaultFailed` or `NoMemory`.
 pub(crate) fn begin_logs<V: Vault>(
     alloc: Global,
+    site: &Site,
     digest: &[u8; 16],
     vault: &mut V,
 ) -> Result<(), ScribeWhy>
-    ensures puts { (site : SiteData) → AreBlank (V.seen vault.old).told → HeadsPut site digest.now (V.seen vault.new).told result }
+    ensures puts { AreBlank (V.seen vault.old).told → HeadsPut site.now digest.now (V.seen vault.new).told result }
     ensures stops { IfErr result (λ why. stops_all why ≡ true) }
     ensures cause { CausesHeads (V.seen vault.old).faults (V.seen vault.new).faults result }
 {
-    match heads(alloc, digest) {
+    match heads(alloc, site.log_layout, digest) {
         Ok((tlm, cmd)) => match put_both(vault, tlm.as_slice(), cmd.as_slice()) {
             Ok(()) => Ok(()),
             Err(_) => Err(ScribeWhy::VaultFailed),

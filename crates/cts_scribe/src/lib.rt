@@ -1,5 +1,5 @@
 //! The scribe: the worker that keeps the packet logs of the one history in a vault. The heads of the logs come first, and then what the history gives to
-//! them, as it grows. The rules of this crate are the project's own; the logs are those that a server of COSMOS 4 writes.
+//! them, as it grows. The rules of this crate are the project's own, as the logs are, after those of COSMOS.
 #![tactic(auto)]
 
 mod board;

@@ -1,5 +1,5 @@
 // What a look at the history gives.
-use cts_laying::Batch;
+use cts_log_batch::Batch;
 
 /// What a look at the history gives.
 #[derive(Drop)]

@@ -7,7 +7,7 @@ ghost use Rattle.cts_scribe.specs.declared.ending.ScribeWhy.TheVariants.{Cancell
 ghost use Rattle.cts_scribe.specs.Ending.{CausesEnd, LogsEnd, stops_all};
 ghost use Rattle.cts_scribe.specs.Following.{Ends, Following};
 ghost use Rattle.cts_scribe.specs.Vaults.{AreBlank};
-ghost use Rattle.cts_told.specs.Makers.{LastEnded, of_maker};
+ghost use Rattle.cts_trace.specs.Makers.{LastEnded, of_maker};
 ghost use Rattle.cts_turn.specs.Lists.{StartsWith, has};
 ghost use Rattle.cts_turn.specs.Passes.{IsPassOf, view};
 ghost use Rattle.cts_worker.specs.Grounds.{ground};
@@ -31,7 +31,7 @@ use std::sync::Wait;
 pub struct Scribe;
 
 impl Scribe {
-    /// Puts the heads of both logs, with the digest of the definitions, and then follows the history: each packet of an interface that is logged, and
+    /// Puts the heads of both logs, in the site's layout and with the digest of the definitions, and then follows the history: each packet of an interface that is logged, and
     /// each command for one, is appended to its log once and in order, and synced, until every other worker has ended and nothing stands that was not
     /// followed. It looks at the history in holds of the turn, and appends outside of them. Where an append or a sync fails or no memory is found, it stops
     /// the server. Its last entry is Ended; its entries have the first moment. It waits for the turn, a few
@@ -118,7 +118,7 @@ fn work<R: Wait, V: Vault>(
     ensures logs { LogsEnd site.now digest.now (take result.0.progress.place (view result.0.pass).seen) result.1 (V.seen vault.new).told }
     ensures cause { CausesEnd (V.seen vault.old).faults (V.seen vault.new).faults result.1 }
 {
-    match begin_logs(alloc, digest, vault) {
+    match begin_logs(alloc, site, digest, vault) {
         Ok(()) => follow(rt, alloc, site, by, turn, follower, vault),
         Err(why) => (give_up(rt, by, turn, follower), why),
     }

@@ -5,7 +5,7 @@ use Rattle.hex.specs.Hex.{encode_lower}
 use Rattle.cts_base.specs.Prints.{decimal_text}
 use Rattle.cts_base.specs.declared.decimal.Decimal.{Decimal}
 use Rattle.cts_def.specs.declared.bad_cause.BadCause.{BadCause}
-use Rattle.cts_def.specs.declared.bad_cause.BadCause.TheVariants.{Short, OverMax, TooLong, UnknownStart}
+use Rattle.cts_def.specs.declared.bad_cause.BadCause.TheVariants.{Short, OverMax, TooLong, UnknownStart, Flags}
 use Rattle.cts_def.specs.declared.ident.Ident.{Ident}
 use Rattle.cts_def.specs.declared.ident.Ident.TheVariants.{Known, Unknown}
 use Rattle.cts_def.specs.declared.limits.Limits.{Limits}
@@ -55,6 +55,7 @@ cause_text (Short n) = spaced (codes "SHORT" ∷ signed_decimal n ∷ [])
 cause_text (OverMax n) = spaced (codes "OVERMAX" ∷ decimal n ∷ [])
 cause_text TooLong = codes "TOOLONG"
 cause_text UnknownStart = codes "UNKNOWN"
+cause_text (Flags flags) = spaced (codes "FLAGS" ∷ decimal flags ∷ [])
 
 -- why a connection was closed
 abbrev pub why_text : Why → List ℕ
@@ -122,10 +123,14 @@ abbrev pub not_sent_text : NotSent → List ℕ
 not_sent_text NoCommand = codes "UNKNOWN"
 not_sent_text NotConnected = codes "NOTCONNECTED"
 
+-- a device's packet, by whether it was stored before it was sent
+abbrev pub packet_word : Bool → List ℕ
+packet_word stored = if stored then codes "STORED" else codes "PACKET"
+
 -- what an entry says
 abbrev pub what_text : SiteData → What → List ℕ
 what_text site Opened = codes "OPENED"
-what_text site (Packet ident bytes) = bytes_text (codes "PACKET") (ident_names site ident) bytes
+what_text site (Packet ident stored bytes) = bytes_text (packet_word stored) (ident_names site ident) bytes
 what_text site (Closed why loss unposted unsent) = closed_text why loss unposted unsent
 what_text site (Command interface command bytes) = bytes_text (codes "COMMAND") (command_names site command) bytes
 what_text site (SetLimits enabled packet item persistence set limits) =

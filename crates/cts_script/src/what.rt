@@ -1,6 +1,6 @@
 // The text of what an entry says.
 ghost use Rattle.std.specs.Prelude.{◌≡◌, ◌++◌, ◌∷◌, [], codes, OnOk};
-ghost use Rattle.cts_script.specs.Lines.{bytes_text, hex_or_dash, ident_names, item_text, not_sent_text, switch_text, what_text};
+ghost use Rattle.cts_script.specs.Lines.{bytes_text, hex_or_dash, ident_names, item_text, not_sent_text, packet_word, switch_text, what_text};
 ghost use Rattle.cts_script.specs.Spacing.{spaced};
 
 use crate::limits::{put_limits_words, put_watch_words};
@@ -23,8 +23,13 @@ pub(crate) fn put_what_words(
 {
     match what {
         What::Opened => put_word(out, b"OPENED"),
-        What::Packet { ident, bytes } => {
-            put_bytes_words(out, b"PACKET", names_of(site, *ident), bytes.as_slice())
+        What::Packet {
+            ident,
+            stored,
+            bytes,
+        } => {
+            let names = names_of(site, *ident);
+            put_bytes_words(out, packet_word(*stored), names, bytes.as_slice())
         }
         What::Closed {
             why,
@@ -123,6 +128,12 @@ fn put_item_words(
     let (target, name) = packet_names(site, packet);
     put_pair_words(out, word, target)?;
     put_pair_words(out, name, item_name(site, packet, item))
+}
+
+fn packet_word(stored: bool) -> &'static [u8]
+    ensures { result.now ≡ packet_word stored }
+{
+    if stored { b"STORED" } else { b"PACKET" }
 }
 
 fn switch(enabled: bool) -> &'static [u8]

@@ -38,6 +38,7 @@ fn put_cause_words(out: &mut Vec<u8>, cause: BadCause) -> Result<(), Memory>
         BadCause::OverMax(count) => put_count_words(out, b"OVERMAX", count),
         BadCause::TooLong => put_word(out, b"TOOLONG"),
         BadCause::UnknownStart => put_word(out, b"UNKNOWN"),
+        BadCause::Flags(flags) => put_count_words(out, b"FLAGS", u64::from(flags)),
     }
 }
 

@@ -29,12 +29,8 @@ use Rattle.cts_scriptread.specs.Words.{number_of, count_of, are_byte_digits, is_
 use Rattle.cts_scriptread.specs.Scripts.{refusal_in, event_in}
 use Rattle.cts_scriptread.proofs.OneEach.{one_event}
 use Rattle.cts_scriptread.proofs.Rows.{keyword_text, says_words}
+use Rattle.cts_scriptread.proofs.Said.{there}
 use Rattle.cts_scriptread.proofs.Exact.{makers_are_named, interfaces_are_named, slots_are_named, numbers_are_written, counts_are_written}
-
--- what is there is not none
-there : {A : Type 0} (o : Option A) → is_some o ≡ true → is_none o ≡ false
-there None e = absurd cc
-there (Some a) e = refl
 
 is_there : {A : Type 0} (o : Option A) (a : A) → o ≡ Some a → is_none o ≡ false
 is_there o a e = ap is_none e

@@ -56,7 +56,8 @@ together f None b e h = absurd cc
 together f (Some a) None e h = absurd cc
 together f (Some a) (Some b) e h = refl
 
-there : {A : Type 0} (o : Option A) → is_some o ≡ true → is_none o ≡ false
+-- what is there is not none
+pub there : {A : Type 0} (o : Option A) → is_some o ≡ true → is_none o ≡ false
 there None e = absurd cc
 there (Some a) e = refl
 

@@ -13,7 +13,7 @@ use cts_entry::Why;
 use std::alloc::Global;
 
 /// The most bytes of a piece.
-const MOST_BYTES: usize = 65_536;
+const MOST_PIECE: usize = 65_536;
 
 // The whole number that a word writes, where it is none below 0 and none above this.
 fn natural(most: u64, word: &[u8]) -> Option<u64>
@@ -71,7 +71,7 @@ fn is_digit(digit: u8) -> bool
 pub(crate) fn is_piece_size(size: usize) -> bool
     ensures { result ≡ is_piece_size size }
 {
-    1 <= size && size <= MOST_BYTES
+    1 <= size && size <= MOST_PIECE
 }
 
 /// The piece that the digits of a word write, if they write one.

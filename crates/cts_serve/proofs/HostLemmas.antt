@@ -3,7 +3,7 @@ use Rattle.std.proofs.Common.{◌≡◌, ℕ, zero, suc, false, List, [], ◌∷
 use Rattle.std.specs.Prelude.{IfErr, IfOk, OnOk, OnErr}
 use Rattle.std.specs.List.{AllByRecursion}
 use Rattle.cts_chain.specs.Builds.{Taken}
-use Rattle.cts_core.specs.LineChains.{line_uses}
+use Rattle.cts_connection.specs.LineChains.{line_uses}
 use Rattle.cts_def.specs.Sites.{SiteData}
 use Rattle.cts_outside.specs.Seen.{FilesSeen, SinkSeen}
 use Rattle.cts_proto.specs.Meaning.{Meaning}

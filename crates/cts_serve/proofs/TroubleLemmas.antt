@@ -41,7 +41,7 @@ use Rattle.cts_server.specs.Owed.{DeskOwes, LineOwes, ScribeOwes}
 use Rattle.cts_server.specs.Places.{CameBack}
 use Rattle.cts_server.specs.declared.worked.DeskNote.{DeskNote}
 use Rattle.cts_server.specs.declared.worked.Worked.{Worked}
-use Rattle.cts_told.specs.Makers.{closes_for}
+use Rattle.cts_trace.specs.Makers.{closes_for}
 use Rattle.cts_serve.specs.Served.{DialFailedIn, VaultRose, VaultStays}
 
 -- ---- tests of lists
@@ -75,7 +75,7 @@ false_not b e f = absurd (cc (sym e ∙ f))
 
 closes_never : (test : Why → Bool) (never : (why : Why) → test why ≡ false) (w : What) → closes_for test w ≡ false
 closes_never test never what.Opened = refl
-closes_never test never (what.Packet ident bytes) = refl
+closes_never test never (what.Packet ident stored bytes) = refl
 closes_never test never (what.Closed why loss unposted unsent) = never why
 closes_never test never (what.Command interface command bytes) = refl
 closes_never test never (what.SetLimits enabled packet item persistence set limits) = refl
@@ -88,7 +88,7 @@ closes_never test never what.Ended = refl
 
 closes_implies : (test more : Why → Bool) (implies : (why : Why) → test why ≡ true → more why ≡ true) (w : What) → closes_for test w ≡ true → closes_for more w ≡ true
 closes_implies test more implies what.Opened e = absurd (cc e)
-closes_implies test more implies (what.Packet ident bytes) e = absurd (cc e)
+closes_implies test more implies (what.Packet ident stored bytes) e = absurd (cc e)
 closes_implies test more implies (what.Closed why loss unposted unsent) e = implies why e
 closes_implies test more implies (what.Command interface command bytes) e = absurd (cc e)
 closes_implies test more implies (what.SetLimits enabled packet item persistence set limits) e = absurd (cc e)

@@ -25,7 +25,7 @@ mod host;
 mod telling;
 
 use crate::words::read_serving;
-use cts_core::{Framer, Supplier};
+use cts_connection::{Framer, Supplier};
 use cts_outside::{Clock, Crew, Dialer, Files, Gate, Sink, Vault};
 use cts_run::{Status, end, end_misused};
 use ended::Ended;

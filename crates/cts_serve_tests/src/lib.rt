@@ -27,6 +27,8 @@ mod gates;
 #[cfg(test)]
 mod instrument;
 #[cfg(test)]
+mod layouts;
+#[cfg(test)]
 mod limits;
 #[cfg(test)]
 mod logs;

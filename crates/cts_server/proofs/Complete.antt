@@ -16,7 +16,7 @@ use Rattle.cts_entry.specs.Histories.{is_stopped}
 use Rattle.cts_entry.specs.Legal.{AllAllowed, Allows, Rules, StopsAfter}
 use Rattle.cts_entry.specs.Places.{Stays}
 use Rattle.cts_entry.proofs.Appending.{stopped-append}
-use Rattle.cts_frame.specs.Packets.{fault_of}
+use Rattle.cts_framing.specs.Packets.{fault_of}
 use Rattle.cts_http.specs.Requests.{Closed as LastClosed, Waiting, Refused as RefusedWith}
 use Rattle.cts_line.specs.Talks.{room_of}
 use Rattle.cts_line.specs.Telling.{made_by, since}
@@ -26,11 +26,11 @@ use Rattle.cts_outside.specs.Seen.{LineSeen, VaultSeen}
 use Rattle.cts_outside.specs.declared.link.Aim.{Aim}
 use Rattle.cts_table.specs.Keeping.{IsKept, rules_of}
 use Rattle.cts_table.specs.declared.basis.Basis.{Basis}
-use Rattle.cts_told.specs.Lines.{Capacity, Causes, Looked}
-use Rattle.cts_told.specs.Makers.{closes_for, of_maker}
-use Rattle.cts_told.specs.Routing.{Routing}
-use Rattle.cts_told.specs.Told.{Said, ToldBy, Unopened}
-use Rattle.cts_told.proofs.Connecting.{bad_frame_is_of_chain}
+use Rattle.cts_trace.specs.Lines.{Capacity, Causes, Looked}
+use Rattle.cts_trace.specs.Makers.{closes_for, of_maker}
+use Rattle.cts_trace.specs.Routing.{Routing}
+use Rattle.cts_trace.specs.Told.{Said, ToldBy, Unopened}
+use Rattle.cts_trace.proofs.Connecting.{bad_frame_is_of_chain}
 use Rattle.cts_server.specs.Aims.{aimed_at, desk_aims, line_aims, slot_aims}
 use Rattle.cts_server.specs.Complete.{AnswersAll, AreServed, DeskAnswers, HasRunOut, IsComplete, IsServed, LineRunsOut, RunOut, RunsOut, Unstopped, cut_before, is_stopped_why}
 use Rattle.cts_server.specs.Owed.{DeskOwes, LineOwes, ScribeOwes, server_basis}
@@ -176,7 +176,7 @@ closed_uncut before why.Full stops calm = refl
 
 what_uncut : (r : Rules) (before : List Entry) (by : ℕ) (what : What) → Allows r before by what → is_stopped before ≡ false → closes_for is_stopped_why what ≡ false
 what_uncut r before by Opened says calm = refl
-what_uncut r before by (Packet ident bytes) says calm = refl
+what_uncut r before by (Packet ident stored bytes) says calm = refl
 what_uncut r before by (Closed w loss unposted unsent) says calm = closed_uncut before w says.1 calm
 what_uncut r before by (Command interface command bytes) says calm = refl
 what_uncut r before by (SetLimits enabled packet item persistence set limits) says calm = refl

@@ -6,13 +6,13 @@ use Rattle.std.proofs.lemmas.Bool.{and_from, le-leb, lt-ltb, le-ltb}
 use Rattle.cts_chain.specs.Builds.{AreFresh, IsFresh}
 use Rattle.cts_chain.specs.Shapes.{ChainData}
 use Rattle.cts_connection.specs.LinePlaces.{is_line, line_place}
-use Rattle.cts_core.specs.LineChains.{line_chains}
-use Rattle.cts_core.proofs.Supplying.{chains_count, line_chain}
+use Rattle.cts_connection.specs.LineChains.{line_chains}
+use Rattle.cts_connection.proofs.Supplying.{chains_count, line_chain}
 use Rattle.cts_def.specs.Makers.{first_desk, first_slot, router_of}
 use Rattle.cts_def.specs.Protocols.{UseData}
 use Rattle.cts_def.specs.Sites.{IsSoundSite, RouterData, SiteData}
 use Rattle.cts_entry.specs.Workers.{is_desk, is_interface, is_slot}
-use Rattle.cts_frame.specs.Chains.{uses_at}
+use Rattle.cts_framing.specs.Chains.{uses_at}
 use Rattle.cts_outside.specs.Seen.{LineSeen}
 use Rattle.cts_server.specs.Aims.{desk_aims, door_aim, interface_aim, line_aims, router_aims, slot_aims}
 use Rattle.cts_server.specs.Places.{IsStill}

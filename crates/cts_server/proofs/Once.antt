@@ -16,8 +16,8 @@ use Rattle.cts_outside.specs.Seen.{LineSeen, VaultSeen}
 use Rattle.cts_outside.specs.declared.link.Aim.{Aim}
 use Rattle.cts_scribe.specs.declared.ending.ScribeWhy.{ScribeWhy}
 use Rattle.cts_table.specs.Keeping.{IsKept, rules_of}
-use Rattle.cts_told.specs.Makers.{LastEnded}
-use Rattle.cts_told.proofs.Others.{last_ended_has_ended}
+use Rattle.cts_trace.specs.Makers.{LastEnded}
+use Rattle.cts_trace.proofs.Others.{last_ended_has_ended}
 use Rattle.cts_worker.specs.Lasts.{entry_of, first_moment, stop_if}
 use Rattle.cts_server.specs.Aims.{desk_aims, line_aims, slot_aims}
 use Rattle.cts_server.specs.Once.{EndsOnce, LastEndedIsOnly, endings_of}

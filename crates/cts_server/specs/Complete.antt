@@ -12,7 +12,7 @@ use Rattle.cts_entry.specs.declared.why.Why.{Why}
 use Rattle.cts_entry.specs.declared.why.Why.TheVariants.{PeerEnded, ReadFault, WriteFault, BadFrame, Stopped, NoMemory, Full}
 use Rattle.cts_entry.specs.Histories.{is_stopped}
 use Rattle.cts_entry.specs.Places.{Stays}
-use Rattle.cts_frame.specs.Packets.{Fault, fault_of}
+use Rattle.cts_framing.specs.Packets.{Fault, fault_of}
 use Rattle.cts_http.specs.Requests.{Ending, Requests, Closed, Waiting, Refused}
 use Rattle.cts_http.specs.Streams.{ending_text, response_with}
 use Rattle.cts_line.specs.Talks.{room_of}
@@ -23,9 +23,9 @@ use Rattle.cts_outside.specs.Seen.{LineSeen, VaultSeen}
 use Rattle.cts_outside.specs.declared.link.Aim.{Aim}
 use Rattle.cts_table.specs.Keeping.{IsKept}
 use Rattle.cts_table.specs.declared.basis.Basis.{Basis}
-use Rattle.cts_told.specs.Lines.{Capacity, Looked}
-use Rattle.cts_told.specs.Makers.{closes_for}
-use Rattle.cts_told.specs.Routing.{Routing}
+use Rattle.cts_trace.specs.Lines.{Capacity, Looked}
+use Rattle.cts_trace.specs.Makers.{closes_for}
+use Rattle.cts_trace.specs.Routing.{Routing}
 use Rattle.cts_server.specs.Aims.{desk_aims, line_aims, slot_aims}
 use Rattle.cts_server.specs.Once.{EndsOnce}
 use Rattle.cts_server.specs.Owed.{DeskOwes, LineOwes, ScribeOwes, server_basis}

@@ -5,7 +5,7 @@ use Rattle.cts_def.specs.Sites.{SiteData}
 use Rattle.cts_entry.specs.declared.entry.Entry.{Entry}
 use Rattle.cts_entry.specs.Legal.{IsLegal, Rules, is_ended}
 use Rattle.cts_entry.specs.Workers.{is_worker}
-use Rattle.cts_told.specs.Makers.{LastEnded}
+use Rattle.cts_trace.specs.Makers.{LastEnded}
 
 -- how many entries of a maker are an Ended
 abbrev pub endings_of : ℕ → List Entry → ℕ

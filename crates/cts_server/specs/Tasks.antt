@@ -9,7 +9,7 @@ use Rattle.cts_duties.specs.Lines.{MayRunLine}
 use Rattle.cts_duties.specs.Scribes.{MayRunScribe}
 use Rattle.cts_def.specs.Makers.{first_desk, first_slot, scribe}
 use Rattle.cts_entry.specs.Workers.{is_desk}
-use Rattle.cts_frame.specs.Chains.{uses_at}
+use Rattle.cts_framing.specs.Chains.{uses_at}
 use Rattle.cts_outside.specs.Seen.{LineSeen, VaultSeen}
 use Rattle.cts_outside.specs.declared.link.Aim.{Aim}
 use Rattle.cts_staff.specs.declared.staff.Task.{Task}

@@ -3,7 +3,7 @@ ghost use Rattle.std.specs.Prelude.{◌≡◌, ◌≤◌, [], false, true, IfOk,
 ghost use Rattle.std.specs.Arc.{arc_value};
 ghost use Rattle.std.specs.List.{AllByRecursion};
 ghost use Rattle.cts_chain.specs.Builds.{AreFresh};
-ghost use Rattle.cts_core.specs.LineChains.{line_chains};
+ghost use Rattle.cts_connection.specs.LineChains.{line_chains};
 ghost use Rattle.cts_def.specs.Makers.{first_desk, first_slot};
 ghost use Rattle.cts_def.specs.Sites.{IsSoundSite};
 ghost use Rattle.cts_outside.specs.Crews.{CancelledFrom, with_cancelled, with_jobs};

@@ -9,7 +9,7 @@ use Rattle.cts_outside.proofs.InOrder.{joined_more}
 use Rattle.cts_staff.specs.declared.staff.Task.{Task}
 use Rattle.cts_staff.specs.Lasting.{Lasts}
 use Rattle.cts_staff.specs.Tasks.{Did, Holds, Leaves, Rising, is_next}
-use Rattle.cts_told.specs.Makers.{of_maker}
+use Rattle.cts_trace.specs.Makers.{of_maker}
 use Rattle.cts_turn.specs.Lists.{has, StartsWith, makers_from}
 use Rattle.cts_turn.specs.Passes.{HasAll}
 use Rattle.cts_turn.proofs.Makers.{has_left_part, has_right_part, has_from, has_append}

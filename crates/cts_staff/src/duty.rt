@@ -3,7 +3,7 @@ ghost use Rattle.std.specs.Prelude.{◌≡◌, ℕ, Bool, List, [], ◌∷◌, t
 ghost use Rattle.cts_entry.specs.declared.entry.Entry.{Entry};
 ghost use Rattle.cts_staff.specs.Lasting.{Lasts};
 ghost use Rattle.cts_table.specs.declared.basis.Basis.{Basis};
-ghost use Rattle.cts_told.specs.Makers.{of_maker};
+ghost use Rattle.cts_trace.specs.Makers.{of_maker};
 ghost use Rattle.cts_turn.specs.Passes.{IsPassOf, view};
 ghost use Rattle.cts_worker.specs.Grounds.{ground};
 ghost use Rattle.cts_worker.specs.Holds.{Onward};

@@ -56,7 +56,7 @@ impl<'a, R: Wait + Sync, D: Duty> Job for Post<'a, R, D> {
     type End = Left<D::Note>;
 
     ghost use Rattle.std.specs.Prelude.{◌≡◌, [], ◌∷◌};
-    ghost use Rattle.cts_told.specs.Makers.{of_maker};
+    ghost use Rattle.cts_trace.specs.Makers.{of_maker};
     ghost use Rattle.cts_turn.specs.Passes.{IsPassOf, view};
     ghost use Rattle.cts_worker.specs.Grounds.{ground};
     ghost use Rattle.cts_worker.specs.Holds.{Onward};

@@ -1,22 +1,18 @@
 -- What stands where a frame may begin that is all bytes of a piece.
-use Rattle.std.proofs.Common.{◌≡◌, ℕ, ◌≤◌, ◌<◌, ◌⊎◌, inl, inr, Bool, true, false, ◌&&◌, cond, List, [], length, take, drop, refl, sym, ◌∙◌, ap, arith, Option, Some, None, min, length-append}
+use Rattle.std.proofs.Common.{◌≡◌, ℕ, ◌≤◌, ◌<◌, ◌⊎◌, inl, inr, true, ◌&&◌, List, [], length, take, drop, refl, sym, ◌∙◌, ap, arith, Some, None, min, length-append}
 use Rattle.std.specs.Prelude.{nat_lt}
 use Rattle.std.proofs.lemmas.List.{length-drop, take_all}
 use Rattle.cts_def.specs.Protocols.{BurstData, Burst}
-use Rattle.cts_def.specs.declared.bad_cause.BadCause.{BadCause}
 use Rattle.cts_def.specs.declared.bad_cause.BadCause.TheVariants.{TooLong}
-use Rattle.cts_frame.specs.Cuts.{Ends}
-use Rattle.cts_frame.specs.Framing.{Agree, plain}
-use Rattle.cts_frame.specs.Patterns.{begins}
-use Rattle.cts_frame.specs.Rows.{frame_limit, burst_whole, framing_of}
-use Rattle.cts_frame.proofs.BurstSound.{burst_tells, burst_is_sound}
-use Rattle.cts_frame.proofs.Fronts.{agree_begins, and_tells, le_test, lt_tells, lt_test, begins_length}
+use Rattle.cts_framing.specs.Cuts.{Ends}
+use Rattle.cts_framing.specs.Framing.{Agree, plain}
+use Rattle.cts_framing.specs.Patterns.{begins}
+use Rattle.cts_def.specs.Most.{frame_limit}
+use Rattle.cts_framing.specs.Rows.{burst_whole, framing_of}
+use Rattle.cts_framing.proofs.BurstSound.{burst_tells, burst_is_sound}
+use Rattle.cts_framing.proofs.Fronts.{agree_begins, and_tells, le_test, lt_tells, lt_test, begins_length}
 use Rattle.cts_proto.specs.Founds.{FindsFrame, output_at}
-use Rattle.cts_proto.proofs.Finding.{fault_ends, nil_of, span_front}
-
-cond_none : (b : Bool) (o : Option BadCause) → (b ≡ true → ⊥) → cond b o None ≡ None
-cond_none true o h = absurd (h refl)
-cond_none false o h = refl
+use Rattle.cts_proto.proofs.Finding.{cond_none, fault_ends, nil_of, span_front}
 
 whole_test : (b : BurstData) (w : List ℕ) → begins b.sync w ≡ true → 1 ≤ length w → length w ≤ frame_limit → burst_whole b w [] ≡ true
 whole_test b w h some fits = rw (le_test 1 (length w) some, h, le_test (length w) frame_limit fits) refl

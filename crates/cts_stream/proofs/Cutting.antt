@@ -4,10 +4,10 @@ use Rattle.std.specs.Prelude.{option_map}
 use Rattle.std.proofs.lemmas.List.{drop-drop, take-append-drop, take_at, take_all, length-drop}
 use Rattle.std.proofs.lemmas.Bool.{cases_lt}
 use Rattle.std.proofs.Math.Seq.{take-append-add}
-use Rattle.cts_frame.specs.Patterns.{begins, first_place}
-use Rattle.cts_frame.specs.SyncPatterns.{IsLeftmost}
+use Rattle.cts_framing.specs.Patterns.{begins, first_place}
+use Rattle.cts_framing.specs.SyncPatterns.{IsLeftmost}
 use Rattle.cts_proto.proofs.Finding.{nil_of}
-use Rattle.cts_frame.proofs.Leftmost.{first_tells, first_test}
+use Rattle.cts_framing.proofs.Leftmost.{first_tells, first_test}
 
 pub take_fewer : (i j : ℕ) (v : List ℕ) → i ≤ j → take i (take j v) ≡ take i v
 take_fewer zero j v h = refl

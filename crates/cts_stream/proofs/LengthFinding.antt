@@ -4,12 +4,12 @@ use Rattle.std.specs.Prelude.{ℤ}
 use Rattle.std.proofs.lemmas.List.{length-take-le, take-append-drop}
 use Rattle.cts_def.specs.Protocols.{LengthData, Length}
 use Rattle.cts_def.specs.declared.bad_cause.BadCause.{BadCause}
-use Rattle.cts_frame.specs.Cuts.{Ends}
-use Rattle.cts_frame.specs.Framing.{Agree, plain}
-use Rattle.cts_frame.specs.Rows.{framing_of, reach, field, length_by, field_states, length_states}
-use Rattle.cts_frame.specs.Stating.{Stated, Long, Wrong}
-use Rattle.cts_frame.proofs.Fronts.{lt_test, not_lt_test, field_front}
-use Rattle.cts_frame.proofs.LengthSteady.{field_tells, length_steady}
+use Rattle.cts_framing.specs.Cuts.{Ends}
+use Rattle.cts_framing.specs.Framing.{Agree, plain}
+use Rattle.cts_framing.specs.Rows.{framing_of, reach, field, length_by, field_states, length_states}
+use Rattle.cts_framing.specs.Stating.{Stated, Long, Wrong}
+use Rattle.cts_framing.proofs.Fronts.{lt_test, not_lt_test, field_front}
+use Rattle.cts_framing.proofs.LengthSteady.{field_tells, length_steady}
 use Rattle.cts_proto.specs.Founds.{FindsFrame, output_at}
 use Rattle.cts_proto.specs.StatedLaws.{StandsBy}
 use Rattle.cts_proto.proofs.Finding.{all_stand_by, span_front}

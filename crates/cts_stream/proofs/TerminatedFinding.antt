@@ -5,14 +5,15 @@ use Rattle.std.proofs.lemmas.Bool.Decides.{nat_tests}
 use Rattle.std.proofs.lemmas.List.{length-drop, length-take, length-take-le, drop-take, take-append-drop}
 use Rattle.cts_def.specs.Protocols.{TerminatedData, Terminated}
 use Rattle.cts_def.specs.declared.bad_cause.BadCause.TheVariants.{TooLong}
-use Rattle.cts_frame.specs.Cuts.{Ends}
-use Rattle.cts_frame.specs.Framing.{Agree, plain}
-use Rattle.cts_frame.specs.Patterns.{first_place}
-use Rattle.cts_frame.specs.Rows.{frame_limit, framing_of, end_states, terminated_states, stripped}
-use Rattle.cts_frame.specs.Stating.{Long}
-use Rattle.cts_frame.proofs.Fronts.{le_test, first_fits, take_turns}
-use Rattle.cts_frame.proofs.Leftmost.{first_cut}
-use Rattle.cts_frame.proofs.TerminatedSteady.{terminated_steady}
+use Rattle.cts_framing.specs.Cuts.{Ends}
+use Rattle.cts_framing.specs.Framing.{Agree, plain}
+use Rattle.cts_framing.specs.Patterns.{first_place}
+use Rattle.cts_def.specs.Most.{frame_limit}
+use Rattle.cts_framing.specs.Rows.{framing_of, end_states, terminated_states, stripped}
+use Rattle.cts_framing.specs.Stating.{Long}
+use Rattle.cts_framing.proofs.Fronts.{le_test, first_fits, take_turns}
+use Rattle.cts_framing.proofs.Leftmost.{first_cut}
+use Rattle.cts_framing.proofs.TerminatedSteady.{terminated_steady}
 use Rattle.cts_proto.specs.Founds.{FindsFrame, NothingStands, output_at}
 use Rattle.cts_proto.specs.StatedLaws.{StandsBy}
 use Rattle.cts_proto.proofs.Finding.{all_stand_by, span_front}

@@ -2,8 +2,8 @@
 use Rattle.std.specs.Prelude.{◌≡◌, ℕ, ℤ, pos, int_lt, ◌||◌, unsigned_abs, Option, Result, Ok, Err, if◌then◌else◌}
 use Rattle.cts_def.specs.declared.bad_cause.BadCause.{BadCause}
 use Rattle.cts_def.specs.declared.bad_cause.BadCause.TheVariants.{Short, OverMax}
-use Rattle.cts_frame.specs.Rows.{is_over, long_within}
-use Rattle.cts_frame.specs.Stating.{Stated, Long, Wrong}
+use Rattle.cts_framing.specs.Rows.{is_over, long_within}
+use Rattle.cts_framing.specs.Stating.{Stated, Long, Wrong}
 
 -- what a field that holds n states: a frame of z bytes, of which the field needs the first reach and the pattern the first
 -- room

@@ -1,14 +1,13 @@
 // The search for frames that are all bytes of a piece.
 ghost use Rattle.std.specs.Prelude.{Bool};
 ghost use Rattle.cts_def.specs.Protocols.{Burst};
-ghost use Rattle.cts_frame.specs.Framing.{Agree};
-ghost use Rattle.cts_frame.specs.Rows.{framing_of};
+ghost use Rattle.cts_framing.specs.Framing.{Agree};
+ghost use Rattle.cts_framing.specs.Rows.{framing_of};
 ghost use Rattle.cts_proto.specs.Founds.{Finds};
 ghost use Rattle.cts_stream.specs.Parameters.{burst_data};
 
-use crate::length::FRAME_LIMIT;
 use crate::protocols::no_bytes;
-use cts_def::{BadCause, Kind, ProtoSpec};
+use cts_def::{BadCause, FRAME_LIMIT, Kind, ProtoSpec};
 use cts_proto::{Found, Search};
 use std::alloc::Global;
 

@@ -2,20 +2,17 @@
 ghost use Rattle.std.specs.Prelude.{◌≡◌, ℕ, ◌*◌, pos, ◌+ℤ◌, int_lt, unsigned_abs, Bool, false};
 ghost use Rattle.cts_def.specs.Protocols.{Length};
 ghost use Rattle.cts_def.specs.Starts.{place_data};
-ghost use Rattle.cts_frame.specs.Framing.{Agree};
-ghost use Rattle.cts_frame.specs.Rows.{framing_of, is_over as over};
+ghost use Rattle.cts_framing.specs.Framing.{Agree};
+ghost use Rattle.cts_framing.specs.Rows.{framing_of, is_over as over};
 ghost use Rattle.cts_proto.specs.Founds.{Finds};
 ghost use Rattle.cts_stream.specs.Judged.{stated_as, Tells};
 ghost use Rattle.cts_stream.specs.Parameters.{length_data};
 
 use crate::protocols::no_bytes;
 use cts_bits::{Order, Place, read_uint};
-use cts_def::{BadCause, Kind, ProtoSpec};
+use cts_def::{BadCause, FRAME_LIMIT, Kind, ProtoSpec};
 use cts_proto::{Found, Search};
 use std::alloc::Global;
-
-/// The greatest number of bytes in a frame.
-pub(crate) const FRAME_LIMIT: usize = 1_048_576;
 
 /// The search by LENGTH: a frame has as many bytes as its length field states.
 #[derive(Drop)]

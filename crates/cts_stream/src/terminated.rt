@@ -1,16 +1,15 @@
 // The search for frames that end with a termination.
 ghost use Rattle.std.specs.Prelude.{◌≡◌, ◌≤◌, ◌<◌, ◌-◌, ℕ, List, [], Bool, false, take, drop, Some};
 ghost use Rattle.cts_def.specs.Protocols.{Terminated};
-ghost use Rattle.cts_frame.specs.Framing.{Agree};
-ghost use Rattle.cts_frame.specs.Patterns.{first_place as leftmost};
-ghost use Rattle.cts_frame.specs.Rows.{framing_of};
+ghost use Rattle.cts_framing.specs.Framing.{Agree};
+ghost use Rattle.cts_framing.specs.Patterns.{first_place as leftmost};
+ghost use Rattle.cts_framing.specs.Rows.{framing_of};
 ghost use Rattle.cts_proto.specs.Founds.{Finds, NothingStands};
 ghost use Rattle.cts_stream.specs.Seen.{first_unseen};
 ghost use Rattle.cts_stream.specs.Parameters.{terminated_data};
 
-use crate::length::FRAME_LIMIT;
 use crate::protocols::no_bytes;
-use cts_def::{BadCause, Kind, ProtoSpec};
+use cts_def::{BadCause, FRAME_LIMIT, Kind, ProtoSpec};
 use cts_proto::{Found, Search};
 use memchr::memmem;
 use std::alloc::Global;

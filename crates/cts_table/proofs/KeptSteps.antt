@@ -9,16 +9,17 @@ use Rattle.cts_entry.specs.declared.what.What.{What}
 use Rattle.cts_entry.specs.declared.what.What.TheVariants.{Opened, Packet, Closed, Command, SetLimits, Enable, LimitsSetIs, Injected, Unrouted, Stop, Ended}
 use Rattle.cts_entry.specs.Histories.{connects, connects_maker, entries_for, is_connected, or_earlier, latest}
 use Rattle.cts_entry.proofs.Appending.{connected-append}
-use Rattle.cts_watch.specs.Places.{room_at, room_for}
-use Rattle.cts_watch.specs.Sets.{known_sets, set_named, sets_known, with_named}
-use Rattle.cts_watch.specs.Watcher.{WatcherData, WatcherTells}
-use Rattle.cts_watch.proofs.SetSteps.{all_append}
-use Rattle.cts_watch.proofs.WatcherSteps.{tells_spare}
+use Rattle.cts_monitor.specs.Places.{room_at, room_for}
+use Rattle.cts_monitor.specs.Sets.{known_sets, set_named, sets_known, with_named}
+use Rattle.cts_monitor.specs.Watcher.{WatcherData, WatcherTells}
+use Rattle.cts_monitor.proofs.SetSteps.{all_append}
+use Rattle.cts_monitor.proofs.PlaceSteps.{get_last}
+use Rattle.cts_monitor.proofs.WatcherSteps.{beyond, tells_spare}
 use Rattle.cts_table.specs.Connected.{MakersTell, most_makers, noted_maker, told_open}
 use Rattle.cts_table.specs.Keeping.{AllOfSite, IsOfSite, IsSaid}
 use Rattle.cts_table.specs.Kept.{AllTell}
 use Rattle.cts_table.specs.Marking.{MarksData, begun_marks, noted, with_one}
-use Rattle.cts_table.proofs.MarkSteps.{begun_tells, each_all, each_of, each_with, get_last, past_is, tells_noted, with_long}
+use Rattle.cts_table.proofs.MarkSteps.{begun_tells, each_all, each_of, each_with, past_is, tells_noted, with_long}
 use Rattle.cts_table.proofs.Owing.{maker_small}
 
 -- ---- who is connected
@@ -70,23 +71,18 @@ foreign_from site by before (e ∷ es) sound all le =
     let here : connects_maker by e ≡ None = ap (λ (x : Bool). if x then connects e.what else None) (other_maker e.by by (λ same. absurd (omega (arith, same, small, le)))) in
     rw (rest, here) refl
 
-past_none : {A : Type 0} (xs : List A) (n : ℕ) → slice_get xs n ≡ None → length xs ≤ n
-past_none [] n is = omega arith
-past_none (x ∷ xs) zero is = (cc)
-past_none (x ∷ xs) (suc n) is = let r = past_none xs n is in omega (arith, r)
-
 pub open_is_connected : (site : SiteData) (by : ℕ) (h : List Entry) (bs : List Bool) → IsSoundSite site → AllOfSite site [] h → MakersTell h bs → unwrap_or (slice_get bs by) false ≡ is_connected by h
 open_is_connected site by h bs sound all t = by_there (slice_get bs by) refl
   where
     by_there : (o : Option Bool) → slice_get bs by ≡ o → unwrap_or o false ≡ is_connected by h
     by_there (Some b) is = t.open_is by b is
-    by_there None is = let over = past_none bs by is in let l = t.long in sym (none_open by h (foreign_from site by [] h sound all (omega (arith, over, l))))
+    by_there None is = let over = beyond bs by is in let l = t.long in sym (none_open by h (foreign_from site by [] h sound all (omega (arith, over, l))))
 
 -- ---- how many sets are known
 
-few_named : (site : SiteData) (before : List Entry) (by : ℕ) (what : What) → length (known_sets site before) ≤ most_sets → IsSaid site before by what → length (with_named (known_sets site before) (set_named what)) ≤ most_sets
+pub few_named : (site : SiteData) (before : List Entry) (by : ℕ) (what : What) → length (known_sets site before) ≤ most_sets → IsSaid site before by what → length (with_named (known_sets site before) (set_named what)) ≤ most_sets
 few_named site before by Opened few s = few
-few_named site before by (Packet ident bytes) few s = few
+few_named site before by (Packet ident stored bytes) few s = few
 few_named site before by (Closed why loss unposted unsent) few s = few
 few_named site before by (Command interface command bytes) few s = few
 few_named site before by (SetLimits enabled packet item persistence set limits) few s = s.2

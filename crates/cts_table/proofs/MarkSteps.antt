@@ -11,7 +11,8 @@ use Rattle.cts_entry.specs.declared.what.What.{What}
 use Rattle.cts_entry.specs.declared.what.What.TheVariants.{Opened, Packet, Closed, Command, SetLimits, Enable, LimitsSetIs, Injected, Unrouted, Stop, Ended}
 use Rattle.cts_entry.specs.Histories.{or_earlier}
 use Rattle.cts_entry.proofs.Appending.{latest-append}
-use Rattle.cts_watch.specs.Brought.{brings, brought_by, current_of, of_ident}
+use Rattle.cts_monitor.specs.Brought.{brings, brought_by, current_of, of_ident}
+use Rattle.cts_monitor.proofs.PlaceSteps.{get_last, get_more}
 use Rattle.cts_table.specs.declared.counts.Counts.{Counts}
 use Rattle.cts_table.specs.declared.marks.Heard.{Heard}
 use Rattle.cts_table.specs.Lookups.{counted, counts_of, commands_in, every_length, is_command, is_long_of, is_short_of, packet_of}
@@ -52,15 +53,6 @@ past_is [] i f le = refl
 past_is (x ∷ xs) zero f le = absurd (omega arith)
 past_is (x ∷ xs) (suc i) f le = ap (λ ys. x ∷ ys) (past_is xs i f (omega arith))
 
-pub get_last : {A : Type 0} (h : List A) (e : A) → slice_get (h ++ e ∷ []) (length h) ≡ Some e
-get_last [] e = refl
-get_last (x ∷ h) e = get_last h e
-
-pub get_more : {A : Type 0} (h : List A) (e : A) (n : ℕ) (x : A) → slice_get h n ≡ Some x → slice_get (h ++ e ∷ []) n ≡ Some x
-get_more [] e n x q = (cc)
-get_more (y ∷ h) e zero x q = q
-get_more (y ∷ h) e (suc n) x q = get_more h e n x q
-
 -- ---- counts with one entry more
 
 count_more : {X : Type 0} (p : X → Bool) (h : List X) (e : X) → count_by p (h ++ e ∷ []) ≡ count_by p h + one_if (p e)
@@ -93,7 +85,7 @@ counts_more site ident h e bytes is =
 
 commanded : (n : ℕ) (what : What) → is_command n what ≡ is_it n (command_in what)
 commanded n Opened = refl
-commanded n (Packet ident bytes) = refl
+commanded n (Packet ident stored bytes) = refl
 commanded n (Closed why loss unposted unsent) = refl
 commanded n (Command interface command bytes) = refl
 commanded n (SetLimits enabled packet item persistence set limits) = refl

@@ -22,7 +22,7 @@ impl Answers for Files {
 const CAUSES: &str = "\
 |read
 ;ITEM X|line 2: UnknownKeyword
-LOG_LAYOUT 2|line 1: UnknownKeyword
+LOG_LAYOUTS 2|line 1: UnknownKeyword
 '' X|line 1: UnknownKeyword
 TARGET INST|line 1: OutsideInterface
 PROTOCOL READ BURST|line 1: OutsideInterface
@@ -53,6 +53,14 @@ INTERFACE I tcpip_server_interface.rb 1 1 nil nil;DONT_LOG x|line 2: WrongCount
 INTERFACE I tcpip_server_interface.rb 1 1 nil nil;DONT_RECONNECT x|line 2: WrongCount
 INTERFACE I tcpip_server_interface.rb 1 1 nil nil;RECONNECT_DELAY|line 2: WrongCount
 INTERFACE I tcpip_server_interface.rb 1 1 nil nil;PROTOCOL READ|line 2: WrongCount
+LOG_LAYOUT|line 1: WrongCount
+LOG_LAYOUT 2 4|line 1: WrongCount
+LOG_LAYOUT 3|line 1: WrongCount
+LOG_LAYOUT 04|line 1: WrongCount
+LOG_LAYOUT 0x4|line 1: WrongCount
+LOG_LAYOUT nil|line 1: WrongCount
+LOG_CYCLE|line 1: WrongCount
+LOG_CYCLE 4096 4096|line 1: WrongCount
 INTERFACE I x.rb|line 1: UnknownInterface
 INTERFACE I TCPIP_SERVER_INTERFACE.RB 1 1 nil nil|line 1: UnknownInterface
 INTERFACE I x.rb 1 2 3 4 5 6 7 8 9|line 1: UnknownInterface
@@ -66,12 +74,19 @@ PORT CTS_API 0|line 1: NotNumber
 PORT CTS_API 65536|line 1: NotNumber
 DESKS 5|line 1: NotNumber
 DESKS 0|line 1: NotNumber
+LOG_CYCLE 4095|line 1: NotNumber
+LOG_CYCLE 1073741825|line 1: NotNumber
+LOG_CYCLE -4096|line 1: NotNumber
+LOG_CYCLE nil|line 1: NotNumber
 INTERFACE I tcpip_client_interface.rb h 1 x nil nil|line 1: NotNumber
 INTERFACE I tcpip_client_interface.rb h 1 nil nil x|line 1: NotNumber
 INTERFACE I tcpip_server_interface.rb 1 1 nil nil;RECONNECT_DELAY -1|line 2: NotNumber
 INTERFACE I tcpip_server_interface.rb 1 1 nil nil;RECONNECT_DELAY x|line 2: NotNumber
 INTERFACE I tcpip_server_interface.rb 1 1 nil nil;RECONNECT_DELAY nil|line 2: NotNumber
 ROUTER R tcpip_server_interface.rb 1 1 nil nil;ROUTER r tcpip_server_interface.rb 2 2 nil nil|line 2: DoubleName
+LOG_LAYOUT 2;LOG_LAYOUT 2|line 2: DoubleName
+LOG_LAYOUT 4;TITLE a;LOG_LAYOUT 2|line 3: DoubleName
+LOG_CYCLE 4096;LOG_LAYOUT 2;LOG_CYCLE 5000|line 3: DoubleName
 INTERFACE I tcpip_client_interface.rb h 1 2 nil nil|line 1: TwoPorts
 INTERFACE I tcpip_client_interface.rb h nil nil nil nil|line 1: TwoPorts
 INTERFACE I tcpip_server_interface.rb 1 nil nil nil|line 1: TwoPorts
@@ -115,7 +130,10 @@ INTERFACE I tcpip_server_interface.rb 1 1 nil nil FIXED 0;PROTOCOL READ BURST|li
 INTERFACE I tcpip_server_interface.rb 1 1 nil nil;PROTOCOL READ FixedProtocol 1;PROTOCOL READ LengthProtocol|line 3: NotLast
 INTERFACE I tcpip_server_interface.rb 1 1 nil nil;PROTOCOL READ FixedProtocol 1;PROTOCOL WRITE LengthProtocol|read
 INTERFACE I tcpip_server_interface.rb 1 1 nil nil;ROUTER I tcpip_server_interface.rb 1 1 nil nil;ROUTE i;ROUTE I|line 4: DoubleName
-DESKS 9;INTERFACE|line 1: NotNumber";
+DESKS 9;INTERFACE|line 1: NotNumber
+LOG_LAYOUT 2;LOG_LAYOUT 3|line 2: WrongCount
+LOG_CYCLE 4096;LOG_CYCLE 4096 x|line 2: WrongCount
+LOG_CYCLE 4096;LOG_CYCLE x|line 2: NotNumber";
 
 #[test]
 fn the_first_cause_and_the_first_statement_count(rt: HostRuntime) -> Result<(), Fail> {
@@ -128,6 +146,9 @@ INTERFACE I tcpip_server_interface.rb 1 1 nil nil FIXED 0;INTERFACE|line 1: MinI
 INTERFACE I tcpip_server_interface.rb 1 1 nil nil FIXED 0;ROUTER R x.rb|line 1: MinIdSize
 INTERFACE I tcpip_server_interface.rb 1 1 nil nil;PROTOCOL WRITE BURST;PROTOCOL WRITE BURST;PROTOCOL WRITE BURST;PROTOCOL WRITE BURST;INTERFACE|line 1: ChainTooLong
 INTERFACE I tcpip_server_interface.rb 1 1 nil nil FIXED 0;DESKS 9;ROUTER R x.rb|line 2: NotNumber
+INTERFACE I tcpip_server_interface.rb 1 1 nil nil FIXED 0;LOG_LAYOUT 3;ROUTER R x.rb|line 2: WrongCount
+INTERFACE I tcpip_server_interface.rb 1 1 nil nil FIXED 0;LOG_CYCLE 9;ROUTER R x.rb|line 2: NotNumber
+INTERFACE I tcpip_server_interface.rb 1 1 nil nil;LOG_LAYOUT 4;DONT_LOG;LOG_CYCLE 4096;DONT_RECONNECT|read
 INTERFACE I tcpip_server_interface.rb 1 1 nil nil FIXED 0;TARGET T;INTERFACE|line 2: UnknownTarget
 INTERFACE I tcpip_server_interface.rb 1 1 nil nil FIXED 0;ITEM|line 2: UnknownKeyword
 INTERFACE I tcpip_server_interface.rb 1 1 nil nil;PROTOCOL READ FIXED 0;;ROUTER|line 2: MinIdSize
@@ -196,6 +217,14 @@ READ TERMINATED 0x0A 0x0a0b|read
 READ TERMINATED 0x0A 0x0|line 2: NotNumber
 READ PREIDENTIFIED nil 5|read
 READ PREIDENTIFIED nil five|line 2: NotNumber
+READ PREIDENTIFIED nil nil 2|read
+READ PREIDENTIFIED nil nil 4|read
+READ PREIDENTIFIED nil nil +0004|read
+READ PREIDENTIFIED nil nil 3|line 2: NotNumber
+READ PREIDENTIFIED nil nil -4|line 2: NotNumber
+READ PREIDENTIFIED nil nil 18446744073709551620|line 2: NotNumber
+READ PREIDENTIFIED nil nil nil|line 2: NotNumber
+READ PREIDENTIFIED nil nil 4 4|line 2: WrongCount
 READ FIXED 1048577|line 2: NotNumber
 READ FIXED one|line 2: NotNumber
 read_write BURST|line 2: WrongCount
@@ -294,8 +323,9 @@ const DEFAULTS: &str = "\
  TERMINATED 0x0D 0x0A|Some(List { items: [ProtoUse { spec: Terminated { write: Bytes { held: [13] }, read: Bytes { held: [10] }, strip: true, discard: 0, sync: Bytes { held: [] }, fill: false }, reads: true, writes: true }] })
  TERMINATED nil 0x0A false 7 0x02 true|Some(List { items: [ProtoUse { spec: Terminated { write: Bytes { held: [] }, read: Bytes { held: [10] }, strip: false, discard: 7, sync: Bytes { held: [2] }, fill: true }, reads: true, writes: true }] })
  TERMINATED 0x0D0A 0x0D0A|Some(List { items: [ProtoUse { spec: Terminated { write: Bytes { held: [13, 10] }, read: Bytes { held: [13, 10] }, strip: true, discard: 0, sync: Bytes { held: [] }, fill: false }, reads: true, writes: true }] })
- PREIDENTIFIED|Some(List { items: [ProtoUse { spec: Preidentified { sync: Bytes { held: [] }, max: None }, reads: true, writes: true }] })
- PREIDENTIFIED 0xDEAD 0|Some(List { items: [ProtoUse { spec: Preidentified { sync: Bytes { held: [222, 173] }, max: Some(0) }, reads: true, writes: true }] })
+ PREIDENTIFIED|Some(List { items: [ProtoUse { spec: Preidentified { sync: Bytes { held: [] }, max: None, layout: 2 }, reads: true, writes: true }] })
+ PREIDENTIFIED 0xDEAD 0|Some(List { items: [ProtoUse { spec: Preidentified { sync: Bytes { held: [222, 173] }, max: Some(0), layout: 2 }, reads: true, writes: true }] })
+ PREIDENTIFIED nil 7 0x4|Some(List { items: [ProtoUse { spec: Preidentified { sync: Bytes { held: [] }, max: Some(7), layout: 4 }, reads: true, writes: true }] })
 ;PROTOCOL READ BURST 1|Some(List { items: [ProtoUse { spec: Burst { discard: 1, sync: Bytes { held: [] }, fill: false }, reads: true, writes: false }] })
 ;PROTOCOL READ_WRITE BURST 0x0C|Some(List { items: [ProtoUse { spec: Burst { discard: 12, sync: Bytes { held: [] }, fill: false }, reads: true, writes: true }] })
 ;PROTOCOL WRITE BURST 1|Some(List { items: [ProtoUse { spec: Burst { discard: 1, sync: Bytes { held: [] }, fill: false }, reads: false, writes: true }, ProtoUse { spec: Burst { discard: 0, sync: Bytes { held: [] }, fill: false }, reads: true, writes: false }] })
@@ -342,6 +372,29 @@ fn counted(site: &Site) -> (u16, u32, usize, usize) {
 #[test]
 fn the_last_of_a_setting_counts_and_an_empty_file_is_a_site(rt: HostRuntime) -> Result<(), Fail> {
     rows_end_so::<Counts>(rt.alloc(), COUNTS)
+}
+
+/// The layout and the cycle of logs that a file gives, at any place of it.
+const LOGS: &str = "\
+|(2, None)
+LOG_LAYOUT 2|(2, None)
+log_layout '4'|(4, None)
+LOG_CYCLE 0x1000;LOG_LAYOUT 4|(4, Some(4096))
+INTERFACE I tcpip_server_interface.rb 1 1 nil nil;LOG DEFAULT;LOG_CYCLE 1073741824;DONT_LOG|(2, Some(1073741824))
+ROUTER R tcpip_server_interface.rb 1 1 nil nil;LOG_LAYOUT 4;INTERFACE I tcpip_server_interface.rb 1 1 nil nil|(4, None)";
+
+struct Logs;
+
+impl Answers for Logs {
+    fn answer(alloc: Global, asked: &str) -> Result<String, Fail> {
+        let site = site_of(alloc, "", asked)?;
+        debug_of(alloc, &(site.log_layout, site.log_cycle))
+    }
+}
+
+#[test]
+fn a_file_gives_the_layout_and_the_cycle_of_logs(rt: HostRuntime) -> Result<(), Fail> {
+    rows_end_so::<Logs>(rt.alloc(), LOGS)
 }
 
 /// A file of three interfaces with settings.

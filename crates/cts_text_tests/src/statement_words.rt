@@ -1,6 +1,6 @@
 // Statements of a definitions file word by word: what each says, and why its words are refused.
 use cts_base::Bytes;
-use cts_defline::{DefCause, DefFault, ItemLine, Line, Open, PacketKind, read_line};
+use cts_defstatement::{DefCause, DefFault, ItemLine, Line, Open, PacketKind, read_line};
 use cts_rows::{Answers, cut, debug_of, display_of, readable_of, refusal_of, rows_end_so, same};
 use std::alloc::Global;
 use std::test::Fail;

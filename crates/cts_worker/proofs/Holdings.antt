@@ -9,9 +9,9 @@ use Rattle.cts_entry.specs.Histories.{is_connected, is_stopped}
 use Rattle.cts_entry.specs.Legal.{StopsAfter, has_ended}
 use Rattle.cts_table.specs.States.{Shown}
 use Rattle.cts_table.specs.declared.basis.Basis.{Basis}
-use Rattle.cts_told.specs.Makers.{of_maker}
-use Rattle.cts_told.proofs.Looking.{stop_kept}
-use Rattle.cts_told.proofs.Others.{connected_others, ended_others, nothing_own, of_maker_append}
+use Rattle.cts_trace.specs.Makers.{of_maker}
+use Rattle.cts_trace.proofs.Looking.{stop_kept}
+use Rattle.cts_trace.proofs.Others.{connected_others, ended_others, nothing_own, of_maker_append}
 use Rattle.cts_turn.specs.declared.rule.View.{View}
 use Rattle.cts_turn.specs.Lists.{AllBy, StartsWith, has}
 use Rattle.cts_turn.specs.Passes.{left}

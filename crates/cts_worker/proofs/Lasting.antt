@@ -13,9 +13,9 @@ use Rattle.cts_entry.proofs.Appending.{stopped-append}
 use Rattle.cts_entry.proofs.Queuing.{none_connected}
 use Rattle.cts_table.specs.Keeping.{IsKept}
 use Rattle.cts_table.specs.States.{CanAdd, Shown}
-use Rattle.cts_told.specs.Makers.{LastEnded, of_maker}
-use Rattle.cts_told.proofs.Others.{connected_of, ended_of, of_maker_append, of_maker_one}
-use Rattle.cts_told.proofs.Walks.{connected_kept}
+use Rattle.cts_trace.specs.Makers.{LastEnded, of_maker}
+use Rattle.cts_trace.proofs.Others.{connected_of, ended_of, of_maker_append, of_maker_one}
+use Rattle.cts_trace.proofs.Walks.{connected_kept}
 use Rattle.cts_turn.specs.declared.rule.View.{View}
 use Rattle.cts_turn.specs.Lists.{AllBy, StartsWith}
 use Rattle.cts_worker.specs.Holds.{Adds, EndedHold, Onward}

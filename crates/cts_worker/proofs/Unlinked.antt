@@ -41,7 +41,7 @@ no_line b by sound never line = elim line [
 -- what a maker says that is no line opens nothing
 no_open : (what : What) (r : Rules) (before : List Entry) (by : ℕ) → (IsLine r by → ⊥) → Allows r before by what → connects what ≡ Some true → ⊥
 no_open Opened r before by is_no a h = is_no a.0
-no_open (Packet ident bytes) r before by is_no a h = cc h
+no_open (Packet ident stored bytes) r before by is_no a h = cc h
 no_open (Closed why loss unposted unsent) r before by is_no a h = cc h
 no_open (Command interface command bytes) r before by is_no a h = cc h
 no_open (SetLimits enabled packet item persistence set limits) r before by is_no a h = cc h

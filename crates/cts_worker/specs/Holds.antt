@@ -4,7 +4,7 @@ use Rattle.cts_def.specs.declared.time.Time.{Time}
 use Rattle.cts_entry.specs.declared.entry.Entry.{Entry}
 use Rattle.cts_table.specs.States.{Shown}
 use Rattle.cts_table.specs.declared.basis.Basis.{Basis}
-use Rattle.cts_told.specs.Makers.{of_maker}
+use Rattle.cts_trace.specs.Makers.{of_maker}
 use Rattle.cts_turn.specs.Lists.{AllBy, StartsWith}
 use Rattle.cts_turn.specs.declared.rule.View.{View}
 use Rattle.cts_worker.specs.Lasts.{last_entries}

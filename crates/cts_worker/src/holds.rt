@@ -3,7 +3,7 @@ ghost use Rattle.std.specs.Prelude.{◌≡◌, ◌≤◌, [], length, true, List
 ghost use Rattle.cts_entry.specs.declared.entry.Entry.{Entry};
 ghost use Rattle.cts_entry.specs.Histories.{is_stopped};
 ghost use Rattle.cts_entry.specs.Workers.{is_worker};
-ghost use Rattle.cts_told.specs.Makers.{of_maker};
+ghost use Rattle.cts_trace.specs.Makers.{of_maker};
 ghost use Rattle.cts_turn.specs.Lists.{StartsWith, has};
 ghost use Rattle.cts_turn.specs.Passes.{IsPassOf, view};
 ghost use Rattle.cts_worker.specs.Grounds.{ground};

@@ -2,7 +2,7 @@
 use Rattle.std.proofs.Common.{◌≡◌, ℕ, Bool, true, List, ◌∙◌, ap}
 use Rattle.cts_entry.specs.declared.entry.Entry.{Entry}
 use Rattle.cts_entry.specs.Histories.{is_stopped}
-use Rattle.cts_told.proofs.Looking.{stop_kept}
+use Rattle.cts_trace.proofs.Looking.{stop_kept}
 use Rattle.cts_turn.specs.Lists.{StartsWith}
 use Rattle.cts_staff.specs.Lasting.{Lasts}
 use Rattle.cts_worker_tests.specs.Toys.{ToyDoes}

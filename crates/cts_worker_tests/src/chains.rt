@@ -2,16 +2,17 @@
 ghost use Rattle.std.specs.Prelude.{◌≡◌, true, IfOk, IfSome};
 ghost use Rattle.cts_chain.specs.Builds.{CanBeBuilt, IsFresh};
 ghost use Rattle.cts_connection.specs.LinePlaces.{is_line};
-ghost use Rattle.cts_frame.specs.Chains.{uses_at};
+ghost use Rattle.cts_framing.specs.Chains.{uses_at};
 
 use cts_chain::{Chain, Chained};
 use cts_def::{FIRST_SLOT, Interface, ProtoUse, Router, Site};
+use cts_preid::Preidentified;
 use cts_proto::{Boxed, Shelf};
 use cts_stream::{Burst, Length, Terminated};
 use std::alloc::Global;
 use std::test::Fail;
 
-/// A shelf with so many boxes of BURST, of LENGTH and of TERMINATED.
+/// A shelf with so many boxes of BURST, of LENGTH, of PREIDENTIFIED and of TERMINATED.
 fn stocked(alloc: Global, count: u32) -> Result<Shelf, Fail> {
     let mut shelf = Shelf::new(alloc);
     for _ in 0..count {
@@ -23,6 +24,7 @@ fn stocked(alloc: Global, count: u32) -> Result<Shelf, Fail> {
 fn stock_each(alloc: Global, shelf: &mut Shelf) -> Result<(), Fail> {
     put(shelf, Box::new(alloc, Burst::blank(alloc))?)?;
     put(shelf, Box::new(alloc, Length::blank(alloc))?)?;
+    put(shelf, Box::new(alloc, Preidentified::blank(alloc))?)?;
     put(shelf, Box::new(alloc, Terminated::blank(alloc))?)
 }
 

@@ -28,7 +28,13 @@ fn append(hall: &mut Hall, by: u32, seconds: u32, bytes: Bytes) -> bool
         Ok(()) => {}
         Err(_) => return false,
     }
-    hall.packet(by, Time { seconds, micros: 0 }, Ident::Unknown, bytes);
+    hall.packet(
+        by,
+        Time { seconds, micros: 0 },
+        Ident::Unknown,
+        false,
+        bytes,
+    );
     true
 }
 

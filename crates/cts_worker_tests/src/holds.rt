@@ -23,6 +23,7 @@ fn entry(by: u32, seconds: u32, bytes: Bytes) -> Entry
         time: Time { seconds, micros: 0 },
         what: What::Packet {
             ident: Ident::Unknown,
+            stored: false,
             bytes,
         },
     }

@@ -56,8 +56,8 @@ impl<'a, R: Wait + Sync, C: Framer + Send, G: Gate + Sync> Job for LineJob<'a, R
     ghost use Rattle.std.specs.Prelude.{◌≡◌, [], false, true};
     ghost use Rattle.cts_chain.specs.Builds.{IsFresh};
     ghost use Rattle.cts_connection.specs.LinePlaces.{is_line};
-    ghost use Rattle.cts_frame.specs.Chains.{uses_at};
-    ghost use Rattle.cts_told.specs.Makers.{of_maker};
+    ghost use Rattle.cts_framing.specs.Chains.{uses_at};
+    ghost use Rattle.cts_trace.specs.Makers.{of_maker};
     ghost use Rattle.cts_turn.specs.Lists.{has};
     ghost use Rattle.cts_turn.specs.Passes.{IsPassOf, basis_of, view};
 

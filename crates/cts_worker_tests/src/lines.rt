@@ -145,6 +145,18 @@ fn a_line_takes_pieces_of_any_size(rt: HostRuntime) -> Result<(), Fail> {
     rows_hold(&rt, rt.alloc(), form, LARGE)
 }
 
+/// The same of an interface with heads of layout 4, whose packets were stored before they were sent or were not.
+const STORED: &str = "\
+a stored packet, and one that was not|;0 80000000050000000601540141000000010a0000000005 0000000601540141000000020b0c|O P1* P2 CPeerEnded:0:0:0 E (Finished, 1) -
+wrong flags|;0 41|O CBadFrame { stage: 1, cause: Flags(65) }:1:0:0 E (Finished, 1) -";
+
+#[test]
+fn a_line_posts_whether_packets_were_stored(rt: HostRuntime) -> Result<(), Fail> {
+    let form =
+        "$|9 100|0|INTERFACE I tcpip_client_interface.rb h 1 1 nil nil PREIDENTIFIED nil nil 4";
+    rows_hold(&rt, rt.alloc(), form, STORED)
+}
+
 /// The same of a slot of a router that routes nothing.
 const DOOR: &str = "\
 its door's dial fails|0;0 030107|S E (DoorFailed, 0)

@@ -1,15 +1,20 @@
 // Two lines over one history: an interface, and a slot of its router.
-ghost use Rattle.std.specs.Prelude.{◌≡◌, true};
+ghost use Rattle.std.specs.Prelude.{◌≡◌, [], true};
+ghost use Rattle.cts_chain.specs.Builds.{IsFresh};
+ghost use Rattle.cts_connection.specs.LinePlaces.{is_line};
+ghost use Rattle.cts_framing.specs.Chains.{uses_at};
+ghost use Rattle.cts_trace.specs.Makers.{of_maker};
 ghost use Rattle.cts_turn.specs.Lists.{has, makers_from};
-ghost use Rattle.cts_turn.specs.Passes.{IsPassOf, view};
+ghost use Rattle.cts_turn.specs.Passes.{IsPassOf, basis_of, view};
 
 use crate::chains::chain_of;
 use crate::jobs::{LineJob, LineOver};
 use crate::order::Order;
 use crate::read::{dialer_of, hall_of, parts};
-use cts_connection::is_line;
+use cts_connection::{Framer, is_line};
 use cts_def::Site;
-use cts_outside::{Crew, Job, ThreadCrew, TurnCrew};
+use cts_entry::Stands;
+use cts_outside::{Crew, Gate, Job, ThreadCrew, TurnCrew};
 use cts_rows::{field, numbers, same};
 use cts_samples::site_of;
 use cts_table::Hall;
@@ -82,7 +87,7 @@ fn told<R: Threads + Wait + Clock + Sync, W: Crew>(
         chain: chains.1,
         gate: &gate,
     };
-    let ends = ends_of(rt, alloc, crew, interface, slot)?;
+    let ends = ends_of_lines(rt, alloc, crew, interface, slot)?;
     told_of_ends(alloc, ends)
 }
 
@@ -96,6 +101,20 @@ fn split_first(turn: &Turn<Hall>, rest: &mut Pass<Hall>) -> Pass<Hall>
     ensures seen { ((view rest.new).seen ≡ (view rest.old).seen) × ((view result).seen ≡ (view rest.old).seen) }
 {
     turn.split(rest)
+}
+
+/// What two lines leave. That they may go to threads is shown for any chain and gate that may, beside all else that a line has.
+fn ends_of_lines<'a, R: Threads + Wait + Sync, C: Framer + Send, G: Gate + Sync, W: Crew>(
+    rt: &R,
+    alloc: Global,
+    crew: &mut W,
+    first: LineJob<'a, R, C, G>,
+    second: LineJob<'a, R, C, G>,
+) -> Result<Vec<LineOver>, Fail>
+    requires first { IsPassOf first.turn.now first.pass × (has first.by (view first.pass).makers ≡ true) × (of_maker first.by (view first.pass).seen ≡ []) × (first.site.now ≡ (basis_of ⟦<Hall as Stands>⟧.basis first.turn.now).site) × (is_line first.site.now first.by ≡ true) × IsFresh (uses_at first.site.now first.by) (C.shape first.chain) }
+    requires second { IsPassOf second.turn.now second.pass × (has second.by (view second.pass).makers ≡ true) × (of_maker second.by (view second.pass).seen ≡ []) × (second.site.now ≡ (basis_of ⟦<Hall as Stands>⟧.basis second.turn.now).site) × (is_line second.site.now second.by ≡ true) × IsFresh (uses_at second.site.now second.by) (C.shape second.chain) }
+{
+    ends_of(rt, alloc, crew, first, second)
 }
 
 /// What two jobs leave.

@@ -5,7 +5,7 @@ use cts_outside::MemDialer;
 use cts_table::Hall;
 use std::alloc::Global;
 
-/// Each entry of a maker in short: O for Opened, P for a packet and its length, C for Closed and why, the bytes that the first stage held, and
+/// Each entry of a maker in short: O for Opened, P for a packet and its length, with a * where it was stored, C for Closed and why, the bytes that the first stage held, and
 /// how many packets were not posted and how many entries for the peer not put; K for a command and its interface, number and bytes, U for an Unrouted entry,
 /// why it is one and its bytes; S for Stop and E for Ended.
 pub fn said(alloc: Global, hall: &Hall, by: u32) -> Result<String, Memory> {
@@ -28,7 +28,7 @@ fn tell(text: &mut String, word: &str) -> Result<(), Memory> {
 fn word(alloc: Global, what: &What) -> Result<String, Memory> {
     match what {
         What::Opened => Ok("O".to_string(alloc)?),
-        What::Packet { ident: _, bytes } => Ok(format!(in alloc; "P{}", bytes.as_slice().len())?),
+        What::Packet { stored, bytes, .. } => packet(alloc, *stored, bytes),
         What::Closed {
             why,
             loss,
@@ -39,6 +39,12 @@ fn word(alloc: Global, what: &What) -> Result<String, Memory> {
         What::Ended => Ok("E".to_string(alloc)?),
         _ => sent(alloc, what),
     }
+}
+
+/// A packet by its length, with a `*` where it was stored.
+fn packet(alloc: Global, stored: bool, bytes: &Bytes) -> Result<String, Memory> {
+    let mark = if stored { "*" } else { "" };
+    Ok(format!(in alloc; "P{}{mark}", bytes.as_slice().len())?)
 }
 
 /// What a slot took.

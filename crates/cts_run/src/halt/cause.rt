@@ -1,7 +1,7 @@
 // Why a line of a file is refused.
 ghost use Rattle.std.specs.Prelude.{◌≡◌};
 
-use cts_defline::DefCause;
+use cts_defstatement::DefCause;
 use cts_plan::SiteCause;
 use cts_scriptread::ScriptCause;
 

@@ -3,8 +3,8 @@ ghost use Rattle.std.specs.Prelude.{◌≡◌, ◌++◌, map, take, drop, IfOk};
 ghost use Rattle.std.specs.List.{filter};
 ghost use Rattle.cts_script.specs.Effects.{effect_line};
 ghost use Rattle.cts_run.specs.Transcript.{line_event, lines_of};
-ghost use Rattle.cts_watch.specs.Events.{events_from};
-ghost use Rattle.cts_watch.proofs.Placed.{at_place};
+ghost use Rattle.cts_monitor.specs.Events.{events_from};
+ghost use Rattle.cts_monitor.proofs.Placed.{at_place};
 
 use cts_base::Memory;
 use cts_def::Site;

@@ -3,7 +3,7 @@ ghost use Rattle.std.specs.Prelude.{◌≡◌, ◌∷◌, [], false, map, take, 
 ghost use Rattle.std.specs.Arc.{arc_value};
 ghost use Rattle.std.specs.List.{AllByRecursion};
 ghost use Rattle.cts_chain.specs.Builds.{AreFresh, Taken};
-ghost use Rattle.cts_core.specs.LineChains.{line_chains, line_uses};
+ghost use Rattle.cts_connection.specs.LineChains.{line_chains, line_uses};
 ghost use Rattle.cts_def.specs.Sites.{SiteData};
 ghost use Rattle.cts_scribe.specs.Vaults.{AreBlank};
 ghost use Rattle.cts_server.specs.Places.{AreThere, IsStill};
@@ -17,7 +17,7 @@ ghost use Rattle.cts_serve.specs.Serving.{Finds, HasIdled, HasServed, IsPlanned,
 ghost use Rattle.cts_run.specs.Start.{shelf_phase};
 ghost use Rattle.cts_run.specs.Endings.{halt_status};
 
-use cts_core::{Framer, Supplier, build_chains};
+use cts_connection::{Framer, Supplier, build_chains};
 use cts_def::Site;
 use cts_outside::{Clock, Crew, Dialer, Files, Gate, Sink, Vault};
 use cts_run::{Digest, FileName, Halt, load_site};

@@ -1,6 +1,6 @@
 use Rattle.std.proofs.Common.{◌≡◌, ◌+◌, length}
 use Rattle.cts_entry.specs.Histories.{bytes_in}
-use Rattle.cts_frame.specs.Packets.{capped}
+use Rattle.cts_framing.specs.Packets.{capped}
 use Rattle.cts_connection.proofs.appending.weight.Given as goal
 
 abbrev pub invariant-left : goal.invariant-left

@@ -1,7 +1,7 @@
 use Rattle.std.proofs.Common.{sym, ◌∙◌, ap, subst}
 use Rattle.cts_chain.specs.Chains.{packet_at}
 use Rattle.cts_def.specs.declared.time.Time.{Time}
-use Rattle.cts_told.specs.Routing.{said_of}
+use Rattle.cts_trace.specs.Routing.{said_of}
 use Rattle.cts_connection.specs.Routings.{site_routing}
 use Rattle.cts_connection.specs.Takings.{blamed}
 use Rattle.cts_connection.proofs.Gathering.{Sofar, sofar_more, gathered, given_up, time_told, fewer_wait, blame_is}

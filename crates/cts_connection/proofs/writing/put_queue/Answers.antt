@@ -4,7 +4,7 @@ use Rattle.cts_def.specs.Sites.{SiteData}
 use Rattle.cts_entry.specs.declared.entry.Entry.{Entry}
 use Rattle.cts_entry.specs.Queues.{refused, spelled}
 use Rattle.cts_table.specs.Keeping.{IsOfSite}
-use Rattle.cts_told.specs.Routing.{queue}
+use Rattle.cts_trace.specs.Routing.{queue}
 use Rattle.cts_connection.specs.Routings.{site_routing}
 use Rattle.cts_connection.specs.Writings.{Puts, spell_by}
 use Rattle.cts_connection.proofs.Putting.{bytes_more, count_more, of_site_at, stretch_lent}

@@ -1,5 +1,5 @@
 use Rattle.std.proofs.Common.{◌≡◌, ◌+◌, ◌≤◌, drop, length}
-use Rattle.cts_told.specs.Routing.{queue}
+use Rattle.cts_trace.specs.Routing.{queue}
 use Rattle.cts_connection.specs.Routings.{site_routing}
 use Rattle.cts_connection.proofs.writing.queued.Given as goal
 

@@ -1,6 +1,6 @@
 use Rattle.std.proofs.Common.{◌≡◌, ◌++◌, drop, map}
 use Rattle.cts_chain.specs.Shapes.{writers}
-use Rattle.cts_told.specs.Routing.{queue}
+use Rattle.cts_trace.specs.Routing.{queue}
 use Rattle.cts_connection.specs.Routings.{site_routing}
 use Rattle.cts_connection.specs.Writings.{spell_by}
 use Rattle.cts_connection.proofs.writing.spell_queue.Given as goal

@@ -1,5 +1,5 @@
 use Rattle.std.proofs.Common.{◌≡◌}
-use Rattle.cts_defline.specs.declared.open.PacketKind.TheVariants.{Telemetry, Command}
+use Rattle.cts_defstatement.specs.declared.open.PacketKind.TheVariants.{Telemetry, Command}
 use Rattle.cts_defread.specs.Standing.{packets_of}
 use Rattle.cts_defread.proofs.draft.split.Given as goal
 

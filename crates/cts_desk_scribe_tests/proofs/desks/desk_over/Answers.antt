@@ -1,7 +1,7 @@
 use Rattle.std.proofs.Common.{◌≡◌, ◌≤◌, ap, arith, ◌∙◌, true}
 use Rattle.cts_entry.specs.Workers.{is_desk}
 use Rattle.cts_table.specs.declared.basis.Basis.{Basis}
-use Rattle.cts_told.specs.Makers.{of_maker}
+use Rattle.cts_trace.specs.Makers.{of_maker}
 use Rattle.cts_turn.proofs.Makers.{has_from}
 use Rattle.cts_turn.specs.Lists.{has}
 use Rattle.cts_desk_scribe_tests.proofs.desks.desk_over.Goals as goal

@@ -2,7 +2,7 @@ use Rattle.std.proofs.Common.{◌≡◌, ◌==◌, ◌∷◌, [], false, ap, ari
 use Rattle.std.specs.List.{list_any}
 use Rattle.cts_entry.specs.declared.entry.Entry.{Entry}
 use Rattle.cts_table.specs.declared.basis.Basis.{Basis}
-use Rattle.cts_told.specs.Makers.{of_maker}
+use Rattle.cts_trace.specs.Makers.{of_maker}
 use Rattle.cts_turn.proofs.Makers.{has_from, split_from}
 use Rattle.cts_turn.specs.Lists.{has}
 use Rattle.cts_desk_scribe_tests.proofs.Silent.{silent}

@@ -1,6 +1,6 @@
 use Rattle.std.proofs.Common.{sym, ◌∙◌}
 use Rattle.cts_ending.specs.Troubles.{closed_shows}
-use Rattle.cts_told.specs.Makers.{closes_for}
+use Rattle.cts_trace.specs.Makers.{closes_for}
 use Rattle.cts_ending.proofs.Lists.{any_more}
 use Rattle.cts_ending.proofs.showing.entries_show.Goals as goal
 

@@ -1,7 +1,7 @@
 use Rattle.std.proofs.Common.{◌≡◌, false, take}
 use Rattle.std.specs.List.{list_any}
 use Rattle.cts_ending.specs.Troubles.{closed_shows}
-use Rattle.cts_told.specs.Makers.{closes_for}
+use Rattle.cts_trace.specs.Makers.{closes_for}
 use Rattle.cts_ending.proofs.showing.entries_show.Given as goal
 
 abbrev pub invariant-entries : goal.invariant-entries

@@ -1,7 +1,7 @@
 use Rattle.std.proofs.Common.{◌≡◌, length, max, arith, sym, ◌∙◌}
 use Rattle.cts_def.specs.Protocols.{FixedData}
-use Rattle.cts_frame.specs.Rows.{decided_at, fixed_states}
-use Rattle.cts_frame.specs.Stating.{Long, Wrong}
+use Rattle.cts_framing.specs.Rows.{decided_at, fixed_states}
+use Rattle.cts_framing.specs.Stating.{Long, Wrong}
 use Rattle.cts_fixed.specs.Finding.{fixed_row}
 use Rattle.cts_fixed.proofs.Fixing.{decided_states, fixed_few, fixed_short, fixed_part, fixed_fault, fixed_frame}
 use Rattle.cts_fixed.proofs.found.found_fixed.Goals as goal

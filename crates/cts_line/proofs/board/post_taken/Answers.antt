@@ -1,6 +1,6 @@
 use Rattle.std.proofs.Common.{◌≡◌, ◌+◌, length, arith, inr, subst, sym}
 use Rattle.cts_connection.specs.Postings.{Closes}
-use Rattle.cts_frame.specs.Packets.{capped}
+use Rattle.cts_framing.specs.Packets.{capped}
 use Rattle.cts_line.specs.Doing.{IsRefused}
 use Rattle.cts_line.proofs.Boarding.{close_same, posts_taken, refused_is, refused_same, taken_adds}
 use Rattle.cts_line.proofs.board.post_taken.Goals as goal

@@ -4,7 +4,7 @@ use Rattle.cts_connection.specs.Connections.{entries_ahead}
 use Rattle.cts_connection.specs.Routings.{site_routing}
 use Rattle.cts_connection.specs.Writings.{spell_by}
 use Rattle.cts_entry.specs.Histories.{is_stopped}
-use Rattle.cts_told.specs.Routing.{queue}
+use Rattle.cts_trace.specs.Routing.{queue}
 use Rattle.cts_table.specs.contracts.hall.HallStands.TheImpl.{ghosts as hall}
 use Rattle.cts_turn.specs.Passes.{basis_of, view}
 use Rattle.cts_line.proofs.Following.{at_ok, caught_up, look_kept, look_long, look_stop, looked_not, spellings_few}

@@ -3,7 +3,7 @@ use Rattle.cts_outside.specs.declared.link.Dialed.TheVariants.{Linked, Later, Fi
 use Rattle.cts_table.specs.contracts.hall.HallStands.TheImpl.{ghosts as hall}
 use Rattle.cts_turn.specs.Passes.{basis_of, view}
 use Rattle.cts_connection.specs.Routings.{site_routing}
-use Rattle.cts_told.proofs.Looking.{settles_told}
+use Rattle.cts_trace.proofs.Looking.{settles_told}
 use Rattle.cts_line.specs.Talks.{room_of}
 use Rattle.cts_line.proofs.Dialing.{begins_linked, never_both, finishes_settled, nothing_dialed, so_far}
 use Rattle.cts_line.proofs.Telling.{retells_dial, retells_has, retells_then, since_dial}

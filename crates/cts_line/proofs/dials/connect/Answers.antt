@@ -3,10 +3,11 @@ use Rattle.cts_table.specs.contracts.hall.HallStands.TheImpl.{ghosts as hall}
 use Rattle.cts_turn.specs.Lists.{has}
 use Rattle.cts_turn.specs.Passes.{basis_of, view}
 use Rattle.cts_connection.specs.Routings.{site_routing}
-use Rattle.cts_told.proofs.Looking.{settles_told}
+use Rattle.cts_trace.proofs.Looking.{settles_told}
 use Rattle.cts_line.specs.Ending.{stops_then}
 use Rattle.cts_line.specs.Talks.{room_of}
-use Rattle.cts_line.proofs.Chaining.{same_self, same_then, suits_same}
+use Rattle.cts_line.proofs.Chaining.{same_self, suits_same}
+use Rattle.cts_connection.proofs.Gathering.{same_then}
 use Rattle.cts_line.proofs.Dialing.{count_kept, faults_none, faults_same, faults_then, shut_kept, so_far_none, so_far_some, stop_keeps, stop_same_look, stop_settled}
 use Rattle.cts_worker.proofs.Onwards.{onward_hold, onward_same, onward_then}
 use Rattle.cts_line.proofs.Telling.{retells_has, retells_same, retells_then}

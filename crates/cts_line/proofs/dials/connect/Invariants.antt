@@ -1,10 +1,10 @@
 use Rattle.std.proofs.Common.{◌≡◌, ◌≤◌, ℕ, length, true, false}
 use Rattle.cts_chain.specs.Shapes.{IsSameChain}
-use Rattle.cts_frame.specs.Packets.{capped}
+use Rattle.cts_framing.specs.Packets.{capped}
 use Rattle.cts_turn.specs.Lists.{has}
 use Rattle.cts_turn.specs.Passes.{IsPassOf, basis_of, view}
 use Rattle.cts_connection.specs.Routings.{site_routing}
-use Rattle.cts_told.specs.Told.{Settled}
+use Rattle.cts_trace.specs.Told.{Settled}
 use Rattle.cts_worker.specs.Lasts.{IsShut}
 use Rattle.cts_line.specs.Ending.{FaultsRise, has_stop, opened_in, reconnects}
 use Rattle.cts_worker.specs.Holds.{Onward}

@@ -1,8 +1,8 @@
 use Rattle.std.proofs.Common.{◌≡◌, ◌≤◌, ◌+◌, ℕ, List, true, length}
 use Rattle.cts_entry.specs.declared.entry.Entry.{Entry}
 use Rattle.cts_proto.specs.Meaning.{Meaning}
-use Rattle.cts_told.specs.Lines.{Capacity}
-use Rattle.cts_told.specs.Routing.{Routing}
+use Rattle.cts_trace.specs.Lines.{Capacity}
+use Rattle.cts_trace.specs.Routing.{Routing}
 use Rattle.cts_line.specs.Talks.{Talks, Puts}
 use Rattle.cts_line.specs.Telling.{Retells, since}
 use Rattle.cts_line.proofs.puts.put_all.Given as goal

@@ -1,7 +1,8 @@
 use Rattle.std.proofs.Common.{◌≤◌, ap, length, refl, rules, ◌∙◌}
 use Rattle.cts_turn.specs.Lists.{has}
 use Rattle.cts_turn.specs.Passes.{view}
-use Rattle.cts_line.proofs.Chaining.{same_self, same_then, suits_same}
+use Rattle.cts_line.proofs.Chaining.{same_self, suits_same}
+use Rattle.cts_connection.proofs.Gathering.{same_then}
 use Rattle.cts_worker.proofs.Onwards.{onward_same, onward_then}
 use Rattle.cts_line.proofs.Dialing.{if_none, none_kept, rose_none, still_on, went_none, went_some}
 use Rattle.cts_line.proofs.Keeping.{keeps_same, keeps_then}

@@ -2,8 +2,8 @@ use Rattle.std.proofs.Common.{arith, refl, subst, sym, ◌∙◌}
 use Rattle.cts_table.specs.contracts.hall.HallStands.TheImpl.{ghosts as hall}
 use Rattle.cts_turn.specs.Passes.{basis_of, view}
 use Rattle.cts_connection.specs.Routings.{site_routing}
-use Rattle.cts_told.specs.Told.{ToldBy}
-use Rattle.cts_told.proofs.Looking.{settles_told}
+use Rattle.cts_trace.specs.Told.{ToldBy}
+use Rattle.cts_trace.proofs.Looking.{settles_told}
 use Rattle.cts_line.specs.Talks.{room_of}
 use Rattle.cts_line.specs.Telling.{since}
 use Rattle.cts_line.proofs.Dialing.{count_untouched, rose_from, rose_untouched, undialed_settled, untouched}

@@ -15,6 +15,8 @@ invariant_of-site-2 c =
       routers = c.site.inside.routers;
       api_port = c.site.inside.api_port;
       desks = c.site.inside.desks;
+      log_layout = c.site.inside.log_layout;
+      log_cycle = c.site.inside.log_cycle;
     } in
     let new = subst (λ (x : SiteData). IsNewInterface x.definitions x.interfaces c.args.draft.name c.args.draft.targets) (sym c.site.view_is) c.requires.new in
     subst (λ (is : List InterfaceData). IsSoundSite (with_interfaces s is)) (sym (c.in_ok-push.ensures.pushed ∙ ap (λ (i : InterfaceData). s.interfaces ++ i ∷ []) c.in_ok-interface.ensures.value))

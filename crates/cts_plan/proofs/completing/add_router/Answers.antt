@@ -18,6 +18,8 @@ invariant_of-site-2 c =
       routers = c.site.inside.routers;
       api_port = c.site.inside.api_port;
       desks = c.site.inside.desks;
+      log_layout = c.site.inside.log_layout;
+      log_cycle = c.site.inside.log_cycle;
     } in
     let new = subst (λ (x : SiteData). IsNewRouter x.interfaces x.routers c.args.draft.name c.args.draft.routes) (sym c.site.view_is) c.requires.new in
     let right : fault_in s (current.Router c.args.draft) ≡ None = ap (λ (x : SiteData). fault_in x (current.Router c.args.draft)) c.site.view_is ∙ c.in_ok-router.ensures.settled in

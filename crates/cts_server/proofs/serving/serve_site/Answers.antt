@@ -2,7 +2,7 @@ use Rattle.std.proofs.Common.{arith, ◌≡◌, ◌++◌, IfOk, OnErr, count_by,
 use Rattle.std.specs.Arc.{arc_value}
 use Rattle.std.specs.List.{AllByRecursion}
 use Rattle.cts_chain.specs.Builds.{AreFresh}
-use Rattle.cts_core.specs.LineChains.{line_chains}
+use Rattle.cts_connection.specs.LineChains.{line_chains}
 use Rattle.cts_def.specs.Makers.{first_desk, first_slot}
 use Rattle.cts_def.specs.Sites.{IsSoundSite}
 use Rattle.cts_outside.specs.Crews.{with_cancelled, with_jobs}

@@ -4,7 +4,7 @@ use Rattle.std.proofs.lemmas.Grind.{common_steps, flat_map-append}
 use Rattle.std.proofs.lemmas.List.{append-nil, map-append}
 use Rattle.cts_staff.specs.Tasks.{Rising, is_next}
 use Rattle.cts_turn.specs.Lists.{makers_from, has}
-use Rattle.cts_told.specs.Makers.{of_maker}
+use Rattle.cts_trace.specs.Makers.{of_maker}
 use Rattle.cts_worker.specs.Grounds.{ground}
 use Rattle.cts_turn.specs.Passes.{HasAll, IsPassOf, view}
 use Rattle.cts_turn.proofs.Makers.{split_from, has_from, has_left_part, has_right_part, has_append}

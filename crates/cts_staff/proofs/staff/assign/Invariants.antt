@@ -2,7 +2,7 @@ use Rattle.std.proofs.Common.{◌≡◌, ℕ, ◌<◌, ◌≤◌, ◌+◌, ◌++
 use Rattle.std.specs.List.{AllByRecursion, AllZip, flat_map}
 use Rattle.cts_staff.specs.Tasks.{Rising}
 use Rattle.cts_turn.specs.Lists.{has, makers_from}
-use Rattle.cts_told.specs.Makers.{of_maker}
+use Rattle.cts_trace.specs.Makers.{of_maker}
 use Rattle.cts_worker.specs.Grounds.{ground}
 use Rattle.cts_turn.specs.Passes.{IsPassOf, view}
 use Rattle.cts_staff.proofs.staff.assign.Given as goal

@@ -1,6 +1,6 @@
 use Rattle.std.proofs.Common.{rules, arith, inl, inr, ◌∙◌, length}
 use Rattle.cts_def.specs.Starts.{place_data}
-use Rattle.cts_frame.specs.Stating.{Long, Wrong}
+use Rattle.cts_framing.specs.Stating.{Long, Wrong}
 use Rattle.cts_stream.specs.Parameters.{length_data}
 use Rattle.cts_stream.proofs.LengthFinding.{states_as, judged_as, length_few, length_open, length_part, length_wrong, length_found}
 use Rattle.cts_stream.proofs.length.find_length.Goals.{then-is_empty-via-then-is_empty, then-is_empty-via-else-is_empty+then-bytes-sync, then-is_empty-via-else-is_empty+else-bytes-sync+then-bytes-reach}

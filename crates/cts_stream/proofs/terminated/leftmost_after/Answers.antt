@@ -1,6 +1,6 @@
 use Rattle.std.proofs.Common.{rules, ◌≡◌, refl, sym, drop, length, Some, None}
 use Rattle.std.proofs.lemmas.List.{length-drop}
-use Rattle.cts_frame.proofs.Fronts.{first_fits}
+use Rattle.cts_framing.proofs.Fronts.{first_fits}
 use Rattle.cts_stream.proofs.Cutting.{found_later}
 use Rattle.cts_stream.proofs.terminated.leftmost_after.Goals as goal
 

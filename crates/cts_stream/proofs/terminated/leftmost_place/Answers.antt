@@ -1,4 +1,4 @@
-use Rattle.cts_spell.proofs.Searches.{finds_first}
+use Rattle.cts_encode.proofs.Searches.{finds_first}
 use Rattle.cts_stream.proofs.terminated.leftmost_place.Goals as goal
 
 pub returns : goal.returns

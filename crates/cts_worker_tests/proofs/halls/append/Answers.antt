@@ -1,4 +1,4 @@
-use Rattle.std.proofs.Common.{sym, subst, arith, ap, length}
+use Rattle.std.proofs.Common.{false, sym, subst, arith, ap, length}
 use Rattle.cts_def.specs.declared.ident.Ident.TheVariants.{Unknown}
 use Rattle.cts_entry.specs.declared.entry.Entry.{Entry}
 use Rattle.cts_entry.specs.declared.what.What.TheVariants.{Packet}
@@ -10,7 +10,7 @@ use Rattle.cts_worker_tests.proofs.halls.append.Goals as goal
 pub packet-requires : goal.packet-requires
 packet-requires c =
     let h : Shown = c.args.hall.now in
-    let e : Entry = record { by = c.args.by; time = record { seconds = c.args.seconds; micros = 0 }; what = Packet Unknown c.args.bytes } in
+    let e : Entry = record { by = c.args.by; time = record { seconds = c.args.seconds; micros = 0 }; what = Packet Unknown false c.args.bytes } in
     let none = ap length c.requires.none in
     let can : CanAdd (with_room h 1 0) e = record {
       allowed = record { active = connected_active h.basis h.entries c.args.by c.is_kept.ensures.kept c.requires.open; says = (c.requires.line, c.requires.open) };

@@ -1,9 +1,9 @@
 use Rattle.std.proofs.Common.{◌≡◌, length, map, sym, ◌∙◌, subst}
 use Rattle.cts_connection.specs.LinePlaces.{line_count}
-use Rattle.cts_core.specs.LineChains.{line_chains}
+use Rattle.cts_connection.specs.LineChains.{line_chains}
 use Rattle.cts_core.specs.Worlds.{IsSoundHeld, held_with}
 use Rattle.cts_core.proofs.Holding.{fresh_idle, sound_first}
-use Rattle.cts_core.proofs.Supplying.{chains_count}
+use Rattle.cts_connection.proofs.Supplying.{chains_count}
 use Rattle.cts_core.proofs.WorldSteps.{fresh_count}
 use Rattle.cts_core.proofs.running.Running.new.Goals as goal
 

@@ -8,7 +8,7 @@ use Rattle.cts_base.proofs.Known.{knows_more}
 use Rattle.cts_def.specs.Items.{ItemData, is_same, is_to_the_end, span_of}
 use Rattle.cts_def.specs.Packets.{received_count}
 use Rattle.cts_def.specs.Spans.{end_of, is_misplaced}
-use Rattle.cts_defline.specs.declared.line.Line.TheVariants as line
+use Rattle.cts_defstatement.specs.declared.line.Line.TheVariants as line
 use Rattle.cts_defread.specs.Causes.{open_items, has_item, is_open_ended}
 use Rattle.cts_defread.specs.Drafts.{item_names}
 use Rattle.cts_defread.proofs.Clean.{clean}

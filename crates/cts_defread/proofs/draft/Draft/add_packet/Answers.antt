@@ -1,5 +1,5 @@
 use Rattle.std.proofs.Common.{◌∙◌, ap, ◌++◌, ◌∷◌, [], refl}
-use Rattle.cts_defline.specs.declared.line.Line.TheVariants as line
+use Rattle.cts_defstatement.specs.declared.line.Line.TheVariants as line
 use Rattle.cts_defread.specs.declared.drafted.Drafted.{Drafted}
 use Rattle.cts_defread.proofs.Clean.{clean}
 use Rattle.cts_defread.proofs.KeptPacket.{known_target, named, telemetry_kept, command_kept}

@@ -1,5 +1,5 @@
 use Rattle.std.proofs.Common.{rules, find, ap, ◌∙◌}
-use Rattle.cts_defline.specs.declared.cause.DefCause.{DefCause}
+use Rattle.cts_defstatement.specs.declared.cause.DefCause.{DefCause}
 use Rattle.cts_defread.specs.Causes.{holds}
 use Rattle.cts_defread.proofs.draft.Draft.first_cause.Goals as goal
 

@@ -1,6 +1,6 @@
 use Rattle.std.proofs.Common.{List, ◌∙◌}
 use Rattle.cts_def.specs.Spans.{is_too_far, is_refused_number, is_bad_from_end, is_split_text, is_text_past_end, ends_too_far}
-use Rattle.cts_defline.specs.declared.line.ItemLine.{ItemLine}
+use Rattle.cts_defstatement.specs.declared.line.ItemLine.{ItemLine}
 use Rattle.cts_defread.specs.declared.drafted.Drafted.{Drafted}
 use Rattle.cts_defread.specs.Causes.{of_place, is_after_open_end, is_id_from_end, is_from_end_in_command, is_after_rest_in_command}
 use Rattle.cts_defread.proofs.Misplaced.{all_ten}

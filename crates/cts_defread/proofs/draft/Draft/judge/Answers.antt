@@ -1,9 +1,9 @@
 use Rattle.std.proofs.Common.{◌∙◌, ℕ, List, sym, ap, subst}
 use Rattle.cts_reader.specs.Reading.{at_line}
-use Rattle.cts_defline.specs.declared.open.Open.{Open}
-use Rattle.cts_defline.specs.Lines.{line_in}
-use Rattle.cts_defline.specs.Refusals.{open_kind, word_cause}
-use Rattle.cts_defline.specs.Rules.{KeepsRules}
+use Rattle.cts_defstatement.specs.declared.open.Open.{Open}
+use Rattle.cts_defstatement.specs.Lines.{line_in}
+use Rattle.cts_defstatement.specs.Refusals.{open_kind, word_cause}
+use Rattle.cts_defstatement.specs.Rules.{KeepsRules}
 use Rattle.cts_defread.specs.Causes.{opened}
 use Rattle.cts_defread.proofs.Judging.{judged, clean, kept}
 use Rattle.cts_defread.proofs.draft.Draft.judge.Goals as goal

@@ -6,12 +6,13 @@ use Rattle.cts_worker.specs.Grounds.{ground}
 use Rattle.cts_desk.specs.Serving.{Resting}
 use Rattle.cts_desk.specs.Told.{Ends, past_of}
 use Rattle.cts_worker.proofs.Lasting.{ended_last}
-use Rattle.cts_desk.proofs.Histories.{desk_may_end, others_last}
+use Rattle.cts_desk.proofs.Histories.{desk_may_end}
+use Rattle.cts_trace.proofs.Others.{strange_ended}
 use Rattle.cts_desk.proofs.Steps.{resting_ends, resting_first}
 use Rattle.cts_desk.proofs.worker.DeskWorker.run.Goals as goal
 
 pub clients-talk-requires-clause-ready : goal.clients-talk-requires-clause-ready
-clients-talk-requires-clause-ready g c = record { makers = c.requires.by; desk = c.requires.desk; active = others_last c.args.by (view c.args.pass).seen c.requires.new }
+clients-talk-requires-clause-ready g c = record { makers = c.requires.by; desk = c.requires.desk; active = strange_ended c.args.by (view c.args.pass).seen c.requires.new }
 
 pub end-pass-requires-clause-by : goal.end-pass-requires-clause-by
 end-pass-requires-clause-by g c = c.clients-talk.ensures.ready.makers

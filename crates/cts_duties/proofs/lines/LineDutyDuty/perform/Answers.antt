@@ -3,7 +3,7 @@ use Rattle.cts_connection.specs.Routings.{site_routing}
 use Rattle.cts_line.specs.Ending.{CausesEnd, reconnects}
 use Rattle.cts_line.specs.Talks.{room_of}
 use Rattle.cts_line.specs.Telling.{made_by, since}
-use Rattle.cts_told.specs.Told.{ToldBy}
+use Rattle.cts_trace.specs.Told.{ToldBy}
 use Rattle.cts_turn.specs.Lists.{has}
 use Rattle.cts_turn.specs.Passes.{view}
 use Rattle.cts_worker.specs.Grounds.{ground}

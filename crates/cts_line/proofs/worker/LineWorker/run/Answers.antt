@@ -3,7 +3,7 @@ use Rattle.cts_table.specs.contracts.hall.HallStands.TheImpl.{ghosts as hall}
 use Rattle.cts_turn.specs.Passes.{basis_of, view}
 use Rattle.cts_connection.specs.LinePlaces.{is_line}
 use Rattle.cts_connection.specs.Routings.{site_routing}
-use Rattle.cts_told.specs.Makers.{faults_of}
+use Rattle.cts_trace.specs.Makers.{faults_of}
 use Rattle.cts_worker.specs.Counts.{RoseBy}
 use Rattle.cts_worker.proofs.Lasting.{ended_last, ended_onward, ended_stops}
 use Rattle.cts_worker.proofs.Onwards.{onward_then}

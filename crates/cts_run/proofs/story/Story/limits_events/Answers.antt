@@ -3,7 +3,7 @@ use Rattle.cts_core.specs.Endings.{held_in}
 use Rattle.cts_entry.specs.declared.entry.Entry.{Entry}
 use Rattle.cts_run.specs.Story.{StoryData, site_told}
 use Rattle.cts_table.specs.declared.basis.Basis.{Basis}
-use Rattle.cts_watch.specs.Events.{events}
+use Rattle.cts_monitor.specs.Events.{events}
 use Rattle.cts_run.proofs.StoryLemmas.{all_from}
 use Rattle.cts_run.proofs.story.Story.limits_events.Goals as goal
 

@@ -4,9 +4,9 @@ use Rattle.std.proofs.lemmas.List.{drop_more, get_or-drop, take-append-drop}
 use Rattle.std.proofs.lemmas.Option.{get_or_from_slice_get, slice_get_within}
 use Rattle.std.specs.List.{filter}
 use Rattle.cts_def.specs.Sites.{SiteData}
-use Rattle.cts_watch.specs.Events.{events_from}
-use Rattle.cts_watch.specs.declared.types.LimitsEvent.{LimitsEvent as Change}
-use Rattle.cts_watch.proofs.Placed.{at_place, events_from_here}
+use Rattle.cts_monitor.specs.Events.{events_from}
+use Rattle.cts_monitor.specs.declared.types.LimitsEvent.{LimitsEvent as Change}
+use Rattle.cts_monitor.proofs.Placed.{at_place, events_from_here}
 use Rattle.cts_entry.specs.declared.entry.Entry.{Entry}
 use Rattle.cts_run.specs.Transcript.{limits_events, line_event, lines_of}
 use Rattle.cts_script.proofs.LineLemmas.{lines_after-take_more}

@@ -1,5 +1,0 @@
-use Rattle.cts_core.proofs.Supplying.{AreSet}
-use Rattle.cts_core.proofs.chains.chains_of.Given as goal
-
-abbrev pub invariant-loop-place : goal.invariant-loop-place
-invariant-loop-place l = AreSet l.site l.chains l.place
