@@ -3,7 +3,9 @@ ghost use Rattle.std.specs.Prelude.{◌≡◌, None};
 ghost use Rattle.cts_outside.specs.Causes.{Cause};
 
 use crate::console::write_whole;
+use cts_base::Memory;
 use cts_outside::{LogKind, PutFailed, Vault};
+use std::alloc::{AllocGlobal, Global};
 use std::fs::File;
 use std::rt::Files;
 
@@ -16,8 +18,9 @@ pub enum Opening {
     New,
 }
 
-/// The two packet logs in files of the system. Each file is opened at its first append, so a log to which nothing is appended has
-/// none; an append that can't open it fails. It tells nothing of what the files hold, since no proof sees that.
+/// The two packet logs in files of the system. The file of part 0 has the name of its log, and that of part n has `_n` in front of the
+/// ending of that name, with n in decimal. Each file is opened at its first append, so a part to which nothing is appended has none; an
+/// append that can't open it fails. It tells nothing of what the files hold, since no proof sees that.
 #[derive(Drop)]
 pub struct DiskVault<'a, R> {
     rt: &'a R,
@@ -27,15 +30,16 @@ pub struct DiskVault<'a, R> {
     faults: u64,
 }
 
-// A log by the name of its file, which is open once something was appended.
+// A log by the name of its first file, the number of its last part, and the file of that, which is open once something was appended.
 #[derive(Drop)]
 struct DiskLog<'a> {
     name: &'a str,
+    part: u64,
     file: Option<File>,
 }
 
 impl<'a> DiskLog<'a> {
-    fn append<R: Files<File = File>>(
+    fn append<R: Files<File = File> + AllocGlobal>(
         &mut self,
         rt: &R,
         opening: Opening,
@@ -43,11 +47,25 @@ impl<'a> DiskLog<'a> {
     ) -> Result<(), PutFailed> {
         let mut file = match self.file.take() {
             Some(file) => file,
-            None => open(rt, opening, self.name)?,
+            None => self.open(rt, opening)?,
         };
         let written = write_whole(&mut file, bytes);
         self.file = Some(file);
         written
+    }
+
+    fn open<R: Files<File = File> + AllocGlobal>(
+        &self,
+        rt: &R,
+        opening: Opening,
+    ) -> Result<File, PutFailed> {
+        if self.part == 0 {
+            return open(rt, opening, self.name);
+        }
+        match name_of_part(rt.alloc(), self.name, self.part) {
+            Ok(name) => open(rt, opening, name.as_str()),
+            Err(_) => Err(PutFailed),
+        }
     }
 
     fn sync(&self) -> Result<(), PutFailed> {
@@ -55,6 +73,25 @@ impl<'a> DiskLog<'a> {
             Some(file) => file.sync_all().map_err(|_| PutFailed),
             None => Ok(()),
         }
+    }
+
+    fn part(&mut self) -> Result<(), PutFailed> {
+        match self.part.checked_add(1) {
+            Some(next) => {
+                self.part = next;
+                self.file = None;
+                Ok(())
+            }
+            None => Err(PutFailed),
+        }
+    }
+}
+
+// The name of the file of a part but the first: that of the log, with the number in front of its ending.
+fn name_of_part(alloc: Global, name: &str, part: u64) -> Result<String, Memory> {
+    match name.rsplit_once('.') {
+        Some((stem, ending)) => Ok(format!(in alloc; "{stem}_{part}.{ending}")?),
+        None => Ok(format!(in alloc; "{name}_{part}")?),
     }
 }
 
@@ -66,7 +103,7 @@ fn open<R: Files<File = File>>(rt: &R, opening: Opening, name: &str) -> Result<F
     opened.map_err(|_| PutFailed)
 }
 
-impl<'a, R: Files<File = File>> DiskVault<'a, R> {
+impl<'a, R: Files<File = File> + AllocGlobal> DiskVault<'a, R> {
     /// A vault over files of these names, none of which is open yet.
     pub fn new(rt: &'a R, opening: Opening, tlm: &'a str, cmd: &'a str) -> DiskVault<'a, R>
         ensures opening { result.opening ≡ opening }
@@ -78,10 +115,12 @@ impl<'a, R: Files<File = File>> DiskVault<'a, R> {
             opening,
             tlm: DiskLog {
                 name: tlm,
+                part: 0,
                 file: None,
             },
             cmd: DiskLog {
                 name: cmd,
+                part: 0,
                 file: None,
             },
             faults: 0,
@@ -100,7 +139,7 @@ impl<'a, R: Files<File = File>> DiskVault<'a, R> {
     }
 }
 
-impl<'a, R: Files<File = File>> Vault for DiskVault<'a, R> {
+impl<'a, R: Files<File = File> + AllocGlobal> Vault for DiskVault<'a, R> {
     ghost seen = { λ v. record { told = None; faults = v.faults } };
 
     fn append(&mut self, kind: LogKind, bytes: &[u8]) -> Result<(), PutFailed> {
@@ -117,6 +156,14 @@ impl<'a, R: Files<File = File>> Vault for DiskVault<'a, R> {
             LogKind::Cmd => self.cmd.sync(),
         };
         self.counted(synced)
+    }
+
+    fn part(&mut self, kind: LogKind) -> Result<(), PutFailed> {
+        let begun = match kind {
+            LogKind::Tlm => self.tlm.part(),
+            LogKind::Cmd => self.cmd.part(),
+        };
+        self.counted(begun)
     }
 }
 

@@ -3,11 +3,12 @@ use crate::hall::{hall_of, stored_hall};
 use cts_api::{Answer, answer, reply};
 use cts_base::Bytes;
 use cts_def::{FIRST_DESK, Time};
-use cts_entry::{Stands, has_ended};
+use cts_entry::has_ended;
 use cts_rows::{Answers, as_text, cut, number, readable_of, rows_end_so, same};
 use cts_rpc::{Call, read};
 use cts_script::entry_lines;
 use cts_table::Hall;
+use cts_trace::lend;
 use serde_json::Value;
 use std::alloc::Global;
 use std::test::Fail;
@@ -181,7 +182,7 @@ fn last_lines(alloc: Global, hall: &Hall) -> Result<Bytes, Fail> {
     if count == 0 {
         return Err(Fail::new("no entry"));
     }
-    let last = hall.lend(count - 1);
+    let last = lend(hall, count - 1);
     Ok(entry_lines(alloc, hall.site(), count - 1, last, &[])?)
 }
 

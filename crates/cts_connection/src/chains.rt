@@ -6,15 +6,11 @@ ghost use Rattle.cts_chain.specs.Stocking.{first_short};
 ghost use Rattle.cts_connection.specs.LinePlaces.{line_count};
 ghost use Rattle.cts_connection.specs.LineChains.{line_chains, line_uses};
 
-use crate::framer::Framer;
 use crate::place::line_count;
 use crate::supplier::Supplier;
-use cts_chain::ChainFault;
-use cts_def::{ProtoUse, Site};
+use cts_chain::{ChainFault, Framer};
+use cts_def::{MOST_LINES, ProtoUse, Site};
 use std::alloc::Global;
-
-/// How many lines a site may have: sixteen interfaces, and two slots for each of four routers.
-const MOST_LINES: usize = 24;
 
 /// The chains of all lines of a site, one for each interface and two for each router, in order of their places. The boxes of their
 /// protocols are taken from the shelf, and after a refusal the shelf is as it was.

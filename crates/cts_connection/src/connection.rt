@@ -12,10 +12,10 @@ ghost use Rattle.cts_connection.specs.Writings.{Wrote, spell_by};
 
 use crate::appending::{append_all, weight};
 use crate::end::End;
-use crate::framer::Framer;
 use crate::taking::{Taken, gather};
 use crate::writing::{next_of, put_queue, queued, spell_queue};
 use cts_base::{Bytes, Memory};
+use cts_chain::Framer;
 use cts_def::{Loss, Time};
 use cts_entry::Entry;
 use cts_table::{Hall, HallFault};

@@ -1,5 +1,6 @@
 // Which makers are lines, and where the connection of each stands among those of its site.
 ghost use Rattle.std.specs.Prelude.{◌≡◌, ◌≤◌, true, false, length, MatchOption};
+ghost use Rattle.cts_def.specs.Most.{most_lines};
 ghost use Rattle.cts_def.specs.Sites.{IsSoundSite};
 ghost use Rattle.cts_entry.specs.Workers.{is_interface, is_slot};
 ghost use Rattle.cts_connection.specs.LinePlaces.{is_line, line_count, line_place};
@@ -23,7 +24,7 @@ pub fn line_place(site: &Site, by: u32) -> Option<usize>
 /// How many lines a site has: its interfaces, and two slots for each router.
 pub fn line_count(site: &Site) -> usize
     ensures count { result ≡ line_count site.now }
-    ensures few { result ≤ 24 }
+    ensures few { result ≤ most_lines }
     ensures sound { IsSoundSite site.now }
 {
     site.interfaces.as_slice().len() + 2 * site.routers.as_slice().len()

@@ -4,9 +4,9 @@ ghost use Rattle.std.specs.Prelude.{◌≡◌, ◌≤◌, IfErr, IfNone, IfOk, I
 ghost use Rattle.cts_chain.specs.Builds.{AllCanBeBuilt, AreFresh, FaultIs, Taken, all_uses, use_specs};
 ghost use Rattle.cts_chain.specs.declared.build.ChainFault.TheVariants.{Memory as NoMemory};
 ghost use Rattle.cts_chain.specs.Stocking.{first_short};
+ghost use Rattle.cts_def.specs.Most.{most_lines};
 
-use crate::framer::Framer;
-use cts_chain::{Chain, ChainFault, build_all, shortage};
+use cts_chain::{Chain, ChainFault, Framer, build_all, shortage};
 use cts_def::ProtoUse;
 use cts_proto::{Shelf, Stocked};
 use std::alloc::Global;
@@ -15,19 +15,19 @@ use std::alloc::Global;
 pub trait Supplier<C: Framer>: Stocked {
     /// The first kind, in their order, of which all these chains together need more boxes than there are, if there is one.
     fn shortage(&self, chains: &[&[ProtoUse]]) -> Option<ChainFault>
-        requires count { length chains.now ≤ 24 }
+        requires count { length chains.now ≤ most_lines }
         requires chains { AllCanBeBuilt (map (λ uses. uses.now) chains.now) }
         ensures short { IfSome result (λ e. (e ≡ NoMemory → ⊥) × FaultIs (Self.stock self.now) (all_uses (map (λ uses. uses.now) chains.now)) e) }
         ensures enough { IfNone result (first_short (Self.stock self.now) (use_specs (all_uses (map (λ uses. uses.now) chains.now))) ≡ None) };
 
-    /// Builds a chain for each of these lists of uses, in order; at most 24. After a refusal the boxes are as they were.
+    /// Builds a chain for each of these lists of uses, in order, at most as many as a site has lines. After a refusal the boxes are as they were.
     ///
     /// # Errors
     ///
     /// `ShelfEmpty` with the first kind, in their order, of which all these chains together need more boxes than there are, and
     /// `Memory`, where no kind is short.
     fn build_all(&mut self, alloc: Global, chains: &[&[ProtoUse]]) -> Result<Vec<C>, ChainFault>
-        requires count { length chains.now ≤ 24 }
+        requires count { length chains.now ≤ most_lines }
         requires chains { AllCanBeBuilt (map (λ uses. uses.now) chains.now) }
         ensures enough { OnOk result (first_short (Self.stock self.old) (use_specs (all_uses (map (λ uses. uses.now) chains.now))) ≡ None) }
         ensures fresh { IfOk result (λ built. AreFresh (map (λ uses. uses.now) chains.now) (map C.shape built.items)) }

@@ -9,11 +9,10 @@ ghost use Rattle.cts_connection.specs.Routings.{site_routing};
 ghost use Rattle.cts_connection.specs.Takings.{Gathers, GivesUp};
 
 use crate::end::End;
-use crate::framer::Framer;
 use crate::ident::ident_by;
 use crate::saying::said;
 use cts_base::{Bytes, Memory};
-use cts_chain::ChainStep;
+use cts_chain::{ChainStep, Framer};
 use cts_def::Time;
 use cts_entry::{Entry, Why};
 use cts_table::Hall;

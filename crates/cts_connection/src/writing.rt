@@ -12,14 +12,15 @@ ghost use Rattle.cts_connection.specs.Connections.{HoldsNext};
 ghost use Rattle.cts_connection.specs.Routings.{is_routed, site_routing};
 ghost use Rattle.cts_connection.specs.Writings.{Puts, PutsOne, spell_by};
 
-use crate::framer::Framer;
 use crate::naming::{command_label, packet_label};
 use crate::place::is_interface;
 use cts_base::{Bytes, Memory};
+use cts_chain::Framer;
 use cts_def::{FIRST_SLOT, Label, Site};
-use cts_entry::{Entry, Stands, What, is_command_for, place_after};
+use cts_entry::{Entry, What, is_command_for, place_after};
 use cts_proto::EncodeFault;
 use cts_table::Hall;
+use cts_trace::lend;
 use std::alloc::Global;
 
 /// How many of the entries from a place on are for the peer of a line.
@@ -28,7 +29,7 @@ pub(crate) fn queued(hall: &Hall, by: u32, place: usize) -> u64
 {
     let mut count = 0;
     for n in place as u64..hall.count() {
-        count += one_if(is_for(hall.site(), by, hall.lend(n)));
+        count += one_if(is_for(hall.site(), by, lend(hall, n)));
     }
     count
 }
@@ -80,7 +81,7 @@ pub(crate) fn put_queue<C: Framer>(
     hall.is_kept();
     let mut refused = 0;
     for n in place..place + next {
-        refused += put_entry(alloc, hall.site(), by, chain, hall.lend(n as u64), out)?;
+        refused += put_entry(alloc, hall.site(), by, chain, lend(hall, n as u64), out)?;
     }
     Ok(refused)
 }
@@ -99,7 +100,7 @@ pub(crate) fn spell_queue<C: Framer>(
     hall.is_kept();
     let mut spellings = Vec::new(alloc);
     for n in place as u64..hall.count() {
-        let entry = hall.lend(n);
+        let entry = lend(hall, n);
         if is_for(hall.site(), by, entry) {
             spellings.push(spelling(alloc, hall.site(), by, chain, entry)?)?;
         }

@@ -4,7 +4,7 @@ ghost use Rattle.std.specs.Prelude.{◌≡◌, ◌≤◌};
 use crate::fault::WorldFault;
 use crate::running::Running;
 use cts_api::reply;
-use cts_connection::Framer;
+use cts_chain::Framer;
 use cts_def::{FIRST_DESK, Site};
 use cts_entry::Effect;
 

@@ -5,9 +5,10 @@ ghost use Rattle.cts_core.specs.Drainings.{Drains, site_commands_log, site_packe
 
 use crate::fault::WorldFault;
 use cts_base::{Bytes, Memory};
-use cts_entry::{Effect, Stands};
+use cts_entry::Effect;
 use cts_log_batch::Batch;
 use cts_table::Hall;
+use cts_trace::lend;
 use std::alloc::Global;
 
 /// What the logs take of the next `count` entries after a place.
@@ -58,7 +59,7 @@ fn put_logs(
 {
     hall.is_kept();
     for n in place as u64..place as u64 + count {
-        batch.add(alloc, hall.site(), hall.lend(n))?;
+        batch.add(alloc, hall.site(), lend(hall, n))?;
     }
     Ok(())
 }

@@ -9,6 +9,5 @@ mod fault;
 mod running;
 mod world;
 
-pub use cts_connection::{Framer, Supplier};
 pub use fault::WorldFault;
 pub use world::World;

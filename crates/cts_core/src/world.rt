@@ -6,8 +6,8 @@ ghost use Rattle.cts_core.specs.Runs.{drained};
 
 use crate::fault::WorldFault;
 use crate::running::Running;
-use cts_chain::ChainFault;
-use cts_connection::{Framer, Supplier, build_chains, line_count, shortage_of};
+use cts_chain::{ChainFault, Framer};
+use cts_connection::{Supplier, build_chains, line_count, shortage_of};
 use cts_def::Site;
 use cts_entry::{Effect, Event, MOST_ENTRIES, MOST_HISTORY_BYTES};
 use cts_table::Hall;

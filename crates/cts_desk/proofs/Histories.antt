@@ -1,5 +1,6 @@
 -- The history grows: what stands of a desk's exchanges.
 use Rattle.std.proofs.Common.{◌≡◌, ℕ, ◌==◌, Bool, true, false, List, [], ◌∷◌, ◌++◌, length, sym, refl, ap, ◌∙◌, subst, append-nil, append_assoc, Option, inr}
+use Rattle.std.proofs.Math.Bool.{and-false}
 use Rattle.std.specs.Prelude.{◌&&◌, ◌||◌}
 use Rattle.std.specs.List.{All, list_any}
 use Rattle.std.proofs.lemmas.List.{map-append}
@@ -46,15 +47,11 @@ or_false : (a b : Bool) → (a || b) ≡ false → (a ≡ false) × (b ≡ false
 or_false true b e = absurd cc
 or_false false b e = (refl, e)
 
-and_false : (a : Bool) → (a && false) ≡ false
-and_false true = refl
-and_false false = refl
-
 pub none_last : (by : ℕ) (es : List Entry) → list_any (λ (e : Entry). is_ended e.what) es ≡ false → has_ended by es ≡ false
 none_last by [] none = refl
 none_last by (e ∷ es) none =
     let both = or_false (is_ended e.what) (list_any (λ (x : Entry). is_ended x.what) es) none in
-    ap (λ b. b || has_ended by es) (ap (λ b. (e.by == by) && b) both.0 ∙ and_false (e.by == by)) ∙ none_last by es both.1
+    ap (λ b. b || has_ended by es) (ap (λ b. (e.by == by) && b) both.0 ∙ and-false (e.by == by)) ∙ none_last by es both.1
 
 pub ended_append : (by : ℕ) (xs ys : List Entry) → has_ended by (xs ++ ys) ≡ (has_ended by xs || has_ended by ys)
 ended_append by xs ys = list_any-append (λ (e : Entry). (e.by == by) && is_ended e.what) xs ys

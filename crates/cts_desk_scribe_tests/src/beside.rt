@@ -2,7 +2,7 @@
 ghost use Rattle.std.specs.Prelude.{◌≡◌, true, Some};
 ghost use Rattle.cts_outside.specs.Causes.{Cause};
 ghost use Rattle.cts_outside.specs.InMemory.{logs_of};
-ghost use Rattle.cts_outside.specs.Vaults.{Appends, Syncs};
+ghost use Rattle.cts_outside.specs.Vaults.{Appends, BeginsPart, IsSynced, Syncs};
 ghost use Rattle.cts_turn.specs.Lists.{has};
 ghost use Rattle.cts_turn.specs.Passes.{IsPassOf, view};
 
@@ -128,5 +128,13 @@ impl<'a, R: Wait> Vault for Beside<'a, R> {
         ensures cause { Cause result self.old.faults self.new.faults }
     {
         self.vault.sync(kind)
+    }
+
+    fn part(&mut self, kind: LogKind) -> Result<(), PutFailed>
+        requires synced { IsSynced kind (Some (logs_of self.old)) }
+        ensures content { BeginsPart kind (Some (logs_of self.old)) (Some (logs_of self.new)) result }
+        ensures cause { Cause result self.old.faults self.new.faults }
+    {
+        self.vault.part(kind)
     }
 }

@@ -53,4 +53,8 @@ impl Vault for Narrow {
     fn sync(&mut self, _kind: LogKind) -> Result<(), PutFailed> {
         Ok(())
     }
+
+    fn part(&mut self, _kind: LogKind) -> Result<(), PutFailed> {
+        Ok(())
+    }
 }

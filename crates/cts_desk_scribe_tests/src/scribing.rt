@@ -15,6 +15,7 @@ use cts_outside::{MemVault, Vault};
 use cts_rows::debug_of;
 use cts_scribe::{Scribe, ScribeEnd, ScribeWhy};
 use cts_table::Hall;
+use cts_trace::lend;
 use cts_turn::{Pass, Turn};
 use std::alloc::Global;
 use std::sync::Wait;
@@ -26,7 +27,7 @@ fn has_made(hall: &Hall, by: u32) -> bool
 {
     let mut made = false;
     for n in 0..hall.count() {
-        made |= hall.lend(n).by == by;
+        made |= lend(hall, n).by == by;
     }
     made
 }
@@ -35,7 +36,7 @@ fn has_made(hall: &Hall, by: u32) -> bool
 pub fn own(alloc: Global, hall: &Hall) -> Result<String, Fail> {
     let mut text = String::new(alloc);
     for n in 0..hall.count() {
-        let entry = hall.lend(n);
+        let entry = lend(hall, n);
         if entry.by == SCRIBE {
             text.push_str(letter(&entry.what))?;
         }

@@ -196,6 +196,56 @@ fn each_request_has_its_answer_however_it_is_cut(rt: HostRuntime) -> Result<(), 
     rows_end_so::<Cuts>(rt.alloc(), HEADS)
 }
 
+/// Answers to requests that a grammar may take apart in more than one way: what stands around the fields and in their values, fields
+/// that come twice, methods of other uses, and control bytes. A tab is `\t`.
+const DOUBTFUL: &str = "\
+POST / HTTP/1.1\r; Content-Length: 0\r;\r;|Refuse(400)
+POST / HTTP/1.1\r;\tX: a\r;Content-Length: 0\r;\r;|Refuse(400)
+POST / HTTP/1.1\r;transfer-encoding: Chunked\r;\r;|Refuse(501)
+POST / HTTP/1.1\r;TRANSFER-ENCODING: identity\r;\r;|Refuse(501)
+POST / HTTP/1.1\r;Transfer-Encoding: gzip\r;Transfer-Encoding: chunked\r;\r;|Refuse(501)
+POST / HTTP/1.1\r;Transfer-Encoding:\r;Content-Length: 0\r;\r;|Refuse(501)
+POST / HTTP/1.0\r;Transfer-Encoding: chunked\r;\r;|Refuse(501)
+POST / HTTP/1.1\r;Content-Length: 1 0\r;\r;|Refuse(400)
+POST / HTTP/1.1\r;Content-Length: 1\t0\r;\r;|Refuse(400)
+POST / HTTP/1.1\r;Content-Length: 2,\r;\r;|Refuse(400)
+POST / HTTP/1.1\r;Content-Length: 0x2\r;\r;|Refuse(400)
+POST / HTTP/1.1\r;Content-Length: 1\r; 0\r;\r;|Refuse(400)
+POST / HTTP/1.1\r;Content-Length: 2\r;\t\r;\r;|Refuse(400)
+POST / HTTP/1.1\r;Content-Length : 2\r;\r;|Refuse(400)
+POST / HTTP/1.1\r;Content-Length:2\r;\r;{}|again:{}
+POST / HTTP/1.1\r;Content-Length: \t 2 \t\r;\r;{}|again:{}
+POST / HTTP/1.1\r;Connection: keep-alive\r;Connection: close\r;Content-Length: 0\r;\r;|last:
+POST / HTTP/1.1\r;Connection: close\r;Connection: keep-alive\r;Content-Length: 0\r;\r;|last:
+POST / HTTP/1.1\r;Connection: ,, close ,\r;Content-Length: 0\r;\r;|last:
+POST / HTTP/1.1\r;Host: a\r;Host: b\r;Content-Length: 0\r;\r;|again:
+POST / HTTP/1.1 \r;Content-Length: 0\r;\r;|Refuse(400)
+POST  / HTTP/1.1\r;Content-Length: 0\r;\r;|Refuse(400)
+POST /a b HTTP/1.1\r;Content-Length: 0\r;\r;|Refuse(400)
+POST\t/ HTTP/1.1\r;Content-Length: 0\r;\r;|Refuse(400)
+ POST / HTTP/1.1\r;Content-Length: 0\r;\r;|Refuse(400)
+POST HTTP/1.1\r;Content-Length: 0\r;\r;|Refuse(400)
+POST /\r;Content-Length: 0\r;\r;|Refuse(400)
+POST / http/1.1\r;Content-Length: 0\r;\r;|Refuse(400)
+POST / HTTP/1.1.1\r;Content-Length: 0\r;\r;|Refuse(400)
+POST / HTTP/1.2\r;Content-Length: 0\r;\r;|Refuse(400)
+POST / HTTP/0.9\r;\r;|Refuse(400)
+CONNECT a:1 HTTP/1.1\r;\r;|Refuse(405)
+HEAD / HTTP/1.1\r;\r;|Refuse(405)
+OPTIONS * HTTP/1.1\r;\r;|Refuse(405)
+PRI * HTTP/2.0\r;\r;|Refuse(400)
+(POST) / HTTP/1.1\r;Content-Length: 0\r;\r;|Refuse(400)
+POST / HTTP/1.1\r;X: a\x01b\r;Content-Length: 0\r;\r;|Refuse(400)
+POST / HTTP/1.1\r;X: a\x7fb\r;Content-Length: 0\r;\r;|Refuse(400)
+POST / HTTP/1.1\r;X\x01: a\r;Content-Length: 0\r;\r;|Refuse(400)
+POST /\x01 HTTP/1.1\r;Content-Length: 0\r;\r;|Refuse(400)
+\x16\x03\x01\x02|Refuse(400)";
+
+#[test]
+fn doubtful_requests_have_one_answer(rt: HostRuntime) -> Result<(), Fail> {
+    rows_end_so::<Cuts>(rt.alloc(), DOUBTFUL)
+}
+
 /// A target with a byte ff.
 const TARGET: &str = "1*POST /\u{ff} HTTP/1.1\r;Content-Length: 0\r;\r;|Refuse(400)";
 

@@ -7,6 +7,8 @@ mod cycles;
 #[cfg(test)]
 mod http;
 #[cfg(test)]
+mod log_parts;
+#[cfg(test)]
 mod logs;
 #[cfg(test)]
 mod parts;

@@ -52,6 +52,19 @@ const BODIES: &str = r#"{"jsonrpc":"2.0","method":"get_limits_set","id":1}|C
 {"jsonrpc":"2.0","method":"\ud800"}|p
 {"jsonrpc":"2.0","method":"m","params":[1e400]}|p
 {"jsonrpc":"2.0","method":"m","params":[01]}|p
+{"jsonrpc":"2.0","method":"\udc00"}|p
+{"jsonrpc":"2.0","method":"\udc00\ud800"}|p
+{"jsonrpc":"2.0","method":"m","params":[NaN]}|p
+{"jsonrpc":"2.0","method":"m","params":[Infinity]}|p
+{"jsonrpc":"2.0","method":"m","params":[1,]}|p
+{"jsonrpc":"2.0","method":"m",}|p
+{"jsonrpc":"2.0","method":"m","params":[+1]}|p
+{"jsonrpc":"2.0","method":"m","params":[.5]}|p
+{"jsonrpc":"2.0","method":"m","params":[5.]}|p
+{'jsonrpc':'2.0','method':'m'}|p
+{"jsonrpc":"2.0","method":"m","params":[1.5],"params":[1]}|c
+{"jsonrpc":"2.0","method":"m","params":[1],"params":{}}|a
+{"json\u0072pc":"2.0","metho\u0064":"m","\u0069d":1}|C
 1|r
 null|r
 []|r
@@ -93,6 +106,10 @@ fn bodies_are_calls_or_say_why_not(rt: HostRuntime) -> Result<(), Fail> {
 /// byte order mark.
 const BYTES: &str = "\x20{\"id\":null,\"method\":\"\",\"jsonrpc\":\"2.0\",\"params\":[]} \t|C
 {\"jsonrpc\":\"2.0\",\"method\":\"\u{ff}\"}|p
+{\"jsonrpc\":\"2.0\",\"method\":\"\u{c0}\u{af}\"}|p
+{\"jsonrpc\":\"2.0\",\"method\":\"\u{ed}\u{a0}\u{80}\"}|p
+{\"jsonrpc\":\"2.0\",\"method\":\"\u{f4}\u{90}\u{80}\u{80}\"}|p
+{\"jsonrpc\":\"2.0\",\"method\":\"\u{c3}\"}|p
 {\"jsonrpc\":\"2.0\",\"method\":\"a\0\"}|p
 {\"jsonrpc\":\"2.0\",\"method\":\"a\t\"}|p
 {\"jsonrpc\":\"2.0\",\"method\":\"m\",\"params\":[\"\u{1f}\"]}|p
@@ -102,6 +119,16 @@ const BYTES: &str = "\x20{\"id\":null,\"method\":\"\",\"jsonrpc\":\"2.0\",\"para
 #[test]
 fn a_body_is_text(rt: HostRuntime) -> Result<(), Fail> {
     rows_end_so::<Bodies>(rt.alloc(), BYTES)
+}
+
+/// Numbers of many digits: an integer that no 64 bits hold, and a fraction that is none when it is rounded.
+const DIGITS: &str = r#"1*{"jsonrpc":"2.0","method":"m","params":[|100000*9|1*]}|p
+1*{"jsonrpc":"2.0","method":"m","params":[0.|100000*0|1*1]}|a
+1*{"jsonrpc":"2.0","method":"m","params":[1|100000*0|1*e-100000]}|a"#;
+
+#[test]
+fn numbers_may_have_many_digits(rt: HostRuntime) -> Result<(), Fail> {
+    rows_end_so::<Depths>(rt.alloc(), DIGITS)
 }
 
 /// Bodies whose params are 126 arrays in one another, and 127; 125 objects in one array, and 126; 126 objects, and 127; and a member

@@ -1,5 +1,6 @@
--- Heads with flags and without: what is said of heads holds behind the flags.
+-- Heads with flags and without: what is said of heads without flags holds of what stands after the flags.
 use Rattle.std.proofs.Common.{◌≡◌, ℕ, suc, ◌+◌, ◌≤◌, Bool, true, false, ◌&&◌, ◌||◌, cond, List, [], ◌∷◌, ◌++◌, length, take, drop, refl, sym, ◌∙◌, ap, arith, append_assoc, length-append, length-drop}
+use Rattle.std.proofs.Math.Bool.{and-false}
 use Rattle.std.specs.Prelude.{nat_le, not, ◌==◌, slice_index}
 use Rattle.std.proofs.lemmas.List.{drop-append-le, get_or_append_left}
 use Rattle.std.proofs.lemmas.Bool.Decides.{nat_tests}
@@ -33,13 +34,9 @@ stored_again true true d x = refl
 stored_again true false d x = refl
 stored_again false s d x = refl
 
-and_false : (a : Bool) → (a && false) ≡ false
-and_false true = refl
-and_false false = refl
-
 pub flags_again : (b s : Bool) (d : HeadData) (x : List ℕ) → has_wrong_flags b (laid_head b s d ++ x) ≡ false
-flags_again true true d x = and_false (nat_le 1 (length (laid_head true true d ++ x)))
-flags_again true false d x = and_false (nat_le 1 (length (laid_head true false d ++ x)))
+flags_again true true d x = and-false (nat_le 1 (length (laid_head true true d ++ x)))
+flags_again true false d x = and-false (nat_le 1 (length (laid_head true false d ++ x)))
 flags_again false s d x = refl
 
 -- ---- bytes that hold a whole head are a head and what follows

@@ -19,7 +19,8 @@ use Rattle.cts_outside.specs.Lines.{Connection, Line}
 use Rattle.cts_proto.specs.Meaning.{Meaning}
 use Rattle.cts_trace.specs.Routing.{Routing, queue, spell}
 use Rattle.cts_trace.specs.Connections.{Carries, Blames, Fed, Left, Stay, Tail}
-use Rattle.cts_trace.specs.Lines.{Capacity, Causes, Looked, IsLook, LastTwo, PutsAll, PostsNone, looks}
+use Rattle.cts_entry.specs.Room.{Capacity}
+use Rattle.cts_trace.specs.Lines.{Causes, Looked, IsLook, LastTwo, PutsAll, PostsNone, looks}
 use Rattle.cts_trace.specs.Told.{Said}
 use Rattle.cts_trace.proofs.Looking.{looks_append, puts_all_map}
 use Rattle.cts_trace.proofs.Walks.{queue-append}

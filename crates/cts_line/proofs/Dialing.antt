@@ -1,5 +1,6 @@
 -- From one connection of a line to the next, and to its end.
 use Rattle.std.proofs.Common.{◌≡◌, ℕ, ◌+◌, ◌≤◌, ◌==◌, ◌&&◌, ◌||◌, Bool, true, false, cond, List, [], ◌∷◌, ◌++◌, length, filter, refl, sym, ◌∙◌, ap, subst, arith, length-append, append-nil, append_assoc, Option, Some, None, unwrap_or, eq-eqb, inl, inr}
+use Rattle.std.proofs.Math.Bool.{and-false, or-false}
 use Rattle.std.specs.Prelude.{if◌then◌else◌, not, option_to_list, IfNone}
 use Rattle.std.specs.List.{list_any}
 use Rattle.std.proofs.lemmas.List.Elements.{filter-append}
@@ -22,7 +23,7 @@ use Rattle.cts_outside.specs.declared.link.Dialed.TheVariants.{Linked, Finished 
 use Rattle.cts_chain.specs.Shapes.{IsSameChain}
 use Rattle.cts_table.specs.States.{Shown}
 use Rattle.cts_table.specs.declared.basis.Basis.{Basis}
-use Rattle.cts_trace.specs.Lines.{Capacity}
+use Rattle.cts_entry.specs.Room.{Capacity}
 use Rattle.cts_trace.specs.Makers.{LastEnded, closes_for, faults_of, is_fault, of_maker}
 use Rattle.cts_trace.specs.Routing.{Routing}
 use Rattle.cts_trace.specs.Told.{HasFinished, Said, Settled, ToldBy, Unopened}
@@ -152,7 +153,7 @@ opens_own m history es time q =
     let mine : (m == m) ≡ true = eq-eqb m m refl in
     let k = keeps_quiet m history es q in
     record {
-      ended = list_any-append (λ (x : Entry). (x.by == m) && is_ended x.what) mid (e ∷ []) ∙ (ap (λ (b : Bool). has_ended m mid || ((b && false) || false)) mine ∙ (or_false (has_ended m mid) ∙ k.ended));
+      ended = list_any-append (λ (x : Entry). (x.by == m) && is_ended x.what) mid (e ∷ []) ∙ (ap (λ (b : Bool). has_ended m mid || ((b && false) || false)) mine ∙ (or-false (has_ended m mid) ∙ k.ended));
       opened = (let c = count (opens m) mid (e ∷ []) in let o = k.opened in let one : length (filter (opens m) (e ∷ [])) ≡ 1 = ap (λ (b : Bool). length (cond (b && true) (e ∷ []) [])) mine in omega (arith, c, o, one));
       faults = (let c = count (λ (x : Entry). (x.by == m) && closes_for is_fault x.what) mid (e ∷ []) in let f = k.faults in
           let none : length (filter (λ (x : Entry). (x.by == m) && closes_for is_fault x.what) (e ∷ [])) ≡ 0 = ap (λ (b : Bool). length (cond (b && false) (e ∷ []) [])) mine in omega (arith, c, f, none));
@@ -161,10 +162,6 @@ opens_own m history es time q =
   where
     count : (test : Entry → Bool) (xs ys : List Entry) → length (filter test (xs ++ ys)) ≡ length (filter test xs) + length (filter test ys)
     count test xs ys = ap length (filter-append test xs ys) ∙ length-append (filter test xs) (filter test ys)
-
-    or_false : (a : Bool) → (a || false) ≡ a
-    or_false true = refl
-    or_false false = refl
 
 -- a Stop belongs to no connection
 pub stop_own : (m : ℕ) (time : Time) → has_own m (entry_of m time Stop ∷ []) ≡ false
@@ -264,11 +261,7 @@ pub shut_kept : (m : ℕ) (a b : List Entry) → Keeps m a b None → IsShut m a
 shut_kept m a b k shut = (k.on ∙ ap (λ (x : Bool). x && true) shut.0, k.ended ∙ shut.1)
 
 pub shut_closed : (m : ℕ) (a b c : List Entry) (why : Why) → Opens m a b → Keeps m b c (Some why) → IsShut m a → IsShut m c
-shut_closed m a b c why o k shut = (k.on ∙ and_false (is_connected m b), k.ended ∙ (o.ended ∙ shut.1))
-  where
-    and_false : (x : Bool) → (x && false) ≡ false
-    and_false true = refl
-    and_false false = refl
+shut_closed m a b c why o k shut = (k.on ∙ and-false (is_connected m b), k.ended ∙ (o.ended ∙ shut.1))
 
 pub count_kept : (m : ℕ) (a b : List Entry) (n : ℕ) → Keeps m a b None → n ≡ capped (opened_in m a) → n ≡ capped (opened_in m b)
 count_kept m a b n k is = is ∙ ap capped (sym k.opened)

@@ -29,7 +29,8 @@ use Rattle.cts_outside.specs.declared.link.Taken.TheVariants.{Got, Nothing, End,
 use Rattle.cts_table.specs.States.{Shown, fits}
 use Rattle.cts_table.specs.declared.basis.Basis.{Basis}
 use Rattle.cts_trace.specs.Connections.{Shows}
-use Rattle.cts_trace.specs.Lines.{Capacity, LacksRoom}
+use Rattle.cts_entry.specs.Room.{Capacity}
+use Rattle.cts_trace.specs.Lines.{LacksRoom}
 use Rattle.cts_trace.specs.Routing.{Routing, is_for, posted_entries, queue, said_of, spell, time_in}
 use Rattle.cts_trace.specs.Told.{Said}
 use Rattle.cts_turn.specs.declared.rule.View.{View}

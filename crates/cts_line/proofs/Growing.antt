@@ -4,7 +4,8 @@ use Rattle.std.specs.Prelude.{◌⊎◌, nat_le}
 use Rattle.cts_entry.specs.declared.entry.Entry.{Entry}
 use Rattle.cts_entry.specs.Histories.{has_own}
 use Rattle.cts_outside.specs.Lines.{Connection}
-use Rattle.cts_trace.specs.Lines.{Capacity, IsLook, is_within, looks}
+use Rattle.cts_entry.specs.Room.{Capacity}
+use Rattle.cts_trace.specs.Lines.{IsLook, is_within, looks}
 use Rattle.cts_trace.specs.Makers.{of_maker}
 use Rattle.cts_trace.specs.Routing.{Routing}
 use Rattle.cts_trace.specs.Told.{Said}

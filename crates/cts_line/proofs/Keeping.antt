@@ -1,5 +1,6 @@
 -- What some holds leave of what the history says of a line: whether it is connected, whether it has ended, and its counts.
 use Rattle.std.proofs.Common.{◌≡◌, ℕ, ◌+◌, ◌==◌, ◌&&◌, ◌||◌, Bool, true, false, cond, List, [], ◌∷◌, ◌++◌, length, filter, refl, sym, ◌∙◌, ap, arith, length-append, Option, Some, None, unwrap_or, eq-eqb}
+use Rattle.std.proofs.Math.Bool.{and-false, and-true, or-false}
 use Rattle.std.specs.Prelude.{if◌then◌else◌, is_none, sum_by}
 use Rattle.std.specs.List.{list_any}
 use Rattle.std.proofs.lemmas.List.Elements.{filter-append}
@@ -133,20 +134,8 @@ faults_quiet m history es q = counted_none (λ (e : Entry). (e.by == m) && close
 pub opened_quiet : (m : ℕ) (history es : List Entry) → Quiet m es → opened_in m (history ++ es) ≡ opened_in m history
 opened_quiet m history es q = counted_none (opens m) history es q.opened
 
-or_false : (a : Bool) → (a || false) ≡ a
-or_false true = refl
-or_false false = refl
-
-and_true : (a : Bool) → (a && true) ≡ a
-and_true true = refl
-and_true false = refl
-
-and_false : (a : Bool) → (a && false) ≡ false
-and_false true = refl
-and_false false = refl
-
 pub ended_quiet : (m : ℕ) (history es : List Entry) → Quiet m es → has_ended m (history ++ es) ≡ has_ended m history
-ended_quiet m history es q = list_any-append (λ (e : Entry). (e.by == m) && is_ended e.what) history es ∙ (ap (λ (b : Bool). has_ended m history || b) q.ended ∙ or_false (has_ended m history))
+ended_quiet m history es q = list_any-append (λ (e : Entry). (e.by == m) && is_ended e.what) history es ∙ (ap (λ (b : Bool). has_ended m history || b) q.ended ∙ or-false (has_ended m history))
 
 pub connected_quiet : (m : ℕ) (history es : List Entry) → Quiet m es → is_connected m (history ++ es) ≡ is_connected m history
 connected_quiet m history es q = connected-append m history es ∙ ap (λ (t : Option Bool). unwrap_or (or_earlier t (latest (connects_maker m) history)) false) q.connects
@@ -169,19 +158,19 @@ pub stop_both : (m : ℕ) (xs ys : List Entry) → has_stop m xs ≡ false → h
 stop_both m xs ys a b = list_any-append (λ (e : Entry). (e.by == m) && is_stop e.what) xs ys ∙ or_none _ _ a b
 
 pub stop_same : (m : ℕ) (history es : List Entry) → has_stop m es ≡ false → has_stop m (history ++ es) ≡ has_stop m history
-stop_same m history es none = list_any-append (λ (e : Entry). (e.by == m) && is_stop e.what) history es ∙ (ap (λ (b : Bool). has_stop m history || b) none ∙ or_false (has_stop m history))
+stop_same m history es none = list_any-append (λ (e : Entry). (e.by == m) && is_stop e.what) history es ∙ (ap (λ (b : Bool). has_stop m history || b) none ∙ or-false (has_stop m history))
 
 -- ---- what is kept
 
 pub keeps_same : (m : ℕ) (history : List Entry) → Keeps m history history None
-keeps_same m history = record { ended = refl; opened = refl; faults = omega arith; on = sym (and_true (is_connected m history)); said = tt }
+keeps_same m history = record { ended = refl; opened = refl; faults = omega arith; on = sym (and-true (is_connected m history)); said = tt }
 
 pub keeps_quiet : (m : ℕ) (history es : List Entry) → Quiet m es → Keeps m history (history ++ es) None
 keeps_quiet m history es q = record {
   ended = ended_quiet m history es q;
   opened = opened_quiet m history es q;
   faults = (let f = faults_quiet m history es q in omega (arith, f));
-  on = connected_quiet m history es q ∙ sym (and_true (is_connected m history));
+  on = connected_quiet m history es q ∙ sym (and-true (is_connected m history));
   said = tt;
 }
 
@@ -203,10 +192,10 @@ keeps_closed m history es time why loss unposted unsent q =
     let closes : latest (connects_maker m) (e ∷ []) ≡ Some false = ap (λ (b : Bool). or_earlier None (if b then Some false else None)) mine in
     let one : faults_of m (e ∷ []) ≡ one_if (is_fault why) = ap (λ (b : Bool). length (cond (b && is_fault why) (e ∷ []) [])) mine ∙ count_if (is_fault why) e in
     record {
-      ended = list_any-append (λ (x : Entry). (x.by == m) && is_ended x.what) mid (e ∷ []) ∙ (ap (λ (b : Bool). has_ended m mid || b) not_ended ∙ (or_false (has_ended m mid) ∙ ended_quiet m history es q));
+      ended = list_any-append (λ (x : Entry). (x.by == m) && is_ended x.what) mid (e ∷ []) ∙ (ap (λ (b : Bool). has_ended m mid || b) not_ended ∙ (or-false (has_ended m mid) ∙ ended_quiet m history es q));
       opened = counted_none (opens m) mid (e ∷ []) not_opened ∙ opened_quiet m history es q;
       faults = (let c = counted (λ (x : Entry). (x.by == m) && closes_for is_fault x.what) mid (e ∷ []) in let f = faults_quiet m history es q in omega (arith, c, f, one));
-      on = connected-append m mid (e ∷ []) ∙ (ap (λ (t : Option Bool). unwrap_or (or_earlier t (latest (connects_maker m) mid)) false) closes ∙ sym (and_false (is_connected m history)));
+      on = connected-append m mid (e ∷ []) ∙ (ap (λ (t : Option Bool). unwrap_or (or_earlier t (latest (connects_maker m) mid)) false) closes ∙ sym (and-false (is_connected m history)));
       said = λ test is. list_any-append (λ (x : Entry). (x.by == m) && closes_for test x.what) mid (e ∷ []) ∙ (ap (λ (b : Bool). has_closed m test mid || ((b && test why) || false)) mine ∙ (ap (λ (b : Bool). has_closed m test mid || (b || false)) is ∙ or_true (has_closed m test mid)));
     }
   where
@@ -219,6 +208,6 @@ keeps_then m a b c closed k l = record {
   ended = l.ended ∙ k.ended;
   opened = l.opened ∙ k.opened;
   faults = (let x = k.faults in let y = l.faults in omega (arith, x, y));
-  on = l.on ∙ ap (λ (t : Bool). t && is_none closed) (k.on ∙ and_true (is_connected m a));
+  on = l.on ∙ ap (λ (t : Bool). t && is_none closed) (k.on ∙ and-true (is_connected m a));
   said = l.said;
 }

@@ -24,7 +24,8 @@ use Rattle.cts_outside.specs.Lines.{Line, at_now, after_take}
 use Rattle.cts_outside.specs.declared.link.Taken.TheVariants.{Got}
 use Rattle.cts_proto.specs.Meaning.{Meaning, framing}
 use Rattle.cts_trace.specs.Connections.{Blames, Fed, Left, Shows}
-use Rattle.cts_trace.specs.Lines.{Capacity, Causes, PutsAll, PostsNone, Seen}
+use Rattle.cts_entry.specs.Room.{Capacity}
+use Rattle.cts_trace.specs.Lines.{Causes, PutsAll, PostsNone, Seen}
 use Rattle.cts_trace.specs.Routing.{Routing}
 use Rattle.cts_line.specs.Talks.{Takes, Talking, Waits}
 use Rattle.cts_line.proofs.Bodies.{grown_body, inside}

@@ -11,7 +11,7 @@ use Rattle.cts_outside.specs.Lines.{Connection, Line, at_now, with_put, with_fai
 use Rattle.cts_chain.specs.Chains.{StagesStand}
 use Rattle.cts_framing.specs.Framing.{Output, plain}
 use Rattle.cts_proto.specs.Meaning.{Meaning}
-use Rattle.cts_trace.specs.Lines.{Capacity}
+use Rattle.cts_entry.specs.Room.{Capacity}
 use Rattle.cts_trace.specs.Routing.{Routing, spell}
 use Rattle.cts_line.specs.Talks.{Caught, Ends, Puts, Talking}
 use Rattle.cts_line.proofs.Bodies.{done_body}

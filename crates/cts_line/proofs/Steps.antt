@@ -15,7 +15,8 @@ use Rattle.cts_outside.specs.Lines.{Connection, Line, fresh, told_after, at_now,
 use Rattle.cts_outside.specs.declared.link.Taken.TheVariants.{Nothing, End, Failed}
 use Rattle.cts_proto.specs.Meaning.{Meaning}
 use Rattle.cts_trace.specs.Connections.{Blames, Says}
-use Rattle.cts_trace.specs.Lines.{Capacity, Causes, PostsNone}
+use Rattle.cts_entry.specs.Room.{Capacity}
+use Rattle.cts_trace.specs.Lines.{Causes, PostsNone}
 use Rattle.cts_trace.specs.Routing.{Routing, queue, spell}
 use Rattle.cts_trace.specs.Told.{Said}
 use Rattle.cts_trace.proofs.Looking.{posts_none_both, puts_all_map, said_found, said_more}

@@ -3,6 +3,7 @@ use Rattle.std.specs.Prelude.{◌≡◌, ℕ, ◌+◌, ◌<◌, ◌≤◌, ◌�
 use Rattle.cts_chain.specs.Chains.{StagesStand, AllSettled, framings_of, last_fault}
 use Rattle.cts_chain.specs.Shapes.{ChainData, writers}
 use Rattle.cts_connection.specs.Connections.{HeldConnection}
+use Rattle.cts_connection.specs.LinePlaces.{is_line}
 use Rattle.cts_connection.specs.Routings.{writers_at}
 use Rattle.cts_def.specs.Sites.{SiteData}
 use Rattle.cts_entry.specs.declared.entry.Entry.{Entry}
@@ -14,14 +15,19 @@ use Rattle.cts_entry.specs.Places.{Posts}
 use Rattle.cts_entry.specs.Queues.{spelled, refused}
 use Rattle.cts_framing.specs.Chains.{framings_at}
 use Rattle.cts_framing.specs.Framing.{Output, plain}
+use Rattle.cts_framing.specs.Packets.{capped}
 use Rattle.cts_outside.specs.Lines.{Connection, Line, fresh}
 use Rattle.cts_proto.specs.Meaning.{Meaning}
 use Rattle.cts_table.specs.declared.basis.Basis.{Basis}
 use Rattle.cts_trace.specs.Routing.{Routing, queue, spell}
 use Rattle.cts_trace.specs.Connections.{Says, Shows, Tail}
-use Rattle.cts_trace.specs.Lines.{Capacity, PutsAll, PostsNone}
+use Rattle.cts_entry.specs.Room.{Capacity}
+use Rattle.cts_trace.specs.Lines.{PutsAll, PostsNone}
 use Rattle.cts_trace.specs.Told.{Said, Settled, ToldBy}
+use Rattle.cts_turn.specs.Lists.{has}
 use Rattle.cts_turn.specs.declared.rule.View.{View}
+use Rattle.cts_worker.specs.Lasts.{IsShut}
+use Rattle.cts_line.specs.Ending.{opened_in}
 use Rattle.cts_line.specs.declared.ending.LineWhy.{LineWhy}
 use Rattle.cts_line.specs.declared.posting.Posting.{Posting}
 use Rattle.cts_line.specs.declared.posting.Posting.TheVariants.{Posted, Closed}
@@ -39,6 +45,16 @@ pub data Phase : Type 0 where
 pub record Suits (site : SiteData) (m : ℕ) (c : ChainData) : Type 0 where
   pub framings : framings_of c.stages ≡ framings_at site m
   pub writing : writers c ≡ writers_at site m
+
+-- A line may make its next connection: its pass is its own, it is one of the site over which the turn is, it has the chain of its
+-- protocols, no connection of it stands, and so many were opened.
+pub record IsReady {G : Type 0} (site : SiteData) (base : Basis) (by : ℕ) (chain : ChainData) (connections : ℕ) (v : View Entry G) : Type 0 where
+  pub makers : has by v.makers ≡ true
+  pub site_is : site ≡ base.site
+  pub line : is_line base.site by ≡ true
+  pub suits : Suits base.site by chain
+  pub shut : IsShut by v.seen
+  pub count : connections ≡ capped (opened_in by v.seen)
 
 -- all connections past are said, and a new one stands
 abbrev pub Begins : Routing → Capacity → ℕ → List ℕ → List Entry → Option Line → Type 0

@@ -13,7 +13,8 @@ ghost use Rattle.cts_line.specs.Talks.{Suits, TalksAt, Takes, Waits, after, room
 
 use crate::holds::look;
 use crate::puts::put_all;
-use cts_connection::{Connection, Framer};
+use cts_chain::Framer;
+use cts_connection::Connection;
 use cts_entry::{Stands, Why};
 use cts_outside::Dialer;
 use cts_table::Hall;

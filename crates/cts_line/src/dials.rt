@@ -2,10 +2,8 @@
 ghost use Rattle.std.specs.Prelude.{◌≡◌, ◌≤◌, ◌<◌, ◌+◌, ℕ, None, length, true, false, IfSome};
 ghost use Rattle.cts_chain.specs.Shapes.{IsSameChain};
 ghost use Rattle.cts_framing.specs.Packets.{capped};
-ghost use Rattle.cts_turn.specs.Lists.{has};
 ghost use Rattle.cts_worker.specs.Grounds.{ground};
 ghost use Rattle.cts_turn.specs.Passes.{IsPassOf, view};
-ghost use Rattle.cts_connection.specs.LinePlaces.{is_line};
 ghost use Rattle.cts_connection.specs.Routings.{site_routing};
 ghost use Rattle.cts_entry.specs.Workers.{is_interface};
 ghost use Rattle.cts_trace.specs.Told.{Settled, ToldBy};
@@ -13,14 +11,15 @@ ghost use Rattle.cts_worker.specs.Holds.{Onward};
 ghost use Rattle.cts_worker.specs.Lasts.{IsShut};
 ghost use Rattle.cts_line.specs.Ending.{CausesEnd, FaultsRise, after_closed, after_failed, has_stop, opened_in, reconnects, refused, stops_all, stops_then};
 ghost use Rattle.cts_line.specs.Telling.{Has, Retells, since};
-ghost use Rattle.cts_line.specs.Talks.{Begins, Suits, ToldSoFar, room_of};
+ghost use Rattle.cts_line.specs.Talks.{Begins, IsReady, ToldSoFar, room_of};
 
 use crate::ending::LineWhy;
 use crate::hand::AtHand;
 use crate::holds;
 use crate::opening::Opening;
 use crate::rounds::talk;
-use cts_connection::{Connection, Framer};
+use cts_chain::Framer;
+use cts_connection::Connection;
 use cts_def::Site;
 use cts_entry::{Stands, Why};
 use cts_outside::{Clock, Dialed, Dialer, Gate, GateStage};
@@ -91,13 +90,8 @@ fn serve<R: Wait, C: Framer, D: Dialer, K: Clock, G: Gate>(
     connections: &mut u64,
 ) -> (Pass<Hall>, Option<LineWhy>)
     requires pass { IsPassOf hand.now.turn.now pass }
-    requires by { has hand.now.by (view pass).makers ≡ true }
-    requires site { hand.now.site.now ≡ (ground hand.now.turn.now).site }
-    requires line { is_line (ground hand.now.turn.now).site hand.now.by ≡ true }
+    requires ready { IsReady hand.now.site.now (ground hand.now.turn.now) hand.now.by connection.old.chain connections.old (view pass) }
     requires room { 0 < length buffer.old }
-    requires suits { Suits (ground hand.now.turn.now).site hand.now.by connection.old.chain }
-    requires shut { IsShut hand.now.by (view pass).seen }
-    requires count { connections.old ≡ capped (opened_in hand.now.by (view pass).seen) }
     requires linked { (D.seen dialer.old).linked ≡ true }
     ensures pass { IsPassOf hand.now.turn.now result.0 }
     ensures onward { Onward (view pass) (view result.0) }
@@ -138,13 +132,8 @@ fn attempt<R: Wait, C: Framer, D: Dialer, K: Clock, G: Gate>(
     connections: &mut u64,
 ) -> (Pass<Hall>, Option<LineWhy>)
     requires pass { IsPassOf hand.now.turn.now pass }
-    requires by { has hand.now.by (view pass).makers ≡ true }
-    requires site { hand.now.site.now ≡ (ground hand.now.turn.now).site }
-    requires line { is_line (ground hand.now.turn.now).site hand.now.by ≡ true }
+    requires ready { IsReady hand.now.site.now (ground hand.now.turn.now) hand.now.by connection.old.chain connections.old (view pass) }
     requires room { 0 < length buffer.old }
-    requires suits { Suits (ground hand.now.turn.now).site hand.now.by connection.old.chain }
-    requires shut { IsShut hand.now.by (view pass).seen }
-    requires count { connections.old ≡ capped (opened_in hand.now.by (view pass).seen) }
     requires idle { (D.seen dialer.old).linked ≡ false }
     ensures pass { IsPassOf hand.now.turn.now result.0 }
     ensures onward { Onward (view pass) (view result.0) }
@@ -181,13 +170,8 @@ pub(crate) fn connect<R: Wait, C: Framer, D: Dialer, K: Clock, G: Gate>(
     connections: &mut u64,
 ) -> (Pass<Hall>, LineWhy)
     requires pass { IsPassOf hand.now.turn.now pass }
-    requires by { has hand.now.by (view pass).makers ≡ true }
-    requires site { hand.now.site.now ≡ (ground hand.now.turn.now).site }
-    requires line { is_line (ground hand.now.turn.now).site hand.now.by ≡ true }
+    requires ready { IsReady hand.now.site.now (ground hand.now.turn.now) hand.now.by connection.old.chain connections.old (view pass) }
     requires room { 0 < length buffer.old }
-    requires suits { Suits (ground hand.now.turn.now).site hand.now.by connection.old.chain }
-    requires shut { IsShut hand.now.by (view pass).seen }
-    requires count { connections.old ≡ capped (opened_in hand.now.by (view pass).seen) }
     requires idle { (D.seen dialer.old).linked ≡ false }
     ensures pass { IsPassOf hand.now.turn.now result.0 }
     ensures onward { Onward (view pass) (view result.0) }

@@ -2,7 +2,7 @@
 ghost use Rattle.std.specs.Prelude.{◌≡◌, ◌≤◌, ◌+◌, ℕ, List, length, true};
 ghost use Rattle.cts_entry.specs.declared.entry.Entry.{Entry};
 ghost use Rattle.cts_proto.specs.Meaning.{Meaning};
-ghost use Rattle.cts_trace.specs.Lines.{Capacity};
+ghost use Rattle.cts_entry.specs.Room.{Capacity};
 ghost use Rattle.cts_trace.specs.Routing.{Routing};
 ghost use Rattle.cts_worker.specs.Counts.{RoseIf};
 ghost use Rattle.cts_line.specs.Ending.{fails};

@@ -1,5 +1,6 @@
 -- The entry that is lent is that at the beginning of the bytes.
 use Rattle.std.proofs.Common.{◌≡◌, ℕ, ◌+◌, ◌-◌, ◌≤◌, Bool, true, false, ◌&&◌, List, length, take, drop, refl, sym, ◌∙◌, ap, arith}
+use Rattle.std.proofs.Math.Bool.{and-false}
 use Rattle.std.specs.Prelude.{nat_le, not, ◌==◌, slice_range}
 use Rattle.std.proofs.lemmas.List.{drop-drop}
 use Rattle.cts_framing.specs.Heads.{packet_end, target_end}
@@ -10,12 +11,8 @@ use Rattle.cts_encode.specs.HeadSpans.{IsHead}
 use Rattle.cts_encode.specs.declared.head.Head.{Head}
 use Rattle.cts_log.specs.Logged.{Logged, entry_end, entry_of, has_entry}
 
-and_false : (a : Bool) → (a && false) ≡ false
-and_false true = refl
-and_false false = refl
-
 not_wrong : (fl : Bool) (u : List ℕ) → are_flags (flags_at fl u) ≡ true → has_wrong_flags fl u ≡ false
-not_wrong true u h = ap (λ (b : Bool). nat_le 1 (length u) && not b) h ∙ and_false (nat_le 1 (length u))
+not_wrong true u h = ap (λ (b : Bool). nat_le 1 (length u) && not b) h ∙ and-false (nat_le 1 (length u))
 not_wrong false u h = refl
 
 moved : (u : List ℕ) (by start end : ℕ) → slice_range (drop by u) start end ≡ slice_range u (by + start) (by + end)

@@ -1,7 +1,8 @@
 // The objects of a server.
 use cts_adapters::{DiskVault, LogNames, Opening};
 use cts_base::Memory;
-use cts_core::{Framer, Supplier};
+use cts_chain::Framer;
+use cts_connection::Supplier;
 use cts_net::{Listeners, SystemClock};
 use cts_outside::{Clock, Files, OpenGate, Sink, ThreadCrew};
 use cts_serve::{Status, serve};

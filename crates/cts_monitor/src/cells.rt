@@ -11,6 +11,7 @@ ghost use Rattle.cts_monitor.specs.Samples.{setting_of};
 ghost use Rattle.cts_monitor.specs.Settings.{watched};
 
 use crate::choices::DEFAULT;
+use crate::lending::lend;
 use crate::places::Places;
 use crate::sampling::take;
 use crate::settings::{
@@ -73,7 +74,7 @@ fn setting_after<H: Stands>(
     requires before { before ≡ setting_of (watched packet.now item.now number index) (take at (H.list history.now)) }
     ensures { result ≡ setting_of (watched packet.now item.now number index) (H.list history.now) }
 {
-    let entry = history.lend(at);
+    let entry = lend(history, at);
     if !may_set(entry, number, index) {
         return before;
     }

@@ -11,6 +11,7 @@ ghost use Rattle.cts_monitor.specs.Places.{PlacesTell, room_at};
 ghost use Rattle.cts_monitor.specs.Widest.{width_of};
 
 use crate::cells::{Cell, Cells};
+use crate::lending::lend;
 use crate::places::Places;
 use crate::types::LimitsEvent;
 use crate::watching::watches;
@@ -162,7 +163,7 @@ impl Grid {
         ensures tells { GridTells site.now (H.list history.now) self.new }
         ensures free { self.old.free ≤ self.new.free + width_of site.now * room_at (H.list history.now) at }
     {
-        let entry = history.lend(at);
+        let entry = lend(history, at);
         if is_setting(entry) {
             self.reset(site, places, history, at);
         } else if let Some((number, bytes)) = brought_known(entry) {

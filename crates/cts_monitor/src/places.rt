@@ -11,6 +11,7 @@ ghost use Rattle.cts_monitor.specs.Settings.{current_set, limits_in, sets_told, 
 
 use crate::choices::{default_name, set_chosen};
 use crate::known::{is_among, names_set, set_named};
+use crate::lending::lend;
 use crate::settings::{limits_in, limits_told};
 use cts_base::{Memory, Name};
 use cts_def::{Limits, LimitsSetup, Site};
@@ -47,7 +48,7 @@ fn entry_at<H: Stands>(history: &H, n: u64) -> Option<&Entry>
     ensures { option_copied result ≡ slice_get (H.list history.now) n }
 {
     if n < history.count() {
-        Some(history.lend(n))
+        Some(lend(history, n))
     } else {
         None
     }
@@ -106,7 +107,7 @@ impl Places {
         let Some(n) = self.chosen else {
             return default_name(site);
         };
-        match set_chosen(history.lend(n)) {
+        match set_chosen(lend(history, n)) {
             Some(set) => set,
             None => default_name(site),
         }
@@ -188,7 +189,7 @@ impl Places {
         ensures tells { PlacesTell site.now (H.list history.now) self.new }
         ensures free { self.old.free ≤ self.new.free + room_at (H.list history.now) at }
     {
-        let entry = history.lend(at);
+        let entry = lend(history, at);
         let Some(set) = set_named(entry) else {
             if set_chosen(entry).is_some() {
                 self.chosen = Some(at);

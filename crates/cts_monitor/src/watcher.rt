@@ -14,6 +14,7 @@ ghost use Rattle.cts_monitor.specs.Widest.{widest, width_of};
 use crate::choices::DEFAULT;
 use crate::finding::watched_at;
 use crate::grid::Grid;
+use crate::lending::lend;
 use crate::places::Places;
 use crate::types::{LimitsEvent, LimitsUsed, Setting};
 use crate::watching::watches;
@@ -137,7 +138,7 @@ impl Watcher {
         ensures tells { WatcherTells site.now (H.list history.now) self.new }
         ensures spare { self.new.spare ≡ self.old.spare - room_at (H.list history.now) at }
     {
-        let room = entries_for(&history.lend(at).what);
+        let room = entries_for(&lend(history, at).what);
         self.places.note(site, history, at);
         self.grid.note(site, &self.places, history, at);
         self.spare -= room;

@@ -1,22 +1,15 @@
 // The devices of a server: the dialers of its lines, the doors of its routers and desks, and the listeners that these stand at.
 ghost use Rattle.std.specs.Prelude.{◌≡◌, ℕ, ◌+◌, length, IfOk, OnOk};
+ghost use Rattle.cts_def.specs.Most.{most_desks, most_interfaces, most_routers, most_slots};
 ghost use Rattle.cts_net.specs.Devices.{AreUnused};
 
 use crate::{SharedListener, TcpDialer};
 use cts_base::Memory;
+use cts_def::{MOST_DESKS, MOST_INTERFACES, MOST_ROUTERS};
 use cts_outside::Link;
 use std::alloc::Global;
 use std::net::{Net, TcpListener, TcpStream};
 use std::time::Clock;
-
-/// How many interfaces a site may have.
-const INTERFACES: usize = 16;
-
-/// How many routers a site may have. Each has two slots, with a door each.
-const ROUTERS: usize = 4;
-
-/// How many desks a site may have.
-const DESKS: u64 = 4;
 
 /// How many takes in a row may find nothing at a desk: a client that says nothing for about a minute is taken to be gone.
 const SILENT_CLIENT: u64 = 6_000;
@@ -28,8 +21,8 @@ pub struct Listeners {
     interfaces: Vec<SharedListener<'static>>,
     routers: Vec<SharedListener<'static>>,
     desks: SharedListener<'static>,
-    ghost interfaces_are: { length interfaces.items ≡ 16 },
-    ghost routers_are: { length routers.items ≡ 4 },
+    ghost interfaces_are: { length interfaces.items ≡ most_interfaces },
+    ghost routers_are: { length routers.items ≡ most_routers },
 }
 
 impl Listeners {
@@ -41,8 +34,8 @@ impl Listeners {
         requests: &'static str,
     ) -> Result<Listeners, Memory> {
         Ok(Listeners {
-            interfaces: at(alloc, INTERFACES, streams)?,
-            routers: at(alloc, ROUTERS, streams)?,
+            interfaces: at(alloc, MOST_INTERFACES, streams)?,
+            routers: at(alloc, MOST_ROUTERS, streams)?,
             desks: SharedListener::new(requests),
         })
     }
@@ -53,7 +46,7 @@ impl Listeners {
         rt: &'a R,
         alloc: Global,
     ) -> Result<Vec<Option<TcpDialer<'a, R>>>, Memory>
-        ensures { IfOk result (λ places. AreUnused (⟦<TcpDialer<'a, R> as Link>⟧.seen) 16 places.items) }
+        ensures { IfOk result (λ places. AreUnused (⟦<TcpDialer<'a, R> as Link>⟧.seen) most_interfaces places.items) }
     {
         let mut lines = Vec::new(alloc);
         for listener in &self.interfaces {
@@ -68,14 +61,14 @@ impl Listeners {
         rt: &'a R,
         alloc: Global,
     ) -> Result<Vec<Option<TcpDialer<'a, R>>>, Memory>
-        ensures { IfOk result (λ places. AreUnused (⟦<TcpDialer<'a, R> as Link>⟧.seen) 12 places.items) }
+        ensures { IfOk result (λ places. AreUnused (⟦<TcpDialer<'a, R> as Link>⟧.seen) (most_slots + most_desks) places.items) }
     {
         let mut doors = Vec::new(alloc);
         for listener in &self.routers {
             put(rt, listener, u64::MAX, &mut doors)?;
             put(rt, listener, u64::MAX, &mut doors)?;
         }
-        for _ in 0..DESKS {
+        for _ in 0..MOST_DESKS {
             put(rt, &self.desks, SILENT_CLIENT, &mut doors)?;
         }
         Ok(doors)

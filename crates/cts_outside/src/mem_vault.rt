@@ -1,30 +1,33 @@
 // A vault in memory.
-ghost use Rattle.std.specs.Prelude.{◌≡◌, ◌↔◌, ◌+◌, ◌<◌, true, false, length, Some, IsErr, OnErr};
+ghost use Rattle.std.specs.Prelude.{◌≡◌, ◌↔◌, ◌+◌, ◌<◌, true, false, length, map, Some, IsErr, OnErr};
 ghost use Rattle.cts_outside.specs.Causes.{Cause, raised};
 ghost use Rattle.cts_outside.specs.InMemory.{fails_at, faults_after, held_of, logs_of};
-ghost use Rattle.cts_outside.specs.Vaults.{Appends, Syncs, log_of, no_logs};
+ghost use Rattle.cts_outside.specs.Vaults.{Appends, BeginsPart, IsSynced, Syncs, log_of, no_logs};
 
 use crate::failing::Failing;
 use crate::{LogKind, PutFailed, Vault};
 use std::alloc::Global;
 use std::marker::Model;
+use std::mem;
 
-/// A log in memory, of which the first bytes are synced.
+/// A log in memory: the parts before the last, and the last one, of which the first bytes are synced.
 #[derive(Drop)]
 struct MemLog {
+    alloc: Global,
+    past: Vec<Vec<u8>>,
     bytes: Vec<u8>,
     synced: usize,
 }
 
 impl Model for MemLog {
-    ghost use Rattle.std.specs.Prelude.{take, ◌≤◌, length};
+    ghost use Rattle.std.specs.Prelude.{take, ◌≤◌, length, map};
     ghost use Rattle.std.specs.Prelude.{vec_capacity};
     ghost use Rattle.cts_outside.specs.InMemory.{LogHeld};
 
     ghost Value = { LogHeld };
 
     ghost view = { λ l. record {
-      log = record { bytes = l.bytes.items; synced = take l.synced l.bytes.items };
+      log = record { bytes = l.bytes.items; synced = take l.synced l.bytes.items; past = map (λ v. v.items) l.past.items };
       room = vec_capacity l.bytes;
     } };
 
@@ -33,12 +36,14 @@ impl Model for MemLog {
 
 impl MemLog {
     ghost use Rattle.std.specs.Prelude.{◌≡◌, ◌+◌, ◌<◌, length, OnOk, OnErr};
-    ghost use Rattle.cts_outside.specs.Vaults.{all_synced, no_log, with_bytes};
+    ghost use Rattle.cts_outside.specs.Vaults.{all_synced, no_log, with_bytes, with_part};
 
     fn new(alloc: Global) -> MemLog
         ensures { result.log ≡ no_log }
     {
         MemLog {
+            alloc,
+            past: Vec::new(alloc),
             bytes: Vec::new(alloc),
             synced: 0,
         }
@@ -60,9 +65,22 @@ impl MemLog {
     {
         self.synced = self.bytes.len();
     }
+
+    fn part(&mut self) -> Result<(), PutFailed>
+        ensures ok { OnOk result (self.new.log ≡ with_part self.old.log) }
+        ensures err { OnErr result (self.new.log ≡ self.old.log) }
+    {
+        if self.past.reserve(1).is_err() {
+            return Err(PutFailed);
+        }
+        let whole = mem::replace(&mut self.bytes, Vec::new(self.alloc));
+        self.synced = 0;
+        let _ = self.past.push(whole);
+        Ok(())
+    }
 }
 
-/// A vault in memory. The appends and syncs are numbered together from 0, and those whose numbers are listed fail.
+/// A vault in memory. The appends, syncs and beginnings of parts are numbered together from 0, and those whose numbers are listed fail.
 #[derive(Drop)]
 pub struct MemVault {
     tlm: MemLog,
@@ -99,7 +117,14 @@ impl MemVault {
         }
     }
 
-    /// The bytes that were appended to a log.
+    /// The bytes of the parts of a log before the last one.
+    pub fn past(&self, kind: LogKind) -> &[Vec<u8>]
+        ensures { map (λ v. v.items) result.now ≡ (log_of kind (logs_of self.now)).past }
+    {
+        &self.log(kind).past
+    }
+
+    /// The bytes that were appended to the last part of a log.
     pub fn bytes(&self, kind: LogKind) -> &[u8]
         ensures { result.now ≡ (log_of kind (logs_of self.now)).bytes }
     {
@@ -123,7 +148,7 @@ impl MemVault {
         }
     }
 
-    /// How many appends and syncs have failed.
+    /// How many calls have failed.
     pub fn faults(&self) -> u64
         ensures { result ≡ self.now.faults }
     {
@@ -180,5 +205,29 @@ impl Vault for MemVault {
             LogKind::Cmd => self.cmd.sync(),
         }
         Ok(())
+    }
+
+    fn part(&mut self, kind: LogKind) -> Result<(), PutFailed>
+        requires synced { IsSynced kind (Some (logs_of self.old)) }
+        ensures content { BeginsPart kind (Some (logs_of self.old)) (Some (logs_of self.new)) result }
+        ensures cause { Cause result self.old.faults self.new.faults }
+
+        // One that fails counts once. A listed one fails, and any other only where it finds no memory.
+        ensures count { self.new.faults ≡ faults_after result self.old.faults }
+        ensures listed { fails_at self.old.failing self.old.calls ≡ true → IsErr result }
+        ensures calls { self.new.calls ≡ raised self.old.calls }
+        ensures failing { self.new.failing ≡ self.old.failing }
+    {
+        if self.failing.fails() {
+            return Err(PutFailed);
+        }
+        let begun = match kind {
+            LogKind::Tlm => self.tlm.part(),
+            LogKind::Cmd => self.cmd.part(),
+        };
+        if begun.is_err() {
+            self.failing.raise();
+        }
+        begun
     }
 }

@@ -65,3 +65,55 @@ fn called<V: Vault>(vault: &mut V, kind: LogKind, call: &[u8]) -> Result<(), Put
         [] => Err(PutFailed),
     }
 }
+
+/// The numbers of the calls that fail, and calls as above; `P` and `Q` sync the log of telemetry or that of commands and begin a part of it. Of each call
+/// what it answers, the parts of its log before the last, the bytes of the last, how many of them are synced, and how many calls have failed.
+const PARTS: &str = "\
+|tab P tc P Q|(Ok(()), [], [97, 98], 0, 0);(Ok(()), [[97, 98]], [], 0, 0);(Ok(()), [[97, 98]], [99], 0, 0);(Ok(()), [[97, 98], [99]], [], 0, 0);(Ok(()), [[]], [], 0, 0);
+1|ta P P tb T|(Ok(()), [], [97], 0, 0);(Err(PutFailed), [], [97], 0, 1);(Ok(()), [[97]], [], 0, 1);(Ok(()), [[97]], [98], 0, 1);(Ok(()), [[97]], [98], 1, 1);
+2|ta P T|(Ok(()), [], [97], 0, 0);(Err(PutFailed), [], [97], 1, 1);(Ok(()), [], [97], 1, 1);";
+
+struct Parts;
+
+impl Answers for Parts {
+    fn answer(alloc: Global, asked: &str) -> Result<String, Fail> {
+        let (failing, calls) = cut(asked, '|')?;
+        let mut vault = MemVault::new(alloc, numbers(alloc, failing)?);
+        let mut out = String::new(alloc);
+        for call in calls.split(' ') {
+            tell(&mut out, part_text(alloc, &mut vault, call)?.as_str())?;
+        }
+        Ok(out)
+    }
+}
+
+#[test]
+fn a_part_begins_without_bytes(rt: HostRuntime) -> Result<(), Fail> {
+    rows_end_so::<Parts>(rt.alloc(), PARTS)
+}
+
+fn part_text(alloc: Global, vault: &mut MemVault, call: &str) -> Result<String, Fail> {
+    let (answer, kind) = match call {
+        "P" => (begun(vault, LogKind::Tlm), LogKind::Tlm),
+        "Q" => (begun(vault, LogKind::Cmd), LogKind::Cmd),
+        _ => (called(vault, kind_of(call), call.as_bytes()), kind_of(call)),
+    };
+    debug_of(
+        alloc,
+        &(
+            answer,
+            vault.past(kind),
+            vault.bytes(kind),
+            vault.synced(kind).len(),
+            vault.faults(),
+        ),
+    )
+}
+
+/// A sync, and then a new part.
+fn begun(vault: &mut MemVault, kind: LogKind) -> Result<(), PutFailed> {
+    match vault.sync(kind) {
+        Ok(()) => vault.part(kind),
+        Err(fault) => Err(fault),
+    }
+}

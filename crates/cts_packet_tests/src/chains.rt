@@ -31,6 +31,10 @@ FIXED 1|0105 06010708 02|010506 010708 02 More [0, 0, 0, 0] 0 0
 FIXED 1 0 nil true false true|01050602 01|010506 Bad { stage: 1, cause: UnknownStart } [2, 0, 0, 0] 0 0
 FIXED 1 2 0x1acf|ff1acf0105061a cf0107081acf021a|010506 010708 02 More [1, 0, 0, 0] 1 0
 LENGTH 0 32 0 1|00100000|More [4, 0, 0, 0] 0 0
+LENGTH 0 64 0 65535|ffffffffffffffff|Bad { stage: 1, cause: TooLong } [8, 0, 0, 0] 0 0
+LENGTH 0 8 -1 1|00|Bad { stage: 1, cause: Short(-1) } [1, 0, 0, 0] 0 0
+LENGTH 0 8 0 1 BIG_ENDIAN 0 nil 5|06|Bad { stage: 1, cause: OverMax(6) } [1, 0, 0, 0] 0 0
+PREIDENTIFIED|00000000000000000000ffffffff|Bad { stage: 1, cause: TooLong } [14, 0, 0, 0] 0 0
 LENGTH 0 32 0 1|00100001|Bad { stage: 1, cause: TooLong } [4, 0, 0, 0] 0 0
 LENGTH 0 16 0 1|0004aabb0001 ff|0004aabb Bad { stage: 1, cause: Short(1) } [3, 0, 0, 0] 0 0
 TERMINATED 0x0a 0x0a;PROTOCOL READ LENGTH 0 8 0 1|000a020a01|Bad { stage: 2, cause: Short(0) } [1, 2, 0, 0] 0 0
@@ -45,6 +49,8 @@ PREIDENTIFIED nil nil 4|000000000000000000000000100000|Bad { stage: 1, cause: To
 const GREATEST: &str = "\
 LENGTH 0 32 0 1|00100000 *1048572 |1048576 More [0, 0, 0, 0] 0 0
 LENGTH 0 32 0 1|00100000 *1048571 |More [1048575, 0, 0, 0] 0 0
+TERMINATED 0x0a 0x0a| *1048575 |More [1048575, 0, 0, 0] 0 0
+TERMINATED 0x0a 0x0a| *1048575 41|Bad { stage: 1, cause: TooLong } [1048576, 0, 0, 0] 0 0
 TERMINATED 0x0a 0x0a| *1048575 0a|1048575 More [0, 0, 0, 0] 0 0
 TERMINATED 0x0a 0x0a| *1048576 0a|Bad { stage: 1, cause: TooLong } [1048577, 0, 0, 0] 0 0
 BURST| *1048576 |1048576 More [0, 0, 0, 0] 0 0

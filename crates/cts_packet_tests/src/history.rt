@@ -1,9 +1,10 @@
 // What histories say of commands.
 use cts_base::Bytes;
 use cts_def::Time;
-use cts_entry::{Entry, Stands, What, commands_for, is_command_for, place_after};
+use cts_entry::{Entry, Stands, Steps, What, commands_for, is_command_for, place_after};
 use cts_rows::{Answers, debug_of, number, rows_end_so};
 use std::alloc::Global;
+use std::sync::ledger::Ledger;
 use std::test::Fail;
 
 const NOON: Time = Time {
@@ -78,7 +79,8 @@ impl Stands for Listed {
         self.entries.len() as u64
     }
 
-    fn lend(&self, n: u64) -> &Entry {
+    fn lend<L: Ledger>(&self, n: u64, steps: &mut Steps<L>) -> &Entry {
+        steps.tick();
         &self.entries[n as usize]
     }
 }

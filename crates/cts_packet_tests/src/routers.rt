@@ -2,8 +2,9 @@
 use crate::shelves::stocked;
 use crate::world::{tell_lines, world_of};
 use cts_base::Bytes;
-use cts_chain::Chain;
-use cts_core::{Framer, Supplier, World, WorldFault};
+use cts_chain::{Chain, Framer};
+use cts_connection::Supplier;
+use cts_core::{World, WorldFault};
 use cts_def::Site;
 use cts_entry::{Effect, Event, Why};
 use cts_proto::Shelf;

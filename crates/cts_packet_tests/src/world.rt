@@ -1,14 +1,16 @@
 // A world of one interface, event by event: a history with small limits that is full, which no script can ask for, and chains of protocols.
 use crate::shelves::stocked;
 use cts_base::Bytes;
-use cts_chain::Chain;
-use cts_core::{Framer, Supplier, World};
+use cts_chain::{Chain, Framer};
+use cts_connection::Supplier;
+use cts_core::World;
 use cts_def::{Site, Time};
-use cts_entry::{Effect, Entry, Event, Stands, Why};
+use cts_entry::{Effect, Entry, Event, Why};
 use cts_proto::Shelf;
 use cts_rows::{Answers, as_text, bytes_of, cut, debug_of, readable_of, rows_end_so};
 use cts_samples::site_of;
 use cts_script::entry_lines;
+use cts_trace::lend;
 use std::alloc::Global;
 use std::sync::Arc;
 use std::test::Fail;
@@ -122,7 +124,7 @@ pub fn tell_lines<C: Framer>(
 ) -> Result<(), Fail> {
     let hall = world.hall();
     for n in 0..hall.count() {
-        tell_line(alloc, hall.site(), n, hall.lend(n), out)?;
+        tell_line(alloc, hall.site(), n, lend(hall, n), out)?;
     }
     Ok(())
 }

@@ -1,5 +1,6 @@
 -- What the line of a statement says, by the statement's keyword.
 use Rattle.std.proofs.Common.{◌≡◌, ℕ, Bool, true, false, List, ◌++◌, map, Option, Some, None, refl, ap, ◌∙◌}
+use Rattle.std.proofs.Math.Bool.{and-false, and-true}
 use Rattle.std.specs.Prelude.{not, ◌&&◌, ◌||◌, is_some, option_map, option_to_list, unwrap_or}
 use Rattle.std.specs.Option.{option_or}
 use Rattle.std.proofs.lemmas.List.{append-nil}
@@ -156,27 +157,19 @@ placed_by r s = record {
   layout_said = is_some r.layout || s.layout_said;
 }
 
-and_true : (b : Bool) → (b && true) ≡ b
-and_true true = refl
-and_true false = refl
-
-and_false : (b : Bool) → (b && false) ≡ false
-and_false true = refl
-and_false false = refl
-
 same_current : (is : List InterfaceData) (c : Current) → c ≡ change_by is silent c
 same_current is current.Nothing = refl
-same_current is (current.Interface i) = rw (append-nil i.chain, append-nil i.targets, and_true i.reconnect) refl
+same_current is (current.Interface i) = rw (append-nil i.chain, append-nil i.targets, and-true i.reconnect) refl
 same_current is (current.Router r) = rw (append-nil r.chain, append-nil r.routes) refl
 
 changed_by : (is : List InterfaceData) (d : Detail) (c : Current) → change is d c ≡ change_by is (reads_of d) c
 changed_by is d current.Nothing = refl
-changed_by is (detail.Target name) (current.Interface i) = rw (append-nil i.chain, and_true i.reconnect) refl
-changed_by is (detail.Step step) (current.Interface i) = rw (append-nil i.targets, and_true i.reconnect) refl
-changed_by is (detail.Route name) (current.Interface i) = rw (append-nil i.chain, append-nil i.targets, and_true i.reconnect) refl
-changed_by is (detail.Delay delay) (current.Interface i) = rw (append-nil i.chain, append-nil i.targets, and_true i.reconnect) refl
-changed_by is detail.DontReconnect (current.Interface i) = rw (append-nil i.chain, append-nil i.targets, and_false i.reconnect) refl
-changed_by is (detail.Logged logged) (current.Interface i) = rw (append-nil i.chain, append-nil i.targets, and_true i.reconnect) refl
+changed_by is (detail.Target name) (current.Interface i) = rw (append-nil i.chain, and-true i.reconnect) refl
+changed_by is (detail.Step step) (current.Interface i) = rw (append-nil i.targets, and-true i.reconnect) refl
+changed_by is (detail.Route name) (current.Interface i) = rw (append-nil i.chain, append-nil i.targets, and-true i.reconnect) refl
+changed_by is (detail.Delay delay) (current.Interface i) = rw (append-nil i.chain, append-nil i.targets, and-true i.reconnect) refl
+changed_by is detail.DontReconnect (current.Interface i) = rw (append-nil i.chain, append-nil i.targets, and-false i.reconnect) refl
+changed_by is (detail.Logged logged) (current.Interface i) = rw (append-nil i.chain, append-nil i.targets, and-true i.reconnect) refl
 changed_by is (detail.Target name) (current.Router r) = rw (append-nil r.chain, append-nil r.routes) refl
 changed_by is (detail.Step step) (current.Router r) = rw (append-nil r.routes) refl
 changed_by is (detail.Route None) (current.Router r) = rw (append-nil r.chain, append-nil r.routes) refl

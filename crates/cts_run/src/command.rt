@@ -17,7 +17,8 @@ use crate::halt::status::Status;
 use crate::rehearse::rehearse;
 use crate::replay::replay;
 use crate::words::{Command, read_words};
-use cts_core::{Framer, Supplier};
+use cts_chain::Framer;
+use cts_connection::Supplier;
 use cts_outside::{Files, Sink, Vault};
 use std::alloc::Global;
 

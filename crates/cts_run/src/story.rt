@@ -2,8 +2,9 @@
 pub mod text;
 
 use cts_base::{Bytes, Memory};
-use cts_chain::ChainFault;
-use cts_core::{Framer, Supplier, World, WorldFault};
+use cts_chain::{ChainFault, Framer};
+use cts_connection::Supplier;
+use cts_core::{World, WorldFault};
 use cts_def::Site;
 use cts_entry::{Effect, Event};
 use cts_table::Hall;

@@ -17,7 +17,7 @@ use Rattle.cts_outside.specs.declared.vault.LogKind.{LogKind}
 use Rattle.cts_outside.specs.declared.vault.LogKind.TheVariants.{Tlm, Cmd}
 use Rattle.cts_table.specs.Keeping.{rules_of}
 use Rattle.cts_table.specs.declared.basis.Basis.{Basis}
-use Rattle.cts_scribe.specs.Following.{HaveEnded}
+use Rattle.cts_worker.specs.Followed.{HaveEnded}
 use Rattle.cts_scribe.specs.Laws.{ClosedLogsAreWhole}
 use Rattle.cts_scribe.specs.Logs.{entries_log, is_in_log, log, logged_as}
 use Rattle.cts_scribe.proofs.Logging.{log_laid, log_more}

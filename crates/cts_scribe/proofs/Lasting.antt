@@ -16,7 +16,7 @@ use Rattle.cts_worker.specs.Lasts.{entry_of, first_moment, last_entries, stop_if
 use Rattle.cts_worker.proofs.Lasting.{ended_seen, last_own}
 use Rattle.cts_scribe.specs.declared.ending.ScribeWhy.{ScribeWhy}
 use Rattle.cts_scribe.specs.declared.ending.ScribeWhy.TheVariants.{Drained, VaultFailed, NoMemory, Cancelled}
-use Rattle.cts_scribe.specs.declared.progress.Progress.{Progress}
+use Rattle.cts_worker.specs.declared.progress.Progress.{Progress}
 use Rattle.cts_scribe.specs.Ending.{stops_all}
 use Rattle.cts_scribe.specs.Following.{DrainsAt, Ends, Following, IsDrained}
 use Rattle.cts_scribe.specs.declared.sight.Sight.TheVariants.{Drained as DrainedSight}

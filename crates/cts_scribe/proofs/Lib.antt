@@ -1,6 +1,5 @@
 pub mod Logging
 pub mod Vaulting
-pub mod Marking
 pub mod NextEntries
 pub mod Sighting
 pub mod Lasting

@@ -8,8 +8,8 @@ use Rattle.cts_entry.specs.declared.entry.Entry.{Entry}
 use Rattle.cts_entry.specs.Histories.{bytes_for, bytes_in}
 use Rattle.cts_outside.specs.declared.vault.LogKind.{LogKind}
 use Rattle.cts_table.specs.Keeping.{AllOfSite, IsOfSite}
-use Rattle.cts_scribe.specs.declared.progress.Progress.{Progress}
-use Rattle.cts_scribe.specs.Following.{EndedTell, Follows}
+use Rattle.cts_worker.specs.declared.progress.Progress.{Progress}
+use Rattle.cts_worker.specs.Followed.{EndedTell, Follows}
 use Rattle.cts_scribe.specs.Logs.{entries_log}
 use Rattle.cts_scribe.proofs.Logging.{entries_more}
 

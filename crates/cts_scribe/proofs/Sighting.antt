@@ -22,10 +22,11 @@ use Rattle.cts_worker.proofs.Lasting.{last_by}
 use Rattle.cts_worker.specs.Holds.{Adds, Held, InHold, Onward}
 use Rattle.cts_worker.specs.Lasts.{MayEnd, first_moment, last_entries}
 use Rattle.cts_log_batch.specs.declared.batch.Batch.{Batch}
-use Rattle.cts_scribe.specs.declared.progress.Progress.{Progress}
+use Rattle.cts_worker.specs.declared.progress.Progress.{Progress}
 use Rattle.cts_scribe.specs.declared.sight.Sight.{Sight}
 use Rattle.cts_scribe.specs.declared.sight.Sight.TheVariants.{More, Still, Drained}
-use Rattle.cts_scribe.specs.Following.{EndedTell, Follows, Following, HaveEnded, IsDrained, Lays, Sees}
+use Rattle.cts_scribe.specs.Following.{Following, IsDrained, Lays, Sees}
+use Rattle.cts_worker.specs.Followed.{EndedTell, Follows, HaveEnded}
 use Rattle.cts_scribe.specs.Logs.{entries_log, file_kind, log}
 use Rattle.cts_scribe.specs.Vaults.{AreWhole, IsLeft, IsWhole, LogsSo, PutsBoth}
 

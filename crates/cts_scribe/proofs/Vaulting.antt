@@ -11,27 +11,27 @@ use Rattle.cts_scribe.specs.Vaults.{IsLeft, IsPart, IsWhole, LogsSo, PutsBoth, P
 pub whole_part : (l : Log) (bytes more : List ℕ) → IsWhole l bytes → IsPart l (bytes ++ more)
 whole_part l bytes more w =
     let all : bytes ≡ take (length bytes) (bytes ++ more) = sym (take-append_seam bytes more) in
-    (length bytes, length bytes, (let e = length-append bytes more in omega arith), omega arith, w.0 ∙ all, w.1 ∙ all)
+    (length bytes, length bytes, (let e = length-append bytes more in omega arith), omega arith, w.0 ∙ all, w.1 ∙ all, w.2)
 
 -- and so it is where a part of that was appended
 pub whole_cut : (l : Log) (bytes more : List ℕ) (n : ℕ) → n ≤ length more → IsWhole l bytes → IsPart (with_bytes (take n more) l) (bytes ++ more)
 whole_cut l bytes more n le w =
     let all : bytes ≡ take (length bytes) (bytes ++ more) = sym (take-append_seam bytes more) in
-    (length bytes + n, length bytes, (let e = length-append bytes more in omega arith), omega arith, ap (λ b. b ++ take n more) w.0 ∙ sym (take-append-add bytes more n), w.1 ∙ all)
+    (length bytes + n, length bytes, (let e = length-append bytes more in omega arith), omega arith, ap (λ b. b ++ take n more) w.0 ∙ sym (take-append-add bytes more n), w.1 ∙ all, w.2)
 
 -- or all of it
 pub whole_late : (l : Log) (bytes more : List ℕ) → IsWhole l bytes → IsPart (with_bytes more l) (bytes ++ more)
 whole_late l bytes more w =
     let all : bytes ≡ take (length bytes) (bytes ++ more) = sym (take-append_seam bytes more) in
-    (length (bytes ++ more), length bytes, omega arith, (let e = length-append bytes more in omega arith), ap (λ b. b ++ more) w.0 ∙ sym (take-length (bytes ++ more)), w.1 ∙ all)
+    (length (bytes ++ more), length bytes, omega arith, (let e = length-append bytes more in omega arith), ap (λ b. b ++ more) w.0 ∙ sym (take-length (bytes ++ more)), w.1 ∙ all, w.2)
 
 -- then it is synced
 pub whole_next : (l : Log) (bytes more : List ℕ) → IsWhole l bytes → IsWhole (all_synced (with_bytes more l)) (bytes ++ more)
-whole_next l bytes more w = (ap (λ b. b ++ more) w.0, ap (λ b. b ++ more) w.0)
+whole_next l bytes more w = (ap (λ b. b ++ more) w.0, ap (λ b. b ++ more) w.0, w.2)
 
 -- a whole log is a beginning of itself
 pub full_part : (l : Log) (bytes : List ℕ) → IsWhole l bytes → IsPart l bytes
-full_part l bytes w = (length bytes, length bytes, omega arith, omega arith, w.0 ∙ sym (take-length bytes), w.1 ∙ sym (take-length bytes))
+full_part l bytes w = (length bytes, length bytes, omega arith, omega arith, w.0 ∙ sym (take-length bytes), w.1 ∙ sym (take-length bytes), w.2)
 
 -- ---- one log
 

@@ -1,40 +1,21 @@
--- What a scribe knows of the history that it follows, and what one look at it gives.
-use Rattle.std.specs.Prelude.{◌≡◌, ◌≢◌, ℕ, ◌<◌, ◌≤◌, Bool, true, false, List, [], ◌++◌, length, take, slice_index_or, Option, Some, None, Result, Ok, Err}
+-- What one look at the history that a scribe follows gives.
+use Rattle.std.specs.Prelude.{◌≡◌, ℕ, ◌<◌, ◌≤◌, true, false, List, [], ◌++◌, length, take, Option, Some, None, Result, Ok, Err}
 use Rattle.cts_base.specs.declared.memory.Memory.{Memory}
 use Rattle.cts_def.specs.Sites.{SiteData}
 use Rattle.cts_entry.specs.declared.entry.Entry.{Entry}
-use Rattle.cts_entry.specs.Legal.{has_ended}
-use Rattle.cts_entry.specs.Workers.{is_worker}
 use Rattle.cts_outside.specs.declared.vault.LogKind.TheVariants.{Tlm, Cmd}
 use Rattle.cts_trace.specs.Makers.{of_maker}
 use Rattle.cts_turn.specs.Lists.{has}
 use Rattle.cts_turn.specs.declared.rule.View.{View}
+use Rattle.cts_worker.specs.declared.progress.Progress.{Progress}
+use Rattle.cts_worker.specs.Followed.{Follows, HaveEnded}
 use Rattle.cts_worker.specs.Lasts.{first_moment, last_entries}
 use Rattle.cts_scribe.specs.declared.ending.ScribeWhy.{ScribeWhy}
 use Rattle.cts_scribe.specs.declared.ending.ScribeWhy.TheVariants.{Drained as IsDrainedWhy, VaultFailed, NoMemory, Cancelled}
-use Rattle.cts_scribe.specs.declared.progress.Progress.{Progress}
 use Rattle.cts_scribe.specs.declared.sight.Sight.{Sight}
 use Rattle.cts_scribe.specs.declared.sight.Sight.TheVariants.{More, Still, Drained}
 use Rattle.cts_scribe.specs.Ending.{stops_all}
 use Rattle.cts_scribe.specs.Logs.{entries_log}
-
--- of each maker it is told whether it has ended
-pub record EndedTell (ended : List Bool) (history : List Entry) : Type 0 where
-  pub long : length ended ≡ 32
-  pub tell : (m : ℕ) → m < 32 → slice_index_or ended m false ≡ has_ended m history
-
--- a maker is no worker of the site, or this one, or has ended
-abbrev pub IsDone : SiteData → ℕ → ℕ → List Entry → Type 0
-IsDone site but m history = is_worker site m ≡ true → m ≢ but → has_ended m history ≡ true
-
--- every worker of the site but this one has ended
-abbrev pub HaveEnded : SiteData → ℕ → List Entry → Type 0
-HaveEnded site but history = (m : ℕ) → IsDone site but m history
-
--- a number of entries were followed, and these makers have ended in them
-pub record Follows (p : Progress) (history : List Entry) : Type 0 where
-  pub within : p.place ≤ length history
-  pub ended : EndedTell p.ended (take p.place history)
 
 -- The next entries were followed, at least one, and this is what they give to the logs: each log of all that were followed is what it was of
 -- those before, and then this.

@@ -15,7 +15,7 @@ use Rattle.cts_outside.specs.declared.vault.LogKind.{LogKind}
 use Rattle.cts_table.specs.Keeping.{IsKept}
 use Rattle.cts_table.specs.declared.basis.Basis.{Basis}
 use Rattle.cts_turn.specs.Lists.{StartsWith}
-use Rattle.cts_scribe.specs.Following.{HaveEnded}
+use Rattle.cts_worker.specs.Followed.{HaveEnded}
 use Rattle.cts_scribe.specs.Logs.{entries_log, file_kind, log, logged}
 use Rattle.cts_scribe.specs.Vaults.{IsPart}
 

@@ -8,13 +8,13 @@ use Rattle.cts_outside.specs.declared.vault.LogKind.{LogKind}
 use Rattle.cts_outside.specs.declared.vault.LogKind.TheVariants.{Tlm, Cmd}
 use Rattle.cts_scribe.specs.Logs.{log}
 
--- a log that has all of the bytes, synced
+-- a log of one part, which has all of the bytes, synced
 abbrev pub IsWhole : Log → List ℕ → Type 0
-IsWhole l bytes = (l.bytes ≡ bytes) × (l.synced ≡ bytes)
+IsWhole l bytes = (l.bytes ≡ bytes) × (l.synced ≡ bytes) × (l.past ≡ [])
 
--- a log that has a beginning of the bytes, of which a beginning is synced
+-- a log of one part, which has a beginning of the bytes, of which a beginning is synced
 abbrev pub IsPart : Log → List ℕ → Type 0
-IsPart l bytes = (n : ℕ) × (k : ℕ) × (n ≤ length bytes) × (k ≤ n) × (l.bytes ≡ take n bytes) × (l.synced ≡ take k bytes)
+IsPart l bytes = (n : ℕ) × (k : ℕ) × (n ≤ length bytes) × (k ≤ n) × (l.bytes ≡ take n bytes) × (l.synced ≡ take k bytes) × (l.past ≡ [])
 
 -- the log of telemetry is so for these bytes, and that of commands for those, where a vault tells its logs
 abbrev pub LogsSo : (Log → List ℕ → Type 0) → List ℕ → List ℕ → Option Logs → Type 0

@@ -1,15 +1,16 @@
 // What a scribe does to the hall in one hold.
 ghost use Rattle.std.specs.Prelude.{◌≡◌, ◌<◌, ◌++◌, IfOk, false, length};
-ghost use Rattle.cts_scribe.specs.Following.{Follows, Lays, Sees};
+ghost use Rattle.cts_scribe.specs.Following.{Lays, Sees};
+ghost use Rattle.cts_worker.specs.Followed.{Follows};
 ghost use Rattle.cts_worker.specs.Lasts.{MayEnd, first_moment, last_entries};
 
-use crate::progress::Progress;
 use crate::sight::Sight;
 use cts_base::Memory;
 use cts_def::{Site, Time};
-use cts_entry::Stands;
 use cts_log_batch::Batch;
 use cts_table::Hall;
+use cts_trace::lend;
+use cts_worker::Progress;
 use std::alloc::Global;
 
 /// The most entries that are followed in one hold, so that the other workers need not wait long for the turn.
@@ -69,7 +70,7 @@ fn lay_out(
     let mut progress = from;
     let mut batch = Batch::empty(alloc);
     'entries: while progress.place < end {
-        let entry = hall.lend(progress.place);
+        let entry = lend(hall, progress.place);
         batch.add(alloc, site, entry)?;
         progress.follow(entry);
     }

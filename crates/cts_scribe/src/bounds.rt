@@ -8,8 +8,9 @@ ghost use Rattle.cts_scribe.specs.Logs.{logged_as};
 ghost use Rattle.cts_table.specs.Keeping.{IsOfSite};
 
 use cts_def::{Ident, Packet, Site, Time};
-use cts_entry::{Entry, Stands, What};
+use cts_entry::{Entry, What};
 use cts_table::Hall;
+use cts_trace::lend;
 
 // A name has at most 255 bytes.
 fn recall_names(packet: &Packet)
@@ -55,7 +56,7 @@ pub(crate) fn recall_entries(hall: &Hall)
     hall.is_kept();
     let mut place = 0;
     'entries: while place < hall.count() {
-        recall_entry(hall.site(), hall.lend(place));
+        recall_entry(hall.site(), lend(hall, place));
         place += 1;
     }
 }

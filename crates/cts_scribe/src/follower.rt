@@ -1,7 +1,7 @@
 // The state of a scribe.
-use crate::progress::Progress;
 use cts_table::Hall;
 use cts_turn::Pass;
+use cts_worker::Progress;
 
 /// A scribe's pass, and how far it has followed what that has seen.
 #[derive(Drop)]

@@ -22,14 +22,9 @@ use cts_log::{LogKind, head};
 use cts_outside::Vault;
 use cts_table::Hall;
 use cts_turn::Turn;
+use cts_worker::nap;
 use std::alloc::Global;
 use std::sync::Wait;
-use std::thread::Parker;
-use std::time::Duration;
-
-/// How many milliseconds a scribe sleeps where nothing was new: so few that the logs follow the history closely, and so many that a server at rest leaves
-/// its processors to others.
-const NAP: u64 = 5;
 
 // The heads of both logs, in this layout.
 fn heads(alloc: Global, layout: u32, digest: &[u8; 16]) -> Result<(Bytes, Bytes), Memory>
@@ -62,11 +57,6 @@ pub(crate) fn begin_logs<V: Vault>(
         },
         Err(_) => Err(ScribeWhy::NoMemory),
     }
-}
-
-// Sleeps before the next look. A scribe has no clock to sleep by, so it parks where nobody wakes it.
-fn nap<R: Wait>(rt: &R) {
-    Parker::new().park_timeout(rt, Duration::from_millis(NAP));
 }
 
 // One look, and the logs after it. Says why the scribe ends, if it does.

@@ -9,7 +9,6 @@ mod follower;
 mod following;
 mod holds;
 mod laws;
-mod progress;
 mod putting;
 mod sight;
 mod worker;

@@ -18,11 +18,11 @@ use crate::ending::{ScribeEnd, ScribeWhy};
 use crate::follower::Follower;
 use crate::following::{begin_logs, follow};
 use crate::holds::give_up;
-use crate::progress::Progress;
 use cts_def::Site;
 use cts_outside::Vault;
 use cts_table::Hall;
 use cts_turn::{Pass, Turn};
+use cts_worker::Progress;
 use std::alloc::Global;
 use std::sync::Wait;
 

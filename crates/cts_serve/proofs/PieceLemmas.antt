@@ -35,7 +35,8 @@ whole_after xs ys false old mid new p q = (rose_after old mid new p.0 q.0, not_e
 pub fails_before : (xs ys : List ℕ) (old new : SinkSeen) → FailsWithin xs old new → FailsWithin (xs ++ ys) old new
 fails_before xs ys old new q = (q.0, not_empty_first xs ys q.1, part_first old.told new.told xs ys q.2)
 
-pub whole_of : (xs : List ℕ) (result : Result (Unit {0}) Undone) (is : Bool) (old new : SinkSeen) → is ≡ is_ok result → TakesNoMemory result → PutsText xs result old new → PutsWhole xs is old new
+pub whole_of : (xs : List ℕ) (result : Result (Unit {0}) Undone) (is : Bool) (old new : SinkSeen) → is ≡ is_ok result → TakesNoMemory result
+    → PutsText xs result old new → PutsWhole xs is old new
 whole_of xs (Ok done) is old new e m q = subst (λ (b : Bool). PutsWhole xs b old new) (sym e) q
 whole_of xs (Err undone.WriteFault) is old new e m q = subst (λ (b : Bool). PutsWhole xs b old new) (sym e) q
 whole_of xs (Err undone.LogFault) is old new e m q = absurd q
@@ -60,5 +61,11 @@ printed_part xs ys old new f = record {
 }
 
 pub printed_of : (xs : List ℕ) (is : Bool) (old new : SinkSeen) → PutsWhole xs is old new → Printed old new xs
-printed_of xs true old new p = record { later = omega (arith, p.0); count = length xs; part = p.1 ∙ ap (appended old.told) (sym (take-length xs)); whole = λ steady. p.1 }
+printed_of xs true old new p = record {
+  later = omega (arith, p.0);
+  count = length xs;
+  part = p.1 ∙ ap (appended old.told)
+      (sym (take-length xs));
+  whole = λ steady. p.1;
+}
 printed_of xs false old new f = record { later = f.0.0; count = f.2.0; part = f.2.2; whole = λ steady. absurd (omega (arith, steady, f.0.1)) }

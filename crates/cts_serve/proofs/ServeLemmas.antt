@@ -1,12 +1,13 @@
 -- The clauses of a server, by whether it was started.
-use Rattle.std.proofs.Common.{◌≡◌, ◌≢◌, ℕ, ◌<◌, ◌≤◌, true, false, List, [], ◌∷◌, Option, Some, None, IfSome, Result, Ok, Err, refl, sym, ◌∙◌, ap, subst, arith, ◌⊎◌, inl, inr}
+use Rattle.std.proofs.Common.{◌≡◌, ◌≢◌, ℕ, ◌<◌, ◌≤◌, true, false, List, [], ◌∷◌, Option, Some, None, IfSome, Result, Ok, Err, refl, sym, ◌∙◌, ap}
+use Rattle.std.proofs.Common.{subst, arith, ◌⊎◌, inl, inr}
 use Rattle.std.specs.Option.{option_or}
 use Rattle.std.specs.Prelude.{IsSome, IsSomeAnd, is_some, option_map}
 use Rattle.cts_def.specs.Sites.{SiteData}
 use Rattle.cts_def.specs.declared.proto_spec.Kind.{Kind}
-use Rattle.cts_ending.specs.Troubles.{has_closed}
-use Rattle.cts_ending.specs.declared.trouble.Trouble.{Trouble}
-use Rattle.cts_ending.specs.declared.trouble.Trouble.TheVariants as trouble
+use Rattle.cts_server.specs.Troubles.{has_closed}
+use Rattle.cts_server.specs.declared.outcome.trouble.Trouble.{Trouble}
+use Rattle.cts_server.specs.declared.outcome.trouble.Trouble.TheVariants as trouble
 use Rattle.cts_entry.specs.Histories.{entries_in}
 use Rattle.cts_entry.specs.Legal.{most_entries}
 use Rattle.cts_entry.specs.declared.entry.Entry.{Entry}
@@ -36,7 +37,8 @@ use Rattle.cts_run.proofs.PhaseLemmas.{first_past}
 
 module _ (ps : List Phase) (status : Status) (old new : SinkSeen) (k : HaltsServing ps status old new) where
   -- the status of a phase's reason
-  by_phase : (h : Halt) (mid : SinkSeen) → UnstartedBy ps h old mid → EndsHalted h status mid new → status ≢ is.Memory → status ≢ is.ReadFault → status ≢ is.WriteFault → (f : Halt) × (first_halt ps ≡ Some f) × (status ≡ halt_status f)
+  by_phase : (h : Halt) (mid : SinkSeen) → UnstartedBy ps h old mid → EndsHalted h status mid new → status ≢ is.Memory → status ≢ is.ReadFault
+      → status ≢ is.WriteFault → (f : Halt) × (first_halt ps ≡ Some f) × (status ≡ halt_status f)
   by_phase h mid u (inr e) m r w = absurd (m e.1)
   by_phase halt.Memory mid u (inl e) m r w = absurd (m e.0)
   by_phase (halt.ReadFault name) mid u (inl e) m r w = absurd (r e.0)
@@ -55,7 +57,8 @@ module _ (ps : List Phase) (status : Status) (old new : SinkSeen) (k : HaltsServ
   same_status h f g e = cc (sym g ∙ e)
 
   -- a phase has this reason, so that no other comes
-  by_reason : (f h : Halt) (mid : SinkSeen) → first_halt ps ≡ Some f → UnstartedBy ps h old mid → EndsHalted h status mid new → status ≢ is.ReadFault → (status ≡ halt_status f) ⊎ (status ≡ is.Memory)
+  by_reason : (f h : Halt) (mid : SinkSeen) → first_halt ps ≡ Some f → UnstartedBy ps h old mid → EndsHalted h status mid new → status ≢ is.ReadFault
+      → (status ≡ halt_status f) ⊎ (status ≡ is.Memory)
   by_reason f h mid e u (inr t) r = inr t.1
   by_reason f halt.Memory mid e u (inl t) r = inr t.0
   by_reason f (halt.ReadFault name) mid e u (inl t) r = absurd (r t.0)
@@ -71,7 +74,8 @@ module _ (ps : List Phase) (status : Status) (old new : SinkSeen) (k : HaltsServ
   reason_status f e r = by_reason f k.halt k.mid e k.halts k.ends r
 
   -- no phase has one
-  by_none : (h : Halt) (mid : SinkSeen) → first_halt ps ≡ None → UnstartedBy ps h old mid → EndsHalted h status mid new → status ≢ is.ReadFault → status ≢ is.WriteFault → status ≡ is.Memory
+  by_none : (h : Halt) (mid : SinkSeen) → first_halt ps ≡ None → UnstartedBy ps h old mid → EndsHalted h status mid new → status ≢ is.ReadFault
+      → status ≢ is.WriteFault → status ≡ is.Memory
   by_none h mid e u (inr t) r w = t.1
   by_none halt.Memory mid e u (inl t) r w = t.0
   by_none (halt.ReadFault name) mid e u (inl t) r w = absurd (r t.0)
@@ -92,11 +96,14 @@ module _ (stock : List Meaning) (all : List ℕ → Option (List ℕ)) (definiti
   abbrev nothing : List Act → Result (Unit {0}) Halt → Type 0
   nothing acts due = ⊥
 
-  pub short_by : (f : Halt) → first_halt (first_phases stock all definitions site) ≡ Some f → halt_status f ≡ is.ShelfEmpty → IsShortOf stock all definitions site
-  short_by f e s = short_where stock all definitions site [] nothing (λ acts due m h. m) [] (Err f) (halts_so (first_phases stock all definitions site) nothing f e) s
+  pub short_by : (f : Halt) → first_halt (first_phases stock all definitions site) ≡ Some f → halt_status f ≡ is.ShelfEmpty
+      → IsShortOf stock all definitions site
+  short_by f e s = short_where stock all definitions site [] nothing (λ acts due m h. m) [] (Err f)
+      (halts_so (first_phases stock all definitions site) nothing f e) s
 
   -- the reason of the phases where it is short
-  pub short_reason : (s : IsShortOf stock all definitions site) → first_halt (first_phases stock all definitions site) ≡ Some (short_halt stock (site_asked all definitions site) s.kind)
+  pub short_reason : (s : IsShortOf stock all definitions site) → first_halt (first_phases stock all definitions site) ≡ Some
+      (short_halt stock (site_asked all definitions site) s.kind)
   short_reason s =
       let x = site_asked all definitions site in
       first_past (site_phases all definitions site) (shelf_phase stock x ∷ []) s.taken ∙ short_alone x s.kind s.short
@@ -105,7 +112,8 @@ module _ (stock : List Meaning) (all : List ℕ → Option (List ℕ)) (definiti
       short_alone x kind e = ap (λ (t : Option Kind). option_or (option_map (short_halt stock x) t) None) e
 
 -- the boxes of all chains are gone where it was started
-pub shelf_started : (site : SiteData) (first : Option Halt) (status : Status) (old new : List Meaning) → first ≡ None → ShelfBy site first (Ok tt) old new → ShelfAt site first status old new
+pub shelf_started : (site : SiteData) (first : Option Halt) (status : Status) (old new : List Meaning) → first ≡ None → ShelfBy site first
+    (Ok tt) old new → ShelfAt site first status old new
 shelf_started site (Some h) status old new e k = k
 shelf_started site None is.Ok old new e k = k
 shelf_started site None is.Memory old new e k = inr k
@@ -124,15 +132,19 @@ shelf_started site None is.DoorFault old new e k = k
 
 -- ---- it was started, and nothing failed
 
-module _ {Q V : Type 0} (door_seen : Q → LineSeen) (vault_seen : V → VaultSeen) (doors doors' : List (Option Q)) (vault vault' : Option V) (before now : ℕ) (old new : SinkSeen) (history : List Entry) where
+module _ {Q V : Type 0} (door_seen : Q → LineSeen) (vault_seen : V → VaultSeen) (doors doors' : List (Option Q)) (vault vault' : Option V)
+    (before now : ℕ) (old new : SinkSeen) (history : List Entry) where
   vault_not : (v v' : Option V) → VaultRose vault_seen v v' → VaultIsSteady vault_seen v v' → ⊥
   vault_not (Some x) (Some y) r s = steady_rose (vault_seen x).faults (vault_seen y).faults s r
   vault_not (Some x) None r s = r
   vault_not None v' r s = r
 
-  pub complete_by : (t : Option Trouble) → Steady old.faults new.faults → VaultIsSteady vault_seen vault vault' → Steady before now → (DialFailedIn door_seen doors doors' → ⊥) → has_closed trouble.HistoryFull history ≡ false → entries_in history < most_entries
-      → (trouble_status t ≡ is.WriteFault → Rose old.faults new.faults) → (trouble_status t ≡ is.LogFault → VaultRose vault_seen vault vault') → (trouble_status t ≡ is.NoWorker → raised before ≤ now)
-      → (trouble_status t ≡ is.DoorFault → DialFailedIn door_seen doors doors') → (trouble_status t ≡ is.HistoryFull → (has_closed trouble.HistoryFull history ≡ true) ⊎ (entries_in history ≡ most_entries))
+  pub complete_by : (t : Option Trouble) → Steady old.faults new.faults → VaultIsSteady vault_seen vault vault' → Steady before now
+      → (DialFailedIn door_seen doors doors' → ⊥) → has_closed trouble.HistoryFull history ≡ false → entries_in history < most_entries
+      → (trouble_status t ≡ is.WriteFault → Rose old.faults new.faults) → (trouble_status t ≡ is.LogFault → VaultRose vault_seen vault vault')
+      → (trouble_status t ≡ is.NoWorker → raised before ≤ now)
+      → (trouble_status t ≡ is.DoorFault → DialFailedIn door_seen doors doors')
+      → (trouble_status t ≡ is.HistoryFull → (has_closed trouble.HistoryFull history ≡ true) ⊎ (entries_in history ≡ most_entries))
       → (trouble_status t ≡ is.Ok) ⊎ (trouble_status t ≡ is.Memory)
   complete_by None put kept jobs dials closed room write log worker door full = inl refl
   complete_by (Some trouble.Memory) put kept jobs dials closed room write log worker door full = inr refl
@@ -194,19 +206,23 @@ module _ (told : Option (List ℕ → Option (List ℕ))) (asked : Option (List 
   pub asked_not : {A : Type 0} → asked ≡ None → A
   asked_not none = absurd (cc (sym is ∙ none))
 
-pub told_unasked : (told : Option (List ℕ → Option (List ℕ))) (asked : Option (List ℕ × List ℕ)) (P : (List ℕ → Option (List ℕ)) → List ℕ × List ℕ → Type 0) → asked ≡ None → IfSome told (λ all. IfSome asked (P all))
+pub told_unasked : (told : Option (List ℕ → Option (List ℕ))) (asked : Option (List ℕ × List ℕ))
+    (P : (List ℕ → Option (List ℕ)) → List ℕ × List ℕ → Type 0) → asked ≡ None → IfSome told (λ all. IfSome asked (P all))
 told_unasked None asked P none = tt
 told_unasked (Some all) asked P none = subst (λ (o : Option (List ℕ × List ℕ)). IfSome o (P all)) (sym none) tt
 
 -- what holds of all files that are told, by what else does
-pub told_both : (told : Option (List ℕ → Option (List ℕ))) (P Q R : (List ℕ → Option (List ℕ)) → Type 0) → ((all : List ℕ → Option (List ℕ)) → P all → Q all → R all) → IfSome told P → IfSome told Q → IfSome told R
+pub told_both : (told : Option (List ℕ → Option (List ℕ))) (P Q R : (List ℕ → Option (List ℕ)) → Type 0)
+    → ((all : List ℕ → Option (List ℕ)) → P all → Q all → R all) → IfSome told P → IfSome told Q → IfSome told R
 told_both None P Q R f p q = tt
 told_both (Some all) P Q R f p q = f all p q
 
-pub told_one : (told : Option (List ℕ → Option (List ℕ))) (P R : (List ℕ → Option (List ℕ)) → Type 0) → ((all : List ℕ → Option (List ℕ)) → P all → R all) → IfSome told P → IfSome told R
+pub told_one : (told : Option (List ℕ → Option (List ℕ))) (P R : (List ℕ → Option (List ℕ)) → Type 0)
+    → ((all : List ℕ → Option (List ℕ)) → P all → R all) → IfSome told P → IfSome told R
 told_one None P R f p = tt
 told_one (Some all) P R f p = f all p
 
 -- what a server halts for, and how it ends then
-pub halts_serving : (ps : List Phase) (h : Halt) (status : Status) (old mid new : SinkSeen) → UnstartedBy ps h old mid → EndsHalted h status mid new → HaltsServing ps status old new
+pub halts_serving : (ps : List Phase) (h : Halt) (status : Status) (old mid new : SinkSeen) → UnstartedBy ps h old mid → EndsHalted h status mid new
+    → HaltsServing ps status old new
 halts_serving ps h status old mid new u e = record { halt = h; mid = mid; halts = u; ends = e }

@@ -1,16 +1,17 @@
 -- What holds of a server whose workers have worked, by its status.
-use Rattle.std.proofs.Common.{◌≡◌, ◌≢◌, ℕ, ◌≤◌, Bool, true, false, not, ◌||◌, List, [], ◌++◌, length, take, drop, Option, Some, None, refl, sym, ◌∙◌, ap, subst, arith, ◌⊎◌, inl, inr}
+use Rattle.std.proofs.Common.{◌≡◌, ◌≢◌, ℕ, ◌≤◌, Bool, true, false, not, ◌||◌, List, [], ◌++◌, length, take, drop, Option, Some, None, refl, sym, ◌∙◌}
+use Rattle.std.proofs.Common.{ap, subst, arith, ◌⊎◌, inl, inr}
 use Rattle.std.specs.Prelude.{count_by}
 use Rattle.std.specs.List.{AllByRecursion, list_any}
 use Rattle.std.proofs.lemmas.List.{take-append-drop}
 use Rattle.std.proofs.lemmas.List.Folds.{list_any-append}
 use Rattle.cts_def.specs.Makers.{first_desk, first_slot}
 use Rattle.cts_def.specs.Sites.{SiteData}
-use Rattle.cts_ending.proofs.Telling.{plain_where_none, tells_first}
-use Rattle.cts_ending.specs.Laws.{is_plain_desk, is_plain_line}
-use Rattle.cts_ending.specs.Troubles.{Left, has_closed, line_shows, shows, trouble_of}
-use Rattle.cts_ending.specs.declared.trouble.Trouble.{Trouble}
-use Rattle.cts_ending.specs.declared.trouble.Trouble.TheVariants as trouble
+use Rattle.cts_server.proofs.Telling.{plain_where_none, tells_first}
+use Rattle.cts_server.specs.TroubleLaws.{is_plain_desk, is_plain_line}
+use Rattle.cts_server.specs.Troubles.{Left, has_closed, line_shows, shows, trouble_of}
+use Rattle.cts_server.specs.declared.outcome.trouble.Trouble.{Trouble}
+use Rattle.cts_server.specs.declared.outcome.trouble.Trouble.TheVariants as trouble
 use Rattle.cts_entry.specs.Histories.{entries_in}
 use Rattle.cts_entry.specs.Legal.{most_entries}
 use Rattle.cts_entry.specs.declared.entry.Entry.{Entry}
@@ -27,12 +28,14 @@ use Rattle.cts_run.specs.Lines.{end_line}
 use Rattle.cts_run.specs.Phases.{IsFound}
 use Rattle.cts_run.specs.Putting.{FailsWithin, IsPut, Printed}
 use Rattle.cts_serve.specs.Served.{DialFailedIn, EndsServing, IsFine, VaultRose, left, trouble_line, trouble_status}
-use Rattle.cts_serve.specs.Serving.{HasServed}
+use Rattle.cts_server.specs.Serving.{HasServed}
 use Rattle.cts_run.specs.declared.halt.status.Status.{Status}
 use Rattle.cts_run.specs.declared.halt.status.Status.TheVariants as is
 use Rattle.cts_serve.specs.declared.serving.ended.Ended.{Ended}
 use Rattle.cts_serve.proofs.PieceLemmas.{printed_after, printed_part}
-use Rattle.cts_serve.proofs.TroubleLemmas.{aims_fit, desks_door, dial_of_first, dial_of_rest, full_later, lines_door, lines_full, log_shown, door_shown, full_shown, no_door, none_cancelled, raised_never, raised_once, vault_failed, vault_still, worker_cancelled}
+use Rattle.cts_serve.proofs.TroubleLemmas.{aims_fit, desks_door, dial_of_first, dial_of_rest, full_later, lines_door, lines_full, log_shown}
+use Rattle.cts_serve.proofs.TroubleLemmas.{door_shown, full_shown, no_door, none_cancelled, raised_never, raised_once, vault_failed, vault_still}
+use Rattle.cts_serve.proofs.TroubleLemmas.{worker_cancelled}
 
 -- ---- the end
 
@@ -44,7 +47,8 @@ module _ (lines : List LineWhy) (desks : List DeskNote) (scribe : ScribeWhy) (hi
   text = end_line (length history)
 
   -- the number of entries was put, and then the last line
-  pub told_end : (t : Option Trouble) (status : Status) (old mid new : SinkSeen) → t ≡ trouble_of (At true) → status ≡ trouble_status t → IsPut text old mid → Printed mid new (trouble_line t history) → (t ≡ None → new ≡ mid)
+  pub told_end : (t : Option Trouble) (status : Status) (old mid new : SinkSeen) → t ≡ trouble_of (At true) → status ≡ trouble_status t
+      → IsPut text old mid → Printed mid new (trouble_line t history) → (t ≡ None → new ≡ mid)
       → EndsServing [] lines desks scribe history status old new
   told_end t status old mid new e s p q quiet = record {
     written = true;
@@ -55,7 +59,8 @@ module _ (lines : List LineWhy) (desks : List DeskNote) (scribe : ScribeWhy) (hi
   }
 
   -- it was not
-  pub untold_end : (t : Option Trouble) (status : Status) (old new : SinkSeen) → t ≡ trouble_of (At false) → status ≡ trouble_status t → FailsWithin text old new → EndsServing [] lines desks scribe history status old new
+  pub untold_end : (t : Option Trouble) (status : Status) (old new : SinkSeen) → t ≡ trouble_of (At false) → status ≡ trouble_status t
+      → FailsWithin text old new → EndsServing [] lines desks scribe history status old new
   untold_end t status old new e s f = record {
     written = false;
     lost = λ same. f.0;
@@ -65,7 +70,8 @@ module _ (lines : List LineWhy) (desks : List DeskNote) (scribe : ScribeWhy) (hi
   }
 
   -- after it was said that the server is ready
-  pub ready_end : (status : Status) (old mid new : SinkSeen) → IsPut ready_line old mid → EndsServing [] lines desks scribe history status mid new → EndsServing ready_line lines desks scribe history status old new
+  pub ready_end : (status : Status) (old mid new : SinkSeen) → IsPut ready_line old mid → EndsServing [] lines desks scribe history status mid new
+      → EndsServing ready_line lines desks scribe history status old new
   ready_end status old mid new p e = record {
     written = e.written;
     lost = λ f. subst (λ (n : ℕ). Rose n new.faults) p.0 (e.lost f);
@@ -173,8 +179,10 @@ not_true : (b : Bool) → not b ≡ true → b ≡ false
 not_true true e = absurd (cc e)
 not_true false e = refl
 
-module _ {D Q V : Type 0} (line_seen : D → LineSeen) (door_seen : Q → LineSeen) (vault_seen : V → VaultSeen) (site : SiteData) (digest : List ℕ) (w : Worked) (dialers dialers' : List (Option D)) (doors doors' : List (Option Q)) (vault vault' : Option V) (crew crew' : CrewSeen)
-    (served : HasServed line_seen door_seen vault_seen site digest w dialers dialers' doors doors' vault vault' crew crew') (status : Status) (old new : SinkSeen) (ends : EndsServing ready_line w.lines w.desks w.scribe w.history status old new) where
+module _ {D Q V : Type 0} (line_seen : D → LineSeen) (door_seen : Q → LineSeen) (vault_seen : V → VaultSeen) (site : SiteData) (digest : List ℕ)
+    (w : Worked) (dialers dialers' : List (Option D)) (doors doors' : List (Option Q)) (vault vault' : Option V) (crew crew' : CrewSeen)
+    (served : HasServed line_seen door_seen vault_seen site digest w dialers dialers' doors doors' vault vault' crew crew') (status : Status)
+    (old new : SinkSeen) (ends : EndsServing ready_line w.lines w.desks w.scribe w.history status old new) where
   abbrev told : Left
   told = left ends.written w.lines w.desks w.scribe w.history
 
@@ -183,39 +191,55 @@ module _ {D Q V : Type 0} (line_seen : D → LineSeen) (door_seen : Q → LineSe
   shown t e = (tells_first told t e).0
 
   -- the lines are those of interfaces, and then of slots
-  lines_split : (p : LineWhy → Bool) → list_any p w.lines ≡ (list_any p (take (length site.interfaces) w.lines) || list_any p (drop (length site.interfaces) w.lines))
-  lines_split p = ap (list_any p) (sym (take-append-drop (length site.interfaces) w.lines)) ∙ list_any-append p (take (length site.interfaces) w.lines) (drop (length site.interfaces) w.lines)
+  lines_split : (p : LineWhy → Bool) → list_any p w.lines ≡ (list_any p (take (length site.interfaces) w.lines) || list_any p
+      (drop (length site.interfaces) w.lines))
+  lines_split p = ap (list_any p) (sym (take-append-drop (length site.interfaces) w.lines)) ∙ list_any-append p
+      (take (length site.interfaces) w.lines) (drop (length site.interfaces) w.lines)
 
   pub served_write : status ≡ is.WriteFault → Rose old.faults new.faults
   served_write e = ends.lost (not_true ends.written (shown trouble.WriteFault (trouble_write (trouble_of told) (sym ends.status_is ∙ e))))
 
   pub served_log : status ≡ is.LogFault → VaultRose vault_seen vault vault'
-  served_log e = vault_failed vault_seen site digest w.history vault vault' w.scribe (log_shown told (shown trouble.LogFault (trouble_log (trouble_of told) (sym ends.status_is ∙ e)))) served.scribe
+  served_log e = vault_failed vault_seen site digest w.history vault vault' w.scribe
+      (log_shown told (shown trouble.LogFault (trouble_log (trouble_of told) (sym ends.status_is ∙ e)))) served.scribe
 
   pub served_worker : status ≡ is.NoWorker → raised crew.faults ≤ crew'.faults
   served_worker e =
-      raised_once (count_by is_set (cancellations w)) crew.faults crew'.faults (worker_cancelled w (shown trouble.NoWorker (trouble_worker (trouble_of told) (sym ends.status_is ∙ e)))) (ap (λ (c : CrewSeen). c.faults) served.jobs)
+      raised_once (count_by is_set (cancellations w)) crew.faults crew'.faults
+      (worker_cancelled w (shown trouble.NoWorker (trouble_worker (trouble_of told) (sym ends.status_is ∙ e))))
+      (ap (λ (c : CrewSeen). c.faults) served.jobs)
 
   pub served_door : status ≡ is.DoorFault → DialFailedIn door_seen doors doors'
   served_door e = elim (door_shown told (shown trouble.DoorFault (trouble_door (trouble_of told) (sym ends.status_is ∙ e)))) [
-    | inl line ↦ by_line (list_any (line_shows trouble.DoorFault) (take (length site.interfaces) w.lines)) refl (sym (lines_split (line_shows trouble.DoorFault)) ∙ line)
-    | inr d ↦ dial_of_rest door_seen site w.history 8 doors doors' (desks_door door_seen site w.history first_desk (desk_aims site) (drop 8 doors) (drop 8 doors') w.desks served.desks d)
+    | inl line ↦ by_line (list_any (line_shows trouble.DoorFault) (take (length site.interfaces) w.lines)) refl
+        (sym (lines_split (line_shows trouble.DoorFault)) ∙ line)
+    | inr d ↦ dial_of_rest door_seen site w.history 8 doors doors'
+        (desks_door door_seen site w.history first_desk (desk_aims site) (drop 8 doors) (drop 8 doors') w.desks served.desks d)
   ]
     where
-      by_line : (b : Bool) → list_any (line_shows trouble.DoorFault) (take (length site.interfaces) w.lines) ≡ b → (b || list_any (line_shows trouble.DoorFault) (drop (length site.interfaces) w.lines)) ≡ true → DialFailedIn door_seen doors doors'
-      by_line true h k = absurd (no_door line_seen site w.history 0 (line_aims site) dialers dialers' (take (length site.interfaces) w.lines) (aims_fit site) served.interfaces h)
+      by_line : (b : Bool) → list_any (line_shows trouble.DoorFault) (take (length site.interfaces) w.lines) ≡ b
+          → (b || list_any (line_shows trouble.DoorFault) (drop (length site.interfaces) w.lines)) ≡ true → DialFailedIn door_seen doors doors'
+      by_line true h k = absurd (no_door line_seen site w.history 0 (line_aims site) dialers dialers' (take (length site.interfaces) w.lines)
+          (aims_fit site) served.interfaces h)
       by_line false h k =
-          dial_of_first door_seen site w.history 8 doors doors' (lines_door door_seen site w.history first_slot (slot_aims site) (take 8 doors) (take 8 doors') (drop (length site.interfaces) w.lines) served.slots k)
+          dial_of_first door_seen site w.history 8 doors doors'
+          (lines_door door_seen site w.history first_slot (slot_aims site) (take 8 doors) (take 8 doors')
+          (drop (length site.interfaces) w.lines) served.slots k)
 
-  full_by_line : list_any (line_shows trouble.HistoryFull) w.lines ≡ true → (has_closed trouble.HistoryFull w.history ≡ true) ⊎ (most_entries ≤ entries_in w.history)
-  full_by_line line = by_line (list_any (line_shows trouble.HistoryFull) (take (length site.interfaces) w.lines)) refl (sym (lines_split (line_shows trouble.HistoryFull)) ∙ line)
+  full_by_line : list_any (line_shows trouble.HistoryFull) w.lines ≡ true → (has_closed trouble.HistoryFull w.history ≡ true)
+      ⊎ (most_entries ≤ entries_in w.history)
+  full_by_line line = by_line (list_any (line_shows trouble.HistoryFull) (take (length site.interfaces) w.lines)) refl
+      (sym (lines_split (line_shows trouble.HistoryFull)) ∙ line)
     where
-      by_line : (b : Bool) → list_any (line_shows trouble.HistoryFull) (take (length site.interfaces) w.lines) ≡ b → (b || list_any (line_shows trouble.HistoryFull) (drop (length site.interfaces) w.lines)) ≡ true
+      by_line : (b : Bool) → list_any (line_shows trouble.HistoryFull) (take (length site.interfaces) w.lines) ≡ b
+          → (b || list_any (line_shows trouble.HistoryFull) (drop (length site.interfaces) w.lines)) ≡ true
           → (has_closed trouble.HistoryFull w.history ≡ true) ⊎ (most_entries ≤ entries_in w.history)
       by_line true h k = lines_full line_seen site w.history 0 (line_aims site) dialers dialers' (take (length site.interfaces) w.lines) served.interfaces h
-      by_line false h k = lines_full door_seen site w.history first_slot (slot_aims site) (take 8 doors) (take 8 doors') (drop (length site.interfaces) w.lines) served.slots k
+      by_line false h k = lines_full door_seen site w.history first_slot (slot_aims site) (take 8 doors) (take 8 doors')
+          (drop (length site.interfaces) w.lines) served.slots k
 
-  at_limit : (has_closed trouble.HistoryFull w.history ≡ true) ⊎ (most_entries ≤ entries_in w.history) → (has_closed trouble.HistoryFull w.history ≡ true) ⊎ (entries_in w.history ≡ most_entries)
+  at_limit : (has_closed trouble.HistoryFull w.history ≡ true) ⊎ (most_entries ≤ entries_in w.history)
+      → (has_closed trouble.HistoryFull w.history ≡ true) ⊎ (entries_in w.history ≡ most_entries)
   at_limit (inl c) = inl c
   at_limit (inr m) = let l = served.legal.legal.entries in inr (omega (arith, m, l))
 
@@ -225,7 +249,8 @@ module _ {D Q V : Type 0} (line_seen : D → LineSeen) (door_seen : Q → LineSe
     | inr closed ↦ inl closed
   ]
 
-  pub served_fine : (files files' : FilesSeen) → IsFound files files' → status ≡ is.Ok → (e : Ended) → e.lines ≡ w.lines → e.desks ≡ w.desks → e.scribe ≡ Some w.scribe → e.history ≡ w.history
+  pub served_fine : (files files' : FilesSeen) → IsFound files files' → status ≡ is.Ok → (e : Ended) → e.lines ≡ w.lines → e.desks ≡ w.desks
+      → e.scribe ≡ Some w.scribe → e.history ≡ w.history
       → IsFine vault_seen files files' old new vault vault' crew crew' e
   served_fine files files' found ok e ls ds sc hs =
       let none = trouble_fine (trouble_of told) (sym ends.status_is ∙ ok) in
@@ -235,7 +260,8 @@ module _ {D Q V : Type 0} (line_seen : D → LineSeen) (door_seen : Q → LineSe
         absent = found.1;
         put = ends.steady none;
         kept = vault_still vault_seen site digest w.history vault vault' w.scribe plain.scribe served.scribe;
-        jobs = raised_never (count_by is_set (cancellations w)) crew.faults crew'.faults (none_cancelled w plain.lines plain.desks plain.scribe) (ap (λ (c : CrewSeen). c.faults) served.jobs);
+        jobs = raised_never (count_by is_set (cancellations w)) crew.faults crew'.faults (none_cancelled w plain.lines plain.desks plain.scribe)
+            (ap (λ (c : CrewSeen). c.faults) served.jobs);
         lines = subst (λ (x : List LineWhy). AllByRecursion (λ (why : LineWhy). is_plain_line why ≡ true) x) (sym ls) plain.lines;
         desks = subst (λ (x : List DeskNote). AllByRecursion (λ (n : DeskNote). is_plain_desk n.why ≡ true) x) (sym ds) plain.desks;
         scribe = sc ∙ ap (λ (y : ScribeWhy). Some y) plain.scribe;
@@ -244,7 +270,8 @@ module _ {D Q V : Type 0} (line_seen : D → LineSeen) (door_seen : Q → LineSe
       }
 
 -- where a connection was closed since the history was full, no status with a greater number comes
-pub full_is_told : (l : Left) → has_closed trouble.HistoryFull l.history ≡ true → (t : Option Trouble) → trouble_of l ≡ t → (trouble_status t ≡ is.Memory) ⊎ ((trouble_status t ≡ is.WriteFault) ⊎ (trouble_status t ≡ is.HistoryFull))
+pub full_is_told : (l : Left) → has_closed trouble.HistoryFull l.history ≡ true → (t : Option Trouble) → trouble_of l ≡ t
+    → (trouble_status t ≡ is.Memory) ⊎ ((trouble_status t ≡ is.WriteFault) ⊎ (trouble_status t ≡ is.HistoryFull))
 full_is_told l c None e = absurd (cc (sym c ∙ (plain_where_none l e).room))
 full_is_told l c (Some trouble.Memory) e = inl refl
 full_is_told l c (Some trouble.WriteFault) e = inr (inl refl)

@@ -1,5 +1,6 @@
 -- What a trouble that is told says of the workers of a site, of their devices and of their history.
-use Rattle.std.proofs.Common.{◌≡◌, ℕ, zero, suc, cond, ◌+◌, ◌≤◌, Bool, true, false, ◌&&◌, ◌||◌, ◌==◌, List, [], ◌∷◌, ◌++◌, length, take, drop, map, Option, Some, None, refl, sym, ◌∙◌, ap, subst, arith, ◌⊎◌, inl, inr}
+use Rattle.std.proofs.Common.{◌≡◌, ℕ, zero, suc, cond, ◌+◌, ◌≤◌, Bool, true, false, ◌&&◌, ◌||◌, ◌==◌, List, [], ◌∷◌, ◌++◌, length, take, drop, map}
+use Rattle.std.proofs.Common.{Option, Some, None, refl, sym, ◌∙◌, ap, subst, arith, ◌⊎◌, inl, inr}
 use Rattle.std.specs.Prelude.{count_by}
 use Rattle.std.specs.List.{AllByRecursion, list_any}
 use Rattle.std.proofs.lemmas.Bool.Decides.{nat_tests}
@@ -10,13 +11,13 @@ use Rattle.cts_def.specs.Sites.{SiteData}
 use Rattle.cts_desk.specs.declared.ending.DeskWhy.{DeskWhy}
 use Rattle.cts_desk.specs.declared.ending.DeskWhy.TheVariants as desk
 use Rattle.cts_desk.specs.Ending.{CausesEnd as CausesDeskEnd}
-use Rattle.cts_duties.specs.Desks.{is_cancelled as is_cancelled_desk}
-use Rattle.cts_duties.specs.Lines.{is_cancelled}
-use Rattle.cts_duties.specs.Scribes.{is_cancelled as is_cancelled_scribe}
-use Rattle.cts_ending.specs.Laws.{is_plain_desk, is_plain_line}
-use Rattle.cts_ending.specs.Troubles.{Left, closed_shows, desk_shows, has_closed, line_shows, has_desk, scribe_shows, shows}
-use Rattle.cts_ending.specs.declared.trouble.Trouble.{Trouble}
-use Rattle.cts_ending.specs.declared.trouble.Trouble.TheVariants as trouble
+use Rattle.cts_server.specs.Desks.{is_cancelled as is_cancelled_desk}
+use Rattle.cts_server.specs.Lines.{is_cancelled}
+use Rattle.cts_server.specs.Scribes.{is_cancelled as is_cancelled_scribe}
+use Rattle.cts_server.specs.TroubleLaws.{is_plain_desk, is_plain_line}
+use Rattle.cts_server.specs.Troubles.{Left, closed_shows, desk_shows, has_closed, line_shows, has_desk, scribe_shows, shows}
+use Rattle.cts_server.specs.declared.outcome.trouble.Trouble.{Trouble}
+use Rattle.cts_server.specs.declared.outcome.trouble.Trouble.TheVariants as trouble
 use Rattle.cts_entry.specs.Histories.{entries_for, entries_in}
 use Rattle.cts_entry.specs.Legal.{most_entries}
 use Rattle.cts_entry.specs.Workers.{is_interface}
@@ -86,7 +87,8 @@ closes_never test never (what.Unrouted why bytes) = refl
 closes_never test never what.Stop = refl
 closes_never test never what.Ended = refl
 
-closes_implies : (test more : Why → Bool) (implies : (why : Why) → test why ≡ true → more why ≡ true) (w : What) → closes_for test w ≡ true → closes_for more w ≡ true
+closes_implies : (test more : Why → Bool) (implies : (why : Why) → test why ≡ true → more why ≡ true) (w : What) → closes_for test w ≡ true
+    → closes_for more w ≡ true
 closes_implies test more implies what.Opened e = absurd (cc e)
 closes_implies test more implies (what.Packet ident stored bytes) e = absurd (cc e)
 closes_implies test more implies (what.Closed why loss unposted unsent) e = implies why e
@@ -143,22 +145,27 @@ entries_later seen rest = let both = sum_by-append (λ (e : Entry). entries_for 
 
 module _ {X : Type 0} (seen : X → LineSeen) (site : SiteData) (history : List Entry) where
   -- a line that ended since the history was full
-  pub line_full : (by : ℕ) (aim : Aim) (x y : X) → LineOwes seen site history by aim x y line.Full → (has_closed trouble.HistoryFull history ≡ true) ⊎ (most_entries ≤ entries_in history)
+  pub line_full : (by : ℕ) (aim : Aim) (x y : X) → LineOwes seen site history by aim x y line.Full → (has_closed trouble.HistoryFull history ≡ true)
+      ⊎ (most_entries ≤ entries_in history)
   line_full by aim x y (found, connections, inl r) =
       let begins = r.look.begins in
       elim r.cause [
-        | inl c ↦ inl (subst (λ (h : List Entry). has_closed trouble.HistoryFull h ≡ true) (sym begins.1) (closed_later trouble.HistoryFull r.seen begins.0 (closed_of_any by r.seen c)))
+        | inl c ↦ inl (subst (λ (h : List Entry). has_closed trouble.HistoryFull h ≡ true) (sym begins.1)
+            (closed_later trouble.HistoryFull r.seen begins.0 (closed_of_any by r.seen c)))
         | inr m ↦ inr (subst (λ (h : List Entry). most_entries ≤ entries_in h) (sym begins.1) (let k = entries_later r.seen begins.0 in omega (arith, m, k)))
       ]
   line_full by aim x y (found, connections, inr u) = absurd (cc (u.cancelled))
 
   -- a line whose door failed
-  line_door : (by : ℕ) (aim : Aim) (x y : X) → LineOwes seen site history by aim x y line.DoorFailed → (is_interface site by ≡ false) × Rose (seen x).failed_dials (seen y).failed_dials
+  line_door : (by : ℕ) (aim : Aim) (x y : X) → LineOwes seen site history by aim x y line.DoorFailed → (is_interface site by ≡ false)
+      × Rose (seen x).failed_dials (seen y).failed_dials
   line_door by aim x y (found, connections, inl r) = r.cause
   line_door by aim x y (found, connections, inr u) = absurd (cc (u.cancelled))
 
-  desk_door : (by : ℕ) (aim : Aim) (x y : X) (note : DeskNote) → note.why ≡ desk.DoorFailed → DeskOwes seen site history by aim x y note → Rose (seen x).failed_dials (seen y).failed_dials
-  desk_door by aim x y note e (found, inl r) = subst (λ (w : DeskWhy). CausesDeskEnd r.seen (seen y).told (seen x).failed_dials (seen y).failed_dials w) e r.cause
+  desk_door : (by : ℕ) (aim : Aim) (x y : X) (note : DeskNote) → note.why ≡ desk.DoorFailed → DeskOwes seen site history by aim x y note
+      → Rose (seen x).failed_dials (seen y).failed_dials
+  desk_door by aim x y note e (found, inl r) = subst (λ (w : DeskWhy). CausesDeskEnd r.seen (seen y).told (seen x).failed_dials
+      (seen y).failed_dials w) e r.cause
   desk_door by aim x y note e (found, inr u) = absurd (cc (sym e ∙ u.cancelled))
 
 line_full_is : (why : LineWhy) → line_shows trouble.HistoryFull why ≡ true → why ≡ line.Full
@@ -191,27 +198,32 @@ module _ {X : Type 0} (seen : X → LineSeen) (site : SiteData) (history : List 
   abbrev Lines : ℕ → List Aim → List (Option X) → List (Option X) → List LineWhy → Type 0
   Lines by aims old new whys = CameBack (LineOwes seen site history) by aims old new whys
 
-  pub lines_full : (by : ℕ) (aims : List Aim) (old new : List (Option X)) (whys : List LineWhy) → Lines by aims old new whys → list_any (line_shows trouble.HistoryFull) whys ≡ true
+  pub lines_full : (by : ℕ) (aims : List Aim) (old new : List (Option X)) (whys : List LineWhy) → Lines by aims old new whys
+      → list_any (line_shows trouble.HistoryFull) whys ≡ true
       → (has_closed trouble.HistoryFull history ≡ true) ⊎ (most_entries ≤ entries_in history)
   lines_full by [] old new [] k e = absurd (cc e)
   lines_full by [] old new (w ∷ ws) k e = absurd k
-  lines_full by (aim ∷ aims) (Some x ∷ old) (Some y ∷ new) (w ∷ ws) k e = elim (or_cases (line_shows trouble.HistoryFull w) (list_any (line_shows trouble.HistoryFull) ws) e) [
-    | inl here ↦ line_full seen site history by aim x y (subst (λ (v : LineWhy). LineOwes seen site history by aim x y v) (line_full_is w here) k.0)
-    | inr there ↦ lines_full (by + 1) aims old new ws k.1 there
-  ]
+  lines_full by (aim ∷ aims) (Some x ∷ old) (Some y ∷ new) (w ∷ ws) k e = elim
+      (or_cases (line_shows trouble.HistoryFull w) (list_any (line_shows trouble.HistoryFull) ws) e) [
+        | inl here ↦ line_full seen site history by aim x y (subst (λ (v : LineWhy). LineOwes seen site history by aim x y v) (line_full_is w here) k.0)
+        | inr there ↦ lines_full (by + 1) aims old new ws k.1 there
+      ]
   lines_full by (aim ∷ aims) (Some x ∷ old) (Some y ∷ new) [] k e = absurd k
   lines_full by (aim ∷ aims) (Some x ∷ old) (None ∷ new) ws k e = absurd k
   lines_full by (aim ∷ aims) (Some x ∷ old) [] ws k e = absurd k
   lines_full by (aim ∷ aims) (None ∷ old) new ws k e = absurd k
   lines_full by (aim ∷ aims) [] new ws k e = absurd k
 
-  pub lines_door : (by : ℕ) (aims : List Aim) (old new : List (Option X)) (whys : List LineWhy) → Lines by aims old new whys → list_any (line_shows trouble.DoorFault) whys ≡ true → DialFailedIn seen old new
+  pub lines_door : (by : ℕ) (aims : List Aim) (old new : List (Option X)) (whys : List LineWhy) → Lines by aims old new whys
+      → list_any (line_shows trouble.DoorFault) whys ≡ true → DialFailedIn seen old new
   lines_door by [] old new [] k e = absurd (cc e)
   lines_door by [] old new (w ∷ ws) k e = absurd k
-  lines_door by (aim ∷ aims) (Some x ∷ old) (Some y ∷ new) (w ∷ ws) k e = elim (or_cases (line_shows trouble.DoorFault w) (list_any (line_shows trouble.DoorFault) ws) e) [
-    | inl here ↦ inl ((line_door seen site history by aim x y (subst (λ (v : LineWhy). LineOwes seen site history by aim x y v) (line_door_is w here) k.0)).1)
-    | inr there ↦ inr (lines_door (by + 1) aims old new ws k.1 there)
-  ]
+  lines_door by (aim ∷ aims) (Some x ∷ old) (Some y ∷ new) (w ∷ ws) k e = elim
+      (or_cases (line_shows trouble.DoorFault w) (list_any (line_shows trouble.DoorFault) ws) e) [
+        | inl here ↦ inl ((line_door seen site history by aim x y
+            (subst (λ (v : LineWhy). LineOwes seen site history by aim x y v) (line_door_is w here) k.0)).1)
+        | inr there ↦ inr (lines_door (by + 1) aims old new ws k.1 there)
+      ]
   lines_door by (aim ∷ aims) (Some x ∷ old) (Some y ∷ new) [] k e = absurd k
   lines_door by (aim ∷ aims) (Some x ∷ old) (None ∷ new) ws k e = absurd k
   lines_door by (aim ∷ aims) (Some x ∷ old) [] ws k e = absurd k
@@ -219,28 +231,33 @@ module _ {X : Type 0} (seen : X → LineSeen) (site : SiteData) (history : List 
   lines_door by (aim ∷ aims) [] new ws k e = absurd k
 
   -- an interface has no door
-  pub no_door : (by : ℕ) (aims : List Aim) (old new : List (Option X)) (whys : List LineWhy) → by + length aims ≤ length site.interfaces → Lines by aims old new whys → list_any (line_shows trouble.DoorFault) whys ≡ true → ⊥
+  pub no_door : (by : ℕ) (aims : List Aim) (old new : List (Option X)) (whys : List LineWhy) → by + length aims ≤ length site.interfaces
+      → Lines by aims old new whys → list_any (line_shows trouble.DoorFault) whys ≡ true → ⊥
   no_door by [] old new [] l k e = absurd (cc e)
   no_door by [] old new (w ∷ ws) l k e = absurd k
-  no_door by (aim ∷ aims) (Some x ∷ old) (Some y ∷ new) (w ∷ ws) l k e = elim (or_cases (line_shows trouble.DoorFault w) (list_any (line_shows trouble.DoorFault) ws) e) [
-    | inl here ↦
-        let is : is_interface site by ≡ true = grind (arith, nat_tests, l) in
-        false_not (is_interface site by) is ((line_door seen site history by aim x y (subst (λ (v : LineWhy). LineOwes seen site history by aim x y v) (line_door_is w here) k.0)).0)
-    | inr there ↦ no_door (by + 1) aims old new ws (omega (arith, l)) k.1 there
-  ]
+  no_door by (aim ∷ aims) (Some x ∷ old) (Some y ∷ new) (w ∷ ws) l k e = elim
+      (or_cases (line_shows trouble.DoorFault w) (list_any (line_shows trouble.DoorFault) ws) e) [
+        | inl here ↦
+            let is : is_interface site by ≡ true = grind (arith, nat_tests, l) in
+            false_not (is_interface site by) is ((line_door seen site history by aim x y
+            (subst (λ (v : LineWhy). LineOwes seen site history by aim x y v) (line_door_is w here) k.0)).0)
+        | inr there ↦ no_door (by + 1) aims old new ws (omega (arith, l)) k.1 there
+      ]
   no_door by (aim ∷ aims) (Some x ∷ old) (Some y ∷ new) [] l k e = absurd k
   no_door by (aim ∷ aims) (Some x ∷ old) (None ∷ new) ws l k e = absurd k
   no_door by (aim ∷ aims) (Some x ∷ old) [] ws l k e = absurd k
   no_door by (aim ∷ aims) (None ∷ old) new ws l k e = absurd k
   no_door by (aim ∷ aims) [] new ws l k e = absurd k
 
-  pub desks_door : (by : ℕ) (aims : List Aim) (old new : List (Option X)) (notes : List DeskNote) → CameBack (DeskOwes seen site history) by aims old new notes → has_desk trouble.DoorFault notes ≡ true → DialFailedIn seen old new
+  pub desks_door : (by : ℕ) (aims : List Aim) (old new : List (Option X)) (notes : List DeskNote)
+      → CameBack (DeskOwes seen site history) by aims old new notes → has_desk trouble.DoorFault notes ≡ true → DialFailedIn seen old new
   desks_door by [] old new [] k e = absurd (cc e)
   desks_door by [] old new (n ∷ ns) k e = absurd k
-  desks_door by (aim ∷ aims) (Some x ∷ old) (Some y ∷ new) (n ∷ ns) k e = elim (or_cases (desk_shows trouble.DoorFault n.why) (has_desk trouble.DoorFault ns) e) [
-    | inl here ↦ inl (desk_door seen site history by aim x y n (desk_door_is n.why here) k.0)
-    | inr there ↦ inr (desks_door (by + 1) aims old new ns k.1 there)
-  ]
+  desks_door by (aim ∷ aims) (Some x ∷ old) (Some y ∷ new) (n ∷ ns) k e = elim
+      (or_cases (desk_shows trouble.DoorFault n.why) (has_desk trouble.DoorFault ns) e) [
+        | inl here ↦ inl (desk_door seen site history by aim x y n (desk_door_is n.why here) k.0)
+        | inr there ↦ inr (desks_door (by + 1) aims old new ns k.1 there)
+      ]
   desks_door by (aim ∷ aims) (Some x ∷ old) (Some y ∷ new) [] k e = absurd k
   desks_door by (aim ∷ aims) (Some x ∷ old) (None ∷ new) ns k e = absurd k
   desks_door by (aim ∷ aims) (Some x ∷ old) [] ns k e = absurd k
@@ -273,7 +290,8 @@ scribe_failed_is scribe.NoMemory e = absurd (cc e)
 scribe_failed_is scribe.Cancelled e = absurd (cc e)
 
 module _ {V : Type 0} (seen : V → VaultSeen) (site : SiteData) (digest : List ℕ) (history : List Entry) where
-  pub vault_failed : (old new : Option V) (why : ScribeWhy) → why ≡ scribe.VaultFailed → ScribeOwes seen site digest history old new why → VaultRose seen old new
+  pub vault_failed : (old new : Option V) (why : ScribeWhy) → why ≡ scribe.VaultFailed → ScribeOwes seen site digest history old new why
+      → VaultRose seen old new
   vault_failed (Some x) (Some y) why e (cursor, inl r) = subst (λ (w : ScribeWhy). CausesScribeEnd (seen x).faults (seen y).faults w) e r.cause
   vault_failed (Some x) (Some y) why e (cursor, inr u) = absurd (cc (sym e ∙ u.cancelled))
   vault_failed (Some x) None why e k = absurd k
@@ -340,20 +358,23 @@ set_later (true ∷ xs) ys e = refl
 set_later (false ∷ xs) ys e = set_later xs ys e
 
 -- a worker was cancelled
-pub worker_cancelled : (w : Worked) → (list_any (line_shows trouble.NoWorker) w.lines || (has_desk trouble.NoWorker w.desks || (scribe_shows trouble.NoWorker w.scribe || has_closed trouble.NoWorker w.history))) ≡ true
+pub worker_cancelled : (w : Worked) → (list_any (line_shows trouble.NoWorker) w.lines
+    || (has_desk trouble.NoWorker w.desks || (scribe_shows trouble.NoWorker w.scribe || has_closed trouble.NoWorker w.history))) ≡ true
     → 1 ≤ count_by is_set (cancellations w)
 worker_cancelled w e =
     let desks = map desk_flag w.desks in
     let last = is_cancelled_scribe w.scribe ∷ [] in
-    some_set (cancellations w) (elim (or_cases (list_any (line_shows trouble.NoWorker) w.lines) (has_desk trouble.NoWorker w.desks || (scribe_shows trouble.NoWorker w.scribe || has_closed trouble.NoWorker w.history)) e) [
+    some_set (cancellations w) (elim (or_cases (list_any (line_shows trouble.NoWorker) w.lines)
+    (has_desk trouble.NoWorker w.desks || (scribe_shows trouble.NoWorker w.scribe || has_closed trouble.NoWorker w.history)) e) [
       | inl line ↦ set_first (map is_cancelled w.lines) (desks ++ last) (set_in (line_shows trouble.NoWorker) is_cancelled line_cancelled w.lines line)
-      | inr others ↦ set_later (map is_cancelled w.lines) (desks ++ last) (elim (or_cases (has_desk trouble.NoWorker w.desks) (scribe_shows trouble.NoWorker w.scribe || has_closed trouble.NoWorker w.history) others) [
-        | inl d ↦ set_first desks last (set_in (λ (n : DeskNote). desk_shows trouble.NoWorker n.why) desk_flag (λ n. desk_cancelled n.why) w.desks d)
-        | inr rest ↦ set_later desks last (elim (or_cases (scribe_shows trouble.NoWorker w.scribe) (has_closed trouble.NoWorker w.history) rest) [
-          | inl s ↦ ap (λ (b : Bool). b || false) (sym (scribe_cancelled w.scribe) ∙ s)
-          | inr h ↦ false_not (has_closed trouble.NoWorker w.history) h (none_closed trouble.NoWorker never_worker w.history)
-        ])
-      ])
+      | inr others ↦ set_later (map is_cancelled w.lines) (desks ++ last)
+          (elim (or_cases (has_desk trouble.NoWorker w.desks) (scribe_shows trouble.NoWorker w.scribe || has_closed trouble.NoWorker w.history) others) [
+            | inl d ↦ set_first desks last (set_in (λ (n : DeskNote). desk_shows trouble.NoWorker n.why) desk_flag (λ n. desk_cancelled n.why) w.desks d)
+            | inr rest ↦ set_later desks last (elim (or_cases (scribe_shows trouble.NoWorker w.scribe) (has_closed trouble.NoWorker w.history) rest) [
+              | inl s ↦ ap (λ (b : Bool). b || false) (sym (scribe_cancelled w.scribe) ∙ s)
+              | inr h ↦ false_not (has_closed trouble.NoWorker w.history) h (none_closed trouble.NoWorker never_worker w.history)
+            ])
+          ])
     ])
 
 plain_line_flag : (why : LineWhy) → is_plain_line why ≡ true → is_cancelled why ≡ false
@@ -371,17 +392,20 @@ plain_desk_flag desk.Finished e = refl
 plain_desk_flag desk.DoorFailed e = refl
 plain_desk_flag desk.Cancelled e = absurd (cc e)
 
-clear : {X : Type 0} (plain : X → Bool) (flag : X → Bool) → ((x : X) → plain x ≡ true → flag x ≡ false) → (xs : List X) (rest : List Bool) → AllByRecursion (λ (x : X). plain x ≡ true) xs
+clear : {X : Type 0} (plain : X → Bool) (flag : X → Bool) → ((x : X) → plain x ≡ true → flag x ≡ false) → (xs : List X) (rest : List Bool)
+    → AllByRecursion (λ (x : X). plain x ≡ true) xs
     → AllByRecursion (λ (b : Bool). b ≡ false) rest → AllByRecursion (λ (b : Bool). b ≡ false) (map flag xs ++ rest)
 clear plain flag f [] rest k r = r
 clear plain flag f (x ∷ xs) rest k r = (f x k.0, clear plain flag f xs rest k.1 r)
 
 -- where each worker ended for a plain reason, none was
-pub none_cancelled : (w : Worked) → AllByRecursion (λ (why : LineWhy). is_plain_line why ≡ true) w.lines → AllByRecursion (λ (n : DeskNote). is_plain_desk n.why ≡ true) w.desks → w.scribe ≡ scribe.Drained
+pub none_cancelled : (w : Worked) → AllByRecursion (λ (why : LineWhy). is_plain_line why ≡ true) w.lines
+    → AllByRecursion (λ (n : DeskNote). is_plain_desk n.why ≡ true) w.desks → w.scribe ≡ scribe.Drained
     → count_by is_set (cancellations w) ≡ 0
 none_cancelled w l d s =
     none_set (cancellations w) (clear is_plain_line is_cancelled plain_line_flag w.lines (map desk_flag w.desks ++ is_cancelled_scribe w.scribe ∷ []) l
-    (clear (λ (n : DeskNote). is_plain_desk n.why) desk_flag (λ n. plain_desk_flag n.why) w.desks (is_cancelled_scribe w.scribe ∷ []) d (ap is_cancelled_scribe s, tt)))
+    (clear (λ (n : DeskNote). is_plain_desk n.why) desk_flag (λ n. plain_desk_flag n.why) w.desks (is_cancelled_scribe w.scribe ∷ []) d
+    (ap is_cancelled_scribe s, tt)))
 
 pub raised_once : (n faults now : ℕ) → 1 ≤ n → now ≡ raised_by n faults → raised faults ≤ now
 raised_once n faults now l e = omega (arith, l, e)
@@ -452,7 +476,8 @@ module _ (l : Left) where
   pub full_later : has_closed trouble.HistoryFull l.history ≡ true → shows l trouble.HistoryFull ≡ true
   full_later c =
       or_later (line_part trouble.HistoryFull) (has_desk trouble.HistoryFull l.desks || scribe_part trouble.HistoryFull)
-      (or_later (has_desk trouble.HistoryFull l.desks) (scribe_part trouble.HistoryFull) (or_later (scribe_shows trouble.HistoryFull l.scribe) (has_closed trouble.HistoryFull l.history) c))
+      (or_later (has_desk trouble.HistoryFull l.desks) (scribe_part trouble.HistoryFull)
+      (or_later (scribe_shows trouble.HistoryFull l.scribe) (has_closed trouble.HistoryFull l.history) c))
 
 -- each interface has one aim
 pub aims_fit : (site : SiteData) → 0 + length (line_aims site) ≤ length site.interfaces

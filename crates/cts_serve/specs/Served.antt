@@ -1,10 +1,10 @@
 -- How a server ends whose workers have worked: its status, and what it puts last.
 use Rattle.std.specs.Prelude.{◌≡◌, ◌≤◌, ◌⊎◌, ℕ, Bool, true, false, List, [], ◌∷◌, ◌++◌, length, Option, Some, None}
 use Rattle.std.specs.List.{AllByRecursion}
-use Rattle.cts_ending.specs.Laws.{is_plain_desk, is_plain_line}
-use Rattle.cts_ending.specs.Troubles.{Left, has_closed, trouble_of}
-use Rattle.cts_ending.specs.declared.trouble.Trouble.{Trouble}
-use Rattle.cts_ending.specs.declared.trouble.Trouble.TheVariants as trouble
+use Rattle.cts_server.specs.TroubleLaws.{is_plain_desk, is_plain_line}
+use Rattle.cts_server.specs.Troubles.{Left, has_closed, trouble_of}
+use Rattle.cts_server.specs.declared.outcome.trouble.Trouble.{Trouble}
+use Rattle.cts_server.specs.declared.outcome.trouble.Trouble.TheVariants as trouble
 use Rattle.cts_entry.specs.Histories.{bytes_in, entries_in}
 use Rattle.cts_entry.specs.declared.entry.Entry.{Entry}
 use Rattle.cts_line.specs.declared.ending.LineWhy.{LineWhy}
@@ -50,9 +50,10 @@ abbrev pub PutsWhole : List ℕ → Bool → SinkSeen → SinkSeen → Type 0
 PutsWhole text true old new = IsPut text old new
 PutsWhole text false old new = FailsWithin text old new
 
--- After a text the number of entries was put, and the last line of the first trouble that shows, or a prefix of all that where a put failed. The number of entries could not
--- be put only where the count rose.
-pub record EndsServing (text : List ℕ) (lines : List LineWhy) (desks : List DeskNote) (scribe : ScribeWhy) (history : List Entry) (status : Status) (old new : SinkSeen) : Type 0 where
+-- After a text the number of entries was put, and the last line of the first trouble that shows, or a prefix of all that where a put
+-- failed. The number of entries could not be put only where the count rose.
+pub record EndsServing (text : List ℕ) (lines : List LineWhy) (desks : List DeskNote) (scribe : ScribeWhy) (history : List Entry) (status : Status)
+    (old new : SinkSeen) : Type 0 where
   pub written : Bool
   pub lost : written ≡ false → Rose old.faults new.faults
   pub status_is : status ≡ trouble_status (trouble_of (left written lines desks scribe history))
@@ -105,9 +106,10 @@ DialFailedIn seen [] new = ⊥
 DialFailedIn seen (x ∷ old) [] = ⊥
 DialFailedIn seen (x ∷ old) (y ∷ new) = DialFailed seen x y ⊎ DialFailedIn seen old new
 
--- Nothing failed: no count rose, each line is stopped, finished or does not connect again, each desk is stopped or finished, the scribe is drained, and no connection was
--- closed for want of memory or of room.
-pub record IsFine {V : Type 0} (seen : V → VaultSeen) (files files' : FilesSeen) (out out' : SinkSeen) (vault vault' : Option V) (crew crew' : CrewSeen) (e : Ended) : Type 0 where
+-- Nothing failed: no count rose, each line is stopped, finished or does not connect again, each desk is stopped or finished, the scribe is
+-- drained, and no connection was closed for want of memory or of room.
+pub record IsFine {V : Type 0} (seen : V → VaultSeen) (files files' : FilesSeen) (out out' : SinkSeen) (vault vault' : Option V)
+    (crew crew' : CrewSeen) (e : Ended) : Type 0 where
   pub read : files'.faults ≡ files.faults
   pub absent : files'.absences ≡ files.absences
   pub put : out'.faults ≡ out.faults

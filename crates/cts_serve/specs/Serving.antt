@@ -1,17 +1,12 @@
 -- A server: why it does not start, and what its workers did where it does.
-use Rattle.std.specs.Prelude.{◌≡◌, ◌⊎◌, ℕ, true, List, length, take, drop, Option, None, Result, Ok, Err, IfSome, count_by}
-use Rattle.cts_def.specs.Makers.{first_desk, first_slot}
+use Rattle.std.specs.Prelude.{◌≡◌, ◌⊎◌, ℕ, List, Option, None, Result, Ok, Err, IfSome}
 use Rattle.cts_def.specs.Sites.{SiteData}
-use Rattle.cts_outside.specs.Crews.{CancelledFrom, with_cancelled, with_jobs}
-use Rattle.cts_outside.specs.Seen.{CrewSeen, LineSeen, SinkSeen, VaultSeen}
+use Rattle.cts_outside.specs.Seen.{SinkSeen}
 use Rattle.cts_scribe.specs.declared.ending.ScribeWhy.{ScribeWhy}
-use Rattle.cts_server.specs.Aims.{desk_aims, line_aims, slot_aims}
-use Rattle.cts_server.specs.Cancelled.{cancellations, is_set, worker_count}
-use Rattle.cts_server.specs.Owed.{DeskOwes, LineOwes, ScribeOwes, server_basis}
-use Rattle.cts_server.specs.Places.{AimedAtMost, CameBack}
 use Rattle.cts_server.specs.Ready.{ready_line}
+use Rattle.cts_server.specs.declared.worked.NotStarted.{NotStarted}
+use Rattle.cts_server.specs.declared.worked.NotStarted.TheVariants as unstarted
 use Rattle.cts_server.specs.declared.worked.Worked.{Worked}
-use Rattle.cts_table.specs.Keeping.{IsKept}
 use Rattle.cts_run.specs.Endings.{EndsHalted}
 use Rattle.cts_run.specs.Load.{digest_asked, site_asked}
 use Rattle.cts_run.specs.Phases.{HaltsIn, Phase, first_halt}
@@ -39,7 +34,14 @@ done_as (Err e) = Err e
 
 -- ---- why it does not start
 
--- A server halts for a reason of its phases, and nothing was put; or for want of memory, which may come once it is said that it is ready; or since that could not be said.
+-- what a server answers whose workers have worked, or have not begun
+abbrev pub answered : {T : Type 0} → Result T NotStarted → Result T Halt
+answered (Ok x) = Ok x
+answered (Err unstarted.Memory) = Err Memory
+answered (Err unstarted.WriteFault) = Err WriteFault
+
+-- A server halts for a reason of its phases, and nothing was put; or for want of memory, which may come once it is said that it is ready;
+-- or since that could not be said.
 abbrev pub UnstartedBy : List Phase → Halt → SinkSeen → SinkSeen → Type 0
 UnstartedBy phases Memory old new = (new ≡ old) ⊎ IsPut ready_line old new
 UnstartedBy phases WriteFault old new = (first_halt phases ≡ None) × FailsWithin ready_line old new
@@ -57,22 +59,3 @@ pub record HaltsServing (phases : List Phase) (status : Status) (old new : SinkS
 -- what a server left whose workers have worked
 abbrev pub worked_of : Ended → ScribeWhy → Worked
 worked_of e scribe = record { history = e.history; lines = e.lines; desks = e.desks; scribe = scribe }
-
-module _ {D Q V : Type 0} (line_seen : D → LineSeen) (door_seen : Q → LineSeen) (vault_seen : V → VaultSeen) (site : SiteData) where
-  -- The workers of a site worked, by what its devices showed before and show now: the history is legal, each worker owes what its kind owes, and all were the jobs of one `all` of the crew.
-  pub record HasServed (digest : List ℕ) (w : Worked) (dialers dialers' : List (Option D)) (doors doors' : List (Option Q)) (vault vault' : Option V) (crew crew' : CrewSeen) : Type 0 where
-    pub legal : IsKept (server_basis site) w.history
-    pub interfaces : CameBack (LineOwes line_seen site w.history) 0 (line_aims site) dialers dialers' (take (length site.interfaces) w.lines)
-    pub slots : CameBack (LineOwes door_seen site w.history) first_slot (slot_aims site) (take 8 doors) (take 8 doors') (drop (length site.interfaces) w.lines)
-    pub desks : CameBack (DeskOwes door_seen site w.history) first_desk (desk_aims site) (drop 8 doors) (drop 8 doors') w.desks
-    pub scribe : ScribeOwes vault_seen site digest w.history vault vault' w.scribe
-    pub jobs : crew' ≡ with_cancelled (with_jobs crew (worker_count site)) (count_by is_set (cancellations w))
-    pub exact : crew.in_turn ≡ true → CancelledFrom is_set crew.refused 0 (cancellations w)
-
-  -- No worker worked: devices were aimed at most, and nothing was cancelled.
-  pub record HasIdled (dialers dialers' : List (Option D)) (doors doors' : List (Option Q)) (vault vault' : Option V) (crew crew' : CrewSeen) : Type 0 where
-    pub interfaces : AimedAtMost line_seen (line_aims site) dialers dialers'
-    pub slots : AimedAtMost door_seen (slot_aims site) (take 8 doors) (take 8 doors')
-    pub desks : AimedAtMost door_seen (desk_aims site) (drop 8 doors) (drop 8 doors')
-    pub kept : vault' ≡ vault
-    pub jobs : crew'.faults ≡ crew.faults

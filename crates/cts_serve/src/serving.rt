@@ -1,15 +1,17 @@
 // The server: its words, its workers and its end.
 ghost use Rattle.std.specs.Prelude.{◌≡◌, ◌≤◌, ◌<◌, ◌↔◌, ◌⊎◌, [], drop, false, map, true, IfSome, IsSome, IsSomeAnd, None, Some};
 ghost use Rattle.std.specs.List.{AllByRecursion};
+ghost use Rattle.cts_def.specs.Most.{most_interfaces, most_slots};
 ghost use Rattle.cts_def.specs.Sites.{SiteData};
-ghost use Rattle.cts_ending.specs.Troubles.{has_closed};
-ghost use Rattle.cts_ending.specs.declared.trouble.Trouble.TheVariants.{HistoryFull as FullHistory};
+ghost use Rattle.cts_server.specs.Troubles.{has_closed};
+ghost use Rattle.cts_server.specs.declared.outcome.trouble.Trouble.TheVariants.{HistoryFull as FullHistory};
 ghost use Rattle.cts_entry.specs.Histories.{entries_in};
 ghost use Rattle.cts_entry.specs.Legal.{most_entries};
 ghost use Rattle.cts_outside.specs.Causes.{Rose, Steady, raised};
 ghost use Rattle.cts_scribe.specs.Vaults.{AreBlank};
-ghost use Rattle.cts_server.specs.Places.{AreThere, IsStill};
+ghost use Rattle.cts_server.specs.Places.{AreThere, IsStill, most_doors};
 ghost use Rattle.cts_server.specs.Ready.{ready_line};
+ghost use Rattle.cts_server.specs.Serving.{HasIdled, HasServed};
 ghost use Rattle.cts_run.specs.Command.{ShelfAt, first_phases};
 ghost use Rattle.cts_run.specs.Laws.{IsShortOf};
 ghost use Rattle.cts_run.specs.Lines.{usage_line};
@@ -17,7 +19,7 @@ ghost use Rattle.cts_run.specs.Load.{site_asked};
 ghost use Rattle.cts_run.specs.Phases.{first_halt};
 ghost use Rattle.cts_run.specs.Putting.{Printed};
 ghost use Rattle.cts_serve.specs.Served.{DialFailedIn, EndsServing, IsFine, LeftNothing, VaultIsSteady, VaultRose, serves_on};
-ghost use Rattle.cts_serve.specs.Serving.{HaltsServing, HasIdled, HasServed, IsPlanned, worked_of};
+ghost use Rattle.cts_serve.specs.Serving.{HaltsServing, IsPlanned, worked_of};
 ghost use Rattle.cts_serve.specs.Words.{asked_to_serve};
 
 pub mod ended;
@@ -25,7 +27,8 @@ mod host;
 mod telling;
 
 use crate::words::read_serving;
-use cts_connection::{Framer, Supplier};
+use cts_chain::Framer;
+use cts_connection::Supplier;
 use cts_outside::{Clock, Crew, Dialer, Files, Gate, Sink, Vault};
 use cts_run::{Status, end, end_misused};
 use ended::Ended;
@@ -38,10 +41,10 @@ use telling::finish;
 /// Runs the server: reads the definitions and the site that its words name, takes the boxes of the site's chains from the shelf, lets
 /// the workers of the site work, and answers how it ended, with the history and why each worker ended.
 ///
-/// The words are those after the program's name, `serve DEFS SITE`; others are `Usage`. There are 16 lines, 12 doors and a vault:
-/// the dialer in place k is that of interface k, the door in place 2 r + s that of slot s of router r, and the door in place 8 + d that of desk d. Those that
-/// the site needs go with their workers to the crew, and stand in their places again at every answer. `READY` is put before the workers
-/// begin, `END n` when all have ended, and then the last line of the status. It waits, and promises nothing of when it returns.
+/// The words are those after the program's name, `serve DEFS SITE`; others are `Usage`. There are 16 lines, 12 doors and a vault: the
+/// dialer in place k is that of interface k, the door in place 2 r + s that of slot s of router r, and the door in place 8 + d that of desk
+/// d. Those that the site needs go with their workers to the crew, and stand in their places again at every answer. `READY` is put before
+/// the workers begin, `END n` when all have ended, and then the last line of the status. It waits, and promises nothing of when it returns.
 pub fn serve<
     R: Threads + Wait + Sync,
     C: Framer + Send,
@@ -68,10 +71,10 @@ pub fn serve<
     crew: &mut W,
     gate: &G,
 ) -> Ended
-    requires lines { AreThere 16 lines.old.items }
-    requires doors { AreThere 12 doors.old.items }
+    requires lines { AreThere most_interfaces lines.old.items }
+    requires doors { AreThere most_doors doors.old.items }
     // No client of a desk's door is connected.
-    requires still { AllByRecursion (IsStill Q.seen) (drop 8 doors.old.items) }
+    requires still { AllByRecursion (IsStill Q.seen) (drop most_slots doors.old.items) }
     requires vault { IsSomeAnd vault.old (λ v. AreBlank (V.seen v).told) }
     // ---- whether it was started
     // It was, wherever the status is one of these.
@@ -79,24 +82,33 @@ pub fn serve<
     // Where it was not, it left nothing.
     ensures nothing { result.scribe ≡ None → LeftNothing result }
     // The phases of the words have no reason to halt where it was; and the reason why it was not is one of them, or came with `READY`.
-    ensures planned { IsSome result.scribe → IfSome (F.seen files.old).told (λ all. IsSomeAnd (asked_to_serve (map (λ w. w.now) words.now)) (λ n. first_halt (first_phases (B.stock shelf.old) all n.0 n.1) ≡ None)) }
-    ensures halted { result.scribe ≡ None → IfSome (F.seen files.old).told (λ all. IfSome (asked_to_serve (map (λ w. w.now) words.now)) (λ n. HaltsServing (first_phases (B.stock shelf.old) all n.0 n.1) result.status (O.seen out.old) (O.seen out.new))) }
+    ensures planned { IsSome result.scribe → IfSome (F.seen files.old).told
+        (λ all. IsSomeAnd (asked_to_serve (map (λ w. w.now) words.now)) (λ n. first_halt (first_phases (B.stock shelf.old) all n.0 n.1) ≡ None)) }
+    ensures halted { result.scribe ≡ None → IfSome (F.seen files.old).told
+        (λ all. IfSome (asked_to_serve (map (λ w. w.now) words.now))
+        (λ n. HaltsServing (first_phases (B.stock shelf.old) all n.0 n.1) result.status (O.seen out.old) (O.seen out.new))) }
     // ---- what it did
     // Where it was started: the history is legal, each worker owes what its kind owes, and all were the jobs of one `all` of the crew.
-    ensures served { IfSome result.scribe (λ scribe. (site : SiteData) × (digest : _) × IsPlanned (F.seen files.old).told (asked_to_serve (map (λ w. w.now) words.now)) site digest
-        × HasServed D.seen Q.seen V.seen site digest (worked_of result scribe) lines.old.items lines.new.items doors.old.items doors.new.items vault.old vault.new (W.seen crew.old) (W.seen crew.new)) }
+    ensures served { IfSome result.scribe (λ scribe. (site : SiteData) × (digest : _) × IsPlanned (F.seen files.old).told
+        (asked_to_serve (map (λ w. w.now) words.now)) site digest
+        × HasServed D.seen Q.seen V.seen site digest (worked_of result scribe) lines.old.items lines.new.items doors.old.items doors.new.items
+        vault.old vault.new (W.seen crew.old) (W.seen crew.new)) }
     // And there `READY` was put, the number of entries, and the last line of the first trouble that shows; its status is told.
-    ensures ends { IfSome result.scribe (λ scribe. EndsServing ready_line result.lines result.desks scribe result.history result.status (O.seen out.old) (O.seen out.new)) }
+    ensures ends { IfSome result.scribe (λ scribe. EndsServing ready_line result.lines result.desks scribe result.history result.status
+        (O.seen out.old) (O.seen out.new)) }
     // Where it was not started, devices were aimed at most.
-    ensures idle { result.scribe ≡ None → (site : SiteData) × (digest : _) × IsPlanned (F.seen files.old).told (asked_to_serve (map (λ w. w.now) words.now)) site digest
-        × HasIdled D.seen Q.seen V.seen site lines.old.items lines.new.items doors.old.items doors.new.items vault.old vault.new (W.seen crew.old) (W.seen crew.new) }
+    ensures idle { result.scribe ≡ None → (site : SiteData) × (digest : _) × IsPlanned (F.seen files.old).told
+        (asked_to_serve (map (λ w. w.now) words.now)) site digest
+        × HasIdled D.seen Q.seen V.seen site lines.old.items lines.new.items doors.old.items doors.new.items
+        vault.old vault.new (W.seen crew.old) (W.seen crew.new) }
     // All devices stand in their places.
-    ensures back { AreThere 16 lines.new.items × AreThere 12 doors.new.items × IsSome vault.new }
+    ensures back { AreThere most_interfaces lines.new.items × AreThere most_doors doors.new.items × IsSome vault.new }
     // The files stay.
     ensures stays { (F.seen files.new).told ≡ (F.seen files.old).told }
     // ---- its statuses
     // Only where nothing failed and each worker ended for a plain reason.
-    ensures fine { result.status ≡ Status.Ok → IsFine V.seen (F.seen files.old) (F.seen files.new) (O.seen out.old) (O.seen out.new) vault.old vault.new (W.seen crew.old) (W.seen crew.new) result }
+    ensures fine { result.status ≡ Status.Ok → IsFine V.seen (F.seen files.old) (F.seen files.new) (O.seen out.old)
+        (O.seen out.new) vault.old vault.new (W.seen crew.old) (W.seen crew.new) result }
     // Exactly where the words ask for no server; then the line that says which ones fit is put.
     ensures usage { result.status ≡ Status.Usage ↔ (asked_to_serve (map (λ w. w.now) words.now) ≡ None) }
     ensures misused { asked_to_serve (map (λ w. w.now) words.now) ≡ None → Printed (O.seen out.old) (O.seen out.new) usage_line }
@@ -107,21 +119,32 @@ pub fn serve<
     ensures log { result.status ≡ Status.LogFault → VaultRose V.seen vault.old vault.new }
     ensures worker { result.status ≡ Status.NoWorker → raised (W.seen crew.old).faults ≤ (W.seen crew.new).faults }
     ensures door { result.status ≡ Status.DoorFault → DialFailedIn Q.seen doors.old.items doors.new.items }
-    // Only where a connection was closed since the history was full, or as many entries count in it as may; and where one was, no status with a greater number comes.
+    // Only where a connection was closed since the history was full, or as many entries count in it as may; and where one was, no status
+    // with a greater number comes.
     ensures full { result.status ≡ Status.HistoryFull → (has_closed FullHistory result.history ≡ true) ⊎ (entries_in result.history ≡ most_entries) }
-    ensures full_told { has_closed FullHistory result.history ≡ true → (result.status ≡ Status.Memory) ⊎ ((result.status ≡ Status.WriteFault) ⊎ (result.status ≡ Status.HistoryFull)) }
-    // Only where all chains of the site need more boxes of a kind than the shelf holds; and there no other status comes, where no count rose, but want of memory.
-    ensures short { result.status ≡ Status.ShelfEmpty → IfSome (F.seen files.old).told (λ all. IsSomeAnd (asked_to_serve (map (λ w. w.now) words.now)) (λ n. IsShortOf (B.stock shelf.old) all n.0 n.1)) }
-    ensures shelf { Steady (F.seen files.old).faults (F.seen files.new).faults → IfSome (F.seen files.old).told (λ all. IfSome (asked_to_serve (map (λ w. w.now) words.now)) (λ n. IsShortOf (B.stock shelf.old) all n.0 n.1 → (result.status ≡ Status.ShelfEmpty) ⊎ (result.status ≡ Status.Memory))) }
+    ensures full_told { has_closed FullHistory result.history ≡ true → (result.status ≡ Status.Memory)
+        ⊎ ((result.status ≡ Status.WriteFault) ⊎ (result.status ≡ Status.HistoryFull)) }
+    // Only where all chains of the site need more boxes of a kind than the shelf holds; and there no other status comes, where no count
+    // rose, but want of memory.
+    ensures short { result.status ≡ Status.ShelfEmpty → IfSome (F.seen files.old).told
+        (λ all. IsSomeAnd (asked_to_serve (map (λ w. w.now) words.now)) (λ n. IsShortOf (B.stock shelf.old) all n.0 n.1)) }
+    ensures shelf { Steady (F.seen files.old).faults (F.seen files.new).faults → IfSome (F.seen files.old).told
+        (λ all. IfSome (asked_to_serve (map (λ w. w.now) words.now))
+        (λ n. IsShortOf (B.stock shelf.old) all n.0 n.1 → (result.status ≡ Status.ShelfEmpty) ⊎ (result.status ≡ Status.Memory))) }
     // Where the phases of the words have no reason to halt, no count rose and the limits of the history were not reached, all is fine, or memory ran out.
-    ensures complete { Steady (F.seen files.old).faults (F.seen files.new).faults → Steady (F.seen files.old).absences (F.seen files.new).absences → Steady (O.seen out.old).faults (O.seen out.new).faults
-        → VaultIsSteady V.seen vault.old vault.new → Steady (W.seen crew.old).faults (W.seen crew.new).faults → (DialFailedIn Q.seen doors.old.items doors.new.items → ⊥)
+    ensures complete { Steady (F.seen files.old).faults (F.seen files.new).faults → Steady (F.seen files.old).absences (F.seen files.new).absences
+        → Steady (O.seen out.old).faults (O.seen out.new).faults
+        → VaultIsSteady V.seen vault.old vault.new → Steady (W.seen crew.old).faults (W.seen crew.new).faults
+        → (DialFailedIn Q.seen doors.old.items doors.new.items → ⊥)
         → has_closed FullHistory result.history ≡ false → entries_in result.history < most_entries
-        → IfSome (F.seen files.old).told (λ all. IfSome (asked_to_serve (map (λ w. w.now) words.now)) (λ n. first_halt (first_phases (B.stock shelf.old) all n.0 n.1) ≡ None → (result.status ≡ Status.Ok) ⊎ (result.status ≡ Status.Memory))) }
+        → IfSome (F.seen files.old).told (λ all. IfSome (asked_to_serve (map (λ w. w.now) words.now))
+        (λ n. first_halt (first_phases (B.stock shelf.old) all n.0 n.1) ≡ None → (result.status ≡ Status.Ok) ⊎ (result.status ≡ Status.Memory))) }
     // ---- the shelf
     // Without words for a server it is as it was; and else exactly the boxes of all chains of the site are gone, where the phases have no reason to halt.
     ensures untouched { asked_to_serve (map (λ w. w.now) words.now) ≡ None → B.stock shelf.new ≡ B.stock shelf.old }
-    ensures boxes { IfSome (F.seen files.old).told (λ all. IfSome (asked_to_serve (map (λ w. w.now) words.now)) (λ n. ShelfAt (site_asked all n.0 n.1) (first_halt (first_phases (B.stock shelf.old) all n.0 n.1)) result.status (B.stock shelf.old) (B.stock shelf.new))) }
+    ensures boxes { IfSome (F.seen files.old).told (λ all. IfSome (asked_to_serve (map (λ w. w.now) words.now))
+        (λ n. ShelfAt (site_asked all n.0 n.1) (first_halt (first_phases (B.stock shelf.old) all n.0 n.1)) result.status (B.stock shelf.old)
+        (B.stock shelf.new))) }
 {
     match read_serving(words) {
         Some((definitions, site)) => {

@@ -2,7 +2,7 @@
 use crate::faults::numbers_of;
 use crate::table::{commands_end_so, ended_stocked, hold_bytes, rows_told};
 use cts_outside::{MemFiles, MemSink, MemVault};
-use cts_rows::{Answers, bytes_of, number, part};
+use cts_rows::{Answers, bytes_of, cut, number, part, same};
 use std::alloc::Global;
 use std::test::Fail;
 
@@ -68,6 +68,34 @@ no third put is made|COSMOS2_TLM_d41d8cd98f00b204e9800998ecf8427e 184 0000000000
 #[test]
 fn logs_are_dumped(rt: HostRuntime) -> Result<(), Fail> {
     rows_told::<Dumps>(rt.alloc(), LOGS)
+}
+
+/// Of a log of one entry: how the dump of each of its beginnings ends.
+const BEGUN: &str =
+    "COSMOS2_TLM_d41d8cd98f00b204e9800998ecf8427e @ 000000000000000007554e4b4e4f574e07554e4b4e4f574e000000040004aabb - -";
+
+#[test]
+fn each_beginning_of_a_log_is_dumped(rt: HostRuntime) -> Result<(), Fail> {
+    for length in 0..161_u32 {
+        beginning_ends_so(rt.alloc(), length)?;
+    }
+    Ok(())
+}
+
+fn beginning_ends_so(alloc: Global, length: u32) -> Result<(), Fail> {
+    let (before, after) = cut(BEGUN, '@')?;
+    let asked = format!(in alloc; "{before}{length}{after}")?;
+    let found = Dumps::answer(alloc, asked.as_str())?;
+    same(found.as_str(), end_of_beginning(length), asked.as_str())
+}
+
+fn end_of_beginning(length: u32) -> &'static str {
+    match length {
+        0..128 => "LogRefused log refused at 0;",
+        128 => "Ok ",
+        129..160 => "LogRefused log refused at 128;",
+        _ => "Ok 1970-01-01 00:00:00.000000 UNKNOWN UNKNOWN 0004aabb;",
+    }
 }
 
 const OTHERS: &str = "\

@@ -149,4 +149,12 @@ impl<'a> Vault for Noting<'a> {
     fn sync(&mut self, kind: LogKind) -> Result<(), PutFailed> {
         self.vault.sync(kind)
     }
+
+    // What it holds is not told, so it makes sure first that the last part is synced.
+    fn part(&mut self, kind: LogKind) -> Result<(), PutFailed> {
+        match self.vault.sync(kind) {
+            Ok(()) => self.vault.part(kind),
+            Err(fault) => Err(fault),
+        }
+    }
 }

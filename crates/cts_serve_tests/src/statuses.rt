@@ -310,6 +310,7 @@ fn a_call_of_a_door_fails(rt: HostRuntime) -> Result<(), Fail> {
 /// Several of them: the least status is told.
 const SEVERAL: &str = "\
 v:4 c:0|NoWorker READY;END 10;no worker; [Cancelled, Stopped, Stopped, Stopped] Stopped[] Finished[] Finished[] Finished[] Some(Drained) 128/128 128/128 aimed
+c:0 c:1|NoWorker READY;END 10;no worker; [Cancelled, Cancelled, Stopped, Stopped] Stopped[] Finished[] Finished[] Finished[] Some(Drained) 128/128 128/128 aimed
 c:0 d0:0|NoWorker READY;END 10;no worker; [Cancelled, Stopped, Stopped, Stopped] Stopped[] Finished[] Finished[] Finished[] Some(Drained) 128/128 128/128 aimed
 o:1 v:4|WriteFault READY; [Finished, Finished, Finished, Finished] Finished[13, 14, 14, 14] Finished[] Finished[] Finished[] Some(VaultFailed) 128/128 128/128 aimed
 o:1 c:2|WriteFault READY; [Finished, Finished, Cancelled, Stopped] Stopped[] Finished[] Finished[] Finished[] Some(Drained) 199/199 128/128 aimed

@@ -19,7 +19,7 @@ pub fn transcript(alloc: Global, site: &Site, history: &History) -> Result<Strin
     Ok(as_text(&out)?.replace(alloc, "0 100.250000 ", "")?)
 }
 
-/// Why each worker ended: the lines, the desks with the fronts of their requests, and the scribe.
+/// Why each worker ended: the lines, the desks with the fronts of their requests, which are tied, and the scribe.
 pub fn whys(alloc: Global, ended: &Ended) -> Result<String, Fail> {
     let mut text = debug_of(alloc, &ended.lines.as_slice())?;
     for desk in ended.desks.as_slice() {
@@ -30,7 +30,8 @@ pub fn whys(alloc: Global, ended: &Ended) -> Result<String, Fail> {
 }
 
 fn desk_note(alloc: Global, desk: &DeskNote) -> Result<String, Fail> {
-    Ok(format!(in alloc; " {:?}{:?}", desk.why, desk.fronts.as_slice())?)
+    let tied = if desk.tied { "" } else { " untied" };
+    Ok(format!(in alloc; " {:?}{:?}{tied}", desk.why, desk.fronts.as_slice())?)
 }
 
 /// How many bytes each log has, and how many of them are synced; `-` where the vault is not in its place.

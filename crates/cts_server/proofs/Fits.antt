@@ -1,5 +1,6 @@
 -- The chains and doors of a site fit its workers.
-use Rattle.std.proofs.Common.{◌≡◌, ℕ, zero, suc, ◌+◌, ◌-◌, ◌*◌, ◌/◌, ◌<◌, ◌≤◌, true, false, List, [], ◌∷◌, length, map, drop, take, get_or, Option, refl, sym, ◌∙◌, ap, subst, arith, length-drop}
+use Rattle.std.proofs.Common.{◌≡◌, ℕ, zero, suc, ◌+◌, ◌-◌, ◌*◌, ◌/◌, ◌<◌, ◌≤◌, true, false, List, [], ◌∷◌, length, map, drop, take, get_or, Option}
+use Rattle.std.proofs.Common.{refl, sym, ◌∙◌, ap, subst, arith, length-drop}
 use Rattle.std.specs.List.{AllByRecursion, flat_map}
 use Rattle.std.proofs.lemmas.List.{get_or-drop, length-map, length-replicate}
 use Rattle.std.proofs.lemmas.Bool.{and_from, le-leb, lt-ltb, le-ltb}
@@ -16,7 +17,7 @@ use Rattle.cts_framing.specs.Chains.{uses_at}
 use Rattle.cts_outside.specs.Seen.{LineSeen}
 use Rattle.cts_server.specs.Aims.{desk_aims, door_aim, interface_aim, line_aims, router_aims, slot_aims}
 use Rattle.cts_server.specs.Places.{IsStill}
-use Rattle.cts_server.specs.Tasks.{AreFit, FitsDesk, FitsLine}
+use Rattle.cts_server.specs.Making.{AreFit, FitsDesk, FitsLine}
 
 -- ---- how many aims there are
 
@@ -85,7 +86,8 @@ module _ (site : SiteData) where
   place_of_slot : (j : ℕ) → is_interface site (first_slot + j) ≡ false → line_place site (first_slot + j) ≡ length site.interfaces + j
   place_of_slot j e = rw e (ap (λ (n : ℕ). length site.interfaces + n) (omega arith))
 
-module _ {C : Type 0} (shape : C → ChainData) (site : SiteData) (cs : List C) (sound : IsSoundSite site) (fresh : AreFresh (line_chains site) (map shape cs)) where
+module _ {C : Type 0} (shape : C → ChainData) (site : SiteData) (cs : List C) (sound : IsSoundSite site)
+    (fresh : AreFresh (line_chains site) (map shape cs)) where
   pub lines_fit : AreFit (λ (n : ℕ) (c : C). FitsLine site n (shape c)) 0 (line_aims site) cs
   lines_fit =
       fit_run shape site 0 (line_aims site) (line_chains site) cs (let c = chains_count site in let n = line_aims_count site in omega (arith, c, n))
@@ -93,7 +95,8 @@ module _ {C : Type 0} (shape : C → ChainData) (site : SiteData) (cs : List C) 
       let few : j < length site.interfaces = let n = line_aims_count site in omega (arith, lt, n) in
       let is = interface_tells site j few in
       let line : is_line site j ≡ true = grind (arith, is) in
-      let uses : get_or (line_chains site) j [] ≡ uses_at site j = ap (λ (n : ℕ). get_or (line_chains site) n []) (sym (place_of_line site j is)) ∙ line_chain site j sound line in
+      let uses : get_or (line_chains site) j [] ≡ uses_at site j = ap (λ (n : ℕ). get_or (line_chains site) n []) (sym (place_of_line site j is))
+      ∙ line_chain site j sound line in
       let n : j ≡ 0 + j = omega arith in
       (subst (λ (k : ℕ). is_line site k ≡ true) n line, uses ∙ ap (uses_at site) n))
       fresh
@@ -108,23 +111,30 @@ module _ {C : Type 0} (shape : C → ChainData) (site : SiteData) (cs : List C) 
       let few : j < 2 * length site.routers = let m = slot_aims_count site in omega (arith, lt, m) in
       let is = slot_tells site j few in
       let no = no_interface site j sound.few_interfaces in
-      let line : is_line site (first_slot + j) ≡ true = grind (arith, is) in
-      (line, get_or-drop n (line_chains site) j [] ∙ ap (λ (k : ℕ). get_or (line_chains site) k []) (sym (place_of_slot site j no)) ∙ line_chain site (first_slot + j) sound line))
+      let line : is_line site (first_slot + j) ≡ true = grind (arith, is) in (
+        line,
+        get_or-drop n (line_chains site) j [] ∙ ap (λ (k : ℕ). get_or (line_chains site) k []) (sym (place_of_slot site j no)) ∙ line_chain site
+            (first_slot + j) sound line,
+      ))
       (fresh_drop shape n (line_chains site) cs fresh))
 
 -- ---- doors
 
-doors_run : {A Q : Type 0} (seen : Q → LineSeen) (site : SiteData) (by : ℕ) (aims : List A) (doors : List (Option Q)) → ((j : ℕ) → j < length aims → is_desk site (by + j) ≡ true) → length aims ≤ length doors
+doors_run : {A Q : Type 0} (seen : Q → LineSeen) (site : SiteData) (by : ℕ) (aims : List A) (doors : List (Option Q))
+    → ((j : ℕ) → j < length aims → is_desk site (by + j) ≡ true) → length aims ≤ length doors
     → AllByRecursion (IsStill seen) (take (length aims) doors) → AreFit (FitsDesk seen site) by aims doors
 doors_run seen site by [] doors desks few still = tt
 doors_run seen site by (a ∷ aims) [] desks few still = absurd (omega (arith, few))
 doors_run seen site by (a ∷ aims) (d ∷ doors) desks few still =
     let here : is_desk site by ≡ true = subst (λ (n : ℕ). is_desk site n ≡ true) (omega arith) (desks 0 (omega arith)) in (
       (here, still.0),
-      doors_run seen site (by + 1) aims doors (λ j lt. subst (λ (n : ℕ). is_desk site n ≡ true) (omega arith) (desks (suc j) (omega (arith, lt)))) (omega (arith, few)) still.1,
+      doors_run seen site (by + 1) aims doors (λ j lt. subst (λ (n : ℕ). is_desk site n ≡ true) (omega arith) (desks (suc j) (omega (arith, lt))))
+          (omega (arith, few)) still.1,
     )
 
-pub desks_fit : {Q : Type 0} (seen : Q → LineSeen) (site : SiteData) (doors : List (Option Q)) → IsSoundSite site → length doors ≡ 4 → AllByRecursion (IsStill seen) (take site.desks doors) → AreFit (FitsDesk seen site) first_desk (desk_aims site) doors
+pub desks_fit : {Q : Type 0} (seen : Q → LineSeen) (site : SiteData) (doors : List (Option Q)) → IsSoundSite site → length doors ≡ 4
+    → AllByRecursion (IsStill seen) (take site.desks doors) → AreFit (FitsDesk seen site) first_desk (desk_aims site) doors
 desks_fit seen site doors sound four still =
     let n = desk_aims_count site in
-    doors_run seen site first_desk (desk_aims site) doors (λ j lt. desk_tells site j (omega (arith, lt, n))) (omega (arith, n, four, sound.few_desks)) (subst (λ (k : ℕ). AllByRecursion (IsStill seen) (take k doors)) (sym n) still)
+    doors_run seen site first_desk (desk_aims site) doors (λ j lt. desk_tells site j (omega (arith, lt, n))) (omega (arith, n, four, sound.few_desks))
+    (subst (λ (k : ℕ). AllByRecursion (IsStill seen) (take k doors)) (sym n) still)

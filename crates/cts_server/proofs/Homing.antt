@@ -1,5 +1,6 @@
 -- One device after another comes back to its place.
-use Rattle.std.proofs.Common.{◌≡◌, ℕ, ◌+◌, ◌<◌, ◌≤◌, List, [], ◌∷◌, ◌++◌, length, map, set, drop, Option, Some, None, refl, sym, ◌∙◌, ap, subst, arith, append_assoc, length-append}
+use Rattle.std.proofs.Common.{◌≡◌, ℕ, ◌+◌, ◌<◌, ◌≤◌, List, [], ◌∷◌, ◌++◌, length, map, set, drop, Option, Some, None, refl, sym, ◌∙◌, ap, subst}
+use Rattle.std.proofs.Common.{arith, append_assoc, length-append}
 use Rattle.std.specs.List.{cons_option, filter_map}
 use Rattle.std.proofs.lemmas.List.{append-nil, drop_more, length-drop, length-map, map-append, nil_from_length, set_at}
 use Rattle.std.proofs.lemmas.List.Elements.{filter_map-append}
@@ -16,15 +17,19 @@ module _ {T N : Type 0} (kind : T → Option N) where
   none_of ts t not = filter_map-append kind ts (t ∷ []) ∙ ap (λ (o : Option N). filter_map kind ts ++ cons_option o []) not ∙ append-nil (filter_map kind ts)
 
   -- there is a place for it
-  pub has_place : (ts : List T) (t : T) (rest all : List T) (n : N) (m : ℕ) → ts ++ t ∷ rest ≡ all → kind t ≡ Some n → length (filter_map kind all) ≤ m → length (filter_map kind ts) < m
+  pub has_place : (ts : List T) (t : T) (rest all : List T) (n : N) (m : ℕ) → ts ++ t ∷ rest ≡ all → kind t ≡ Some n
+      → length (filter_map kind all) ≤ m → length (filter_map kind ts) < m
   has_place ts t rest all n m split is few =
-      let e : filter_map kind all ≡ filter_map kind ts ++ n ∷ filter_map kind rest = ap (filter_map kind) (sym split) ∙ filter_map-append kind ts (t ∷ rest) ∙ ap (λ (o : Option N). filter_map kind ts ++ cons_option o (filter_map kind rest)) is in
+      let e : filter_map kind all ≡ filter_map kind ts ++ n ∷ filter_map kind rest = ap (filter_map kind) (sym split) ∙ filter_map-append kind ts
+      (t ∷ rest) ∙ ap (λ (o : Option N). filter_map kind ts ++ cons_option o (filter_map kind rest)) is in
       let many = ap length e ∙ length-append (filter_map kind ts) (n ∷ filter_map kind rest) in
       omega (arith, many, few)
 
   -- what is kept of it stands after what was kept before
-  pub added_one : (ts : List T) (t : T) (n : N) (old now new : List N) → now ≡ old ++ filter_map kind ts → kind t ≡ Some n → new ≡ now ++ n ∷ [] → new ≡ old ++ filter_map kind (ts ++ t ∷ [])
-  added_one ts t n old now new before is put = put ∙ ap (λ (l : List N). l ++ n ∷ []) before ∙ append_assoc old (filter_map kind ts) (n ∷ []) ∙ ap (λ (l : List N). old ++ l) (sym (more_of ts t n is))
+  pub added_one : (ts : List T) (t : T) (n : N) (old now new : List N) → now ≡ old ++ filter_map kind ts → kind t ≡ Some n → new ≡ now ++ n ∷ []
+      → new ≡ old ++ filter_map kind (ts ++ t ∷ [])
+  added_one ts t n old now new before is put = put ∙ ap (λ (l : List N). l ++ n ∷ []) before ∙ append_assoc old (filter_map kind ts) (n ∷ [])
+      ∙ ap (λ (l : List N). old ++ l) (sym (more_of ts t n is))
 
   pub added_other : (ts : List T) (t : T) (old now : List N) → now ≡ old ++ filter_map kind ts → kind t ≡ None → now ≡ old ++ filter_map kind (ts ++ t ∷ [])
   added_other ts t old now before not = before ∙ ap (λ (l : List N). old ++ l) (sym (none_of ts t not))
@@ -51,7 +56,8 @@ module _ {X : Type 0} where
   last_more place (y ∷ xs) x = last_more (Some y) xs x
 
 module _ {T N X : Type 0} (kind : T → Option N) (device : N → X) where
-  home_more : (ts : List T) (t : T) (n : N) (old now new : List (Option X)) → CameHome kind device ts old now → kind t ≡ Some n → length (filter_map kind ts) < length old
+  home_more : (ts : List T) (t : T) (n : N) (old now new : List (Option X)) → CameHome kind device ts old now → kind t ≡ Some n
+      → length (filter_map kind ts) < length old
       → new ≡ set now (length (filter_map kind ts)) (Some (device n)) → CameHome kind device (ts ++ t ∷ []) old new
   home_more ts t n old now new home is lt put =
       let devices = map device (filter_map kind ts) in
@@ -70,7 +76,8 @@ module _ {T N X : Type 0} (kind : T → Option N) (device : N → X) where
   home_none old = record { places = refl; next_is = refl }
 
   -- as many places as before, and one for an item more
-  pub home_place : (ts : List T) (t : T) (rest all : List T) (n : N) (old now : List (Option X)) (next : ℕ) → Home ts old now next → ts ++ t ∷ rest ≡ all → kind t ≡ Some n → length (filter_map kind all) ≤ length old → next < length now
+  pub home_place : (ts : List T) (t : T) (rest all : List T) (n : N) (old now : List (Option X)) (next : ℕ) → Home ts old now next
+      → ts ++ t ∷ rest ≡ all → kind t ≡ Some n → length (filter_map kind all) ≤ length old → next < length now
   home_place ts t rest all n old now next h split is few =
       let lt = has_place kind ts t rest all n (length old) split is few in
       let many : length (map device (filter_map kind ts)) ≡ length (filter_map kind ts) = length-map (filter_map kind ts) device in
@@ -78,10 +85,12 @@ module _ {T N X : Type 0} (kind : T → Option N) (device : N → X) where
       omega (arith, h.next_is, lt, long)
 
   -- an item more, of this kind
-  pub home_one : (ts : List T) (t : T) (rest all : List T) (n : N) (old now new : List (Option X)) (next later : ℕ) → Home ts old now next → ts ++ t ∷ rest ≡ all → kind t ≡ Some n → length (filter_map kind all) ≤ length old
+  pub home_one : (ts : List T) (t : T) (rest all : List T) (n : N) (old now new : List (Option X)) (next later : ℕ) → Home ts old now next
+      → ts ++ t ∷ rest ≡ all → kind t ≡ Some n → length (filter_map kind all) ≤ length old
       → new ≡ set now next (Some (device n)) → later ≡ next + 1 → Home (ts ++ t ∷ []) old new later
   home_one ts t rest all n old now new next later h split is few put one = record {
-    places = home_more ts t n old now new h.places is (has_place kind ts t rest all n (length old) split is few) (put ∙ ap (λ (i : ℕ). set now i (Some (device n))) h.next_is);
+    places = home_more ts t n old now new h.places is (has_place kind ts t rest all n (length old) split is few)
+        (put ∙ ap (λ (i : ℕ). set now i (Some (device n))) h.next_is);
     next_is = let many = ap length (more_of kind ts t n is) ∙ length-append (filter_map kind ts) (n ∷ []) in omega (arith, many, h.next_is, one);
   }
 
@@ -93,10 +102,13 @@ module _ {T N X : Type 0} (kind : T → Option N) (device : N → X) where
   }
 
   -- the last that came into a place
-  pub last_one : (ts : List T) (t : T) (n : N) (place : Option X) → kind t ≡ Some n → last_of place (map device (filter_map kind (ts ++ t ∷ []))) ≡ Some (device n)
-  last_one ts t n place is = ap (λ (l : List N). last_of place (map device l)) (more_of kind ts t n is) ∙ ap (last_of place) (map-append device (filter_map kind ts) (n ∷ [])) ∙ last_more place (map device (filter_map kind ts)) (device n)
+  pub last_one : (ts : List T) (t : T) (n : N) (place : Option X) → kind t ≡ Some n → last_of place (map device (filter_map kind (ts ++ t ∷ [])))
+      ≡ Some (device n)
+  last_one ts t n place is = ap (λ (l : List N). last_of place (map device l)) (more_of kind ts t n is) ∙ ap (last_of place)
+      (map-append device (filter_map kind ts) (n ∷ [])) ∙ last_more place (map device (filter_map kind ts)) (device n)
 
-  pub last_other : (ts : List T) (t : T) (place : Option X) → kind t ≡ None → last_of place (map device (filter_map kind ts)) ≡ last_of place (map device (filter_map kind (ts ++ t ∷ [])))
+  pub last_other : (ts : List T) (t : T) (place : Option X) → kind t ≡ None → last_of place (map device (filter_map kind ts)) ≡ last_of place
+      (map device (filter_map kind (ts ++ t ∷ [])))
   last_other ts t place not = ap (λ (l : List N). last_of place (map device l)) (sym (none_of kind ts t not))
 
 -- one item more of a walk

@@ -1,3 +1,8 @@
+mod Steps
+mod Endings
+mod Whys
+mod Keeping
+mod Closed
 mod Taking
 mod Homing
 mod Order
@@ -10,3 +15,5 @@ mod Owing
 mod Site
 mod Once
 mod Complete
+pub mod Lists
+pub mod Telling

@@ -1,5 +1,6 @@
 -- Each worker has exactly one Ended.
-use Rattle.std.proofs.Common.{◌≡◌, ◌≢◌, ℕ, ◌+◌, ◌*◌, ◌≤◌, ◌<◌, ◌==◌, ◌&&◌, ◌||◌, Bool, true, false, cond, List, [], ◌∷◌, ◌++◌, length, Option, Some, None, refl, sym, ◌∙◌, ap, subst, arith, inl, inr}
+use Rattle.std.proofs.Common.{◌≡◌, ◌≢◌, ℕ, ◌+◌, ◌*◌, ◌≤◌, ◌<◌, ◌==◌, ◌&&◌, ◌||◌, Bool, true, false, cond, List, [], ◌∷◌, ◌++◌, length, Option, Some}
+use Rattle.std.proofs.Common.{None, refl, sym, ◌∙◌, ap, subst, arith, inl, inr}
 use Rattle.std.specs.Prelude.{◌⊎◌}
 use Rattle.std.specs.List.{filter, list_any}
 use Rattle.std.proofs.lemmas.Bool.Decides.{eqb_tells}
@@ -7,7 +8,7 @@ use Rattle.std.proofs.lemmas.Grind.{common_steps}
 use Rattle.std.proofs.lemmas.List.Folds.{list_any-append}
 use Rattle.cts_def.specs.Makers.{first_desk, first_slot, scribe}
 use Rattle.cts_def.specs.Sites.{SiteData}
-use Rattle.cts_duties.specs.Workers.{IsUnstarted}
+use Rattle.cts_server.specs.Workers.{IsUnstarted}
 use Rattle.cts_entry.specs.declared.entry.Entry.{Entry}
 use Rattle.cts_entry.specs.Legal.{AllAllowed, Rules, has_ended, is_ended}
 use Rattle.cts_entry.specs.Workers.{is_worker}
@@ -55,7 +56,8 @@ module _ (m : ℕ) where
     none_after before (e ∷ es) ended all = by_case (e.by == m) refl (none_after (before ++ e ∷ []) es (ended_more before e ended) all.1)
       where
         by_case : (b : Bool) → (e.by == m) ≡ b → endings_of m es ≡ 0 → endings_of m (e ∷ es) ≡ 0
-        by_case true h rest = absurd (let a : has_ended m before ≡ false = subst (λ (n : ℕ). has_ended n before ≡ false) (is_of e.by h) all.0.active in let f : true ≡ false = sym ended ∙ a in cc)
+        by_case true h rest = absurd (let a : has_ended m before ≡ false = subst (λ (n : ℕ). has_ended n before ≡ false) (is_of e.by h) all.0.active
+            in let f : true ≡ false = sym ended ∙ a in cc)
         by_case false h rest = ap (λ (b : Bool). length (cond (b && is_ended e.what) (e ∷ filter ends es) (filter ends es))) h ∙ rest
 
     at_most : (before es : List Entry) → AllAllowed r before es → endings_of m es ≤ 1
@@ -74,7 +76,8 @@ module _ (m : ℕ) where
     where
       by_case : (b : Bool) → ends e ≡ b → (has_ended m es ≡ true → 1 ≤ endings_of m es) → 1 ≤ endings_of m (e ∷ es)
       by_case true k more = subst (λ (b : Bool). 1 ≤ length (cond b (e ∷ filter ends es) (filter ends es))) (sym k) (omega arith)
-      by_case false k more = subst (λ (b : Bool). 1 ≤ length (cond b (e ∷ filter ends es) (filter ends es))) (sym k) (more (sym (ap (λ (b : Bool). b || has_ended m es) k) ∙ h))
+      by_case false k more = subst (λ (b : Bool). 1 ≤ length (cond b (e ∷ filter ends es) (filter ends es))) (sym k)
+          (more (sym (ap (λ (b : Bool). b || has_ended m es) k) ∙ h))
 
 pub last_ended_is_only : LastEndedIsOnly
 last_ended_is_only r m history legal last =
@@ -90,20 +93,23 @@ unstarted_last by history u = (stop_if _ by first_moment, entry_of by first_mome
 
 module _ {X N : Type 0} (Owes : ℕ → Aim → X → X → N → Type 0) (P : ℕ → Type 0) (tells : (n : ℕ) (a : Aim) (x y : X) (w : N) → Owes n a x y w → P n) where
   -- this holds of each number of a worker whose device came back
-  came_each : (by : ℕ) (aims : List Aim) (old new : List (Option X)) (notes : List N) → CameBack Owes by aims old new notes → (m : ℕ) → by ≤ m → m < by + length aims → P m
+  came_each : (by : ℕ) (aims : List Aim) (old new : List (Option X)) (notes : List N) → CameBack Owes by aims old new notes → (m : ℕ) → by ≤ m
+      → m < by + length aims → P m
   came_each by [] old new notes b m low high = absurd (omega (arith, low, high))
   came_each by (a ∷ aims) [] new notes b m low high = absurd b
   came_each by (a ∷ aims) (None ∷ old) new notes b m low high = absurd b
   came_each by (a ∷ aims) (Some x ∷ old) [] notes b m low high = absurd b
   came_each by (a ∷ aims) (Some x ∷ old) (None ∷ new) notes b m low high = absurd b
   came_each by (a ∷ aims) (Some x ∷ old) (Some y ∷ new) [] b m low high = absurd b
-  came_each by (a ∷ aims) (Some x ∷ old) (Some y ∷ new) (w ∷ notes) b m low high = by_test (eqb_tells m by) (λ later. came_each (by + 1) aims old new notes b.1 m later (omega (arith, high)))
+  came_each by (a ∷ aims) (Some x ∷ old) (Some y ∷ new) (w ∷ notes) b m low high = by_test (eqb_tells m by)
+      (λ later. came_each (by + 1) aims old new notes b.1 m later (omega (arith, high)))
     where
       by_test : (((m == by) ≡ true) × (m ≡ by)) ⊎ (((m == by) ≡ false) × (m ≢ by)) → (by + 1 ≤ m → P m) → P m
       by_test (inl t) later = subst P (sym t.1) (tells by a x y w b.0)
       by_test (inr t) later = let apart : m ≢ by = t.1 in later (omega (arith, low, apart))
 
-module _ {D Q V : Type 0} (line_seen : D → LineSeen) (door_seen : Q → LineSeen) (vault_seen : V → VaultSeen) (site : SiteData) (digest : List ℕ) (history : List Entry) where
+module _ {D Q V : Type 0} (line_seen : D → LineSeen) (door_seen : Q → LineSeen) (vault_seen : V → VaultSeen) (site : SiteData) (digest : List ℕ)
+    (history : List Entry) where
   line_last : {X : Type 0} (seen : X → LineSeen) (n : ℕ) (a : Aim) (x y : X) (w : LineWhy) → LineOwes seen site history n a x y w → LastEnded n history
   line_last seen n a x y w owes = elim owes.2 [
     | inl r ↦ r.ended
@@ -125,16 +131,25 @@ module _ {D Q V : Type 0} (line_seen : D → LineSeen) (door_seen : Q → LineSe
   scribe_last None new why owes = absurd owes
 
   -- which worker a number is
-  a_worker : (m : ℕ) → is_worker site m ≡ true → (m < length site.interfaces) ⊎ (((first_slot ≤ m) × (m < first_slot + 2 * length site.routers)) ⊎ (((first_desk ≤ m) × (m < first_desk + site.desks)) ⊎ (m ≡ scribe)))
+  a_worker : (m : ℕ) → is_worker site m ≡ true → (m < length site.interfaces)
+      ⊎ (((first_slot ≤ m) × (m < first_slot + 2 * length site.routers)) ⊎ (((first_desk ≤ m) × (m < first_desk + site.desks)) ⊎ (m ≡ scribe)))
   a_worker m is = grind (arith, common_steps)
 
-  pub ends_once : (lines lines' : List (Option D)) (slots slots' desks desks' : List (Option Q)) (vault vault' : Option V) (whys why_slots : List LineWhy) (notes : List DeskNote) (why : ScribeWhy)
-      → IsKept (server_basis site) history → CameBack (LineOwes line_seen site history) 0 (line_aims site) lines lines' whys → CameBack (LineOwes door_seen site history) first_slot (slot_aims site) slots slots' why_slots
-      → CameBack (DeskOwes door_seen site history) first_desk (desk_aims site) desks desks' notes → ScribeOwes vault_seen site digest history vault vault' why → EndsOnce site history
-  ends_once lines lines' slots slots' desks desks' vault vault' whys why_slots notes why kept ls ss ds owes m is = last_ended_is_only (rules_of (server_basis site)) m history kept.legal (which (a_worker m is))
+  pub ends_once : (lines lines' : List (Option D)) (slots slots' desks desks' : List (Option Q)) (vault vault' : Option V)
+      (whys why_slots : List LineWhy) (notes : List DeskNote) (why : ScribeWhy)
+      → IsKept (server_basis site) history → CameBack (LineOwes line_seen site history) 0 (line_aims site) lines lines' whys
+      → CameBack (LineOwes door_seen site history) first_slot (slot_aims site) slots slots' why_slots
+      → CameBack (DeskOwes door_seen site history) first_desk (desk_aims site) desks desks' notes
+      → ScribeOwes vault_seen site digest history vault vault' why → EndsOnce site history
+  ends_once lines lines' slots slots' desks desks' vault vault' whys why_slots notes why kept ls ss ds owes m is = last_ended_is_only
+      (rules_of (server_basis site)) m history kept.legal (which (a_worker m is))
     where
-      which : (m < length site.interfaces) ⊎ (((first_slot ≤ m) × (m < first_slot + 2 * length site.routers)) ⊎ (((first_desk ≤ m) × (m < first_desk + site.desks)) ⊎ (m ≡ scribe))) → LastEnded m history
-      which (inl i) = came_each (LineOwes line_seen site history) (λ (n : ℕ). LastEnded n history) (line_last line_seen) 0 (line_aims site) lines lines' whys ls m (omega arith) (let n = line_aims_count site in omega (arith, i, n))
-      which (inr (inl s)) = came_each (LineOwes door_seen site history) (λ (n : ℕ). LastEnded n history) (line_last door_seen) first_slot (slot_aims site) slots slots' why_slots ss m s.0 (let h = s.1 in let n = slot_aims_count site in omega (arith, h, n))
-      which (inr (inr (inl d))) = came_each (DeskOwes door_seen site history) (λ (n : ℕ). LastEnded n history) desk_last first_desk (desk_aims site) desks desks' notes ds m d.0 (let h = d.1 in let n = desk_aims_count site in omega (arith, h, n))
+      which : (m < length site.interfaces) ⊎ (((first_slot ≤ m) × (m < first_slot + 2 * length site.routers))
+          ⊎ (((first_desk ≤ m) × (m < first_desk + site.desks)) ⊎ (m ≡ scribe))) → LastEnded m history
+      which (inl i) = came_each (LineOwes line_seen site history) (λ (n : ℕ). LastEnded n history) (line_last line_seen) 0
+          (line_aims site) lines lines' whys ls m (omega arith) (let n = line_aims_count site in omega (arith, i, n))
+      which (inr (inl s)) = came_each (LineOwes door_seen site history) (λ (n : ℕ). LastEnded n history) (line_last door_seen) first_slot
+          (slot_aims site) slots slots' why_slots ss m s.0 (let h = s.1 in let n = slot_aims_count site in omega (arith, h, n))
+      which (inr (inr (inl d))) = came_each (DeskOwes door_seen site history) (λ (n : ℕ). LastEnded n history) desk_last first_desk
+          (desk_aims site) desks desks' notes ds m d.0 (let h = d.1 in let n = desk_aims_count site in omega (arith, h, n))
       which (inr (inr (inr e))) = subst (λ (n : ℕ). LastEnded n history) (sym e) (scribe_last vault vault' why owes)

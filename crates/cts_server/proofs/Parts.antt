@@ -1,116 +1,63 @@
--- What the note of a duty of one kind says.
-use Rattle.std.proofs.Common.{◌≡◌, ℕ, List, refl, sym, subst}
-use Rattle.cts_duties.specs.Any.{Does, any_can, any_does}
-use Rattle.cts_duties.specs.declared.any.AnyDuty.{AnyDuty}
-use Rattle.cts_duties.specs.declared.any.AnyDuty.TheVariants.{Line, Slot, Desk, Scribe}
-use Rattle.cts_duties.specs.declared.any.AnyNote.{AnyNote}
-use Rattle.cts_duties.specs.declared.any.AnyNote.TheVariants.{Line as LineNote, Slot as SlotNote, Desk as DeskNote, Scribe as ScribeNote}
-use Rattle.cts_entry.specs.declared.entry.Entry.{Entry}
-use Rattle.cts_server.specs.Kinds.{IsDesk, IsLine, IsScribe, IsSlot, as_note}
+-- What a value of one kind says, and what was left of it.
+use Rattle.std.proofs.Common.{◌≡◌, ℕ, refl}
+use Rattle.cts_server.specs.Kinds.{IsDesk, IsInterface, IsScribe, IsSlot, both_of}
+use Rattle.cts_server.specs.declared.kinds.ByKind.{ByKind}
+use Rattle.cts_server.specs.declared.kinds.ByKind.TheVariants.{Interface, Slot, Desk, Scribe}
 
-module _ {L P K C B M O Q R : Type 0} (line : Does L B M) (slot : Does P B O) (desk : Does K B Q) (scribe : Does C B R) where
-  module _ {A X : Type 0} (Of : ℕ → A → X → L → Type 0) (n : ℕ) (a : A) (x : X) where
-    -- the note is of the same kind, and of the duty it is known what it was made of and what it did
-    pub line_did : (by : ℕ) (basis : B) (found : List ℕ) (h : List Entry) (duty : AnyDuty L P K C) (note : AnyNote M O Q R) → IsLine Of n a x duty → any_does line slot desk scribe duty by basis found h note
-        → (p : M) × (note ≡ LineNote p) × (d : L) × Of n a x d × line d by basis found h p
-    line_did by basis found h (Line d) (LineNote p) is did = (p, refl, d, is, did)
-    line_did by basis found h (Line d) (SlotNote p) is did = absurd did
-    line_did by basis found h (Line d) (DeskNote p) is did = absurd did
-    line_did by basis found h (Line d) (ScribeNote p) is did = absurd did
-    line_did by basis found h (Slot d) note is did = absurd is
-    line_did by basis found h (Desk d) note is did = absurd is
-    line_did by basis found h (Scribe d) note is did = absurd is
+-- ---- what a value of each kind was made of
 
-  module _ {A X : Type 0} (Of : ℕ → A → X → P → Type 0) (n : ℕ) (a : A) (x : X) where
-    -- the note is of the same kind, and of the duty it is known what it was made of and what it did
-    pub slot_did : (by : ℕ) (basis : B) (found : List ℕ) (h : List Entry) (duty : AnyDuty L P K C) (note : AnyNote M O Q R) → IsSlot Of n a x duty → any_does line slot desk scribe duty by basis found h note
-        → (p : O) × (note ≡ SlotNote p) × (d : P) × Of n a x d × slot d by basis found h p
-    slot_did by basis found h (Line d) note is did = absurd is
-    slot_did by basis found h (Slot d) (LineNote p) is did = absurd did
-    slot_did by basis found h (Slot d) (SlotNote p) is did = (p, refl, d, is, did)
-    slot_did by basis found h (Slot d) (DeskNote p) is did = absurd did
-    slot_did by basis found h (Slot d) (ScribeNote p) is did = absurd did
-    slot_did by basis found h (Desk d) note is did = absurd is
-    slot_did by basis found h (Scribe d) note is did = absurd is
+module _ {I S D C : Type 0} where
+  module _ {A X : Type 0} (Of : ℕ → A → X → I → Type 0) (n : ℕ) (a : A) (x : X) where
+    pub interface_made : (w : ByKind I S D C) → IsInterface Of n a x w → (v : I) × (w ≡ Interface v) × Of n a x v
+    interface_made (Interface v) is = (v, refl, is)
+    interface_made (Slot v) is = absurd is
+    interface_made (Desk v) is = absurd is
+    interface_made (Scribe v) is = absurd is
 
-  module _ {A X : Type 0} (Of : ℕ → A → X → K → Type 0) (n : ℕ) (a : A) (x : X) where
-    -- the note is of the same kind, and of the duty it is known what it was made of and what it did
-    pub desk_did : (by : ℕ) (basis : B) (found : List ℕ) (h : List Entry) (duty : AnyDuty L P K C) (note : AnyNote M O Q R) → IsDesk Of n a x duty → any_does line slot desk scribe duty by basis found h note
-        → (p : Q) × (note ≡ DeskNote p) × (d : K) × Of n a x d × desk d by basis found h p
-    desk_did by basis found h (Line d) note is did = absurd is
-    desk_did by basis found h (Slot d) note is did = absurd is
-    desk_did by basis found h (Desk d) (LineNote p) is did = absurd did
-    desk_did by basis found h (Desk d) (SlotNote p) is did = absurd did
-    desk_did by basis found h (Desk d) (DeskNote p) is did = (p, refl, d, is, did)
-    desk_did by basis found h (Desk d) (ScribeNote p) is did = absurd did
-    desk_did by basis found h (Scribe d) note is did = absurd is
+  module _ {A X : Type 0} (Of : ℕ → A → X → S → Type 0) (n : ℕ) (a : A) (x : X) where
+    pub slot_made : (w : ByKind I S D C) → IsSlot Of n a x w → (v : S) × (w ≡ Slot v) × Of n a x v
+    slot_made (Interface v) is = absurd is
+    slot_made (Slot v) is = (v, refl, is)
+    slot_made (Desk v) is = absurd is
+    slot_made (Scribe v) is = absurd is
+
+  module _ {A X : Type 0} (Of : ℕ → A → X → D → Type 0) (n : ℕ) (a : A) (x : X) where
+    pub desk_made : (w : ByKind I S D C) → IsDesk Of n a x w → (v : D) × (w ≡ Desk v) × Of n a x v
+    desk_made (Interface v) is = absurd is
+    desk_made (Slot v) is = absurd is
+    desk_made (Desk v) is = (v, refl, is)
+    desk_made (Scribe v) is = absurd is
 
   module _ (Of : C → Type 0) where
-    -- the note is of the same kind, and of the duty it is known what it was made of and what it did
-    pub scribe_did : (by : ℕ) (basis : B) (found : List ℕ) (h : List Entry) (duty : AnyDuty L P K C) (note : AnyNote M O Q R) → IsScribe Of duty → any_does line slot desk scribe duty by basis found h note
-        → (p : R) × (note ≡ ScribeNote p) × (d : C) × Of d × scribe d by basis found h p
-    scribe_did by basis found h (Line d) note is did = absurd is
-    scribe_did by basis found h (Slot d) note is did = absurd is
-    scribe_did by basis found h (Desk d) note is did = absurd is
-    scribe_did by basis found h (Scribe d) (LineNote p) is did = absurd did
-    scribe_did by basis found h (Scribe d) (SlotNote p) is did = absurd did
-    scribe_did by basis found h (Scribe d) (DeskNote p) is did = absurd did
-    scribe_did by basis found h (Scribe d) (ScribeNote p) is did = (p, refl, d, is, did)
+    pub scribe_made : (w : ByKind I S D C) → IsScribe Of w → (v : C) × (w ≡ Scribe v) × Of v
+    scribe_made (Interface v) is = absurd is
+    scribe_made (Slot v) is = absurd is
+    scribe_made (Desk v) is = absurd is
+    scribe_made (Scribe v) is = (v, refl, is)
 
--- ---- what a duty of each kind was made of
+-- ---- what was left of a value of each kind is of that kind too
 
-module _ {L P K C : Type 0} where
-  module _ {A X : Type 0} (Of : ℕ → A → X → L → Type 0) (n : ℕ) (a : A) (x : X) where
-    pub line_made : (duty : AnyDuty L P K C) → IsLine Of n a x duty → (d : L) × (as_note duty ≡ LineNote d) × Of n a x d
-    line_made (Line d) is = (d, refl, is)
-    line_made (Slot d) is = absurd is
-    line_made (Desk d) is = absurd is
-    line_made (Scribe d) is = absurd is
+module _ {I S D C I' S' D' C' : Type 0} (i : I → I' → Type 0) (s : S → S' → Type 0) (d : D → D' → Type 0) (c : C → C' → Type 0) where
+  pub interface_left : (v : I) (left : ByKind I' S' D' C') → both_of i s d c (Interface v) left → (p : I') × (left ≡ Interface p) × i v p
+  interface_left v (Interface p) is = (p, refl, is)
+  interface_left v (Slot p) is = absurd is
+  interface_left v (Desk p) is = absurd is
+  interface_left v (Scribe p) is = absurd is
 
-  module _ {A X : Type 0} (Of : ℕ → A → X → P → Type 0) (n : ℕ) (a : A) (x : X) where
-    pub slot_made : (duty : AnyDuty L P K C) → IsSlot Of n a x duty → (d : P) × (as_note duty ≡ SlotNote d) × Of n a x d
-    slot_made (Line d) is = absurd is
-    slot_made (Slot d) is = (d, refl, is)
-    slot_made (Desk d) is = absurd is
-    slot_made (Scribe d) is = absurd is
+  pub slot_left : (v : S) (left : ByKind I' S' D' C') → both_of i s d c (Slot v) left → (p : S') × (left ≡ Slot p) × s v p
+  slot_left v (Interface p) is = absurd is
+  slot_left v (Slot p) is = (p, refl, is)
+  slot_left v (Desk p) is = absurd is
+  slot_left v (Scribe p) is = absurd is
 
-  module _ {A X : Type 0} (Of : ℕ → A → X → K → Type 0) (n : ℕ) (a : A) (x : X) where
-    pub desk_made : (duty : AnyDuty L P K C) → IsDesk Of n a x duty → (d : K) × (as_note duty ≡ DeskNote d) × Of n a x d
-    desk_made (Line d) is = absurd is
-    desk_made (Slot d) is = absurd is
-    desk_made (Desk d) is = (d, refl, is)
-    desk_made (Scribe d) is = absurd is
+  pub desk_left : (v : D) (left : ByKind I' S' D' C') → both_of i s d c (Desk v) left → (p : D') × (left ≡ Desk p) × d v p
+  desk_left v (Interface p) is = absurd is
+  desk_left v (Slot p) is = absurd is
+  desk_left v (Desk p) is = (p, refl, is)
+  desk_left v (Scribe p) is = absurd is
 
-  module _ (Of : C → Type 0) where
-    pub scribe_made : (duty : AnyDuty L P K C) → IsScribe Of duty → (d : C) × (as_note duty ≡ ScribeNote d) × Of d
-    scribe_made (Line d) is = absurd is
-    scribe_made (Slot d) is = absurd is
-    scribe_made (Desk d) is = absurd is
-    scribe_made (Scribe d) is = (d, refl, is)
-
--- ---- what each kind may do
-
-module _ {L P K C B : Type 0} (line : L → ℕ → B → Type 0) (slot : P → ℕ → B → Type 0) (desk : K → ℕ → B → Type 0) (scribe : C → ℕ → B → Type 0) where
-  pub line_can : {A X : Type 0} (Of : ℕ → A → X → L → Type 0) (n : ℕ) (a : A) (x : X) (by : ℕ) (basis : B) → by ≡ n → ((d : L) → Of n a x d → line d n basis) → (duty : AnyDuty L P K C) → IsLine Of n a x duty → any_can line slot desk scribe duty by basis
-  line_can Of n a x by basis at f (Line d) is = subst (λ (i : ℕ). line d i basis) (sym at) (f d is)
-  line_can Of n a x by basis at f (Slot d) is = absurd is
-  line_can Of n a x by basis at f (Desk d) is = absurd is
-  line_can Of n a x by basis at f (Scribe d) is = absurd is
-
-  pub slot_can : {A X : Type 0} (Of : ℕ → A → X → P → Type 0) (n : ℕ) (a : A) (x : X) (by : ℕ) (basis : B) → by ≡ n → ((d : P) → Of n a x d → slot d n basis) → (duty : AnyDuty L P K C) → IsSlot Of n a x duty → any_can line slot desk scribe duty by basis
-  slot_can Of n a x by basis at f (Line d) is = absurd is
-  slot_can Of n a x by basis at f (Slot d) is = subst (λ (i : ℕ). slot d i basis) (sym at) (f d is)
-  slot_can Of n a x by basis at f (Desk d) is = absurd is
-  slot_can Of n a x by basis at f (Scribe d) is = absurd is
-
-  pub desk_can : {A X : Type 0} (Of : ℕ → A → X → K → Type 0) (n : ℕ) (a : A) (x : X) (by : ℕ) (basis : B) → by ≡ n → ((d : K) → Of n a x d → desk d n basis) → (duty : AnyDuty L P K C) → IsDesk Of n a x duty → any_can line slot desk scribe duty by basis
-  desk_can Of n a x by basis at f (Line d) is = absurd is
-  desk_can Of n a x by basis at f (Slot d) is = absurd is
-  desk_can Of n a x by basis at f (Desk d) is = subst (λ (i : ℕ). desk d i basis) (sym at) (f d is)
-  desk_can Of n a x by basis at f (Scribe d) is = absurd is
-
-  pub scribe_can : (Of : C → Type 0) (n by : ℕ) (basis : B) → by ≡ n → ((d : C) → Of d → scribe d n basis) → (duty : AnyDuty L P K C) → IsScribe Of duty → any_can line slot desk scribe duty by basis
-  scribe_can Of n by basis at f (Line d) is = absurd is
-  scribe_can Of n by basis at f (Slot d) is = absurd is
-  scribe_can Of n by basis at f (Desk d) is = absurd is
-  scribe_can Of n by basis at f (Scribe d) is = subst (λ (i : ℕ). scribe d i basis) (sym at) (f d is)
+  pub scribe_left : (v : C) (left : ByKind I' S' D' C') → both_of i s d c (Scribe v) left → (p : C') × (left ≡ Scribe p) × c v p
+  scribe_left v (Interface p) is = absurd is
+  scribe_left v (Slot p) is = absurd is
+  scribe_left v (Desk p) is = absurd is
+  scribe_left v (Scribe p) is = (p, refl, is)

@@ -1,28 +1,13 @@
--- What is said of flags and of places once the devices are back.
-use Rattle.std.proofs.Common.{◌≡◌, ℕ, ◌+◌, Bool, List, [], ◌∷◌, length, map, count_by, cond, Option, Some, None, refl, sym, subst, arith}
-use Rattle.std.specs.List.{AllZip, fold}
-use Rattle.cts_outside.specs.Crews.{CancelledFrom}
+-- What is said of places once the devices are back.
+use Rattle.std.proofs.Common.{◌≡◌, ℕ, ◌+◌, List, [], ◌∷◌, length, Option, Some, None, refl, sym, subst, arith}
+use Rattle.std.specs.List.{AllZip}
 use Rattle.cts_outside.specs.Seen.{LineSeen}
 use Rattle.cts_outside.specs.declared.link.Aim.{Aim}
 use Rattle.cts_server.specs.Aims.{aimed_at}
 use Rattle.cts_server.specs.Places.{AreAimed, AreThere, CameBack}
 
--- ---- flags
-
-fold_map : {A B C : Type 0} (f : A → B) (h : C → B → C) (a : C) (xs : List A) → fold h a (map f xs) ≡ fold (λ (c : C) (x : A). h c (f x)) a xs
-fold_map f h a [] = refl
-fold_map f h a (x ∷ xs) = fold_map f h (h a (f x)) xs
-
-pub count_map : {A B : Type 0} (p : B → Bool) (f : A → B) (xs : List A) → count_by p (map f xs) ≡ count_by (λ (x : A). p (f x)) xs
-count_map p f xs = fold_map f (λ (n : ℕ) (x : _). n + cond (p x) 1 0) 0 xs
-
-pub cancelled_map : {A B : Type 0} (p : B → Bool) (f : A → B) (refused : ℕ → Bool) (n : ℕ) (xs : List A) → CancelledFrom (λ (x : A). p (f x)) refused n xs → CancelledFrom p refused n (map f xs)
-cancelled_map p f refused n [] c = tt
-cancelled_map p f refused n (x ∷ xs) c = (c.0, cancelled_map p f refused (n + 1) xs c.1)
-
--- ---- places
-
-module _ {X N : Type 0} (seen : X → LineSeen) (Owes : ℕ → Aim → X → X → N → Type 0) (shows : (n : ℕ) (a : Aim) (x y : X) (w : N) → Owes n a x y w → seen y ≡ aimed_at a (seen x)) where
+module _ {X N : Type 0} (seen : X → LineSeen) (Owes : ℕ → Aim → X → X → N → Type 0)
+    (shows : (n : ℕ) (a : Aim) (x y : X) (w : N) → Owes n a x y w → seen y ≡ aimed_at a (seen x)) where
   pub came_aimed : (by : ℕ) (aims : List Aim) (old new : List (Option X)) (notes : List N) → CameBack Owes by aims old new notes → AreAimed seen aims old new
   came_aimed by [] old new [] b = b
   came_aimed by [] old new (w ∷ notes) b = absurd b
@@ -34,7 +19,8 @@ module _ {X N : Type 0} (seen : X → LineSeen) (Owes : ℕ → Aim → X → X 
   came_aimed by (a ∷ aims) (Some x ∷ old) (Some y ∷ new) (w ∷ notes) b = (shows by a x y w b.0, came_aimed (by + 1) aims old new notes b.1)
 
 module _ {X N : Type 0} (Owes : ℕ → Aim → X → X → N → Type 0) where
-  pub came_there : (by n : ℕ) (aims : List Aim) (old new : List (Option X)) (notes : List N) → CameBack Owes by aims old new notes → AreThere n old → AreThere n new
+  pub came_there : (by n : ℕ) (aims : List Aim) (old new : List (Option X)) (notes : List N) → CameBack Owes by aims old new notes → AreThere n old
+      → AreThere n new
   came_there by n [] old new [] b there = subst (AreThere n) (sym b) there
   came_there by n [] old new (w ∷ notes) b there = absurd b
   came_there by n (a ∷ aims) [] new notes b there = absurd b
@@ -50,7 +36,8 @@ pub same_zip : {T : Type 0} (ts : List T) → AllZip (λ (t : T) (u : T). t ≡ 
 same_zip [] = tt
 same_zip (t ∷ ts) = (refl, same_zip ts)
 
-pub aimed_there : {X : Type 0} (seen : X → LineSeen) (n : ℕ) (aims : List Aim) (old new : List (Option X)) → AreAimed seen aims old new → AreThere n old → AreThere n new
+pub aimed_there : {X : Type 0} (seen : X → LineSeen) (n : ℕ) (aims : List Aim) (old new : List (Option X)) → AreAimed seen aims old new
+    → AreThere n old → AreThere n new
 aimed_there seen n [] old new b there = subst (AreThere n) (sym b) there
 aimed_there seen n (a ∷ aims) [] new b there = absurd b
 aimed_there seen n (a ∷ aims) (None ∷ old) new b there = absurd b

@@ -1,10 +1,11 @@
 -- One device after another leaves its place and goes with its task.
-use Rattle.std.proofs.Common.{◌≡◌, ℕ, Bool, ◌+◌, List, [], ◌∷◌, ◌++◌, length, map, drop, Option, Some, None, refl, sym, ◌∙◌, ap, subst, arith, append_assoc, length-append}
+use Rattle.std.proofs.Common.{◌≡◌, ℕ, Bool, ◌+◌, List, [], ◌∷◌, ◌++◌, length, map, drop, Option, Some, None, refl, sym, ◌∙◌, ap, subst, arith}
+use Rattle.std.proofs.Common.{append_assoc, length-append}
 use Rattle.std.specs.List.{AllByRecursion}
 use Rattle.std.proofs.lemmas.Grind.{drop_more_same}
 use Rattle.std.proofs.lemmas.List.{append-nil, map-append, drop-drop}
 use Rattle.cts_server.specs.Places.{IsThere}
-use Rattle.cts_staff.specs.declared.staff.Task.{Task}
+use Rattle.cts_server.specs.declared.running.Task.{Task}
 use Rattle.cts_chain.specs.Shapes.{ChainData}
 use Rattle.cts_def.specs.Sites.{SiteData}
 use Rattle.cts_desk.specs.Told.{IsIdle}
@@ -12,10 +13,11 @@ use Rattle.cts_outside.specs.Lines.{Line, aimed, told_after}
 use Rattle.cts_outside.specs.Seen.{LineSeen}
 use Rattle.cts_outside.specs.declared.link.Aim.{Aim}
 use Rattle.cts_server.specs.Aims.{aimed_at}
-use Rattle.cts_server.specs.Tasks.{AreFit, AreTasks, FitsDesk, FitsLine, ReadyDesk, ReadyLine, Taken}
+use Rattle.cts_server.specs.Making.{AreFit, AreTasks, FitsDesk, FitsLine, ReadyDesk, ReadyLine, Taken}
 
 -- a number of devices have left their places
-pub record Taking {A X D : Type 0} (Of : ℕ → A → X → D → Type 0) (first : ℕ) (all left : List A) (old new : List (Option X)) (before after : List (Task D)) (place : ℕ) : Type 0 where
+pub record Taking {A X D : Type 0} (Of : ℕ → A → X → D → Type 0) (first : ℕ) (all left : List A) (old new : List (Option X))
+    (before after : List (Task D)) (place : ℕ) : Type 0 where
   pub aims : List A
   pub devices : List X
   pub made : List (Task D)
@@ -29,15 +31,15 @@ pub record Taking {A X D : Type 0} (Of : ℕ → A → X → D → Type 0) (firs
 
 module _ {A X D : Type 0} (Of : ℕ → A → X → D → Type 0) where
   tasks_more : (by : ℕ) (aims : List A) (xs : List X) (ts : List (Task D)) (a : A) (x : X) (t : Task D)
-      → AreTasks Of by aims xs ts → t.by ≡ by + length xs → Of (by + length xs) a x t.duty → AreTasks Of by (aims ++ a ∷ []) (xs ++ x ∷ []) (ts ++ t ∷ [])
-  tasks_more by [] [] [] a x t are is of = (is ∙ omega arith, subst (λ (n : ℕ). Of n a x t.duty) (omega arith) of, tt)
+      → AreTasks Of by aims xs ts → t.by ≡ by + length xs → Of (by + length xs) a x t.work → AreTasks Of by (aims ++ a ∷ []) (xs ++ x ∷ []) (ts ++ t ∷ [])
+  tasks_more by [] [] [] a x t are is of = (is ∙ omega arith, subst (λ (n : ℕ). Of n a x t.work) (omega arith) of, tt)
   tasks_more by [] [] (u ∷ ts) a x t are is of = absurd are
   tasks_more by [] (y ∷ xs) ts a x t are is of = absurd are
   tasks_more by (b ∷ aims) [] ts a x t are is of = absurd are
   tasks_more by (b ∷ aims) (y ∷ xs) [] a x t are is of = absurd are
   tasks_more by (b ∷ aims) (y ∷ xs) (u ∷ ts) a x t are is of =
       let next : by + length (y ∷ xs) ≡ (by + 1) + length xs = omega arith in
-      (are.0, are.1, tasks_more (by + 1) aims xs ts a x t are.2 (is ∙ next) (subst (λ (n : ℕ). Of n a x t.duty) next of))
+      (are.0, are.1, tasks_more (by + 1) aims xs ts a x t are.2 (is ∙ next) (subst (λ (n : ℕ). Of n a x t.work) next of))
 
   pub begun : (first : ℕ) (all : List A) (old : List (Option X)) (before : List (Task D)) → Taking Of first all all old old before before 0
   begun first all old before = record {
@@ -53,10 +55,11 @@ module _ {A X D : Type 0} (Of : ℕ → A → X → D → Type 0) where
     are = tt;
   }
 
-  pub took : (first : ℕ) (all left rest : List A) (old new newer : List (Option X)) (before after later : List (Task D)) (place n : ℕ) (a : A) (x : X) (t : Task D)
+  pub took : (first : ℕ) (all left rest : List A) (old new newer : List (Option X)) (before after later : List (Task D)) (place n : ℕ) (a : A) (x : X)
+      (t : Task D)
       → Taking Of first all left old new before after place
       → left ≡ a ∷ rest → drop place new ≡ Some x ∷ drop (place + 1) new → drop (place + 1) newer ≡ drop (place + 1) new → length newer ≡ length new
-      → later ≡ after ++ t ∷ [] → n ≡ first + place → t.by ≡ n → Of n a x t.duty
+      → later ≡ after ++ t ∷ [] → n ≡ first + place → t.by ≡ n → Of n a x t.work
       → Taking Of first all rest old newer before later (place + 1)
   took first all left rest old new newer before after later place n a x t k split stands others long pushed at is of =
       let here : n ≡ first + length k.devices = at ∙ ap (λ (i : ℕ). first + i) (sym k.count) in
@@ -67,12 +70,13 @@ module _ {A X D : Type 0} (Of : ℕ → A → X → D → Type 0) where
         made = k.made ++ t ∷ [];
         all_are = append_assoc k.aims (a ∷ []) rest ∙ ap (λ (l : List A). k.aims ++ l) (sym split) ∙ k.all_are;
         stood = k.stood ∙ ap (λ (l : List (Option X)). map Some k.devices ++ l) (sym k.others ∙ stands ∙ ap (λ (l : List (Option X)). Some x ∷ l) (sym next))
-            ∙ sym (append_assoc (map Some k.devices) (Some x ∷ []) (drop (place + 1) old)) ∙ ap (λ (l : List (Option X)). l ++ drop (place + 1) old) (sym (map-append Some k.devices (x ∷ [])));
+            ∙ sym (append_assoc (map Some k.devices) (Some x ∷ []) (drop (place + 1) old)) ∙ ap (λ (l : List (Option X)). l ++ drop (place + 1) old)
+            (sym (map-append Some k.devices (x ∷ [])));
         count = length-append k.devices (x ∷ []) ∙ ap (λ (n : ℕ). n + 1) k.count;
         others = others ∙ sym next;
         long = long ∙ k.long;
         tasks = pushed ∙ ap (λ (l : List (Task D)). l ++ t ∷ []) k.tasks ∙ append_assoc before k.made (t ∷ []);
-        are = tasks_more first k.aims k.devices k.made a x t k.are (is ∙ here) (subst (λ (i : ℕ). Of i a x t.duty) here of);
+        are = tasks_more first k.aims k.devices k.made a x t k.are (is ∙ here) (subst (λ (i : ℕ). Of i a x t.work) here of);
       }
 
   pub taken_all : (first : ℕ) (all left : List A) (old new : List (Option X)) (before after : List (Task D)) (place : ℕ)
@@ -84,16 +88,21 @@ module _ {A X D : Type 0} (Of : ℕ → A → X → D → Type 0) where
     others = ap (λ (n : ℕ). drop n new) k.count ∙ k.others ∙ ap (λ (n : ℕ). drop n old) (sym k.count);
     long = k.long;
     tasks = k.tasks;
-    are = subst (λ (l : List A). AreTasks Of first l k.devices k.made) (sym (append-nil k.aims) ∙ ap (λ (l : List A). k.aims ++ l) (sym none) ∙ k.all_are) k.are;
+    are = subst (λ (l : List A). AreTasks Of first l k.devices k.made)
+        (sym (append-nil k.aims) ∙ ap (λ (l : List A). k.aims ++ l) (sym none) ∙ k.all_are) k.are;
   }
 
-pub fit_more : {A C : Type 0} (Fits : ℕ → C → Type 0) (by : ℕ) (left rest : List A) (cs ds : List C) (a : A) (c : C) → AreFit Fits by left cs → left ≡ a ∷ rest → cs ≡ c ∷ ds → Fits by c × AreFit Fits (by + 1) rest ds
-fit_more Fits by left rest cs ds a c fit split cut = subst (λ (l : List _). AreFit Fits by (a ∷ rest) l) cut (subst (λ (l : List _). AreFit Fits by l cs) split fit)
+pub fit_more : {A C : Type 0} (Fits : ℕ → C → Type 0) (by : ℕ) (left rest : List A) (cs ds : List C) (a : A) (c : C) → AreFit Fits by left cs
+    → left ≡ a ∷ rest → cs ≡ c ∷ ds → Fits by c × AreFit Fits (by + 1) rest ds
+fit_more Fits by left rest cs ds a c fit split cut = subst (λ (l : List _). AreFit Fits by (a ∷ rest) l) cut
+    (subst (λ (l : List _). AreFit Fits by l cs) split fit)
 
 module _ {X : Type 0} where
-  pub there_more : (place : ℕ) (new newer : List (Option X)) (x : X) → AllByRecursion IsThere (drop place new) → drop place new ≡ Some x ∷ drop (place + 1) new → drop (place + 1) newer ≡ drop (place + 1) new
+  pub there_more : (place : ℕ) (new newer : List (Option X)) (x : X) → AllByRecursion IsThere (drop place new) → drop place new ≡ Some x ∷ drop
+      (place + 1) new → drop (place + 1) newer ≡ drop (place + 1) new
       → AllByRecursion IsThere (drop (place + 1) newer)
-  there_more place new newer x there stands others = subst (λ (l : List (Option X)). AllByRecursion IsThere l) (sym others) (subst (λ (l : List (Option X)). AllByRecursion IsThere l) stands there).1
+  there_more place new newer x there stands others = subst (λ (l : List (Option X)). AllByRecursion IsThere l) (sym others)
+      (subst (λ (l : List (Option X)). AllByRecursion IsThere l) stands there).1
 
 -- what is left of a list once one more has left it
 pub rest_is : {C : Type 0} (n : ℕ) (all cs ds : List C) (c : C) → cs ≡ drop n all → cs ≡ c ∷ ds → ds ≡ drop (n + 1) all
@@ -102,22 +111,25 @@ rest_is n all cs ds c is cut = ap (drop 1) (sym cut ∙ is) ∙ drop-drop 1 n al
 -- ---- what is ready
 
 -- a dialer that was aimed shows nothing else
-pub aim_shows : (aim : Aim) (before now : LineSeen) → now.told ≡ told_after (aimed aim) before.told → now.linked ≡ before.linked → now.faults ≡ before.faults → now.failed_dials ≡ before.failed_dials → now ≡ aimed_at aim before
+pub aim_shows : (aim : Aim) (before now : LineSeen) → now.told ≡ told_after (aimed aim) before.told → now.linked ≡ before.linked
+    → now.faults ≡ before.faults → now.failed_dials ≡ before.failed_dials → now ≡ aimed_at aim before
 aim_shows aim before now told linked faults dials =
     ap (λ (t : Option Line). record now { told = t }) told
     ∙ ap (λ (b : Bool). record { told = told_after (aimed aim) before.told; linked = b; faults = now.faults; failed_dials = now.failed_dials }) linked
     ∙ ap (λ (n : ℕ). record { told = told_after (aimed aim) before.told; linked = before.linked; faults = n; failed_dials = now.failed_dials }) faults
     ∙ ap (λ (n : ℕ). record { told = told_after (aimed aim) before.told; linked = before.linked; faults = before.faults; failed_dials = n }) dials
 
-pub line_ready : (site own : SiteData) (by : ℕ) (aim : Aim) (before now : LineSeen) (chain : ChainData) → FitsLine site by chain → now ≡ aimed_at aim before → own ≡ site → ReadyLine site by aim before now own chain
-line_ready site own by aim before now chain fit is same = subst (λ (o : SiteData). ReadyLine site by aim before now o chain) (sym same) (record { aimed = is; can = record { same = refl; line = fit.0; fresh = fit.1 } })
+pub line_ready : (site : SiteData) (by : ℕ) (aim : Aim) (before now : LineSeen) (chain : ChainData) → FitsLine site by chain → now
+    ≡ aimed_at aim before → ReadyLine site by aim before now chain
+line_ready site by aim before now chain fit is = record { aimed = is; can = record { same = refl; line = fit.0; fresh = fit.1 } }
 
 idle_aimed : (aim : Aim) (before now : Option Line) → now ≡ told_after (aimed aim) before → IsIdle before → IsIdle now
 idle_aimed aim None now told idle = subst IsIdle (sym told) tt
 idle_aimed aim (Some line) now told idle = subst IsIdle (sym told) idle
 
 pub desk_ready : {D : Type 0} (seen : D → LineSeen) (site : SiteData) (by : ℕ) (aim : Aim) (before now : D) → FitsDesk seen site by (Some before)
-    → (seen now).told ≡ told_after (aimed aim) (seen before).told → (seen now).linked ≡ (seen before).linked → (seen now).faults ≡ (seen before).faults → (seen now).failed_dials ≡ (seen before).failed_dials
+    → (seen now).told ≡ told_after (aimed aim) (seen before).told → (seen now).linked ≡ (seen before).linked → (seen now).faults ≡
+    (seen before).faults → (seen now).failed_dials ≡ (seen before).failed_dials
     → ReadyDesk site by aim (seen before) (seen now)
 desk_ready seen site by aim before now fit told linked faults dials = record {
   aimed = aim_shows aim (seen before) (seen now) told linked faults dials;

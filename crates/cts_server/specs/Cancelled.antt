@@ -1,9 +1,9 @@
 -- How many workers a site has, and which of them were cancelled.
 use Rattle.std.specs.Prelude.{ℕ, ◌+◌, ◌*◌, Bool, List, [], ◌∷◌, ◌++◌, length, map}
 use Rattle.cts_def.specs.Sites.{SiteData}
-use Rattle.cts_duties.specs.Desks.{is_cancelled as is_cancelled_desk}
-use Rattle.cts_duties.specs.Lines.{is_cancelled}
-use Rattle.cts_duties.specs.Scribes.{is_cancelled as is_cancelled_scribe}
+use Rattle.cts_server.specs.Desks.{is_cancelled as is_cancelled_desk}
+use Rattle.cts_server.specs.Lines.{is_cancelled}
+use Rattle.cts_server.specs.Scribes.{is_cancelled as is_cancelled_scribe}
 use Rattle.cts_server.specs.declared.worked.DeskNote.{DeskNote}
 use Rattle.cts_server.specs.declared.worked.Worked.{Worked}
 

@@ -1,4 +1,5 @@
--- What a server promises besides: each worker ends once, desks answer all that they are asked, and lines take each connection to its end where nobody stops the server.
+-- What a server promises besides: each worker ends once, desks answer all that they are asked, and lines take each connection to its end
+-- where nobody stops the server.
 use Rattle.std.specs.Prelude.{◌≡◌, ◌⊎◌, ℕ, Bool, true, false, List, [], ◌∷◌, ◌++◌, length, take, drop, Option, Some, None, IfSome}
 use Rattle.std.specs.List.{concat, list_any}
 use Rattle.cts_connection.specs.Routings.{site_routing}
@@ -23,7 +24,8 @@ use Rattle.cts_outside.specs.Seen.{LineSeen, VaultSeen}
 use Rattle.cts_outside.specs.declared.link.Aim.{Aim}
 use Rattle.cts_table.specs.Keeping.{IsKept}
 use Rattle.cts_table.specs.declared.basis.Basis.{Basis}
-use Rattle.cts_trace.specs.Lines.{Capacity, Looked}
+use Rattle.cts_entry.specs.Room.{Capacity}
+use Rattle.cts_trace.specs.Lines.{Looked}
 use Rattle.cts_trace.specs.Makers.{closes_for}
 use Rattle.cts_trace.specs.Routing.{Routing}
 use Rattle.cts_server.specs.Aims.{desk_aims, line_aims, slot_aims}
@@ -35,13 +37,15 @@ use Rattle.cts_server.specs.declared.worked.Worked.{Worked}
 
 -- ---- the connections of a desk
 
--- how a connection ended in which every request has its response: with a request that ends it, or a refusal; and where more bytes were waited for, its peer ended it, a take of it failed, or it was cut for a Stop
+-- how a connection ended in which every request has its response: with a request that ends it, or a refusal; and where more bytes were
+-- waited for, its peer ended it, a take of it failed, or it was cut for a Stop
 abbrev pub IsOver : Bool → Connection → Ending → Type 0
 IsOver cut c Closed = Unit {0}
 IsOver cut c (Refused status) = Unit {0}
 IsOver cut c (Waiting left) = (c.ended ≡ true) ⊎ ((c.take_failed ≡ true) ⊎ (cut ≡ true))
 
--- Each request that was taken whole, up to one that ends the connection, has its whole response; after them stands the refusal, where the rest is refused; and nothing else was put.
+-- Each request that was taken whole, up to one that ends the connection, has its whole response; after them stands the refusal, where the
+-- rest is refused; and nothing else was put.
 pub record HasAll (cut : Bool) (c : Connection) (xs : List Exchange) : Type 0 where
   pub ending : Ending
   pub asked : Requests (concat c.pieces) (bodies_of xs) ending
@@ -66,9 +70,11 @@ cut_before stop (c ∷ later) = false
 -- The exchanges are those of the connections, one after another; and only where a Stop stands, the last one may be cut for it.
 abbrev pub AreServed : Bool → List Connection → List Exchange → Type 0
 AreServed stop [] xs = xs ≡ []
-AreServed stop (c ∷ cs) xs = (first : List Exchange) × (more : List Exchange) × (xs ≡ first ++ more) × IsServed (cut_before stop cs) c first × AreServed stop cs more
+AreServed stop (c ∷ cs) xs = (first : List Exchange) × (more : List Exchange) × (xs ≡ first ++ more) × IsServed (cut_before stop cs) c first
+    × AreServed stop cs more
 
--- The connections of a desk that came after those told before: its exchanges stand in the history, each answered at its front, and are those of the connections.
+-- The connections of a desk that came after those told before: its exchanges stand in the history, each answered at its front, and are
+-- those of the connections.
 pub record AnswersAll (basis : Basis) (by : ℕ) (history : List Entry) (fronts : List ℕ) (was : List Connection) (line : Line) : Type 0 where
   pub gone : List Connection
   pub past : line.past ≡ was ++ gone
@@ -113,20 +119,24 @@ RunOut g room m found history line = (line.now ≡ None) × Stays m (RunsOut g r
 module _ {X : Type 0} (seen : X → LineSeen) (site : SiteData) (history : List Entry) where
   -- a desk: those of its door, where it tells
   abbrev pub DeskAnswers : ℕ → Aim → X → X → DeskNote → Type 0
-  DeskAnswers by aim before now note = IfSome (seen now).told (λ (line : Line). AnswersAll (server_basis site) by history note.fronts (past_of (seen before).told) line)
+  DeskAnswers by aim before now note = IfSome (seen now).told
+      (λ (line : Line). AnswersAll (server_basis site) by history note.fronts (past_of (seen before).told) line)
 
   -- a line: those that its dialer made for it, where it tells
   abbrev pub LineRunsOut : ℕ → Aim → X → X → LineWhy → Type 0
-  LineRunsOut by aim before now why = (found : List ℕ) × IfSome (since (made_by (seen before).told) (seen now).told) (λ (line : Line). RunOut (site_routing site) (room_of (server_basis site)) by found history line)
+  LineRunsOut by aim before now why = (found : List ℕ) × IfSome (since (made_by (seen before).told) (seen now).told)
+      (λ (line : Line). RunOut (site_routing site) (room_of (server_basis site)) by found history line)
 
 -- Nobody stopped the server: no connection was closed for a Stop, and each one of an interface or a slot was taken to its end.
-pub record Unstopped {D Q : Type 0} (line_seen : D → LineSeen) (door_seen : Q → LineSeen) (site : SiteData) (w : Worked) (dialers dialers' : List (Option D)) (doors doors' : List (Option Q)) : Type 0 where
+pub record Unstopped {D Q : Type 0} (line_seen : D → LineSeen) (door_seen : Q → LineSeen) (site : SiteData) (w : Worked)
+    (dialers dialers' : List (Option D)) (doors doors' : List (Option Q)) : Type 0 where
   pub uncut : list_any (λ (e : Entry). closes_for is_stopped_why e.what) w.history ≡ false
   pub interfaces : CameBack (LineRunsOut line_seen site w.history) 0 (line_aims site) dialers dialers' (take (length site.interfaces) w.lines)
   pub slots : CameBack (LineRunsOut door_seen site w.history) first_slot (slot_aims site) (take 8 doors) (take 8 doors') (drop (length site.interfaces) w.lines)
 
 -- Each worker has one Ended; each desk has answered all that it was asked; and where no Stop stands, lines took each connection to its end.
-pub record IsComplete {D Q : Type 0} (line_seen : D → LineSeen) (door_seen : Q → LineSeen) (site : SiteData) (w : Worked) (dialers dialers' : List (Option D)) (doors doors' : List (Option Q)) : Type 0 where
+pub record IsComplete {D Q : Type 0} (line_seen : D → LineSeen) (door_seen : Q → LineSeen) (site : SiteData) (w : Worked)
+    (dialers dialers' : List (Option D)) (doors doors' : List (Option Q)) : Type 0 where
   pub once : EndsOnce site w.history
   pub answered : CameBack (DeskAnswers door_seen site w.history) first_desk (desk_aims site) (drop 8 doors) (drop 8 doors') w.desks
   pub unstopped : is_stopped w.history ≡ false → Unstopped line_seen door_seen site w dialers dialers' doors doors'
@@ -134,7 +144,8 @@ pub record IsComplete {D Q : Type 0} (line_seen : D → LineSeen) (door_seen : Q
 module _ {D Q V : Type 0} (line_seen : D → LineSeen) (door_seen : Q → LineSeen) (vault_seen : V → VaultSeen) where
   -- Where what each worker of a site owes holds of one legal history, all this holds of it.
   abbrev pub SitesAreComplete : Type 0
-  SitesAreComplete = (site : SiteData) (digest : List ℕ) (w : Worked) (dialers dialers' : List (Option D)) (doors doors' : List (Option Q)) (vault vault' : Option V) → IsKept (server_basis site) w.history
+  SitesAreComplete = (site : SiteData) (digest : List ℕ) (w : Worked) (dialers dialers' : List (Option D)) (doors doors' : List (Option Q))
+      (vault vault' : Option V) → IsKept (server_basis site) w.history
       → CameBack (LineOwes line_seen site w.history) 0 (line_aims site) dialers dialers' (take (length site.interfaces) w.lines)
       → CameBack (LineOwes door_seen site w.history) first_slot (slot_aims site) (take 8 doors) (take 8 doors') (drop (length site.interfaces) w.lines)
       → CameBack (DeskOwes door_seen site w.history) first_desk (desk_aims site) (drop 8 doors) (drop 8 doors') w.desks

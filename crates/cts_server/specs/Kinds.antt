@@ -1,100 +1,110 @@
--- Duties and notes of one kind, as those of four kinds.
-use Rattle.std.specs.Prelude.{ℕ, Option, Some, None}
-use Rattle.cts_duties.specs.declared.any.AnyDuty.{AnyDuty}
-use Rattle.cts_duties.specs.declared.any.AnyDuty.TheVariants.{Line, Slot, Desk, Scribe}
-use Rattle.cts_duties.specs.declared.any.AnyNote.{AnyNote}
-use Rattle.cts_duties.specs.declared.any.AnyNote.TheVariants.{Line as LineTold, Slot as SlotTold, Desk as DeskTold, Scribe as ScribeTold}
-use Rattle.cts_duties.specs.declared.desks.DeskNote.{DeskNote as DeskLeft}
-use Rattle.cts_server.specs.declared.worked.DeskNote.{DeskNote}
-use Rattle.cts_duties.specs.declared.lines.LineNote.{LineNote}
+-- Values of four kinds: tests of them, relations between two of them, and those of one kind among them.
+use Rattle.std.specs.Prelude.{ℕ, Bool, true, Option, Some, None}
 use Rattle.cts_line.specs.declared.ending.LineWhy.{LineWhy}
+use Rattle.cts_server.specs.declared.kinds.ByKind.{ByKind}
+use Rattle.cts_server.specs.declared.kinds.ByKind.TheVariants.{Interface, Slot, Desk, Scribe}
+use Rattle.cts_server.specs.declared.kinds.DeskLeft.{DeskLeft}
+use Rattle.cts_server.specs.declared.kinds.LineLeft.{LineLeft}
+use Rattle.cts_server.specs.declared.worked.DeskNote.{DeskNote}
 
--- a duty of this kind, of which this holds by its number, its aim and the device that it was made of
-module _ {L P K C A X : Type 0} (Of : ℕ → A → X → L → Type 0) where
-  abbrev pub IsLine : ℕ → A → X → AnyDuty L P K C → Type 0
-  IsLine by aim x (Line d) = Of by aim x d
-  IsLine by aim x (Slot d) = ⊥
-  IsLine by aim x (Desk d) = ⊥
-  IsLine by aim x (Scribe d) = ⊥
+-- a test of a value, by its kind
+module _ {I S D C : Type 0} where
+  abbrev pub test_of : (I → Bool) → (S → Bool) → (D → Bool) → (C → Bool) → ByKind I S D C → Bool
+  test_of i s d c (Interface x) = i x
+  test_of i s d c (Slot x) = s x
+  test_of i s d c (Desk x) = d x
+  test_of i s d c (Scribe x) = c x
 
-module _ {L P K C A X : Type 0} (Of : ℕ → A → X → P → Type 0) where
-  abbrev pub IsSlot : ℕ → A → X → AnyDuty L P K C → Type 0
-  IsSlot by aim x (Line d) = ⊥
-  IsSlot by aim x (Slot d) = Of by aim x d
-  IsSlot by aim x (Desk d) = ⊥
-  IsSlot by aim x (Scribe d) = ⊥
+-- two values are of one kind, and what holds of these two
+module _ {I S D C I' S' D' C' : Type 0} where
+  abbrev pub both_of : (I → I' → Type 0) → (S → S' → Type 0) → (D → D' → Type 0) → (C → C' → Type 0) → ByKind I S D C → ByKind I' S' D' C' → Type 0
+  both_of i s d c (Interface x) (Interface y) = i x y
+  both_of i s d c (Slot x) (Slot y) = s x y
+  both_of i s d c (Desk x) (Desk y) = d x y
+  both_of i s d c (Scribe x) (Scribe y) = c x y
+  both_of i s d c (Interface x) (Slot y) = ⊥
+  both_of i s d c (Interface x) (Desk y) = ⊥
+  both_of i s d c (Interface x) (Scribe y) = ⊥
+  both_of i s d c (Slot x) (Interface y) = ⊥
+  both_of i s d c (Slot x) (Desk y) = ⊥
+  both_of i s d c (Slot x) (Scribe y) = ⊥
+  both_of i s d c (Desk x) (Interface y) = ⊥
+  both_of i s d c (Desk x) (Slot y) = ⊥
+  both_of i s d c (Desk x) (Scribe y) = ⊥
+  both_of i s d c (Scribe x) (Interface y) = ⊥
+  both_of i s d c (Scribe x) (Slot y) = ⊥
+  both_of i s d c (Scribe x) (Desk y) = ⊥
 
-module _ {L P K C A X : Type 0} (Of : ℕ → A → X → K → Type 0) where
-  abbrev pub IsDesk : ℕ → A → X → AnyDuty L P K C → Type 0
-  IsDesk by aim x (Line d) = ⊥
-  IsDesk by aim x (Slot d) = ⊥
-  IsDesk by aim x (Desk d) = Of by aim x d
-  IsDesk by aim x (Scribe d) = ⊥
+-- ---- a value of this kind, of which this holds by its number, its aim and the device that it was made of
 
-module _ {L P K C : Type 0} (Of : C → Type 0) where
-  abbrev pub IsScribe : AnyDuty L P K C → Type 0
-  IsScribe (Line d) = ⊥
-  IsScribe (Slot d) = ⊥
-  IsScribe (Desk d) = ⊥
-  IsScribe (Scribe d) = Of d
+module _ {I S D C A X : Type 0} (Of : ℕ → A → X → I → Type 0) where
+  abbrev pub IsInterface : ℕ → A → X → ByKind I S D C → Type 0
+  IsInterface by aim x (Interface w) = Of by aim x w
+  IsInterface by aim x (Slot w) = ⊥
+  IsInterface by aim x (Desk w) = ⊥
+  IsInterface by aim x (Scribe w) = ⊥
 
--- a note, where it is of this kind
-module _ {L P K C : Type 0} where
-  abbrev pub line_note : AnyNote L P K C → Option L
-  line_note (LineTold n) = Some n
-  line_note (SlotTold n) = None
-  line_note (DeskTold n) = None
-  line_note (ScribeTold n) = None
+module _ {I S D C A X : Type 0} (Of : ℕ → A → X → S → Type 0) where
+  abbrev pub IsSlot : ℕ → A → X → ByKind I S D C → Type 0
+  IsSlot by aim x (Interface w) = ⊥
+  IsSlot by aim x (Slot w) = Of by aim x w
+  IsSlot by aim x (Desk w) = ⊥
+  IsSlot by aim x (Scribe w) = ⊥
 
-  abbrev pub slot_note : AnyNote L P K C → Option P
-  slot_note (LineTold n) = None
-  slot_note (SlotTold n) = Some n
-  slot_note (DeskTold n) = None
-  slot_note (ScribeTold n) = None
+module _ {I S D C A X : Type 0} (Of : ℕ → A → X → D → Type 0) where
+  abbrev pub IsDesk : ℕ → A → X → ByKind I S D C → Type 0
+  IsDesk by aim x (Interface w) = ⊥
+  IsDesk by aim x (Slot w) = ⊥
+  IsDesk by aim x (Desk w) = Of by aim x w
+  IsDesk by aim x (Scribe w) = ⊥
 
-  abbrev pub desk_note : AnyNote L P K C → Option K
-  desk_note (LineTold n) = None
-  desk_note (SlotTold n) = None
-  desk_note (DeskTold n) = Some n
-  desk_note (ScribeTold n) = None
+module _ {I S D C : Type 0} (Of : C → Type 0) where
+  abbrev pub IsScribe : ByKind I S D C → Type 0
+  IsScribe (Interface w) = ⊥
+  IsScribe (Slot w) = ⊥
+  IsScribe (Desk w) = ⊥
+  IsScribe (Scribe w) = Of w
 
-  abbrev pub scribe_note : AnyNote L P K C → Option C
-  scribe_note (LineTold n) = None
-  scribe_note (SlotTold n) = None
-  scribe_note (DeskTold n) = None
-  scribe_note (ScribeTold n) = Some n
+-- ---- a value, where it is of this kind
 
--- a duty, where it is of this kind
-module _ {L P K C : Type 0} where
-  -- it, in the shape of a note
-  abbrev pub as_note : AnyDuty L P K C → AnyNote L P K C
-  as_note (Line d) = LineTold d
-  as_note (Slot d) = SlotTold d
-  as_note (Desk d) = DeskTold d
-  as_note (Scribe d) = ScribeTold d
+module _ {I S D C : Type 0} where
+  abbrev pub the_interface : ByKind I S D C → Option I
+  the_interface (Interface x) = Some x
+  the_interface (Slot x) = None
+  the_interface (Desk x) = None
+  the_interface (Scribe x) = None
 
-  abbrev pub line_duty : AnyDuty L P K C → Option L
-  line_duty d = line_note (as_note d)
+  abbrev pub the_slot : ByKind I S D C → Option S
+  the_slot (Interface x) = None
+  the_slot (Slot x) = Some x
+  the_slot (Desk x) = None
+  the_slot (Scribe x) = None
 
-  abbrev pub slot_duty : AnyDuty L P K C → Option P
-  slot_duty d = slot_note (as_note d)
+  abbrev pub the_desk : ByKind I S D C → Option D
+  the_desk (Interface x) = None
+  the_desk (Slot x) = None
+  the_desk (Desk x) = Some x
+  the_desk (Scribe x) = None
 
-  abbrev pub desk_duty : AnyDuty L P K C → Option K
-  desk_duty d = desk_note (as_note d)
-
-  abbrev pub scribe_duty : AnyDuty L P K C → Option C
-  scribe_duty d = scribe_note (as_note d)
+  abbrev pub the_scribe : ByKind I S D C → Option C
+  the_scribe (Interface x) = None
+  the_scribe (Slot x) = None
+  the_scribe (Desk x) = None
+  the_scribe (Scribe x) = Some x
 
 -- why an interface or a slot ended
-abbrev pub line_why : {X Y K C : Type 0} → AnyNote (LineNote X) (LineNote Y) K C → Option LineWhy
-line_why (LineTold n) = Some n.why
-line_why (SlotTold n) = Some n.why
-line_why (DeskTold n) = None
-line_why (ScribeTold n) = None
+abbrev pub line_why : {X Y D C : Type 0} → ByKind (LineLeft X) (LineLeft Y) D C → Option LineWhy
+line_why (Interface x) = Some x.why
+line_why (Slot x) = Some x.why
+line_why (Desk x) = None
+line_why (Scribe x) = None
 
--- what a desk left, beside its door
-abbrev pub desk_left : {L P X C : Type 0} → AnyNote L P (DeskLeft X) C → Option DeskNote
-desk_left (LineTold n) = None
-desk_left (SlotTold n) = None
-desk_left (DeskTold n) = Some (record { fronts = n.fronts; why = n.why })
-desk_left (ScribeTold n) = None
+-- What a desk left, beside its door. Each desk here reads under the turn, so each response is of a beginning of the one history.
+abbrev pub note_of : {X : Type 0} → DeskLeft X → DeskNote
+note_of x = record { fronts = x.fronts; why = x.why; tied = true }
+
+abbrev pub desk_note : {I S X C : Type 0} → ByKind I S (DeskLeft X) C → Option DeskNote
+desk_note (Interface x) = None
+desk_note (Slot x) = None
+desk_note (Desk x) = Some (note_of x)
+desk_note (Scribe x) = None

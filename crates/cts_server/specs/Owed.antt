@@ -2,9 +2,9 @@
 use Rattle.std.specs.Prelude.{ℕ, List, Option, Some, None}
 use Rattle.cts_def.specs.Makers.{scribe}
 use Rattle.cts_def.specs.Sites.{SiteData}
-use Rattle.cts_duties.specs.Desks.{OwesDesk}
-use Rattle.cts_duties.specs.Lines.{OwesLine}
-use Rattle.cts_duties.specs.Scribes.{OwesScribe}
+use Rattle.cts_server.specs.Desks.{OwesDesk}
+use Rattle.cts_server.specs.Lines.{OwesLine}
+use Rattle.cts_server.specs.Scribes.{OwesScribe}
 use Rattle.cts_entry.specs.Legal.{most_bytes, most_entries}
 use Rattle.cts_entry.specs.declared.entry.Entry.{Entry}
 use Rattle.cts_line.specs.declared.ending.LineWhy.{LineWhy}
@@ -22,11 +22,13 @@ server_basis site = record { site = site; entries = most_entries; bytes = most_b
 module _ {X : Type 0} (seen : X → LineSeen) (site : SiteData) (history : List Entry) where
   -- a line: its dialer was aimed, and what the line owes holds of what the dialer showed then and shows now
   abbrev pub LineOwes : ℕ → Aim → X → X → LineWhy → Type 0
-  LineOwes by aim before now why = (found : List ℕ) × (connections : ℕ) × OwesLine (server_basis site) by found history (aimed_at aim (seen before)) (seen now) connections why
+  LineOwes by aim before now why = (found : List ℕ) × (connections : ℕ) × OwesLine (server_basis site) by found history (aimed_at aim (seen before))
+      (seen now) connections why
 
   -- a desk: the same of its door
   abbrev pub DeskOwes : ℕ → Aim → X → X → DeskNote → Type 0
-  DeskOwes by aim before now note = (found : List ℕ) × OwesDesk (server_basis site) by found history (aimed_at aim (seen before)) (seen now) note.fronts note.why
+  DeskOwes by aim before now note = (found : List ℕ) × OwesDesk (server_basis site) by found history (aimed_at aim (seen before))
+      (seen now) note.fronts note.why
 
 module _ {V : Type 0} (seen : V → VaultSeen) (site : SiteData) (digest : List ℕ) (history : List Entry) where
   -- the scribe, whose vault stands in its place again

@@ -1,10 +1,15 @@
 -- The places of devices: what stands in them when a server starts, and what stands there when it has ended.
 use Rattle.std.specs.Prelude.{◌≡◌, ◌⊎◌, ℕ, ◌+◌, false, List, [], ◌∷◌, ◌++◌, drop, length, map, Option, Some, None}
 use Rattle.std.specs.List.{AllByRecursion}
+use Rattle.cts_def.specs.Most.{most_desks, most_slots}
 use Rattle.cts_desk.specs.Told.{IsIdle}
 use Rattle.cts_outside.specs.Seen.{LineSeen}
 use Rattle.cts_outside.specs.declared.link.Aim.{Aim}
 use Rattle.cts_server.specs.Aims.{aimed_at}
+
+-- the doors of a server: those of the slots first, then those of the desks
+abbrev pub most_doors : ℕ
+most_doors = most_slots + most_desks
 
 module _ {X : Type 0} where
   -- a device stands in the place
@@ -25,8 +30,8 @@ module _ {X : Type 0} where
   abbrev pub filled : List X → List (Option X) → List (Option X)
   filled xs places = map Some xs ++ drop (length xs) places
 
-  -- From a worker's number on: for each aim the device that stood in the place was aimed so, and a device stands there again, of which this holds with the note of
-  -- the worker. The places after them, which no worker needs, are as they were.
+  -- From a worker's number on: for each aim the device that stood in the place was aimed so, and a device stands there again, of which this
+  -- holds with the note of the worker. The places after them, which no worker needs, are as they were.
   abbrev pub CameBack : {N : Type 0} → (ℕ → Aim → X → X → N → Type 0) → ℕ → List Aim → List (Option X) → List (Option X) → List N → Type 0
   CameBack Owes by [] old new [] = new ≡ old
   CameBack Owes by [] old new (note ∷ notes) = ⊥

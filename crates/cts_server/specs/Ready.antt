@@ -17,7 +17,8 @@ ReadyPut old new = (new.faults ≡ old.faults) × (new.told ≡ appended old.tol
 abbrev pub ReadyFailed : SinkSeen → SinkSeen → Type 0
 ReadyFailed old new = Rose old.faults new.faults × IsPartPut old.told new.told ready_line
 
--- What stands in the output. Where the workers have worked the line was put; where memory ran out nothing was put, or the line; and a fault rose the count, and left a beginning of the line.
+-- What stands in the output. Where the workers have worked the line was put; where memory ran out nothing was put, or the line; and a fault
+-- rose the count, and left a beginning of the line.
 abbrev pub PutsReady : {T : Type 0} → SinkSeen → SinkSeen → Result T NotStarted → Type 0
 PutsReady old new (Ok worked) = ReadyPut old new
 PutsReady old new (Err Memory) = (new ≡ old) ⊎ ReadyPut old new

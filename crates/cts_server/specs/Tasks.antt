@@ -1,84 +1,33 @@
--- Tasks that are made of devices, and what they were made of.
-use Rattle.std.specs.Prelude.{◌≡◌, ℕ, ◌+◌, true, List, [], ◌∷◌, ◌++◌, length, drop, Option, Some}
-use Rattle.cts_chain.specs.Builds.{IsFresh}
-use Rattle.cts_chain.specs.Shapes.{ChainData}
-use Rattle.cts_connection.specs.LinePlaces.{is_line}
-use Rattle.cts_def.specs.Sites.{SiteData}
-use Rattle.cts_duties.specs.Desks.{MayRunDesk}
-use Rattle.cts_duties.specs.Lines.{MayRunLine}
-use Rattle.cts_duties.specs.Scribes.{MayRunScribe}
-use Rattle.cts_def.specs.Makers.{first_desk, first_slot, scribe}
-use Rattle.cts_entry.specs.Workers.{is_desk}
-use Rattle.cts_framing.specs.Chains.{uses_at}
-use Rattle.cts_outside.specs.Seen.{LineSeen, VaultSeen}
-use Rattle.cts_outside.specs.declared.link.Aim.{Aim}
-use Rattle.cts_staff.specs.declared.staff.Task.{Task}
-use Rattle.cts_server.specs.Aims.{aimed_at}
-use Rattle.cts_server.specs.Owed.{server_basis}
-use Rattle.cts_server.specs.Places.{IsStill, filled}
+-- Tasks with the numbers of their workers, and what holds of what these left.
+use Rattle.std.specs.Prelude.{◌≡◌, ℕ, ◌+◌, ◌<◌, ◌≤◌, true, false, ◌==◌, Bool, List, [], ◌∷◌}
+use Rattle.cts_def.specs.Makers.{server}
+use Rattle.cts_entry.specs.declared.entry.Entry.{Entry}
+use Rattle.cts_server.specs.declared.running.Task.{Task}
+use Rattle.cts_turn.specs.Lists.{has}
 
-module _ {A X D : Type 0} (Of : ℕ → A → X → D → Type 0) where
-  -- from this number on a task for each device, made of it and its aim
-  abbrev pub AreTasks : ℕ → List A → List X → List (Task D) → Type 0
-  AreTasks by [] [] [] = Unit {0}
-  AreTasks by [] [] (t ∷ ts) = ⊥
-  AreTasks by [] (x ∷ xs) ts = ⊥
-  AreTasks by (a ∷ aims) [] ts = ⊥
-  AreTasks by (a ∷ aims) (x ∷ xs) [] = ⊥
-  AreTasks by (a ∷ aims) (x ∷ xs) (t ∷ ts) = (t.by ≡ by) × Of by a x t.duty × AreTasks (by + 1) aims xs ts
+-- the numbers rise, from one on, and all are below that of the server itself
+abbrev pub Rising : {D : Type 0} → ℕ → List (Task D) → Type 0
+Rising from [] = Unit {0}
+Rising from (t ∷ ts) = (from ≤ t.by) × (t.by < server) × Rising (t.by + 1) ts
 
--- Devices left their places, and tasks for them came to the tasks.
-pub record Taken {A X D : Type 0} (Of : ℕ → A → X → D → Type 0) (first : ℕ) (aims : List A) (old new : List (Option X)) (before after : List (Task D)) : Type 0 where
-  pub devices : List X
-  pub made : List (Task D)
-  pub stood : old ≡ filled devices old
-  pub others : drop (length devices) new ≡ drop (length devices) old
-  pub long : length new ≡ length old
-  pub tasks : after ≡ before ++ made
-  pub are : AreTasks Of first aims devices made
+-- the first task is the one of this worker
+abbrev pub is_next : {D : Type 0} → ℕ → List (Task D) → Bool
+is_next by [] = false
+is_next by (t ∷ ts) = t.by == by
 
--- for each aim there is something of which this holds, from a number on
-abbrev pub AreFit : {A C : Type 0} → (ℕ → C → Type 0) → ℕ → List A → List C → Type 0
-AreFit Fits by [] cs = Unit {0}
-AreFit Fits by (a ∷ aims) [] = ⊥
-AreFit Fits by (a ∷ aims) (c ∷ cs) = Fits by c × AreFit Fits (by + 1) aims cs
+-- What a worker owes holds of a history and of what it left, with the places at which its holds began.
+abbrev pub Did : {D N B : Type 0} → (D → ℕ → B → List ℕ → List Entry → N → Type 0) → B → List Entry → Task D → N → Type 0
+Did does basis history t note = (found : List ℕ) × does t.work t.by basis found history note
 
--- ---- what each kind needs, and what its tasks are
+-- The same, and its number is one of these makers.
+pub record Holds {D N B : Type 0} (does : D → ℕ → B → List ℕ → List Entry → N → Type 0) (basis : B) (makers : List ℕ) (history : List Entry)
+    (t : Task D) (note : N) : Type 0 where
+  pub found : List ℕ
+  pub did : does t.work t.by basis found history note
+  pub maker : has t.by makers ≡ true
 
--- the chain is that of this line, and nothing was fed to it
-abbrev pub FitsLine : SiteData → ℕ → ChainData → Type 0
-FitsLine site by chain = (is_line site by ≡ true) × IsFresh (uses_at site by) chain
-
--- the door of a desk
-abbrev pub FitsDesk : {X : Type 0} → (X → LineSeen) → SiteData → ℕ → Option X → Type 0
-FitsDesk seen site by door = (is_desk site by ≡ true) × IsStill seen door
-
--- a line that is ready: its dialer was aimed
-pub record ReadyLine (site : SiteData) (by : ℕ) (aim : Aim) (before now : LineSeen) (own : SiteData) (chain : ChainData) : Type 0 where
-  pub aimed : now ≡ aimed_at aim before
-  pub can : MayRunLine (server_basis site) by own chain
-
--- a desk that is ready: its door was aimed
-pub record ReadyDesk (site : SiteData) (by : ℕ) (aim : Aim) (before now : LineSeen) : Type 0 where
-  pub aimed : now ≡ aimed_at aim before
-  pub can : MayRunDesk (server_basis site) by now
-
--- a scribe that is ready, with the vault that stood in its place
-pub record ReadyScribe {V : Type 0} (seen : V → VaultSeen) (site : SiteData) (digest : List ℕ) (place : Option V) (vault : V) (own : SiteData) (heads : List ℕ) : Type 0 where
-  pub same : place ≡ Some vault
-  pub digests : heads ≡ digest
-  pub can : MayRunScribe (server_basis site) scribe own (seen vault)
-
--- All devices have left their places, and there is a task for each, in the order of the workers.
-pub record Staffed {X Y D : Type 0} (LineOf : ℕ → Aim → X → D → Type 0) (SlotOf DeskOf : ℕ → Aim → Y → D → Type 0) (ScribeOf : D → Type 0) (lines slots desks : List Aim)
-    (line_places line_places_now : List (Option X)) (slot_places slot_places_now desk_places desk_places_now : List (Option Y)) (tasks : List (Task D)) : Type 0 where
-  pub after_lines : List (Task D)
-  pub after_slots : List (Task D)
-  pub after_desks : List (Task D)
-  pub last : Task D
-  pub of_lines : Taken LineOf 0 lines line_places line_places_now [] after_lines
-  pub of_slots : Taken SlotOf first_slot slots slot_places slot_places_now after_lines after_slots
-  pub of_desks : Taken DeskOf first_desk desks desk_places desk_places_now after_slots after_desks
-  pub by : last.by ≡ scribe
-  pub of_scribe : ScribeOf last.duty
-  pub all : tasks ≡ after_desks ++ last ∷ []
+-- What a worker left: a pass of its own number alone, whose holds began at these places and which saw this, and what else it left.
+pub record Leaves {D N B : Type 0} (does : D → ℕ → B → List ℕ → List Entry → N → Type 0) (basis : B) (t : Task D) (makers found : List ℕ)
+    (seen : List Entry) (note : N) : Type 0 where
+  pub makers_are : makers ≡ t.by ∷ []
+  pub did : does t.work t.by basis found seen note

@@ -1,16 +1,32 @@
-//! The workers of a site at work: each device that the site needs is aimed and goes with its worker to the crew, and stands in its place again when all have ended. What each worker
-//! owes holds of the one history and of what its device shows then. The rules of this crate are the project's own.
+//! The house of the workers of a site: each works as a job of one crew, with the device that it owns and a pass of its own number alone.
+//! Each device that the site needs is aimed and goes with its worker, and stands in its place again when all have ended; what each worker
+//! owes holds of the one history and of what its device shows then. Of what they left, the first trouble in one order is told. The rules
+//! of this crate are the project's own.
 #![tactic(auto)]
 
 mod aims;
+mod context;
+mod desk;
+mod job;
+mod kinds;
 mod laws;
+mod line;
 mod notes;
+mod outcome;
 mod places;
+mod running;
+mod scribe;
 mod serving;
 mod tasks;
 mod undone;
 mod worked;
 
-pub use laws::{last_ended_is_only, sites_are_complete};
+pub use context::WorkerContext;
+pub use kinds::{ByKind, DeskLeft, Left, Line, LineLeft, ScribeLeft, Work};
+pub use laws::{drained_logs_are_whole, last_ended_is_only, sites_are_complete};
+pub use outcome::{
+    Counted, Trouble, count_history, first_trouble, first_trouble_is_told, plain_where_none_is_told,
+};
+pub use running::{Task, run_workers};
 pub use serving::{Shared, serve_site};
 pub use worked::{DeskNote, NotStarted, Worked};

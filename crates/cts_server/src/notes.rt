@@ -1,19 +1,19 @@
-// The notes of a site's workers, of which the devices go back to their places.
+// What a site's workers left, of which the devices go back to their places.
 ghost use Rattle.std.specs.Prelude.{◌≡◌, ◌+◌, ◌≤◌, ◌++◌, IsSome, None, Some, length, map, vec_capacity, vec_len};
 ghost use Rattle.std.specs.List.{filter_map};
 ghost use Rattle.cts_server.specs.Homes.{CameHome, last_of};
-ghost use Rattle.cts_server.specs.Kinds.{desk_left, desk_note, line_note, line_why, scribe_note, slot_note};
+ghost use Rattle.cts_server.specs.Kinds.{desk_note, line_why, the_desk, the_interface, the_scribe, the_slot};
 
 use crate::places::put_next;
 use crate::worked::DeskNote;
-use cts_duties::{AnyNote, DeskNote as DeskLeft, LineNote, ScribeNote};
+use crate::{ByKind, DeskLeft, Left, LineLeft, ScribeLeft};
 use cts_line::LineWhy;
 use cts_scribe::ScribeWhy;
 
-/// All devices come back to their places, those of each kind to the first places in the order of the notes, and the rest of the notes is kept; the answer is why the scribe
-/// ended.
+/// All devices come back to their places, those of each kind to the first places in the order of the notes, and the rest of the notes is
+/// kept; the answer is why the scribe ended.
 pub(crate) fn notes_back<D: Drop, Q: Drop, V: Drop>(
-    notes: Vec<AnyNote<LineNote<D>, LineNote<Q>, DeskLeft<Q>, ScribeNote<V>>>,
+    notes: Vec<Left<D, Q, V>>,
     lines: &mut [Option<D>],
     slots: &mut [Option<Q>],
     desks: &mut [Option<Q>],
@@ -21,18 +21,19 @@ pub(crate) fn notes_back<D: Drop, Q: Drop, V: Drop>(
     whys: &mut Vec<LineWhy>,
     left: &mut Vec<DeskNote>,
 ) -> ScribeWhy
-    requires lines { length (filter_map line_note notes.items) ≤ length lines.old }
-    requires slots { length (filter_map slot_note notes.items) ≤ length slots.old }
-    requires desks { length (filter_map desk_note notes.items) ≤ length desks.old }
-    requires scribe { IsSome (last_of None (map (λ n. n.why) (filter_map scribe_note notes.items))) }
-    requires room { (vec_len whys.old + length (filter_map line_why notes.items) ≤ vec_capacity whys.old) × (vec_len left.old + length (filter_map desk_left notes.items) ≤ vec_capacity left.old) }
-    ensures lines { CameHome line_note (λ n. n.dialer) notes.items lines.old lines.new }
-    ensures slots { CameHome slot_note (λ n. n.dialer) notes.items slots.old slots.new }
-    ensures desks { CameHome desk_note (λ n. n.door) notes.items desks.old desks.new }
-    ensures vault { vault.new ≡ last_of vault.old (map (λ n. n.vault) (filter_map scribe_note notes.items)) }
+    requires lines { length (filter_map the_interface notes.items) ≤ length lines.old }
+    requires slots { length (filter_map the_slot notes.items) ≤ length slots.old }
+    requires desks { length (filter_map the_desk notes.items) ≤ length desks.old }
+    requires scribe { IsSome (last_of None (map (λ n. n.why) (filter_map the_scribe notes.items))) }
+    requires whys { vec_len whys.old + length (filter_map line_why notes.items) ≤ vec_capacity whys.old }
+    requires left { vec_len left.old + length (filter_map desk_note notes.items) ≤ vec_capacity left.old }
+    ensures lines { CameHome the_interface (λ n. n.device) notes.items lines.old lines.new }
+    ensures slots { CameHome the_slot (λ n. n.device) notes.items slots.old slots.new }
+    ensures desks { CameHome the_desk (λ n. n.door) notes.items desks.old desks.new }
+    ensures vault { vault.new ≡ last_of vault.old (map (λ n. n.vault) (filter_map the_scribe notes.items)) }
     ensures whys { whys.new.items ≡ whys.old.items ++ filter_map line_why notes.items }
-    ensures left { left.new.items ≡ left.old.items ++ filter_map desk_left notes.items }
-    ensures scribe { last_of None (map (λ n. n.why) (filter_map scribe_note notes.items)) ≡ Some result }
+    ensures left { left.new.items ≡ left.old.items ++ filter_map desk_note notes.items }
+    ensures scribe { last_of None (map (λ n. n.why) (filter_map the_scribe notes.items)) ≡ Some result }
 {
     let mut scribe = None;
     let mut line = 0;
@@ -40,25 +41,23 @@ pub(crate) fn notes_back<D: Drop, Q: Drop, V: Drop>(
     let mut desk = 0;
     for note in notes {
         match note {
-            AnyNote::Line(LineNote { dialer, why, .. }) => {
-                put_next(lines, &mut line, dialer);
+            ByKind::Interface(LineLeft { device, why }) => {
+                put_next(lines, &mut line, device);
                 whys.push_reserved(why);
             }
-            AnyNote::Slot(LineNote { dialer, why, .. }) => {
-                put_next(slots, &mut slot, dialer);
+            ByKind::Slot(LineLeft { device, why }) => {
+                put_next(slots, &mut slot, device);
                 whys.push_reserved(why);
             }
-            AnyNote::Desk(DeskLeft { door, fronts, why }) => {
+            ByKind::Desk(DeskLeft { door, fronts, why }) => {
                 put_next(desks, &mut desk, door);
-                left.push_reserved(DeskNote { fronts, why });
-            }
-            AnyNote::Scribe(
-                ScribeNote {
-                    vault: kept,
+                left.push_reserved(DeskNote {
+                    fronts,
                     why,
-                    ..
-                },
-            ) => {
+                    tied: true,
+                });
+            }
+            ByKind::Scribe(ScribeLeft { vault: kept, why }) => {
                 *vault = Some(kept);
                 scribe = Some(why);
             }

@@ -2,53 +2,44 @@
 ghost use Rattle.std.specs.Prelude.{◌≡◌, ◌+◌, ◌<◌, ◌≤◌, ◌∷◌, [], IsSomeAnd, None, Some, drop, length, vec_capacity, vec_len};
 ghost use Rattle.std.specs.List.{AllByRecursion};
 ghost use Rattle.cts_def.specs.Makers.{first_desk, first_slot};
+ghost use Rattle.cts_def.specs.Most.{most_desks, most_interfaces, most_slots};
 ghost use Rattle.cts_scribe.specs.Vaults.{AreBlank};
 ghost use Rattle.cts_server.specs.Aims.{aimed_at};
-ghost use Rattle.cts_server.specs.Kinds.{IsDesk, IsLine, IsScribe, IsSlot};
+ghost use Rattle.cts_server.specs.Kinds.{IsDesk, IsInterface, IsScribe, IsSlot};
+ghost use Rattle.cts_server.specs.Making.{AreFit, FitsDesk, FitsLine, ReadyDesk, ReadyLine, ReadyScribe, Staffed, Taken};
 ghost use Rattle.cts_server.specs.Places.{AreThere, IsThere};
-ghost use Rattle.cts_server.specs.Tasks.{AreFit, FitsDesk, FitsLine, ReadyDesk, ReadyLine, ReadyScribe, Staffed, Taken};
 
 use crate::aims::Aims;
 use crate::places::{take_at, take_first};
-use cts_connection::Framer;
+use crate::running::Task;
+use crate::{ByKind, Line, Work};
+use cts_chain::Framer;
 use cts_def::{FIRST_DESK, FIRST_SLOT, SCRIBE, Site};
-use cts_duties::{AnyDuty, DeskDuty, LineDuty, ScribeDuty, SiteDuty};
 use cts_outside::{Aim, Dialer, Vault};
-use cts_staff::Task;
-use std::alloc::Global;
-
-/// What all workers of a site work with.
-#[derive(Drop)]
-pub(crate) struct Means<'a, K, G> {
-    pub alloc: Global,
-    pub site: &'a Site,
-    pub digest: &'a [u8; 16],
-    pub clock: &'a K,
-    pub gate: &'a G,
-}
 
 /// All devices that the site needs are aimed, and leave their places for the tasks of their workers, in the order of these.
-pub(crate) fn tasks_of<'a, D: Dialer, Q: Dialer, V: Vault, C: Framer, K, G>(
-    means: &Means<'a, K, G>,
+pub(crate) fn tasks_of<D: Dialer, Q: Dialer, V: Vault, C: Framer>(
+    site: &Site,
     aims: Aims,
     mut chains: Vec<C>,
     lines: &mut [Option<D>],
     slots: &mut [Option<Q>],
     desks: &mut [Option<Q>],
     vault: &mut Option<V>,
-    tasks: &mut Vec<Task<SiteDuty<'a, D, Q, V, C, K, G>>>,
+    tasks: &mut Vec<Task<Work<D, Q, V, C>>>,
 )
-    requires there { AreThere 16 lines.old × AreThere 8 slots.old × AreThere 4 desks.old }
-    requires many { (vec_len aims.lines ≤ 16) × (vec_len aims.slots ≤ 8) × (vec_len aims.desks ≤ 4) }
-    requires lines { AreFit (λ by c. FitsLine means.now.site.now by (C.shape c)) 0 aims.lines.items chains.items }
-    requires slots { AreFit (λ by c. FitsLine means.now.site.now by (C.shape c)) first_slot aims.slots.items (drop (length aims.lines.items) chains.items) }
-    requires desks { AreFit (FitsDesk Q.seen means.now.site.now) first_desk aims.desks.items desks.old }
+    requires there { AreThere most_interfaces lines.old × AreThere most_slots slots.old × AreThere most_desks desks.old }
+    requires many { (vec_len aims.lines ≤ most_interfaces) × (vec_len aims.slots ≤ most_slots) × (vec_len aims.desks ≤ most_desks) }
+    requires lines { AreFit (λ by c. FitsLine site.now by (C.shape c)) 0 aims.lines.items chains.items }
+    requires slots { AreFit (λ by c. FitsLine site.now by (C.shape c)) first_slot aims.slots.items (drop (length aims.lines.items) chains.items) }
+    requires desks { AreFit (FitsDesk Q.seen site.now) first_desk aims.desks.items desks.old }
     requires vault { IsSomeAnd vault.old (λ v. AreBlank (V.seen v).told) }
     requires empty { tasks.old.items ≡ [] }
     requires room { vec_len aims.lines + vec_len aims.slots + vec_len aims.desks + 1 ≤ vec_capacity tasks.old }
-    ensures staff { Staffed (IsLine (λ by aim d l. ReadyLine means.now.site.now by aim (D.seen d) (D.seen l.dialer) l.site.now (C.shape l.chain))) (IsSlot (λ by aim d l. ReadyLine means.now.site.now by aim (Q.seen d) (Q.seen l.dialer) l.site.now (C.shape l.chain)))
-        (IsDesk (λ by aim d k. ReadyDesk means.now.site.now by aim (Q.seen d) (Q.seen k.door))) (IsScribe (λ s. ReadyScribe V.seen means.now.site.now means.now.digest.now vault.old s.vault s.site.now s.digest.now)) aims.lines.items aims.slots.items aims.desks.items
-        lines.old lines.new slots.old slots.new desks.old desks.new tasks.new.items }
+    ensures staff { Staffed (IsInterface (λ by aim d l. ReadyLine site.now by aim (D.seen d) (D.seen l.device) (C.shape l.chain)))
+        (IsSlot (λ by aim d l. ReadyLine site.now by aim (Q.seen d) (Q.seen l.device) (C.shape l.chain)))
+        (IsDesk (λ by aim d k. ReadyDesk site.now by aim (Q.seen d) (Q.seen k))) (IsScribe (λ v. ReadyScribe V.seen site.now vault.old v))
+        aims.lines.items aims.slots.items aims.desks.items lines.old lines.new slots.old slots.new desks.old desks.new tasks.new.items }
     ensures vault { vault.new ≡ None }
 {
     let Aims {
@@ -56,133 +47,122 @@ pub(crate) fn tasks_of<'a, D: Dialer, Q: Dialer, V: Vault, C: Framer, K, G>(
         slots: slot_aims,
         desks: desk_aims,
     } = aims;
-    line_tasks(means, lines, line_aims, &mut chains, tasks);
-    slot_tasks(means, slots, slot_aims, &mut chains, tasks);
-    desk_tasks(means, desks, desk_aims, tasks);
+    line_tasks(site, lines, line_aims, &mut chains, tasks);
+    slot_tasks(site, slots, slot_aims, &mut chains, tasks);
+    desk_tasks(site, desks, desk_aims, tasks);
     tasks.push_reserved(Task {
         by: SCRIBE,
-        duty: AnyDuty::Scribe(scribe_duty(means, vault)),
+        work: ByKind::Scribe(take_vault(site, vault)),
     });
 }
 
-// The scribe gets its vault, which leaves its place.
-fn scribe_duty<'a, V: Vault, K, G>(
-    means: &Means<'a, K, G>,
-    vault: &mut Option<V>,
-) -> ScribeDuty<'a, V>
+// The vault leaves its place for the scribe of the site.
+fn take_vault<V: Vault>(site: &Site, vault: &mut Option<V>) -> V
     requires vault { IsSomeAnd vault.old (λ v. AreBlank (V.seen v).told) }
-    ensures ready { ReadyScribe V.seen means.now.site.now means.now.digest.now vault.old result.vault result.site.now result.digest.now }
+    ensures ready { ReadyScribe V.seen site.now vault.old result }
     ensures vault { vault.new ≡ None }
 {
     let Some(vault) = vault.take() else {
         unreachable!()
     };
-    ScribeDuty {
-        alloc: means.alloc,
-        site: means.site,
-        digest: means.digest,
-        vault,
-    }
+    vault
 }
 
-// The duty of a line: its dialer leaves its place and is aimed, and its chain is the next one.
-fn line_duty<'a, D: Dialer, C: Framer, K, G>(
-    means: &Means<'a, K, G>,
+// What a line works with: its device leaves its place and is aimed, and its chain is the next one.
+fn take_line<D: Dialer, C: Framer>(
     places: &mut [Option<D>],
     place: usize,
     aim: Aim,
     chains: &mut Vec<C>,
-) -> LineDuty<'a, D, C, K, G>
+) -> Line<D, C>
     requires within { place < length places.old }
     requires there { AllByRecursion IsThere (drop place places.old) }
     requires chain { 0 < vec_len chains.old }
-    ensures dialer { (d : D) × (drop place places.old ≡ Some d ∷ drop (place + 1) places.old) × (D.seen result.dialer ≡ aimed_at aim (D.seen d)) }
+    ensures device { (d : D) × (drop place places.old ≡ Some d ∷ drop (place + 1) places.old) × (D.seen result.device ≡ aimed_at aim (D.seen d)) }
     ensures others { drop (place + 1) places.new ≡ drop (place + 1) places.old }
     ensures long { length places.new ≡ length places.old }
     ensures chain { chains.old.items ≡ result.chain ∷ chains.new.items }
-    ensures site { result.site.now ≡ means.now.site.now }
 {
-    let mut dialer = take_at(places, place);
-    dialer.aim(aim);
-    LineDuty {
-        alloc: means.alloc,
-        site: means.site,
-        dialer,
+    let mut device = take_at(places, place);
+    device.aim(aim);
+    Line {
+        device,
         chain: take_first(chains),
-        clock: means.clock,
-        gate: means.gate,
     }
 }
 
-// Each interface gets its dialer and its chain.
-fn line_tasks<'a, D: Dialer, C: Framer, K, G, P: Drop, E: Drop, S: Drop>(
-    means: &Means<'a, K, G>,
+// Each interface of the site gets its dialer and its chain.
+fn line_tasks<D: Dialer, C: Framer, S: Drop, K: Drop, V: Drop>(
+    site: &Site,
     places: &mut [Option<D>],
     mut aims: Vec<Aim>,
     chains: &mut Vec<C>,
-    tasks: &mut Vec<Task<AnyDuty<LineDuty<'a, D, C, K, G>, P, E, S>>>,
+    tasks: &mut Vec<Task<ByKind<Line<D, C>, S, K, V>>>,
 )
     requires there { AllByRecursion IsThere places.old }
     requires many { vec_len aims ≤ length places.old }
-    requires few { length places.old ≤ 16 }
-    requires fit { AreFit (λ by c. FitsLine means.now.site.now by (C.shape c)) 0 aims.items chains.old.items }
+    requires few { length places.old ≤ most_interfaces }
+    requires fit { AreFit (λ by c. FitsLine site.now by (C.shape c)) 0 aims.items chains.old.items }
     requires room { vec_len tasks.old + vec_len aims ≤ vec_capacity tasks.old }
-    ensures taken { Taken (IsLine (λ by aim d l. ReadyLine means.now.site.now by aim (D.seen d) (D.seen l.dialer) l.site.now (C.shape l.chain))) 0 aims.items places.old places.new tasks.old.items tasks.new.items }
+    ensures taken { Taken (IsInterface (λ by aim d l. ReadyLine site.now by aim (D.seen d) (D.seen l.device) (C.shape l.chain)))
+        0 aims.items places.old places.new tasks.old.items tasks.new.items }
     ensures chains { chains.new.items ≡ drop (length aims.items) chains.old.items }
     ensures room { vec_capacity tasks.new ≡ vec_capacity tasks.old }
 {
     let mut place = 0;
     'lines: while !aims.is_empty() {
-        let duty = line_duty(means, places, place, take_first(&mut aims), chains);
+        let line = take_line(places, place, take_first(&mut aims), chains);
         tasks.push_reserved(Task {
             by: place as u32,
-            duty: AnyDuty::Line(duty),
+            work: ByKind::Interface(line),
         });
         place += 1;
     }
 }
 
-// Each slot gets its door and its chain.
-fn slot_tasks<'a, D: Dialer, C: Framer, K, G, L: Drop, E: Drop, S: Drop>(
-    means: &Means<'a, K, G>,
-    places: &mut [Option<D>],
+// Each slot of the site gets its door and its chain.
+fn slot_tasks<Q: Dialer, C: Framer, I: Drop, K: Drop, V: Drop>(
+    site: &Site,
+    places: &mut [Option<Q>],
     mut aims: Vec<Aim>,
     chains: &mut Vec<C>,
-    tasks: &mut Vec<Task<AnyDuty<L, LineDuty<'a, D, C, K, G>, E, S>>>,
+    tasks: &mut Vec<Task<ByKind<I, Line<Q, C>, K, V>>>,
 )
     requires there { AllByRecursion IsThere places.old }
     requires many { vec_len aims ≤ length places.old }
-    requires few { length places.old ≤ 16 }
-    requires fit { AreFit (λ by c. FitsLine means.now.site.now by (C.shape c)) first_slot aims.items chains.old.items }
+    requires few { length places.old ≤ most_interfaces }
+    requires fit { AreFit (λ by c. FitsLine site.now by (C.shape c)) first_slot aims.items chains.old.items }
     requires room { vec_len tasks.old + vec_len aims ≤ vec_capacity tasks.old }
-    ensures taken { Taken (IsSlot (λ by aim d l. ReadyLine means.now.site.now by aim (D.seen d) (D.seen l.dialer) l.site.now (C.shape l.chain))) first_slot aims.items places.old places.new tasks.old.items tasks.new.items }
+    ensures taken { Taken (IsSlot (λ by aim d l. ReadyLine site.now by aim (Q.seen d) (Q.seen l.device) (C.shape l.chain)))
+        first_slot aims.items places.old places.new tasks.old.items tasks.new.items }
     ensures chains { chains.new.items ≡ drop (length aims.items) chains.old.items }
     ensures room { vec_capacity tasks.new ≡ vec_capacity tasks.old }
 {
     let mut place = 0;
     'lines: while !aims.is_empty() {
-        let duty = line_duty(means, places, place, take_first(&mut aims), chains);
+        let line = take_line(places, place, take_first(&mut aims), chains);
         tasks.push_reserved(Task {
             by: FIRST_SLOT + place as u32,
-            duty: AnyDuty::Slot(duty),
+            work: ByKind::Slot(line),
         });
         place += 1;
     }
 }
 
-// Each desk gets its door.
-fn desk_tasks<'a, D: Dialer, K, G, L: Drop, P: Drop, S: Drop>(
-    means: &Means<'a, K, G>,
-    places: &mut [Option<D>],
+// Each desk of the site gets its door.
+fn desk_tasks<Q: Dialer, I: Drop, S: Drop, V: Drop>(
+    site: &Site,
+    places: &mut [Option<Q>],
     mut aims: Vec<Aim>,
-    tasks: &mut Vec<Task<AnyDuty<L, P, DeskDuty<'a, D, K, G>, S>>>,
+    tasks: &mut Vec<Task<ByKind<I, S, Q, V>>>,
 )
     requires there { AllByRecursion IsThere places.old }
     requires many { vec_len aims ≤ length places.old }
-    requires few { length places.old ≤ 16 }
-    requires fit { AreFit (FitsDesk D.seen means.now.site.now) first_desk aims.items places.old }
+    requires few { length places.old ≤ most_interfaces }
+    requires fit { AreFit (FitsDesk Q.seen site.now) first_desk aims.items places.old }
     requires room { vec_len tasks.old + vec_len aims ≤ vec_capacity tasks.old }
-    ensures taken { Taken (IsDesk (λ by aim d k. ReadyDesk means.now.site.now by aim (D.seen d) (D.seen k.door))) first_desk aims.items places.old places.new tasks.old.items tasks.new.items }
+    ensures taken { Taken (IsDesk (λ by aim d k. ReadyDesk site.now by aim (Q.seen d) (Q.seen k))) first_desk aims.items places.old places.new
+        tasks.old.items tasks.new.items }
     ensures room { vec_capacity tasks.new ≡ vec_capacity tasks.old }
 {
     let mut place = 0;
@@ -192,12 +172,7 @@ fn desk_tasks<'a, D: Dialer, K, G, L: Drop, P: Drop, S: Drop>(
         door.aim(aim);
         tasks.push_reserved(Task {
             by: FIRST_DESK + place as u32,
-            duty: AnyDuty::Desk(DeskDuty {
-                alloc: means.alloc,
-                door,
-                clock: means.clock,
-                gate: means.gate,
-            }),
+            work: ByKind::Desk(door),
         });
         place += 1;
     }

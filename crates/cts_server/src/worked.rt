@@ -25,6 +25,8 @@ pub struct DeskNote {
     pub fronts: List<u64>,
     /// Why it ended.
     pub why: DeskWhy,
+    /// Whether each of its responses is of a beginning of the history that stands at the end, which it is where the desk reads in holds of the turn.
+    pub tied: bool,
 }
 
 /// Why no worker has begun.

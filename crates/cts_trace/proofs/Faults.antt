@@ -11,7 +11,8 @@ use Rattle.cts_entry.specs.declared.why.Why.TheVariants.{PeerEnded, ReadFault, W
 use Rattle.cts_entry.specs.Histories.{connects, is_of_connection, is_own, has_own}
 use Rattle.cts_entry.specs.Places.{Stays}
 use Rattle.cts_outside.specs.Lines.{Connection}
-use Rattle.cts_trace.specs.Lines.{Capacity, Looked, Causes, Seen}
+use Rattle.cts_entry.specs.Room.{Capacity}
+use Rattle.cts_trace.specs.Lines.{Looked, Causes, Seen}
 use Rattle.cts_trace.specs.Makers.{closes_for, is_fault, faults_of}
 use Rattle.cts_trace.specs.Routing.{Routing}
 use Rattle.cts_trace.specs.ToldLaws.{FaultsAreTold}

@@ -14,7 +14,8 @@ use Rattle.cts_entry.proofs.Queuing.{stays_more}
 use Rattle.cts_framing.specs.Framing.{Output}
 use Rattle.cts_framing.specs.Packets.{capped}
 use Rattle.cts_outside.specs.Lines.{Connection, Line}
-use Rattle.cts_trace.specs.Lines.{Capacity, LacksRoom, Looked, Causes, Seen, PutsAll, PostsNone, IsLook, LastTwo, is_within, looks}
+use Rattle.cts_entry.specs.Room.{Capacity}
+use Rattle.cts_trace.specs.Lines.{LacksRoom, Looked, Causes, Seen, PutsAll, PostsNone, IsLook, LastTwo, is_within, looks}
 use Rattle.cts_trace.specs.Routing.{Routing, queue}
 use Rattle.cts_trace.specs.Told.{IsStay, Said, Settled, Unopened, ToldBy}
 use Rattle.cts_trace.specs.ToldLaws.{SaidIsPast, PutBeforeItsEntries, PutBeforeTheStop, PutsWhatItSaw, FullLeavesSome, HoldsMayFollow, EntriesOfOthersMayFollow}

@@ -26,7 +26,8 @@ use Rattle.cts_framing.proofs.Sound.{is_sound}
 use Rattle.cts_framing.proofs.Stagings.{has_one_packets}
 use Rattle.cts_outside.specs.Lines.{Connection, fresh, no_connections}
 use Rattle.cts_trace.specs.Connections.{Carries, Fed, Says, Shows, Stay, Talks}
-use Rattle.cts_trace.specs.Lines.{Causes, Looked, fits, looks}
+use Rattle.cts_entry.specs.Room.{has_room}
+use Rattle.cts_trace.specs.Lines.{Causes, Looked, looks}
 use Rattle.cts_trace.specs.Told.{ToldBy, Said, Unopened}
 use Rattle.cts_trace.specs.Worked.{WorkedTold, example, entry, opened, packet, command, closed, stop, most, ended_after}
 
@@ -440,9 +441,9 @@ not_full l =
     let posted : s.carries.posted ≡ [] = subst (λ (b : List Entry). Posts 0 (Shows example 0) ([] ++ s.opened ∷ []) b s.carries.posted) none s.carries.posts in
     let left : s.left ≡ plain (2 ∷ 1 ∷ []) ∷ [] = ap (λ (p : List Output). p ++ s.left) (sym posted) ∙ one.1 in
     let lacks = subst (λ (w : Why). Causes (most 2) w (record { connection = took; looked = [] ++ s.opened ∷ l.looked; whole = [] ++ s.opened ∷ s.between; left = s.left })) why l.cause in
-    let room : true ≡ false = subst (λ (b : List Entry). fits (most 2) (opened 0 ∷ b) 1 2 ≡ false) none
-    (subst (λ (o : Entry). fits (most 2) (o ∷ s.between) 1 2 ≡ false) (sym parts.0)
-    (subst (λ (p : List Output). fits (most 2) (s.opened ∷ s.between) (length p) (sum_by (λ o. length o.bytes) p) ≡ false) left lacks.1)) in cc
+    let room : true ≡ false = subst (λ (b : List Entry). has_room (most 2) (opened 0 ∷ b) 1 2 ≡ false) none
+    (subst (λ (o : Entry). has_room (most 2) (o ∷ s.between) 1 2 ≡ false) (sym parts.0)
+    (subst (λ (p : List Output). has_room (most 2) (s.opened ∷ s.between) (length p) (sum_by (λ o. length o.bytes) p) ≡ false) left lacks.1)) in cc
 
 pub worked_told : WorkedTold
 worked_told = record {

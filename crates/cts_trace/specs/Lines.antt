@@ -4,7 +4,8 @@ use Rattle.std.specs.List.{All, filter}
 use Rattle.cts_entry.specs.declared.entry.Entry.{Entry}
 use Rattle.cts_entry.specs.declared.why.Why.{Why}
 use Rattle.cts_entry.specs.declared.why.Why.TheVariants.{PeerEnded, ReadFault, WriteFault, BadFrame, Stopped, NoMemory, Full}
-use Rattle.cts_entry.specs.Histories.{has_own, is_stopped, entries_in, bytes_in}
+use Rattle.cts_entry.specs.Histories.{has_own, is_stopped}
+use Rattle.cts_entry.specs.Room.{Capacity, has_room}
 use Rattle.cts_framing.specs.Framing.{Output}
 use Rattle.cts_outside.specs.Lines.{Connection}
 use Rattle.cts_trace.specs.Routing.{Routing, spell, queue}
@@ -12,18 +13,9 @@ use Rattle.cts_trace.specs.Connections.{Stay, Tail}
 
 -- ---- room
 
--- how much a history may hold: the number of its entries other than Closed, Ended and Stop, and the bytes of its packets and commands
-pub record Capacity : Type 0 where
-  pub entries : ℕ
-  pub bytes : ℕ
-
--- whether the history has room for that number of entries and bytes more
-abbrev pub fits : Capacity → List Entry → ℕ → ℕ → Bool
-fits room history entries bytes = nat_le (entries_in history + entries) room.entries && nat_le (bytes_in history + bytes) room.bytes
-
 -- some packets are left, and their entries find no room after a history
 abbrev pub LacksRoom : Capacity → List Entry → List Output → Type 0
-LacksRoom room history left = (left ≢ []) × (fits room history (length left) (sum_by (λ o. length o.bytes) left) ≡ false)
+LacksRoom room history left = (left ≢ []) × (has_room room history (length left) (sum_by (λ o. length o.bytes) left) ≡ false)
 
 -- ---- looks
 

@@ -6,7 +6,8 @@ use Rattle.cts_entry.specs.Places.{Stays}
 use Rattle.cts_outside.specs.Lines.{Connection, Line, fresh}
 use Rattle.cts_trace.specs.Routing.{Routing}
 use Rattle.cts_trace.specs.Connections.{Stay, Talks}
-use Rattle.cts_trace.specs.Lines.{Capacity, Looked}
+use Rattle.cts_entry.specs.Room.{Capacity}
+use Rattle.cts_trace.specs.Lines.{Looked}
 
 -- ---- in any run
 

@@ -9,7 +9,8 @@ use Rattle.cts_framing.specs.Packets.{capped}
 use Rattle.cts_outside.specs.Lines.{Connection, Line}
 use Rattle.cts_trace.specs.Makers.{of_maker, faults_of}
 use Rattle.cts_trace.specs.Routing.{Routing, queue}
-use Rattle.cts_trace.specs.Lines.{Capacity, Looked}
+use Rattle.cts_entry.specs.Room.{Capacity}
+use Rattle.cts_trace.specs.Lines.{Looked}
 use Rattle.cts_trace.specs.Told.{IsStay, Past, Tells, Said, ToldBy}
 
 -- ---- in any run

@@ -13,7 +13,8 @@ use Rattle.cts_framing.specs.WorkedCuts.{length_at}
 use Rattle.cts_outside.specs.Lines.{Connection, fresh, no_connections}
 use Rattle.cts_trace.specs.Routing.{Routing}
 use Rattle.cts_trace.specs.Connections.{Stay, Talks}
-use Rattle.cts_trace.specs.Lines.{Capacity, Looked}
+use Rattle.cts_entry.specs.Room.{Capacity}
+use Rattle.cts_trace.specs.Lines.{Looked}
 use Rattle.cts_trace.specs.Told.{ToldBy}
 
 -- a spelling has a byte 0 before the bytes, and no bytes have none

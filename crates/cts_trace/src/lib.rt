@@ -3,5 +3,7 @@
 #![tactic(auto)]
 
 mod laws;
+mod lending;
 
 pub use laws::{connections, examples, lines, makers, tellings};
+pub use lending::lend;

@@ -1,5 +1,6 @@
 -- The last entries of a worker, and what stands once they do.
 use Rattle.std.proofs.Common.{◌≡◌, ℕ, ◌==◌, Bool, true, false, List, [], ◌∷◌, ◌++◌, sym, refl, ap, ◌∙◌, append_assoc, inl, inr, arith}
+use Rattle.std.proofs.Math.Bool.{and-false, or-false}
 use Rattle.std.specs.Prelude.{◌&&◌, ◌||◌, not}
 use Rattle.std.proofs.lemmas.List.Folds.{list_any-append}
 use Rattle.cts_def.specs.Sites.{IsSoundSite, SiteData}
@@ -45,27 +46,19 @@ last_by by time stops before = words_by (stops && not (is_stopped before)) by ti
 
 -- ---- a Stop
 
-and_false : (a : Bool) → (a && false) ≡ false
-and_false true = refl
-and_false false = refl
-
-or_false : (a : Bool) → (a || false) ≡ a
-or_false true = refl
-or_false false = refl
-
 -- it is no entry of a connection
 pub stop_own : (c : Bool) (m by : ℕ) (time : Time) → has_own m (stop_if c by time) ≡ false
-stop_own true m by time = ap (λ (b : Bool). b || false) (and_false (by == m))
+stop_own true m by time = ap (λ (b : Bool). b || false) (and-false (by == m))
 stop_own false m by time = refl
 
 stop_ends : (c : Bool) (m by : ℕ) (time : Time) → has_ended m (stop_if c by time) ≡ false
-stop_ends true m by time = ap (λ (b : Bool). b || false) (and_false (by == m))
+stop_ends true m by time = ap (λ (b : Bool). b || false) (and-false (by == m))
 stop_ends false m by time = refl
 
 -- it ends nobody
 pub active_stop : (c : Bool) (m by : ℕ) (time : Time) (history : List Entry) → has_ended m (history ++ stop_if c by time) ≡ has_ended m history
 active_stop c m by time history =
-    list_any-append (λ (e : Entry). (e.by == m) && is_ended e.what) history (stop_if c by time) ∙ (ap (λ (b : Bool). has_ended m history || b) (stop_ends c m by time) ∙ or_false (has_ended m history))
+    list_any-append (λ (e : Entry). (e.by == m) && is_ended e.what) history (stop_if c by time) ∙ (ap (λ (b : Bool). has_ended m history || b) (stop_ends c m by time) ∙ or-false (has_ended m history))
 
 -- and closes nothing
 pub connected_stop : (c : Bool) (m by : ℕ) (time : Time) (history : List Entry) → is_connected m (history ++ stop_if c by time) ≡ is_connected m history

@@ -3,3 +3,4 @@ pub mod Onwards
 pub mod Holdings
 pub mod Lasting
 pub mod Unlinked
+pub mod Marking

@@ -3,3 +3,4 @@ pub mod Holds
 pub mod Grounds
 pub mod Counts
 pub mod Laws
+pub mod Followed

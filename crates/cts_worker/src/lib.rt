@@ -6,7 +6,11 @@
 mod ending;
 mod holds;
 mod laws;
+mod progress;
+mod resting;
 
 pub use ending::stop;
 pub use holds::{cancel, end, sees_stop};
 pub use laws::who_is_off;
+pub use progress::Progress;
+pub use resting::nap;

@@ -1,3 +1,2 @@
 mod Owns
-mod Places
 mod Two

@@ -4,7 +4,7 @@ ghost use Rattle.cts_turn.specs.Passes.{IsPassOf};
 
 use crate::said::{said, tell_puts};
 use cts_base::Memory;
-use cts_connection::Framer;
+use cts_chain::Framer;
 use cts_def::Site;
 use cts_entry::Stands;
 use cts_line::{LineEnd, LineWorker};

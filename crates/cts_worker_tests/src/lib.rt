@@ -1,11 +1,9 @@
-//! Tests of the turn over a list of entries and over a hall, of a staff of two toy workers, and of the workers of lines over dialers in memory, alone and
-//! two at once. They stand above these crates, so that none of them is proved a second time for them.
+//! Tests of the turn over a list of entries and over a hall, and of the workers of lines over dialers in memory, alone and two at once.
+//! They stand above these crates, so that none of them is proved a second time for them.
 #![tactic(auto)]
 
 #[cfg(test)]
 mod chains;
-#[cfg(test)]
-mod crews;
 #[cfg(test)]
 mod halls;
 #[cfg(test)]
@@ -24,10 +22,6 @@ mod passes;
 mod read;
 #[cfg(test)]
 mod said;
-#[cfg(test)]
-mod staffs;
-#[cfg(test)]
-mod toy;
 #[cfg(test)]
 mod turns;
 #[cfg(test)]

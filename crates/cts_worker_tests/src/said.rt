@@ -1,8 +1,9 @@
 // What is told of lines: their entries in short, and what was put to their peers.
 use cts_base::{Bytes, Memory};
-use cts_entry::{Stands, What};
+use cts_entry::What;
 use cts_outside::MemDialer;
 use cts_table::Hall;
+use cts_trace::lend;
 use std::alloc::Global;
 
 /// Each entry of a maker in short: O for Opened, P for a packet and its length, with a * where it was stored, C for Closed and why, the bytes that the first stage held, and
@@ -11,7 +12,7 @@ use std::alloc::Global;
 pub fn said(alloc: Global, hall: &Hall, by: u32) -> Result<String, Memory> {
     let mut text = String::new(alloc);
     for n in 0..hall.count() {
-        let entry = hall.lend(n);
+        let entry = lend(hall, n);
         if entry.by == by {
             tell(&mut text, &word(alloc, &entry.what)?)?;
         }

@@ -2,8 +2,9 @@
 ghost use Rattle.std.specs.Prelude.{◌≡◌, ◌∷◌, ◌++◌, [], OnOk, OnErr};
 
 use cts_base::Memory;
-use cts_entry::{Entry, Stands};
+use cts_entry::{Entry, Stands, Steps};
 use std::alloc::Global;
+use std::sync::ledger::Ledger;
 
 /// A list of entries, which stands for itself, and a number as its basis.
 #[derive(Drop)]
@@ -23,7 +24,8 @@ impl Stands for Written {
         self.entries.len() as u64
     }
 
-    fn lend(&self, n: u64) -> &Entry {
+    fn lend<L: Ledger>(&self, n: u64, steps: &mut Steps<L>) -> &Entry {
+        steps.tick();
         &self.entries[n as usize]
     }
 }

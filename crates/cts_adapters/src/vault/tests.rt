@@ -77,3 +77,33 @@ fn a_new_log_is_in_no_old_file(rt: HostRuntime) -> Result<(), Fail> {
     fs::remove_dir_all(&rt, "new_vault_test")?;
     Ok(())
 }
+
+#[test]
+fn each_part_of_a_log_has_a_file(rt: HostRuntime) -> Result<(), Fail> {
+    fs::create_dir_all(&rt, "parts_test")?;
+    let mut vault = DiskVault::new(
+        &rt,
+        Opening::New,
+        "parts_test/1796000000_tlm.bin",
+        "parts_test/1796000000_cmd.bin",
+    );
+    let rows = [
+        ("parts_test/1796000000_tlm.bin", b"one".as_slice()),
+        ("parts_test/1796000000_tlm_1.bin", b"two"),
+        ("parts_test/1796000000_tlm_2.bin", b"three"),
+    ];
+    for (_, bytes) in rows {
+        assert_eq!(rt; vault.append(LogKind::Tlm, bytes), Ok(()));
+        assert_eq!(rt; vault.sync(LogKind::Tlm), Ok(()));
+        assert_eq!(rt; vault.part(LogKind::Tlm), Ok(()));
+    }
+    for (name, bytes) in rows {
+        assert_eq!(rt; fs::read(&rt, name)?.as_slice(), bytes);
+    }
+    assert!(rt;
+        fs::read(&rt, "parts_test/1796000000_tlm_3.bin").is_err(),
+        "a part without an append"
+    );
+    fs::remove_dir_all(&rt, "parts_test")?;
+    Ok(())
+}

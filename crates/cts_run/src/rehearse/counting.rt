@@ -4,6 +4,7 @@ ghost use Rattle.std.specs.List.{filter};
 ghost use Rattle.cts_run.specs.Rehearsal.{is_command, is_packet, is_refusal, ones, text_refuses};
 
 use cts_entry::{Effect, Entry, Stands, What};
+use cts_trace::lend;
 
 /// How many packets there are in a history.
 pub fn packets_in<H: Stands>(history: &H) -> u64
@@ -11,7 +12,7 @@ pub fn packets_in<H: Stands>(history: &H) -> u64
 {
     let mut count = 0;
     for n in 0..history.count() {
-        if is_packet(history.lend(n)) {
+        if is_packet(lend(history, n)) {
             count += 1;
         }
     }
@@ -24,7 +25,7 @@ pub fn commands_in<H: Stands>(history: &H) -> u64
 {
     let mut count = 0;
     for n in 0..history.count() {
-        if is_command(history.lend(n)) {
+        if is_command(lend(history, n)) {
             count += 1;
         }
     }

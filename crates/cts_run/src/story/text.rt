@@ -11,6 +11,7 @@ use cts_def::Site;
 use cts_entry::{Effect, Stands};
 use cts_script::{LimitsEvent, put_effect_line, put_entry_lines};
 use cts_table::{Hall, LimitsEvent as Change};
+use cts_trace::lend;
 use std::alloc::Global;
 
 /// The lines of the entries from this number on, each with its limits events after it, and then that of an effect.
@@ -43,7 +44,7 @@ fn lines_from<H: Stands>(
     for i in 0..history.count().saturating_sub(from) {
         let n = from + i;
         let events = events_at(alloc, changes, n)?;
-        put_entry_lines(alloc, &mut lines, site, n, history.lend(n), &events)?;
+        put_entry_lines(alloc, &mut lines, site, n, lend(history, n), &events)?;
     }
     Ok(lines)
 }

@@ -1,23 +1,26 @@
 // A server up to the end of its workers.
-ghost use Rattle.std.specs.Prelude.{◌≡◌, ◌∷◌, [], false, map, take, drop, IfErr, IfOk, IfSome, IsSome, IsSomeAnd, None, OnErr, OnOk, Some};
+ghost use Rattle.std.specs.Prelude.{◌≡◌, ◌∷◌, [], false, map, drop, IfErr, IfOk, IfSome, IsSome, IsSomeAnd, None, OnErr, OnOk, Some};
 ghost use Rattle.std.specs.Arc.{arc_value};
 ghost use Rattle.std.specs.List.{AllByRecursion};
 ghost use Rattle.cts_chain.specs.Builds.{AreFresh, Taken};
 ghost use Rattle.cts_connection.specs.LineChains.{line_chains, line_uses};
+ghost use Rattle.cts_def.specs.Most.{most_interfaces, most_slots};
 ghost use Rattle.cts_def.specs.Sites.{SiteData};
 ghost use Rattle.cts_scribe.specs.Vaults.{AreBlank};
-ghost use Rattle.cts_server.specs.Places.{AreThere, IsStill};
+ghost use Rattle.cts_server.specs.Places.{AreThere, IsStill, most_doors};
 ghost use Rattle.cts_server.specs.Ready.{ready_line};
+ghost use Rattle.cts_server.specs.Serving.{HasIdled, HasServed};
 ghost use Rattle.cts_run.specs.Command.{LeavesShelf, first_phases};
 ghost use Rattle.cts_run.specs.Load.{digest_asked, site_asked};
 ghost use Rattle.cts_run.specs.Phases.{FileCounts, Gives, LoadCounts, first_halt};
 ghost use Rattle.cts_run.specs.Putting.{IsPut, SinkCounts};
 ghost use Rattle.cts_serve.specs.Served.{serves_on};
-ghost use Rattle.cts_serve.specs.Serving.{Finds, HasIdled, HasServed, IsPlanned, UnstartedBy, done_as};
+ghost use Rattle.cts_serve.specs.Serving.{Finds, IsPlanned, UnstartedBy, answered, done_as};
 ghost use Rattle.cts_run.specs.Start.{shelf_phase};
 ghost use Rattle.cts_run.specs.Endings.{halt_status};
 
-use cts_connection::{Framer, Supplier, build_chains};
+use cts_chain::Framer;
+use cts_connection::{Supplier, build_chains};
 use cts_def::Site;
 use cts_outside::{Clock, Crew, Dialer, Files, Gate, Sink, Vault};
 use cts_run::{Digest, FileName, Halt, load_site};
@@ -64,24 +67,43 @@ pub(crate) fn host<
     crew: &mut W,
     gate: &G,
 ) -> Result<Worked, Halt<'a>>
-    requires lines { AreThere 16 lines.old.items }
-    requires doors { AreThere 12 doors.old.items }
-    requires still { AllByRecursion (IsStill Q.seen) (drop 8 doors.old.items) }
+    requires lines { AreThere most_interfaces lines.old.items }
+    requires doors { AreThere most_doors doors.old.items }
+    requires still { AllByRecursion (IsStill Q.seen) (drop most_slots doors.old.items) }
     requires vault { IsSomeAnd vault.old (λ v. AreBlank (V.seen v).told) }
     ensures stays { (F.seen files.new).told ≡ (F.seen files.old).told }
     ensures files { FileCounts result (F.seen files.old) (F.seen files.new) }
     ensures sink { SinkCounts result (O.seen out.old) (O.seen out.new) }
-    ensures halts { IfErr result (λ h. IfSome (F.seen files.old).told (λ all. UnstartedBy (first_phases (B.stock shelf.old) all definitions.now site.now) h (O.seen out.old) (O.seen out.new))) }
+    ensures halts { IfErr result (λ h. IfSome (F.seen files.old).told
+        (λ all. UnstartedBy (first_phases (B.stock shelf.old) all definitions.now site.now) h (O.seen out.old) (O.seen out.new))) }
     ensures unserved { IfErr result (λ h. serves_on (halt_status h) ≡ false) }
-    ensures idle { OnErr result ((s : SiteData) × (digest : _) × IsPlanned (F.seen files.old).told (Some (definitions.now, site.now)) s digest × HasIdled D.seen Q.seen V.seen s lines.old.items lines.new.items doors.old.items doors.new.items vault.old vault.new (W.seen crew.old) (W.seen crew.new)) }
+    ensures idle { OnErr result ((s : SiteData) × (digest : _) × IsPlanned (F.seen files.old).told (Some (definitions.now, site.now)) s digest
+        × HasIdled D.seen Q.seen V.seen s lines.old.items lines.new.items doors.old.items doors.new.items vault.old vault.new (W.seen crew.old)
+        (W.seen crew.new)) }
     ensures planned { OnOk result (IfSome (F.seen files.old).told (λ all. first_halt (first_phases (B.stock shelf.old) all definitions.now site.now) ≡ None)) }
     ensures ready { OnOk result (IsPut ready_line (O.seen out.old) (O.seen out.new)) }
-    ensures served { IfOk result (λ w. (s : SiteData) × (digest : _) × IsPlanned (F.seen files.old).told (Some (definitions.now, site.now)) s digest × HasServed D.seen Q.seen V.seen s digest w lines.old.items lines.new.items doors.old.items doors.new.items vault.old vault.new (W.seen crew.old) (W.seen crew.new)) }
+    ensures served { IfOk result (λ w. (s : SiteData) × (digest : _) × IsPlanned (F.seen files.old).told (Some (definitions.now, site.now)) s digest
+        × HasServed D.seen Q.seen V.seen s digest w lines.old.items lines.new.items doors.old.items doors.new.items vault.old vault.new
+        (W.seen crew.old) (W.seen crew.new)) }
     ensures boxes { IfSome (F.seen files.old).told (λ all. LeavesShelf all definitions.now site.now (done_as result) (B.stock shelf.old) (B.stock shelf.new)) }
-    ensures back { AreThere 16 lines.new.items × AreThere 12 doors.new.items × IsSome vault.new }
+    ensures back { AreThere most_interfaces lines.new.items × AreThere most_doors doors.new.items × IsSome vault.new }
 {
     match prepare(alloc, definitions, site, shelf, files) {
-        Ok(plan) => work(rt, alloc, plan, out, lines, doors, vault, clock, crew, gate),
+        Ok(plan) => {
+            let Plan {
+                site: own,
+                digest,
+                chains,
+            } = plan;
+            let shared = Shared {
+                rt,
+                alloc,
+                digest: digest.bytes(),
+                clock,
+                gate,
+            };
+            answered(serve_site(&shared, own, chains, out, lines, doors, vault, crew))
+        }
         Err(halt) => Err(halt),
     }
 }
@@ -96,7 +118,8 @@ fn prepare<'a, C: Framer + Send, B: Supplier<C>, F: Files>(
 ) -> Result<Plan<C>, Halt<'a>>
     ensures stays { (F.seen files.new).told ≡ (F.seen files.old).told }
     ensures counts { LoadCounts result (F.seen files.old) (F.seen files.new) }
-    ensures finds { IfSome (F.seen files.old).told (λ all. Finds (first_phases (B.stock shelf.old) all definitions.now site.now) (λ plan. (arc_value plan.site ≡ site_asked all definitions.now site.now) × (plan.digest ≡ digest_asked all definitions.now)) result) }
+    ensures finds { IfSome (F.seen files.old).told (λ all. Finds (first_phases (B.stock shelf.old) all definitions.now site.now)
+        (λ plan. (arc_value plan.site ≡ site_asked all definitions.now site.now) × (plan.digest ≡ digest_asked all definitions.now)) result) }
     ensures fresh { IfOk result (λ plan. AreFresh (line_chains (arc_value plan.site)) (map C.shape plan.chains.items)) }
     ensures boxes { IfSome (F.seen files.old).told (λ all. LeavesShelf all definitions.now site.now (done_as result) (B.stock shelf.old) (B.stock shelf.new)) }
 {
@@ -131,56 +154,11 @@ fn plan_of<'a, C: Framer + Send, B: Supplier<C>>(
     }
 }
 
-// Lets the workers of a site work.
-fn work<
-    'a,
-    R: Threads + Wait + Sync,
-    C: Framer + Send,
-    O: Sink,
-    D: Dialer + Send,
-    Q: Dialer + Send,
-    V: Vault + Send,
-    K: Clock + Sync,
-    W: Crew,
-    G: Gate + Sync,
->(
-    rt: &R,
-    alloc: Global,
-    plan: Plan<C>,
-    out: &mut O,
-    lines: &mut Vec<Option<D>>,
-    doors: &mut Vec<Option<Q>>,
-    vault: &mut Option<V>,
-    clock: &K,
-    crew: &mut W,
-    gate: &G,
-) -> Result<Worked, Halt<'a>>
-    requires fresh { AreFresh (line_chains (arc_value plan.site)) (map C.shape plan.chains.items) }
-    requires lines { AreThere 16 lines.old.items }
-    requires doors { AreThere 12 doors.old.items }
-    requires still { AllByRecursion (IsStill Q.seen) (drop 8 doors.old.items) }
-    requires vault { IsSomeAnd vault.old (λ v. AreBlank (V.seen v).told) }
-    ensures sink { SinkCounts result (O.seen out.old) (O.seen out.new) }
-    ensures halts { IfErr result (λ h. UnstartedBy [] h (O.seen out.old) (O.seen out.new)) }
-    ensures unserved { IfErr result (λ h. serves_on (halt_status h) ≡ false) }
-    ensures idle { OnErr result (HasIdled D.seen Q.seen V.seen (arc_value plan.site) lines.old.items lines.new.items doors.old.items doors.new.items vault.old vault.new (W.seen crew.old) (W.seen crew.new)) }
-    ensures ready { OnOk result (IsPut ready_line (O.seen out.old) (O.seen out.new)) }
-    ensures served { IfOk result (λ w. HasServed D.seen Q.seen V.seen (arc_value plan.site) plan.digest w lines.old.items lines.new.items doors.old.items doors.new.items vault.old vault.new (W.seen crew.old) (W.seen crew.new)) }
-    ensures back { AreThere 16 lines.new.items × AreThere 12 doors.new.items × IsSome vault.new }
+// What a server answers whose workers have worked, or have not begun.
+fn answered<'a>(served: Result<Worked, NotStarted>) -> Result<Worked, Halt<'a>>
+    ensures { result ≡ answered served }
 {
-    let Plan {
-        site,
-        digest,
-        chains,
-    } = plan;
-    let shared = Shared {
-        digest: digest.bytes(),
-        clock,
-        gate,
-    };
-    match serve_site(
-        rt, alloc, site, &shared, chains, out, lines, doors, vault, crew,
-    ) {
+    match served {
         Ok(worked) => Ok(worked),
         Err(NotStarted::Memory) => Err(Halt::Memory),
         Err(NotStarted::WriteFault) => Err(Halt::WriteFault),

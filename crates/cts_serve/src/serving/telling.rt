@@ -1,7 +1,7 @@
 // The end of a server whose workers have worked: what it puts, and its status. It takes no memory.
 ghost use Rattle.std.specs.Prelude.{◌≡◌, ◌≤◌, ◌++◌, [], List, None, Some};
 ghost use Rattle.std.specs.Fmt.{decimal};
-ghost use Rattle.cts_ending.specs.declared.trouble.Trouble.TheVariants.{HistoryFull};
+ghost use Rattle.cts_server.specs.declared.outcome.trouble.Trouble.TheVariants.{HistoryFull};
 ghost use Rattle.cts_entry.specs.Histories.{bytes_in, entries_in};
 ghost use Rattle.cts_entry.specs.Legal.{most_bytes, most_entries};
 ghost use Rattle.cts_entry.specs.declared.entry.Entry.{Entry};
@@ -11,12 +11,11 @@ ghost use Rattle.cts_serve.specs.Served.{EndsServing, PutsWhole, trouble_line, t
 
 use crate::lines;
 use crate::serving::ended::Ended;
-use cts_ending::{Counted, Trouble, count_history, first_trouble};
 use cts_line::LineWhy;
 use cts_outside::Sink;
 use cts_run::{Status, log_fault_text, memory_text, put_last, put_text};
 use cts_scribe::ScribeWhy;
-use cts_server::{DeskNote, Worked};
+use cts_server::{Counted, DeskNote, Trouble, Worked, count_history, first_trouble};
 use cts_table::History;
 use itoa::Buffer;
 

@@ -39,17 +39,19 @@ returns-then-stop-clause-told g c =
     let w = view c.sees_stop-next.result.0 in
     λ k has t. settles_told (site_routing base.site) (room_of base) c.args.hand.now.by w.found w.seen _ (stop_settled base c.args.hand.now.by v w c.sees_stop-next.ensures.hold _ (c.dials.invariant.settled k has t))
 
-pub attempt-next-requires-clause-shut : goal.attempt-next-requires-clause-shut
-attempt-next-requires-clause-shut g c =
+pub attempt-next-requires-clause-ready : goal.attempt-next-requires-clause-ready
+attempt-next-requires-clause-ready g c =
     let v = view c.dials.pass in
     let w = view c.sees_stop-next.result.0 in
-    shut_kept c.args.hand.now.by v.seen w.seen (stop_keeps (basis_of hall.basis c.args.hand.now.turn.now) c.args.hand.now.by v w c.sees_stop-next.ensures.hold) c.dials.invariant.shut
-
-pub attempt-next-requires-clause-count : goal.attempt-next-requires-clause-count
-attempt-next-requires-clause-count g c =
-    let v = view c.dials.pass in
-    let w = view c.sees_stop-next.result.0 in
-    count_kept c.args.hand.now.by v.seen w.seen c.dials.connections (stop_keeps (basis_of hall.basis c.args.hand.now.turn.now) c.args.hand.now.by v w c.sees_stop-next.ensures.hold) c.dials.invariant.count
+    let keeps = stop_keeps (basis_of hall.basis c.args.hand.now.turn.now) c.args.hand.now.by v w c.sees_stop-next.ensures.hold in
+    let on = onward_hold c.args.hand.now.by v w [] c.sees_stop-next.ensures.hold in record {
+      makers = ap (has c.args.hand.now.by) on.makers ∙ c.dials.invariant.by;
+      site_is = c.requires.ready.site_is;
+      line = c.requires.ready.line;
+      suits = c.dials.invariant.suits;
+      shut = shut_kept c.args.hand.now.by v.seen w.seen keeps c.dials.invariant.shut;
+      count = count_kept c.args.hand.now.by v.seen w.seen c.dials.connections keeps c.dials.invariant.count;
+    }
 
 pub returns-in-Some-end-clause-faults : goal.returns-in-Some-end-clause-faults
 returns-in-Some-end-clause-faults g c =
@@ -65,14 +67,14 @@ pub dials-init : goal.dials-init
 dials-init g c = record {
   next = search rules;
   pass = c.requires.pass;
-  by = c.requires.by;
+  by = c.requires.ready.makers;
   onward = onward_same (view c.args.pass);
   idle = c.requires.idle;
   room = refl;
   same = same_self c.args.connection.now.chain;
-  suits = c.requires.suits;
-  shut = c.requires.shut;
-  count = c.requires.count;
+  suits = c.requires.ready.suits;
+  shut = c.requires.ready.shut;
+  count = c.requires.ready.count;
   faults = faults_same c.args.hand.now.by (view c.args.pass).seen _;
   dials = omega arith;
   once = λ off. refl;

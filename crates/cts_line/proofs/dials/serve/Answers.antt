@@ -9,15 +9,24 @@ use Rattle.cts_worker.proofs.Onwards.{onward_then}
 use Rattle.cts_line.proofs.Telling.{retells_has, retells_hung, retells_then, since_hung}
 use Rattle.cts_line.proofs.dials.serve.Goals as goal
 
+pub open-pass-requires-clause-by : goal.open-pass-requires-clause-by
+open-pass-requires-clause-by g c = c.requires.ready.makers
+
+pub open-pass-requires-clause-line : goal.open-pass-requires-clause-line
+open-pass-requires-clause-line g c = c.requires.ready.line
+
+pub open-pass-requires-clause-shut : goal.open-pass-requires-clause-shut
+open-pass-requires-clause-shut g c = c.requires.ready.shut
+
 pub returns-in-Some-clause-shut : goal.returns-in-Some-clause-shut
 returns-in-Some-clause-shut g c =
     let r = refusal (basis_of hall.basis c.args.hand.now.turn.now) c.args.hand.now.by (view c.args.pass) (view c.open-pass.result.0) c.args.connection.now c.open-pass.new.connection c.open-pass.result.1 c.open-pass.ensures.hold c.in-Some.why (sym c.refused.ensures ∙ c.in-Some.is) in
-    shut_kept c.args.hand.now.by (view c.args.pass).seen (view c.open-pass.result.0).seen r.keeps c.requires.shut
+    shut_kept c.args.hand.now.by (view c.args.pass).seen (view c.open-pass.result.0).seen r.keeps c.requires.ready.shut
 
 pub returns-in-Some-clause-count : goal.returns-in-Some-clause-count
 returns-in-Some-clause-count g c =
     let r = refusal (basis_of hall.basis c.args.hand.now.turn.now) c.args.hand.now.by (view c.args.pass) (view c.open-pass.result.0) c.args.connection.now c.open-pass.new.connection c.open-pass.result.1 c.open-pass.ensures.hold c.in-Some.why (sym c.refused.ensures ∙ c.in-Some.is) in
-    count_kept c.args.hand.now.by (view c.args.pass).seen (view c.open-pass.result.0).seen c.args.connections.now r.keeps c.requires.count
+    count_kept c.args.hand.now.by (view c.args.pass).seen (view c.open-pass.result.0).seen c.args.connections.now r.keeps c.requires.ready.count
 
 pub returns-in-Some-clause-faults : goal.returns-in-Some-clause-faults
 returns-in-Some-clause-faults g c =
@@ -36,7 +45,7 @@ talk-pass-requires-clause-on g c =
 pub talk-pass-requires-clause-suits : goal.talk-pass-requires-clause-suits
 talk-pass-requires-clause-suits g c =
     let o = opening_is (basis_of hall.basis c.args.hand.now.turn.now) c.args.hand.now.by (view c.args.pass) (view c.open-pass.result.0) c.args.connection.now c.open-pass.new.connection c.open-pass.result.1 c.open-pass.ensures.hold (sym c.refused.ensures ∙ c.in_default.is) in
-    suits_same _ c.args.hand.now.by c.args.connection.now.chain c.open-pass.new.connection.chain o.same c.requires.suits
+    suits_same _ c.args.hand.now.by c.args.connection.now.chain c.open-pass.new.connection.chain o.same c.requires.ready.suits
 
 pub returns-clause-onward : goal.returns-clause-onward
 returns-clause-onward g c =
@@ -46,12 +55,12 @@ returns-clause-onward g c =
 pub returns-clause-shut : goal.returns-clause-shut
 returns-clause-shut g c =
     let o = opening_is (basis_of hall.basis c.args.hand.now.turn.now) c.args.hand.now.by (view c.args.pass) (view c.open-pass.result.0) c.args.connection.now c.open-pass.new.connection c.open-pass.result.1 c.open-pass.ensures.hold (sym c.refused.ensures ∙ c.in_default.is) in
-    shut_closed c.args.hand.now.by (view c.args.pass).seen (view c.open-pass.result.0).seen (view c.talk-pass.result.0).seen c.talk-pass.result.1 o.opens c.talk-pass.ensures.keeps c.requires.shut
+    shut_closed c.args.hand.now.by (view c.args.pass).seen (view c.open-pass.result.0).seen (view c.talk-pass.result.0).seen c.talk-pass.result.1 o.opens c.talk-pass.ensures.keeps c.requires.ready.shut
 
 pub returns-clause-count : goal.returns-clause-count
 returns-clause-count g c =
     let o = opening_is (basis_of hall.basis c.args.hand.now.turn.now) c.args.hand.now.by (view c.args.pass) (view c.open-pass.result.0) c.args.connection.now c.open-pass.new.connection c.open-pass.result.1 c.open-pass.ensures.hold (sym c.refused.ensures ∙ c.in_default.is) in
-    count_closed c.args.hand.now.by (view c.args.pass).seen (view c.open-pass.result.0).seen (view c.talk-pass.result.0).seen c.talk-pass.result.1 c.args.connections.now c.saturating_add.result o.opens c.talk-pass.ensures.keeps c.requires.count c.saturating_add.ensures
+    count_closed c.args.hand.now.by (view c.args.pass).seen (view c.open-pass.result.0).seen (view c.talk-pass.result.0).seen c.talk-pass.result.1 c.args.connections.now c.saturating_add.result o.opens c.talk-pass.ensures.keeps c.requires.ready.count c.saturating_add.ensures
 
 pub returns-clause-faults : goal.returns-clause-faults
 returns-clause-faults g c =

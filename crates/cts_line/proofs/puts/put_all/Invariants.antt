@@ -1,7 +1,7 @@
 use Rattle.std.proofs.Common.{◌≡◌, ◌≤◌, ◌+◌, ℕ, List, true, length}
 use Rattle.cts_entry.specs.declared.entry.Entry.{Entry}
 use Rattle.cts_proto.specs.Meaning.{Meaning}
-use Rattle.cts_trace.specs.Lines.{Capacity}
+use Rattle.cts_entry.specs.Room.{Capacity}
 use Rattle.cts_trace.specs.Routing.{Routing}
 use Rattle.cts_line.specs.Talks.{Talks, Puts}
 use Rattle.cts_line.specs.Telling.{Retells, since}

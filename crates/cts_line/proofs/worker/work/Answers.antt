@@ -1,10 +1,12 @@
-use Rattle.std.proofs.Common.{arith, refl, subst, sym, ◌∙◌}
+use Rattle.std.proofs.Common.{◌≡◌, arith, refl, rules, subst, sym, true, ◌∙◌}
 use Rattle.cts_table.specs.contracts.hall.HallStands.TheImpl.{ghosts as hall}
 use Rattle.cts_turn.specs.Passes.{basis_of, view}
+use Rattle.cts_connection.specs.LinePlaces.{is_line}
 use Rattle.cts_connection.specs.Routings.{site_routing}
+use Rattle.cts_def.specs.Sites.{SiteData}
 use Rattle.cts_trace.specs.Told.{ToldBy}
 use Rattle.cts_trace.proofs.Looking.{settles_told}
-use Rattle.cts_line.specs.Talks.{room_of}
+use Rattle.cts_line.specs.Talks.{Suits, room_of}
 use Rattle.cts_line.specs.Telling.{since}
 use Rattle.cts_line.proofs.Dialing.{count_untouched, rose_from, rose_untouched, undialed_settled, untouched}
 use Rattle.cts_line.proofs.Telling.{retells_same}
@@ -25,11 +27,18 @@ returns-in_default-clause-told g c =
     let v = view c.args.pass in
     λ k has u. settles_told (site_routing c.args.hand.now.site.now) (room_of base) c.args.hand.now.by v.found v.seen _ (undialed_settled (site_routing c.args.hand.now.site.now) (room_of base) c.args.hand.now.by v.found v.seen _ (untouched c.args.hand.now.by v.seen c.requires.new).quiet u)
 
-pub connect-requires-clause-shut : goal.connect-requires-clause-shut
-connect-requires-clause-shut g c = (untouched c.args.hand.now.by (view c.args.pass).seen c.requires.new).shut
-
-pub connect-requires-clause-count : goal.connect-requires-clause-count
-connect-requires-clause-count g c = count_untouched c.args.hand.now.by (view c.args.pass).seen c.args.connections.now (untouched c.args.hand.now.by (view c.args.pass).seen c.requires.new).opened c.requires.none
+pub connect-requires-clause-ready : goal.connect-requires-clause-ready
+connect-requires-clause-ready g c =
+    let site = c.args.hand.now.site.now in
+    let by = c.args.hand.now.by in
+    let fresh = untouched by (view c.args.pass).seen c.requires.new in record {
+      makers = c.requires.by;
+      site_is = c.requires.site;
+      line = subst (λ (s : SiteData). is_line s by ≡ true) c.requires.site c.requires.line;
+      suits = subst (λ (s : SiteData). Suits s by c.of-connection.result.chain) c.requires.site (search rules);
+      shut = fresh.shut;
+      count = count_untouched by (view c.args.pass).seen c.args.connections.now fresh.opened c.requires.none;
+    }
 
 pub returns-clause-faults : goal.returns-clause-faults
 returns-clause-faults g c = rose_from c.args.hand.now.by (view c.args.pass).seen (view c.connect.result.0).seen _ _ (untouched c.args.hand.now.by (view c.args.pass).seen c.requires.new).faults c.connect.ensures.faults

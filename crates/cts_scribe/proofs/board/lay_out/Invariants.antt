@@ -1,6 +1,6 @@
 use Rattle.std.proofs.Common.{◌≡◌, ◌≤◌, ◌<◌, ◌-◌, ◌++◌, length, take}
 use Rattle.cts_outside.specs.declared.vault.LogKind.TheVariants.{Cmd, Tlm}
-use Rattle.cts_scribe.specs.Following.{Follows}
+use Rattle.cts_worker.specs.Followed.{Follows}
 use Rattle.cts_scribe.specs.Logs.{entries_log}
 use Rattle.cts_scribe.proofs.board.lay_out.Given as goal
 

@@ -5,7 +5,8 @@ use Rattle.cts_turn.specs.Passes.{view}
 use Rattle.cts_worker.specs.Grounds.{ground}
 use Rattle.cts_worker.specs.Lasts.{MayEnd}
 use Rattle.cts_worker.proofs.Holdings.{a_held, kept_may_end, new_by}
-use Rattle.cts_scribe.specs.Following.{Follows, Sees}
+use Rattle.cts_scribe.specs.Following.{Sees}
+use Rattle.cts_worker.specs.Followed.{Follows}
 use Rattle.cts_scribe.proofs.Sighting.{follows_more, may_end, sees_adds}
 use Rattle.cts_scribe.proofs.holds.look.Goals as goal
 

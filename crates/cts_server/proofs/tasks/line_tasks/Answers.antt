@@ -1,13 +1,14 @@
 use Rattle.std.proofs.Common.{arith, refl, ◌∙◌}
 use Rattle.std.proofs.lemmas.Grind.{common_steps}
-use Rattle.cts_server.specs.Kinds.{IsLine}
-use Rattle.cts_server.specs.Tasks.{FitsLine, ReadyLine}
+use Rattle.cts_server.specs.Kinds.{IsInterface}
+use Rattle.cts_server.specs.Making.{FitsLine, ReadyLine}
 use Rattle.cts_server.proofs.Taking.{begun, took, there_more, fit_more, line_ready, rest_is}
 use Rattle.cts_server.proofs.tasks.line_tasks.Goals as goal
 
 pub lines-init : goal.lines-init
 lines-init g c = record {
-  taking = begun (IsLine (λ n aim d x. ReadyLine c.args.means.now.site.now n aim (g.D.Link.seen d) (g.D.Link.seen x.dialer) x.site.now (g.C.Chained.shape x.chain))) 0 c.args.aims.items c.args.places.now c.args.tasks.now.items;
+  taking = begun (IsInterface (λ n aim d x. ReadyLine c.args.site.now n aim (g.D.Link.seen d) (g.D.Link.seen x.device) (g.C.Chained.shape x.chain))) 0
+      c.args.aims.items c.args.places.now c.args.tasks.now.items;
   there = c.requires.there;
   many = omega arith;
   long = refl;
@@ -22,17 +23,22 @@ lines-preserved g c =
     let kept = c.lines.invariant in
     let place = c.lines.place in
     let aim = c.take_first.ensures.items in
-    let made = c.line_duty-duty.ensures in
-    let fit = fit_more (λ n x. FitsLine c.args.means.now.site.now n (g.C.Chained.shape x)) (place) c.lines.aims.items c.take_first.new.items.items c.lines.chains.items c.line_duty-duty.new.chains.items c.take_first.result c.line_duty-duty.result.chain kept.fit aim made.chain in
+    let made = c.take_line-line.ensures in
+    let fit = fit_more (λ n x. FitsLine c.args.site.now n (g.C.Chained.shape x)) (place) c.lines.aims.items c.take_first.new.items.items
+    c.lines.chains.items c.take_line-line.new.chains.items c.take_first.result c.take_line-line.result.chain kept.fit aim made.chain in
     record {
-      taking = took (IsLine (λ n aim d x. ReadyLine c.args.means.now.site.now n aim (g.D.Link.seen d) (g.D.Link.seen x.dialer) x.site.now (g.C.Chained.shape x.chain))) 0 c.args.aims.items c.lines.aims.items c.take_first.new.items.items c.args.places.now c.lines.places c.line_duty-duty.new.places c.args.tasks.now.items c.lines.tasks.items _ place (place)
-          c.take_first.result made.dialer.0 _ kept.taking aim made.dialer.1 made.others made.long c.push_reserved.ensures.items (omega arith) refl
-          (line_ready c.args.means.now.site.now c.line_duty-duty.result.site.now (place) c.take_first.result (g.D.Link.seen made.dialer.0) (g.D.Link.seen c.line_duty-duty.result.dialer) (g.C.Chained.shape c.line_duty-duty.result.chain) fit.0 made.dialer.2 made.site);
-      there = there_more place c.lines.places c.line_duty-duty.new.places made.dialer.0 kept.there made.dialer.1 made.others;
+      taking = took (IsInterface (λ n aim d x. ReadyLine c.args.site.now n aim (g.D.Link.seen d) (g.D.Link.seen x.device)
+          (g.C.Chained.shape x.chain))) 0 c.args.aims.items c.lines.aims.items c.take_first.new.items.items c.args.places.now c.lines.places
+          c.take_line-line.new.places c.args.tasks.now.items c.lines.tasks.items _ place (place)
+          c.take_first.result made.device.0 _ kept.taking aim made.device.1 made.others made.long c.push_reserved.ensures.items (omega arith) refl
+          (line_ready c.args.site.now (place) c.take_first.result (g.D.Link.seen made.device.0) (g.D.Link.seen c.take_line-line.result.device)
+          (g.C.Chained.shape c.take_line-line.result.chain) fit.0 made.device.2);
+      there = there_more place c.lines.places c.take_line-line.new.places made.device.0 kept.there made.device.1 made.others;
       many = grind (arith, common_steps);
       long = made.long ∙ kept.long;
       fit = fit.1;
-      chains = rest_is place c.args.chains.now.items c.lines.chains.items c.line_duty-duty.new.chains.items c.line_duty-duty.result.chain kept.chains made.chain;
+      chains = rest_is place c.args.chains.now.items c.lines.chains.items c.take_line-line.new.chains.items c.take_line-line.result.chain kept.chains
+          made.chain;
       room = grind (arith, common_steps);
       same_room = grind (arith, common_steps);
     }

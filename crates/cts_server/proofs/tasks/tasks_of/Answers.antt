@@ -1,7 +1,7 @@
 use Rattle.std.proofs.Common.{arith, length, refl, sym, ap, subst}
 use Rattle.cts_def.specs.Makers.{first_slot}
-use Rattle.cts_server.specs.Kinds.{IsLine}
-use Rattle.cts_server.specs.Tasks.{AreFit, FitsLine, ReadyLine, Taken}
+use Rattle.cts_server.specs.Kinds.{IsInterface}
+use Rattle.cts_server.specs.Making.{AreFit, FitsLine, ReadyLine, Taken}
 use Rattle.cts_server.proofs.Whole.{taken_count}
 use Rattle.cts_server.proofs.tasks.tasks_of.Goals as goal
 
@@ -28,7 +28,8 @@ slot_tasks-requires g c =
       there = there.1.1;
       many = omega (arith, many.1, there.1.0);
       few = omega (arith, there.1.0);
-      fit = subst (λ l. AreFit (λ n x. FitsLine c.args.means.now.site.now n (g.C.Chained.shape x)) first_slot c.args.aims.slots.items l) (sym c.line_tasks.ensures.chains) c.requires.slots;
+      fit = subst (λ l. AreFit (λ n x. FitsLine c.args.site.now n (g.C.Chained.shape x)) first_slot c.args.aims.slots.items l)
+          (sym c.line_tasks.ensures.chains) c.requires.slots;
       room = omega (arith, none, came, c.requires.room, c.line_tasks.ensures.room);
     }
 
@@ -60,11 +61,13 @@ returns-clause-staff g c = record {
   after_lines = c.line_tasks.new.tasks.items;
   after_slots = c.slot_tasks.new.tasks.items;
   after_desks = c.desk_tasks.new.tasks.items;
-  last = record { by = 28; duty = _ };
-  of_lines = subst (λ b. Taken (IsLine (λ n aim d x. ReadyLine c.args.means.now.site.now n aim (g.D.Link.seen d) (g.D.Link.seen x.dialer) x.site.now (g.C.Chained.shape x.chain))) 0 c.args.aims.lines.items c.args.lines.now c.line_tasks.new.places b c.line_tasks.new.tasks.items) c.requires.empty c.line_tasks.ensures.taken;
+  last = record { by = 28; work = _ };
+  of_lines = subst (λ b. Taken (IsInterface (λ n aim d x. ReadyLine c.args.site.now n aim (g.D.Link.seen d) (g.D.Link.seen x.device)
+      (g.C.Chained.shape x.chain))) 0 c.args.aims.lines.items c.args.lines.now c.line_tasks.new.places b c.line_tasks.new.tasks.items)
+      c.requires.empty c.line_tasks.ensures.taken;
   of_slots = c.slot_tasks.ensures.taken;
   of_desks = c.desk_tasks.ensures.taken;
   by = refl;
-  of_scribe = c.scribe_duty.ensures.ready;
+  of_scribe = c.take_vault.ensures.ready;
   all = c.push_reserved.ensures.items;
 }

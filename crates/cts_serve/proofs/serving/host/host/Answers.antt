@@ -1,29 +1,69 @@
-use Rattle.std.proofs.Common.{Some, refl, inl}
+use Rattle.std.proofs.Common.{ℕ, List, Some, refl, sym, subst, inl}
 use Rattle.std.specs.Arc.{arc_value}
-use Rattle.cts_serve.specs.Serving.{done_as}
-use Rattle.cts_serve.proofs.HostLemmas.{boxes_late_told, halts_early, if_ok_as, load_unserved, on_err_as, on_ok, phases_past, planned, some_plan, work_files, work_halts}
+use Rattle.cts_serve.specs.Serving.{IsPlanned, done_as}
+use Rattle.cts_serve.proofs.HostLemmas.{boxes_late_told, halts_early, host_err, host_halts, host_ok, host_ready, host_sink, host_unserved, if_ok_as}
+use Rattle.cts_serve.proofs.HostLemmas.{load_unserved, on_err_as, on_ok, phases_past, planned, some_plan, work_files, work_halts}
 use Rattle.cts_run.proofs.PhaseLemmas.{load_counts, load_faults}
 use Rattle.cts_serve.proofs.serving.host.host.Goals as goal
 
 -- ---- the workers of the site were let work
 
 pub returns-in-Ok-clause-files : goal.returns-in-Ok-clause-files
-returns-in-Ok-clause-files g c = work_files c.work.result _ _ _ _ c.work.ensures.halts c.in-Ok.ensures.counts
+returns-in-Ok-clause-files g c =
+    work_files c.answered.result _ _ _ _ (host_halts c.answered.result c.serve_site.result c.answered.ensures _ _ c.serve_site.ensures.ready)
+    c.in-Ok.ensures.counts
+
+pub returns-in-Ok-clause-sink : goal.returns-in-Ok-clause-sink
+returns-in-Ok-clause-sink g c = host_sink c.answered.result c.serve_site.result c.answered.ensures _ _ c.serve_site.ensures.ready
+
+pub returns-in-Ok-clause-unserved : goal.returns-in-Ok-clause-unserved
+returns-in-Ok-clause-unserved g c = host_unserved c.answered.result c.serve_site.result c.answered.ensures
+
+pub returns-in-Ok-clause-ready : goal.returns-in-Ok-clause-ready
+returns-in-Ok-clause-ready g c = host_ready c.answered.result c.serve_site.result c.answered.ensures _ _ c.serve_site.ensures.ready
 
 pub returns-in-Ok-clause-halts : goal.returns-in-Ok-clause-halts
-returns-in-Ok-clause-halts g c = work_halts c.work.result (g.B.Stocked.stock c.args.shelf.now) c.args.definitions.now c.args.site.now ((g.F.Files.seen c.args.files.now).told) _ _ (phases_past (g.B.Stocked.stock c.args.shelf.now) c.args.definitions.now c.args.site.now ((g.F.Files.seen c.args.files.now).told) (arc_value c.in-Ok.plan.site) c.in-Ok.plan.digest c.in-Ok.ensures.finds) c.work.ensures.halts
+returns-in-Ok-clause-halts g c =
+    work_halts c.answered.result (g.B.Stocked.stock c.args.shelf.now) c.args.definitions.now c.args.site.now ((g.F.Files.seen c.args.files.now).told) _ _
+    (phases_past (g.B.Stocked.stock c.args.shelf.now) c.args.definitions.now c.args.site.now ((g.F.Files.seen c.args.files.now).told)
+    (arc_value c.in-Ok.plan.site) c.in-Ok.plan.digest c.in-Ok.ensures.finds)
+    (host_halts c.answered.result c.serve_site.result c.answered.ensures _ _ c.serve_site.ensures.ready)
 
 pub returns-in-Ok-clause-idle : goal.returns-in-Ok-clause-idle
-returns-in-Ok-clause-idle g c = on_err_as c.work.result _ _ (λ idle. (arc_value c.in-Ok.plan.site, c.in-Ok.plan.digest, planned (g.B.Stocked.stock c.args.shelf.now) c.args.definitions.now c.args.site.now ((g.F.Files.seen c.args.files.now).told) (arc_value c.in-Ok.plan.site) c.in-Ok.plan.digest c.in-Ok.ensures.finds, idle)) c.work.ensures.idle
+returns-in-Ok-clause-idle g c =
+    on_err_as c.answered.result _ _
+    (λ idle. (
+      arc_value c.in-Ok.plan.site,
+      c.in-Ok.plan.digest,
+      planned (g.B.Stocked.stock c.args.shelf.now) c.args.definitions.now c.args.site.now
+          ((g.F.Files.seen c.args.files.now).told) (arc_value c.in-Ok.plan.site) c.in-Ok.plan.digest c.in-Ok.ensures.finds,
+      idle,
+    ))
+    (host_err c.answered.result c.serve_site.result c.answered.ensures _ c.serve_site.ensures.idle)
 
 pub returns-in-Ok-clause-planned : goal.returns-in-Ok-clause-planned
-returns-in-Ok-clause-planned g c = on_ok c.work.result _ (phases_past (g.B.Stocked.stock c.args.shelf.now) c.args.definitions.now c.args.site.now ((g.F.Files.seen c.args.files.now).told) (arc_value c.in-Ok.plan.site) c.in-Ok.plan.digest c.in-Ok.ensures.finds)
+returns-in-Ok-clause-planned g c =
+    on_ok c.answered.result _
+    (phases_past (g.B.Stocked.stock c.args.shelf.now) c.args.definitions.now c.args.site.now ((g.F.Files.seen c.args.files.now).told)
+    (arc_value c.in-Ok.plan.site) c.in-Ok.plan.digest c.in-Ok.ensures.finds)
 
 pub returns-in-Ok-clause-served : goal.returns-in-Ok-clause-served
-returns-in-Ok-clause-served g c = if_ok_as c.work.result _ _ (λ w served. (arc_value c.in-Ok.plan.site, c.in-Ok.plan.digest, planned (g.B.Stocked.stock c.args.shelf.now) c.args.definitions.now c.args.site.now ((g.F.Files.seen c.args.files.now).told) (arc_value c.in-Ok.plan.site) c.in-Ok.plan.digest c.in-Ok.ensures.finds, served)) c.work.ensures.served
+returns-in-Ok-clause-served g c =
+    let told = (g.F.Files.seen c.args.files.now).told in
+    let is = planned (g.B.Stocked.stock c.args.shelf.now) c.args.definitions.now c.args.site.now told
+    (arc_value c.in-Ok.plan.site) c.in-Ok.plan.digest c.in-Ok.ensures.finds in
+    let of_bytes = subst (λ (d : List ℕ). IsPlanned told (Some (c.args.definitions.now, c.args.site.now)) (arc_value c.in-Ok.plan.site) d)
+    (sym c.bytes.ensures) is in
+    if_ok_as c.answered.result _ _ (λ w served. (arc_value c.in-Ok.plan.site, c.bytes.result.now, of_bytes, served))
+    (host_ok c.answered.result c.serve_site.result c.answered.ensures _ c.serve_site.ensures.served)
 
 pub returns-in-Ok-clause-boxes : goal.returns-in-Ok-clause-boxes
-returns-in-Ok-clause-boxes g c = boxes_late_told (g.B.Stocked.stock c.args.shelf.now) _ c.args.definitions.now c.args.site.now ((g.F.Files.seen c.args.files.now).told) (done_as c.work.result) (phases_past (g.B.Stocked.stock c.args.shelf.now) c.args.definitions.now c.args.site.now ((g.F.Files.seen c.args.files.now).told) (arc_value c.in-Ok.plan.site) c.in-Ok.plan.digest c.in-Ok.ensures.finds) c.in-Ok.ensures.boxes
+returns-in-Ok-clause-boxes g c =
+    boxes_late_told (g.B.Stocked.stock c.args.shelf.now) _ c.args.definitions.now c.args.site.now ((g.F.Files.seen c.args.files.now).told)
+    (done_as c.answered.result)
+    (phases_past (g.B.Stocked.stock c.args.shelf.now) c.args.definitions.now c.args.site.now ((g.F.Files.seen c.args.files.now).told)
+    (arc_value c.in-Ok.plan.site) c.in-Ok.plan.digest c.in-Ok.ensures.finds)
+    c.in-Ok.ensures.boxes
 
 -- ---- it halted before
 
@@ -34,7 +74,8 @@ pub returns-in-Err-clause-sink : goal.returns-in-Err-clause-sink
 returns-in-Err-clause-sink g c = load_faults c.in-Err.halt _ _ _ c.in-Err.ensures.counts
 
 pub returns-in-Err-clause-halts : goal.returns-in-Err-clause-halts
-returns-in-Err-clause-halts g c = halts_early (g.B.Stocked.stock c.args.shelf.now) c.args.definitions.now c.args.site.now ((g.F.Files.seen c.args.files.now).told) c.in-Err.halt _ c.in-Err.ensures.finds
+returns-in-Err-clause-halts g c = halts_early (g.B.Stocked.stock c.args.shelf.now) c.args.definitions.now c.args.site.now
+    ((g.F.Files.seen c.args.files.now).told) c.in-Err.halt _ c.in-Err.ensures.finds
 
 pub returns-in-Err-clause-unserved : goal.returns-in-Err-clause-unserved
 returns-in-Err-clause-unserved g c = load_unserved c.in-Err.halt _ _ c.in-Err.ensures.counts

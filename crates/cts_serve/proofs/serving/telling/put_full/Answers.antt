@@ -13,7 +13,8 @@ abbrev rest : ℕ → List ℕ
 rest bytes = decimal bytes ++ codes " bytes\n"
 
 both : (entries bytes : ℕ) → first entries ++ rest bytes ≡ full_line entries bytes
-both entries bytes = ap (λ (t : List ℕ). codes "history full: " ++ t) (sym (append_assoc (decimal entries ++ codes " entries, ") (decimal bytes) (codes " bytes\n")))
+both entries bytes = ap (λ (t : List ℕ). codes "history full: " ++ t)
+    (sym (append_assoc (decimal entries ++ codes " entries, ") (decimal bytes) (codes " bytes\n")))
 
 pub returns-then-put_numbered : goal.returns-then-put_numbered
 returns-then-put_numbered g c =
@@ -22,7 +23,8 @@ returns-then-put_numbered g c =
     let new = g.O.Sink.seen c.put_numbered-then-put_numbered.new.out in
     let e = c.args.counted.entries in
     let b = c.args.counted.bytes in
-    subst (λ (t : List ℕ). Printed old new t) (both e b) (printed_after (first e) (rest b) old mid new c.if-put_numbered.ensures (printed_of (rest b) c.put_numbered-then-put_numbered.result mid new c.put_numbered-then-put_numbered.ensures))
+    subst (λ (t : List ℕ). Printed old new t) (both e b) (printed_after (first e) (rest b) old mid new c.if-put_numbered.ensures
+    (printed_of (rest b) c.put_numbered-then-put_numbered.result mid new c.put_numbered-then-put_numbered.ensures))
 
 pub returns-else-put_numbered : goal.returns-else-put_numbered
 returns-else-put_numbered g c =

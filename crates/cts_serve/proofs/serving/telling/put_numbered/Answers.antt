@@ -21,4 +21,5 @@ returns g c =
     let new = g.O.Sink.seen c.put_whole-3.new.out in
     let digits : c.as_bytes.result.now ≡ decimal c.args.number = c.as_bytes.ensures.value ∙ c.format.ensures.text in
     whole_after c.args.first.now (decimal c.args.number ++ c.args.last.now) c.put_whole-3.result old mid new c.if-not-put_whole.ensures
-    (whole_after (decimal c.args.number) c.args.last.now c.put_whole-3.result mid then new (subst (λ (t : List ℕ). IsPut t mid then) digits c.if-not-put_whole-2.ensures) c.put_whole-3.ensures)
+    (whole_after (decimal c.args.number) c.args.last.now c.put_whole-3.result mid then new
+    (subst (λ (t : List ℕ). IsPut t mid then) digits c.if-not-put_whole-2.ensures) c.put_whole-3.ensures)

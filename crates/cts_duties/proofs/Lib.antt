@@ -1,3 +1,0 @@
-mod Closed
-mod Endings
-mod Whys

@@ -1,5 +1,0 @@
-use Rattle.cts_duties.proofs.Closed.{drained}
-use Rattle.cts_duties.proofs.laws.drained_logs_are_whole.Goals as goal
-
-pub returns : goal.returns
-returns c = drained

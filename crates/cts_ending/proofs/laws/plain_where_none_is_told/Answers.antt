@@ -1,5 +1,0 @@
-use Rattle.cts_ending.proofs.Telling.{plain_where_none}
-use Rattle.cts_ending.proofs.laws.plain_where_none_is_told.Goals as goal
-
-pub returns : goal.returns
-returns c = plain_where_none

@@ -1,0 +1,28 @@
+use Rattle.std.proofs.Common.{◌≡◌, ◌++◌, ◌+◌, ◌≤◌, List, map, vec_len, vec_capacity}
+use Rattle.std.specs.List.{AllByRecursion, AllZip, flat_map}
+use Rattle.cts_worker.specs.Grounds.{ground}
+use Rattle.cts_server.specs.Owing.{WorkOwes}
+use Rattle.cts_turn.specs.Passes.{IsPassOf, view}
+use Rattle.cts_server.specs.declared.running.Task.{Task}
+use Rattle.cts_server.specs.Tasks.{Holds, Leaves}
+use Rattle.cts_server.proofs.running.gather.Given as goal
+
+abbrev pub invariant-ends : goal.invariant-ends
+invariant-ends g l = record {
+  pass : IsPassOf l.context.turn.now l.pass;
+  ends : AllByRecursion (λ e. IsPassOf l.context.turn.now e.pass) l.ends.items;
+  lefts : l.lefts.items ++ map (λ e. e.left) l.ends.items ≡ map (λ e. e.left) l.fn.ends.items;
+  room : vec_len l.lefts + vec_len l.ends ≤ vec_capacity l.lefts;
+  makers : (view l.pass).makers ++ flat_map (λ e. (view e.pass).makers) l.ends.items ≡ (view l.fn.pass).makers ++ flat_map
+      (λ e. (view e.pass).makers) l.fn.ends.items;
+  holds : (ts : List (Task _)) → AllZip (λ t e. Leaves (WorkOwes {C = g.row.C.Denot} g.D.Link.seen g.Q.Link.seen g.V.Vault.seen l.context.digest.now)
+      (ground l.context.turn.now) t (view e.pass).makers (view e.pass).found (view e.pass).seen e.left) ts l.fn.ends.items
+      → (done left : List (Task _)) × (done ++ left ≡ ts) × AllZip
+      (Holds (WorkOwes {C = g.row.C.Denot} g.D.Link.seen g.Q.Link.seen g.V.Vault.seen l.context.digest.now) (ground l.context.turn.now)
+      (view l.pass).makers (view l.pass).seen) done l.lefts.items
+      × AllZip (λ t e. Leaves (WorkOwes {C = g.row.C.Denot} g.D.Link.seen g.Q.Link.seen g.V.Vault.seen l.context.digest.now)
+      (ground l.context.turn.now) t (view e.pass).makers (view e.pass).found (view e.pass).seen e.left) left l.ends.items;
+}
+
+abbrev pub decreases-ends : goal.decreases-ends
+decreases-ends g l = goal.left-ends g l

@@ -1,0 +1,32 @@
+// Laws of the definitions. Each function does nothing: its contract is the law.
+ghost use Rattle.cts_trace_laws.specs.Laws.{PacketsAreReadBack, StreamsAreCut, StreamsAreHeard, StreamsHoldAll, StreamsHoldOnlyAll, StreamsSplit};
+ghost use Rattle.cts_trace_laws.specs.Slots.{PutBeginsRouted, PutIsRouted, PutIsRoutedSoFar};
+
+/// Wherever the first bytes of a stream of spellings end, they hold the spellings of its first elements whole, and then a part of the next
+/// one, which is shorter than it. All of the stream holds all of them and no rest. An element that is refused is passed over.
+pub fn streams_split<X>()
+    ensures split { StreamsSplit X }
+    ensures all { StreamsHoldAll X }
+    ensures only { StreamsHoldOnlyAll X }
+{}
+
+/// A framing that reads each spelling as one frame cuts such bytes into what the elements give that stand whole in them, and keeps the
+/// part of the next one: nothing is skipped, and no error stands. A chain of this one stage gives the same however the bytes were cut into
+/// pieces, and holds exactly that part.
+pub fn streams_are_heard<X>()
+    ensures cut { StreamsAreCut X }
+    ensures heard { StreamsAreHeard X }
+{}
+
+/// PREIDENTIFIED reads what it puts, with the times and names.
+pub fn packets_are_read_back()
+    ensures { PacketsAreReadBack }
+{}
+
+/// What was put on a connection of a slot is what is routed to it from its Opened up to a place, and after a write fault perhaps a
+/// beginning of the next spelling. Where nothing is left of what is for the slot, that place is the end of the connection.
+pub fn slots_put_what_is_routed()
+    ensures ended { PutIsRouted }
+    ensures standing { PutIsRoutedSoFar }
+    ensures begins { PutBeginsRouted }
+{}
