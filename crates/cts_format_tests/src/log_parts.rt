@@ -41,16 +41,20 @@ struct Laid {
 }
 
 impl Laid {
-    /// Adds one more entry.
-    fn add(&mut self, cycle: &mut Cycle, label: &Label) -> Result<(), Fail> {
-        let start = self.bytes.len();
-        encode_entry(label, &[1, 0x80, 0, 1], 2, &mut self.bytes)?;
-        let end = self.bytes.len();
+    /// With one more entry.
+    fn with(self, cycle: &mut Cycle, label: &Label) -> Result<Laid, Fail> {
+        let Laid {
+            mut bytes,
+            mut cuts,
+        } = self;
+        let start = bytes.len();
+        encode_entry(label, &[1, 0x80, 0, 1], 2, &mut bytes)?;
+        let end = bytes.len();
         if end < start || end - start > 1_000 {
             return Err(Fail::new("long"));
         }
-        self.cuts.note(cycle, end)?;
-        Ok(())
+        cuts.note(cycle, end)?;
+        Ok(Laid { bytes, cuts })
     }
 }
 
@@ -58,14 +62,20 @@ impl Laid {
 fn lay_out(alloc: Global) -> Result<Laid, Fail> {
     let label = label_of(alloc)?;
     let mut cycle = Cycle::new(Some(4_096));
-    let mut laid = Laid {
+    let laid = Laid {
         bytes: Vec::new(alloc),
         cuts: Cuts::none(alloc),
     };
-    for _ in 0..ENTRIES {
-        laid.add(&mut cycle, &label)?;
+    with_more(laid, &mut cycle, &label, ENTRIES)
+}
+
+/// With so many entries more.
+fn with_more(laid: Laid, cycle: &mut Cycle, label: &Label, count: u32) -> Result<Laid, Fail> {
+    if count == 0 {
+        return Ok(laid);
     }
-    Ok(laid)
+    let laid = laid.with(cycle, label)?;
+    with_more(laid, cycle, label, count - 1)
 }
 
 fn head_of(alloc: Global) -> Result<Bytes, Fail> {
@@ -120,10 +130,9 @@ fn parts_are_as_long_as_the_cycle_lets_them(rt: HostRuntime) -> Result<(), Fail>
 /// How many whole entries a part has, where it is a log to its end.
 fn entries_in(part: &[u8]) -> Result<u32, Fail> {
     let mut reader = LogReader::new(part);
-    let mut count = 0;
-    for _ in 0..=ENTRIES {
+    for count in 0..=ENTRIES {
         match reader.next() {
-            Ok(Some(_)) => count += 1,
+            Ok(Some(_)) => {}
             Ok(None) => return Ok(count),
             Err(_) => return Err(Fail::new("no log")),
         }
