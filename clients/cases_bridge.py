@@ -38,7 +38,7 @@ class Broker:
 
     def stop(self) -> None:
         self.process.send_signal(signal.SIGTERM)
-        self.process.wait(10)
+        self.process.wait(60)
 
     def hear(self) -> None:
         for line in self.subscriber.stdout:
@@ -47,12 +47,12 @@ class Broker:
 
     def last(self, topic: str) -> list[dict]:
         """The retained messages of a topic, as a new subscriber is given them."""
-        words = ["mosquitto_sub", "-h", HOST, "-p", str(self.port), "-t", topic, "--retained-only", "-W", "2"]
-        return [json.loads(line) for line in subprocess.run(words, capture_output=True, text=True, timeout=10).stdout.splitlines()]
+        words = ["mosquitto_sub", "-h", HOST, "-p", str(self.port), "-t", topic, "--retained-only", "-C", "1", "-W", "60"]
+        return [json.loads(line) for line in subprocess.run(words, capture_output=True, text=True, timeout=100).stdout.splitlines()]
 
     def close(self) -> None:
         self.subscriber.terminate()
-        self.subscriber.wait(10)
+        self.subscriber.wait(60)
         self.subscriber.stdout.close()
         self.stop()
 
@@ -72,7 +72,7 @@ class Bridged:
 
     def end(self) -> int:
         self.process.send_signal(signal.SIGTERM)
-        status = self.process.wait(40)
+        status = self.process.wait(100)
         self.reader.join(5)
         self.process.stdout.close()
         return status

@@ -27,13 +27,30 @@ class Carried:
     limits: dict[tuple[Item, str], list[Any]] = field(default_factory=dict)
     values: dict[tuple[str, str], dict[str, Any]] = field(default_factory=dict)
 
+    def is_set_as(self, other: "Carried") -> bool:
+        """Whether clients have set nothing else between the two."""
+        return (self.set, self.limits) == (other.set, other.limits)
 
-def bytes_of(log: Path) -> int:
-    """The bytes of a log's entries, with their heads."""
-    try:
-        return max(0, log.stat().st_size - HEAD)
-    except OSError:
-        return 0
+
+class LogSize:
+    """The size of a log, in all its parts. One that another follows grows no more."""
+
+    def __init__(self, folder: Path, log: str):
+        self.folder, self.log = folder, log
+        self.number = self.before = 0
+
+    def part(self, number: int) -> Optional[int]:
+        """The bytes of the entries of a part, with their heads, or None where it is not there."""
+        try:
+            return max(0, (self.folder / (f"{self.log}_{number}.bin" if number else f"{self.log}.bin")).stat().st_size - HEAD)
+        except OSError:
+            return None
+
+    def bytes(self) -> int:
+        """The bytes of its entries, with their heads."""
+        while self.part(self.number + 1) is not None:
+            self.before, self.number = self.before + (self.part(self.number) or 0), self.number + 1
+        return self.before + (self.part(self.number) or 0)
 
 
 def limits_of(server: cts.Server, items: list[Item], sets: list[str]) -> dict[tuple[Item, str], list[Any]]:

@@ -12,8 +12,14 @@ from typing import Any, Callable, Optional, Sequence
 
 # Requests are sent so many at a time, and then their replies are read: neither side waits for the other to take its bytes.
 AT_ONCE = 64
-# A server hangs up who says nothing for about a minute: a connection that it ends sooner is worth a word.
+# A server hangs up who says nothing for about a minute, and whom it has waited for ten minutes in all: a connection that it ends sooner is
+# worth a word.
 IDLE = 50
+AGE = 540
+# A connection that was silent for so many seconds may be gone without a word, as behind a tunnel: where something is to be changed over it, it is
+# asked this question first, since a change that was sent over a dead one may or may not have been done.
+REST = 5
+QUESTION = ("get_limits_set", ())
 HEAD_LIMIT = 65536
 
 
@@ -57,6 +63,7 @@ class Line:
         self.peer = socket.create_connection((host, port), timeout)
         self.peer.setsockopt(socket.IPPROTO_TCP, socket.TCP_NODELAY, 1)
         self.held = b""
+        self.began = time.monotonic()
 
     def close(self) -> None:
         self.peer.close()
@@ -102,6 +109,7 @@ class Wire:
         self.front = 0
         self.servers = 0
         self.asked = 0.0
+        self.rest: float = REST
 
     @property
     def name(self) -> str:
@@ -114,15 +122,28 @@ class Wire:
 
     # ---- connecting
 
-    def connected(self) -> Line:
-        """The connection, made anew where there is none or the server ended it."""
+    def connected(self, changes: bool) -> Line:
+        """The connection, made anew where there is none or the server ended it; and, where something is to be changed, where it is dead."""
+        if self.line is not None and changes and time.monotonic() - self.asked >= self.rest and not self.line.is_over():
+            self.try_line(self.line)
         if self.line is not None and self.line.is_over():
+            now = time.monotonic()
+            is_early = now - self.asked < IDLE and now - self.line.began < AGE
             self.close()
-            if time.monotonic() - self.asked < IDLE:
+            if is_early:
                 self.say(f"SERVER: {self.name} ended the connection, which is made again")
         if self.line is None:
             self.line = self.dial()
         return self.line
+
+    def try_line(self, line: Line) -> None:
+        """Asks a question over a connection that was long silent, and closes it where no answer comes."""
+        try:
+            self.send(line, [QUESTION])
+            self.reply(line, QUESTION[0])
+        except (OSError, ValueError) as why:
+            self.close()
+            self.say(f"SERVER: the connection to {self.name} was lost while nothing was asked ({why}), and is made again")
 
     def dial(self) -> Line:
         began = time.monotonic()
@@ -172,8 +193,8 @@ class Wire:
         found: list[Any] = []
         began, failures = time.monotonic(), 0
         while len(found) < len(calls):
-            line = self.connected()
             rest = calls[len(found):]
+            line = self.connected(any(method in CHANGES for method, _ in rest))
             try:
                 self.send(line, rest)
                 for method, _ in rest:

@@ -104,7 +104,7 @@ class Publisher(threading.Thread):
         with self.guard:
             return len(self.waiting) + len(self.under_way)
 
-    def close(self, seconds: float = 5) -> None:
+    def close(self, seconds: float = 10) -> None:
         """Waits until all is published, for at most so long, and ends."""
         end = time.monotonic() + seconds
         while self.pending() and time.monotonic() < end:

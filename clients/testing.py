@@ -12,6 +12,7 @@ import tempfile
 import threading
 import time
 from collections import deque
+from contextlib import suppress
 from pathlib import Path
 from typing import Callable, Optional, Sequence
 
@@ -30,8 +31,8 @@ def need(holds: object, *what: object) -> None:
         raise Wrong(" ".join(map(str, what)))
 
 
-def until(what: str, holds: Callable[[], object], seconds: float = 30) -> object:
-    """Waits until something holds, and gives what it was."""
+def until(what: str, holds: Callable[[], object], seconds: float = 60) -> object:
+    """Waits until something holds, and gives what it was. The time is that of a busy machine: what is longer away is taken for lost."""
     end = time.monotonic() + seconds
     while not (found := holds()):
         need(time.monotonic() < end, "not within", seconds, "seconds:", what)
@@ -65,6 +66,14 @@ def free_ports(count: int) -> list[int]:
                 _given.add(port)
                 found.append(port)
     return found
+
+
+def has_sockets() -> bool:
+    try:
+        socket.create_server((HOST, 0)).close()
+        return True
+    except OSError:
+        return False
 
 
 def is_open(port: int) -> bool:
@@ -124,13 +133,13 @@ class Demo:
 
     def serve(self) -> "Demo":
         """Starts a server, and waits until it is ready. Its logs are new ones, named by the second."""
-        until("the second is over", lambda: not list(self.folder.glob(f"{int(time.time())}_*.bin")), 3)
+        until("the second is over", lambda: not list(self.folder.glob(f"{int(time.time())}_*.bin")))
         self.server = subprocess.Popen([self.program, "serve", self.definitions, self.site], cwd=self.folder, stdout=subprocess.PIPE, text=True)
         line = self.server.stdout.readline()
         need(line == "READY\n", "the server says", line)
         return self
 
-    def ended(self, seconds: float = 30) -> int:
+    def ended(self, seconds: float = 60) -> int:
         """Waits for the end of the server, and gives its status."""
         status = self.server.wait(seconds)
         self.server.stdout.close()
@@ -145,17 +154,43 @@ class Demo:
         return sorted(self.folder.glob(f"*_{kind}.bin"), key=lambda path: int(path.name.split("_")[0]))
 
 
+class Pulse(threading.Thread):
+    """Sees for how many seconds in all this machine kept a thread from running, so that a case may be patient by as much."""
+
+    def __init__(self) -> None:
+        super().__init__(daemon=True)
+        self.lost = 0.0
+        self.ends = threading.Event()
+
+    def run(self) -> None:
+        while not self.ends.is_set():
+            began = time.monotonic()
+            time.sleep(0.01)
+            self.lost += max(0, time.monotonic() - began - 0.02)
+
+    def __enter__(self) -> "Pulse":
+        self.start()
+        return self
+
+    def __exit__(self, *_: object) -> None:
+        self.ends.set()
+
+
 class Cutter:
-    """Stands between a client and a server, and cuts connections: `drop` replies are taken from the server and not handed on."""
+    """Stands between a client and a server, and cuts connections. `drop` replies are taken from the server and not handed on; `cut` ends the
+    connections that there are; and over those that there were at a `freeze` nothing goes any more, as where a tunnel is gone."""
 
     def __init__(self, port: int):
         self.server = port
         self.drop = 0
         self.requests = 0
         self.connections = 0
-        self.door = socket.create_server((HOST, 0))
-        self.port = self.door.getsockname()[1]
-        threading.Thread(target=self.run, daemon=True).start()
+        self.peers: set[socket.socket] = set()
+        self.frozen: set[socket.socket] = set()
+        [self.port] = free_ports(1)
+        self.door = socket.create_server((HOST, self.port))
+        self.accepting = threading.Thread(target=self.run, daemon=True)
+        self.accepting.start()
 
     def run(self) -> None:
         while True:
@@ -165,14 +200,33 @@ class Cutter:
                 return
             threading.Thread(target=self.carry, args=(peer,), daemon=True).start()
 
+    def cut(self) -> None:
+        """Ends all connections. (They are shut down: a socket that is closed while another thread waits for it stays open until that wait ends,
+        which its peer's next bytes do; so those are answered by a reset.)"""
+        for peer in list(self.peers):
+            with suppress(OSError):
+                peer.shutdown(socket.SHUT_RDWR)
+
+    def freeze(self) -> None:
+        self.frozen |= self.peers
+
     def carry(self, peer: socket.socket) -> None:
         self.connections += 1
-        with peer, socket.create_connection((HOST, self.server)) as server:
+        self.peers.add(peer)
+        with suppress(OSError):
+            self.carry_both_ways(peer)
+        self.peers.discard(peer)
+        peer.close()
+
+    def carry_both_ways(self, peer: socket.socket) -> None:
+        with socket.create_connection((HOST, self.server)) as server:
             while True:
                 ready = select.select([peer, server], [], [])[0]
                 if peer in ready:
                     if not (data := peer.recv(65536)):
                         return
+                    if peer in self.frozen:
+                        continue
                     self.requests += 1
                     server.sendall(data)
                 if server in ready:
@@ -182,6 +236,9 @@ class Cutter:
                     peer.sendall(data)
 
     def close(self) -> None:
+        """Ends the door, and waits for its thread: that would go on with whatever is opened next under the door's number."""
+        self.door.shutdown(socket.SHUT_RDWR)
+        self.accepting.join()
         self.door.close()
 
 

@@ -72,7 +72,7 @@ class Browser:
     def __exit__(self, *_: object) -> None:
         os.close(self.commands)
         try:
-            self.process.wait(5)
+            self.process.wait(20)
         except subprocess.TimeoutExpired:
             self.process.kill()
             self.process.wait()
@@ -126,7 +126,7 @@ class Browser:
             raise BrowserError(found["exceptionDetails"].get("exception", {}).get("description", "an error"))
         return found["result"].get("value")
 
-    def until(self, what: str, expression: str, seconds: float = 30) -> Any:
+    def until(self, what: str, expression: str, seconds: float = 60) -> Any:
         """Waits until an expression holds, and gives its value, or true where that is an element."""
         end = time.monotonic() + seconds
         expression = f"(found => found instanceof Element || found)({expression})"

@@ -19,8 +19,8 @@ pub enum Opening {
 }
 
 /// The two packet logs in files of the system. The file of part 0 has the name of its log, and that of part n has `_n` in front of the
-/// ending of that name, with n in decimal. Each file is opened at its first append, so a part to which nothing is appended has none; an
-/// append that can't open it fails. It tells nothing of what the files hold, since no proof sees that.
+/// ending of that name, with n in decimal. Each file is opened at its first append, so a part to which nothing is appended has none, and
+/// then the folder that has it is synced; an append that can't open it or sync the folder fails. It tells nothing of what the files hold, since no proof sees that.
 #[derive(Drop)]
 pub struct DiskVault<'a, R> {
     rt: &'a R,
@@ -100,7 +100,26 @@ fn open<R: Files<File = File>>(rt: &R, opening: Opening, name: &str) -> Result<F
         Opening::Replaced => File::create(rt, name),
         Opening::New => File::create_new(rt, name),
     };
-    opened.map_err(|_| PutFailed)
+    match opened {
+        Ok(file) => {
+            sync_folder(rt, name)?;
+            Ok(file)
+        }
+        Err(_) => Err(PutFailed),
+    }
+}
+
+// Makes sure that the name of a file which was opened outlives a stop of the system, as its bytes do once they are synced.
+fn sync_folder<R: Files<File = File>>(rt: &R, name: &str) -> Result<(), PutFailed> {
+    let folder = match name.rsplit_once('/') {
+        Some(("", _)) => "/",
+        Some((folder, _)) => folder,
+        None => ".",
+    };
+    match File::open(rt, folder) {
+        Ok(folder) => folder.sync_all().map_err(|_| PutFailed),
+        Err(_) => Err(PutFailed),
+    }
 }
 
 impl<'a, R: Files<File = File> + AllocGlobal> DiskVault<'a, R> {

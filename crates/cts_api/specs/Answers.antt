@@ -1,5 +1,6 @@
 -- What each method answers at one point of the history: the checks in their order, then the result and what is to be appended.
-use Rattle.std.specs.Prelude.{ℕ, ◌+◌, Bool, ◌&&◌, ◌||◌, nat_lt, List, [], ◌∷◌, ◌++◌, map, Option, Some, None, option_map, slice_get, Result, Ok, Err, if◌then◌else◌, codes}
+use Rattle.std.specs.Prelude.{ℕ, ◌+◌, Bool, ◌&&◌, ◌||◌, nat_lt, List, [], ◌∷◌, ◌++◌, map, Option, Some, None, option_map, slice_get, Result, Ok, Err}
+use Rattle.std.specs.Prelude.{if◌then◌else◌, codes}
 use Rattle.std.specs.List.{list_any, position}
 use Rattle.cts_base.specs.declared.decimal.Decimal.{Decimal}
 use Rattle.cts_base.specs.Names.{in_upper_case, is_name, spells}
@@ -28,7 +29,9 @@ use Rattle.cts_monitor.specs.Watching.{is_watched}
 use Rattle.cts_monitor.specs.declared.types.LimitsEvent.{LimitsEvent}
 use Rattle.cts_monitor.specs.declared.types.LimitsUsed.{LimitsUsed}
 use Rattle.serde_json.specs.Data.{Data, null, boolean, object}
-use Rattle.cts_methods.specs.Asking.{PacketName, ItemName, NewLimits, Asking, asks_value, asks_packet, asks_received, asks_sent, sends, asks_limits, sets_limits, enables, asks_set, chooses_set, asks_out_of_limits, asks_events, asks_interfaces, asks_interface, injects, stops}
+use Rattle.cts_methods.specs.Asking.{PacketName, ItemName, NewLimits, Asking, asks_value, asks_packet, asks_received, asks_sent, sends, asks_limits}
+use Rattle.cts_methods.specs.Asking.{sets_limits, enables, asks_set, chooses_set, asks_out_of_limits, asks_events, asks_interfaces, asks_interface}
+use Rattle.cts_methods.specs.Asking.{injects, stops}
 use Rattle.cts_api.specs.Saying.{Said, refused, gives}
 use Rattle.cts_cmd.specs.Injects.{injection_refusal}
 use Rattle.cts_methods.specs.Kinds.{or_else, members_given}

@@ -18,5 +18,6 @@ RepliesAreOfTheirDesk = (h : Point) (by : ℕ) (time : Time) (body : List ℕ) (
 
 -- What a desk that has not ended replies leaves a legal history legal, its limits too.
 abbrev pub RepliesAreLegal : Type 0
-RepliesAreLegal = (b : Basis) (history : List Entry) (by : ℕ) (time : Time) (body : List ℕ) (a : Reply) → is_desk b.site by ≡ true → has_ended by history ≡ false
+RepliesAreLegal = (b : Basis) (history : List Entry) (by : ℕ) (time : Time) (body : List ℕ) (a : Reply) → is_desk b.site by ≡ true
+    → has_ended by history ≡ false
     → IsLegal (rules_of b) history → IsReply (point_of b history) by time body a → IsLegal (rules_of b) (history ++ a.entries)

@@ -5,12 +5,14 @@ use Rattle.cts_rpc.specs.Requests.{Outcome, not_json, not_request, bad_params, c
 use Rattle.cts_rpc.specs.declared.call.Call.{Call}
 use Rattle.cts_table.specs.States.{Shown}
 use Rattle.cts_methods.specs.declared.method.Method.{Method}
-use Rattle.cts_methods.specs.declared.method.Method.TheVariants.{Value, Packet, Received, Sent, Command, Limits, SetLimits, Enable, Set, ChooseSet, OutOfLimits, Events, Interfaces, Interface, Inject, Stop}
+use Rattle.cts_methods.specs.declared.method.Method.TheVariants.{Value, Packet, Received, Sent, Command, Limits, SetLimits, Enable, Set, ChooseSet}
+use Rattle.cts_methods.specs.declared.method.Method.TheVariants.{OutOfLimits, Events, Interfaces, Interface, Inject, Stop}
 use Rattle.cts_api.specs.declared.looked.Look.{Look}
 use Rattle.cts_api.specs.declared.looked.Look.TheVariants.{Text, Appends}
 use Rattle.cts_api.specs.declared.sending.Done as code
 use Rattle.cts_api.specs.declared.refusal.Refusal.{Refusal}
-use Rattle.cts_methods.specs.Asking.{Asking, asks_value, asks_packet, asks_received, asks_sent, sends, asks_limits, sets_limits, enables, asks_set, chooses_set, asks_out_of_limits, asks_events, asks_interfaces, asks_interface, injects, stops}
+use Rattle.cts_methods.specs.Asking.{Asking, asks_value, asks_packet, asks_received, asks_sent, sends, asks_limits, sets_limits, enables, asks_set}
+use Rattle.cts_methods.specs.Asking.{chooses_set, asks_out_of_limits, asks_events, asks_interfaces, asks_interface, injects, stops}
 use Rattle.cts_methods.specs.Methods.{method_named}
 use Rattle.cts_api.specs.Replied.{Answered, Replied}
 
@@ -70,7 +72,8 @@ AppendsNone (Err e) = Unit {0}
 
 -- A text is that of the reply, whoever asks and when, which appends nothing. A call of a method that may append has none here.
 abbrev pub LooksCall : Shown → Call → Look → Type 0
-LooksCall s c (Text t) = (may_change (method_named c.method) ≡ false) × ((by : ℕ) (time : Time) → Answered s by time c (Ok (record { text = t; appended = 0 })) s)
+LooksCall s c (Text t) = (may_change (method_named c.method) ≡ false)
+    × ((by : ℕ) (time : Time) → Answered s by time c (Ok (record { text = t; appended = 0 })) s)
 LooksCall s c Appends = may_change (method_named c.method) ≡ true
 
 abbrev pub IsChanging : List ℕ → Bool → Type 0

@@ -1,6 +1,7 @@
 -- The bytes of what a desk appends: those of a command that is built, and those of a packet that is injected. The rules of both are
 -- relations between the bytes before and after (`cts_cmd`); here are the bytes themselves, so that each call has a reply.
-use Rattle.std.specs.Prelude.{◌≡◌, ℕ, ℤ, pos, negsuc, suc, ◌+◌, ◌-◌, ◌/◌, ◌^◌, unsigned_abs, List, [], ◌∷◌, ◌++◌, length, take, drop, replicate, Option, Some, None, slice_get, unwrap_or, if◌then◌else◌}
+use Rattle.std.specs.Prelude.{◌≡◌, ℕ, ℤ, pos, negsuc, suc, ◌+◌, ◌-◌, ◌/◌, ◌^◌, unsigned_abs, List, [], ◌∷◌, ◌++◌, length, take, drop, replicate}
+use Rattle.std.specs.Prelude.{Option, Some, None, slice_get, unwrap_or, if◌then◌else◌}
 use Rattle.std.specs.List.{position}
 use Rattle.cts_cmd.specs.Builds.{AreBytes, IsBuilt, place_of}
 use Rattle.cts_cmd.specs.Contents.{content, content_given}

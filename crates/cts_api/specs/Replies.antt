@@ -14,7 +14,9 @@ use Rattle.cts_rpc.specs.Replies.{IsTextOf, result_reply, error_reply}
 use Rattle.serde_json.specs.Data.{Data, null}
 use Rattle.serde_json.specs.Written.{compact_text, has_float}
 use Rattle.cts_api.specs.Answers.{Posting, posts_nothing, posts, posts_command, posts_injected, Done, answer}
-use Rattle.cts_methods.specs.Asking.{Order, in_text, in_parts, Asking, asks_value, asks_packet, asks_received, asks_sent, sends, asks_limits, sets_limits, enables, asks_set, chooses_set, asks_out_of_limits, asks_events, asks_interfaces, asks_interface, injects, stops}
+use Rattle.cts_methods.specs.Asking.{Order, in_text, in_parts, Asking, asks_value, asks_packet, asks_received, asks_sent, sends, asks_limits}
+use Rattle.cts_methods.specs.Asking.{sets_limits, enables, asks_set, chooses_set, asks_out_of_limits, asks_events, asks_interfaces, asks_interface}
+use Rattle.cts_methods.specs.Asking.{injects, stops}
 use Rattle.cts_api.specs.Saying.{Said, refused, gives}
 use Rattle.cts_cmd.specs.Injects.{stood, with_item}
 use Rattle.cts_methods.specs.Kinds.{listed, members_given}

@@ -27,7 +27,13 @@ use Rattle.cts_api.specs.Replies.{IsReplyFor, Reply, made, parse_error, text_of}
 use Rattle.cts_api.specs.Shown.{text, decimal, list, whole, no_such, not_done}
 
 abbrev pub wide : ℤ → ℤ → ℤ → ℤ → Limits
-wide a b c d = record { red_low = record { parts = a }; yellow_low = record { parts = b }; yellow_high = record { parts = c }; red_high = record { parts = d }; green = None }
+wide a b c d = record {
+  red_low = record { parts = a };
+  yellow_low = record { parts = b };
+  yellow_high = record { parts = c };
+  red_high = record { parts = d };
+  green = None;
+}
 
 abbrev pub temp1 : ItemData
 temp1 = record {
@@ -41,7 +47,11 @@ temp1 = record {
   preset = preset.Whole (pos 0);
   states = [];
   conversion = Plain;
-  limits = Some (record { sets = (codes "DEFAULT", wide (pos 1000000000000) (pos 2000000000000) (pos 3000000000000) (pos 4500000000000)) ∷ []; persistence = 1; enabled = true });
+  limits = Some (record {
+    sets = (codes "DEFAULT", wide (pos 1000000000000) (pos 2000000000000) (pos 3000000000000) (pos 4500000000000)) ∷ [];
+    persistence = 1;
+    enabled = true;
+  });
   units = None;
   format = None;
   required = false;
@@ -55,10 +65,28 @@ abbrev pub collect : PacketData
 collect = record { target = codes "INST"; name = codes "COLLECT"; items = []; length = 2; variable = false; hazardous = false }
 
 abbrev pub inst_int : InterfaceData
-inst_int = record { name = codes "INST_INT"; aim_host = codes "h"; port = 1; serves = false; targets = codes "INST" ∷ []; chain = []; reconnect = true; delay = record { parts = pos 0 }; logged = true }
+inst_int = record {
+  name = codes "INST_INT";
+  aim_host = codes "h";
+  port = 1;
+  serves = false;
+  targets = codes "INST" ∷ [];
+  chain = [];
+  reconnect = true;
+  delay = record { parts = pos 0 };
+  logged = true;
+}
 
 abbrev pub site : SiteData
-site = record { definitions = record { telemetry = health ∷ []; commands = collect ∷ []; set_names = codes "DEFAULT" ∷ [] }; interfaces = inst_int ∷ []; routers = []; api_port = 7777; desks = 1; log_layout = 2; log_cycle = None }
+site = record {
+  definitions = record { telemetry = health ∷ []; commands = collect ∷ []; set_names = codes "DEFAULT" ∷ [] };
+  interfaces = inst_int ∷ [];
+  routers = [];
+  api_port = 7777;
+  desks = 1;
+  log_layout = 2;
+  log_cycle = None;
+}
 
 abbrev pub at_rest : Time
 at_rest = record { seconds = 0; micros = 0 }
@@ -94,7 +122,8 @@ pub record RowsHold : Type 0 where
   pub set : ask (codes "get_limits_set") [] ≡ Some (told (gives (text (codes "DEFAULT"))))
   pub set_with_a_param : asked (codes "get_limits_set") (null ∷ []) ≡ None
   pub name_in_another_case : method_named (codes "TLM") ≡ None
-  pub one_text : asked (codes "tlm_raw") (string (codes " inst\tHS  TEMP1 ") ∷ []) ≡ asked (codes "tlm_raw") (string (codes "inst") ∷ string (codes "HS") ∷ string (codes "TEMP1") ∷ [])
+  pub one_text : asked (codes "tlm_raw") (string (codes " inst\tHS  TEMP1 ") ∷ []) ≡ asked (codes "tlm_raw")
+      (string (codes "inst") ∷ string (codes "HS") ∷ string (codes "TEMP1") ∷ [])
   pub two_words : asked (codes "tlm") (string (codes "INST HS") ∷ []) ≡ None
   pub one_text_for_limits : asked (codes "get_limits") (string (codes "INST HS TEMP1") ∷ []) ≡ None
   pub never_received : ask (codes "tlm") (temp1_named []) ≡ Some (no_such (codes "Never received"))
@@ -105,14 +134,21 @@ pub record RowsHold : Type 0 where
   pub command_count : ask (codes "get_cmd_cnt") (string (codes "INST") ∷ string (codes "collect") ∷ []) ≡ Some (told (gives (whole 0)))
   pub no_command_count : ask (codes "get_cmd_cnt") (string (codes "INST") ∷ string (codes "HS") ∷ []) ≡ Some (no_such (codes "Unknown packet"))
   pub no_unknown_command : ask (codes "get_cmd_cnt") (string (codes "UNKNOWN") ∷ string (codes "UNKNOWN") ∷ []) ≡ Some (no_such (codes "Unknown target"))
-  pub new_limits : ask (codes "set_limits") (temp1_named (limits_given [])) ≡ Some (appended (gives (SetLimits true 0 0 1 (codes "CUSTOM") (wide (neg_ℤ (pos 80000000000000)) (neg_ℤ (pos 70000000000000)) (pos 60000000000000) (pos 80000000000000)))))
+  pub new_limits : ask (codes "set_limits") (temp1_named (limits_given []))
+      ≡ Some (appended (gives (SetLimits true 0 0 1 (codes "CUSTOM")
+      (wide (neg_ℤ (pos 80000000000000)) (neg_ℤ (pos 70000000000000)) (pos 60000000000000) (pos 80000000000000)))))
   pub eight_params : asked (codes "set_limits") (temp1_named (limits_given (whole 1 ∷ []))) ≡ None
   pub no_green : asked (codes "set_limits") (temp1_named (limits_given (null ∷ null ∷ []))) ≡ None
   pub no_persistence : asked (codes "set_limits") (temp1_named (limits_given (whole 1 ∷ whole 2 ∷ string (codes "TVAC") ∷ whole 0 ∷ []))) ≡ None
-  pub no_name_as_set : ask (codes "set_limits") (temp1_named (limits_given (whole 1 ∷ whole 2 ∷ string (codes "T-VAC") ∷ whole 2 ∷ boolean false ∷ []))) ≡ Some (no_such (codes "Unknown limits set"))
+  pub no_name_as_set : ask (codes "set_limits") (temp1_named
+      (limits_given (whole 1 ∷ whole 2 ∷ string (codes "T-VAC") ∷ whole 2 ∷ boolean false ∷ []))) ≡ Some (no_such (codes "Unknown limits set"))
   pub order : ask (codes "set_limits") (temp1_named (whole 2 ∷ whole 1 ∷ whole 60 ∷ whole 80 ∷ [])) ≡ Some (not_done (codes "Limits order"))
-  pub unknown_item_first : ask (codes "set_limits") (string (codes "INST") ∷ string (codes "HS") ∷ string (codes "RECEIVED_COUNT") ∷ whole 2 ∷ whole 1 ∷ whole 60 ∷ whole 80 ∷ []) ≡ Some (no_such (codes "Unknown item"))
-  pub limits : ask (codes "get_limits") (temp1_named []) ≡ Some (told (gives (list (text (codes "DEFAULT") ∷ whole 1 ∷ boolean true ∷ decimal (record { parts = pos 1000000000000 }) ∷ decimal (record { parts = pos 2000000000000 }) ∷ decimal (record { parts = pos 3000000000000 }) ∷ decimal (record { parts = pos 4500000000000 }) ∷ null ∷ null ∷ []))))
+  pub unknown_item_first : ask (codes "set_limits") (string (codes "INST") ∷ string (codes "HS") ∷ string (codes "RECEIVED_COUNT") ∷ whole 2 ∷ whole 1
+      ∷ whole 60 ∷ whole 80 ∷ []) ≡ Some (no_such (codes "Unknown item"))
+  pub limits : ask (codes "get_limits") (temp1_named []) ≡ Some (told
+      (gives (list (text (codes "DEFAULT") ∷ whole 1 ∷ boolean true ∷ decimal (record { parts = pos 1000000000000 }) ∷ decimal
+      (record { parts = pos 2000000000000 }) ∷ decimal (record { parts = pos 3000000000000 }) ∷ decimal (record { parts = pos 4500000000000 }) ∷ null
+      ∷ null ∷ []))))
   pub disabled : ask (codes "disable_limits") (temp1_named []) ≡ Some (appended (gives (Enable 0 0 false)))
   pub unknown_set : ask (codes "set_limits_set") (string (codes "TVAC") ∷ []) ≡ Some (no_such (codes "Unknown limits set"))
   pub chosen_set : ask (codes "set_limits_set") (string (codes "default") ∷ []) ≡ Some (appended (gives (LimitsSetIs (codes "DEFAULT"))))
@@ -120,12 +156,15 @@ pub record RowsHold : Type 0 where
   pub interface : ask (codes "interface_state") (string (codes "inst_int") ∷ []) ≡ Some (told (gives (text (codes "DISCONNECTED"))))
   pub no_interface : ask (codes "interface_state") (string (codes "INT") ∷ []) ≡ Some (no_such (codes "Unknown interface"))
   pub interfaces : ask (codes "get_interface_names") [] ≡ Some (told (gives (list (text (codes "INST_INT") ∷ []))))
-  pub not_connected : answer point (Some (record { target = codes "inst"; command = codes "collect"; params = [] })) (sends (record { range = true; hazardous = true }) (in_text [])) ≡ not_done (codes "Not connected: INST_INT")
+  pub not_connected : answer point (Some (record { target = codes "inst"; command = codes "collect"; params = [] }))
+      (sends (record { range = true; hazardous = true }) (in_text [])) ≡ not_done (codes "Not connected: INST_INT")
   pub injected_object : asked (codes "inject_tlm") (string (codes "INST") ∷ string (codes "HS") ∷ []) ≡ None
   pub stop : ask (codes "stop_server") [] ≡ Some (appended (gives Stop))
   pub stopped : answer after_stop None stops ≡ told (gives null)
   pub method_without_id : IsReplyFor point 24 at_rest (calls (codes "no such") no_items None) (record { response = None; entries = [] })
-  pub stop_without_id : IsReplyFor point 24 at_rest (calls (codes "stop_server") no_items None) (record { response = None; entries = record { by = 24; time = at_rest; what = Stop } ∷ [] })
+  pub stop_without_id : IsReplyFor point 24 at_rest (calls (codes "stop_server") no_items None)
+      (record { response = None; entries = record { by = 24; time = at_rest; what = Stop } ∷ [] })
   pub set_text : IsReplyFor point 24 at_rest (calls (codes "get_limits_set") no_items (Some (string (codes "a")))) the_set
   pub text_of_set : text_of the_set ≡ Some (codes "{\"id\":\"a\",\"jsonrpc\":\"2.0\",\"result\":\"DEFAULT\"}")
-  pub text_of_parse_error : text_of parse_error ≡ Some (codes "{\"error\":{\"code\":" ++ (signed_decimal (neg_ℤ (pos 32700)) ++ codes ",\"message\":\"Parse error\"},\"id\":null,\"jsonrpc\":\"2.0\"}"))
+  pub text_of_parse_error : text_of parse_error ≡ Some (codes
+      "{\"error\":{\"code\":" ++ (signed_decimal (neg_ℤ (pos 32700)) ++ codes ",\"message\":\"Parse error\"},\"id\":null,\"jsonrpc\":\"2.0\"}"))

@@ -14,7 +14,8 @@ use Rattle.cts_conv.specs.declared.value.Value as v
 use Rattle.cts_conv.specs.declared.value.Value.TheVariants as vs
 use Rattle.cts_conv.specs.Plains.{plain_text}
 use Rattle.cts_def.specs.declared.color.Color.{Color}
-use Rattle.cts_def.specs.declared.color.Color.TheVariants.{RedLow, YellowLow, Green, GreenLow, Blue, GreenHigh, YellowHigh, RedHigh, Stale, StateRed, StateYellow, StateGreen}
+use Rattle.cts_def.specs.declared.color.Color.TheVariants.{RedLow, YellowLow, Green, GreenLow, Blue, GreenHigh, YellowHigh, RedHigh, Stale, StateRed}
+use Rattle.cts_def.specs.declared.color.Color.TheVariants.{StateYellow, StateGreen}
 use Rattle.serde_json.specs.Data.{Data, number, string, array, unsigned, Members, no_members, put}
 use Rattle.serde_json.specs.Find.{of_integer}
 use Rattle.serde_json.specs.View.{items_of}

@@ -4,7 +4,8 @@ ghost use Rattle.std.specs.Prelude.{◌≡◌, ◌≤◌, ◌++◌, ◌∷◌, [
 ghost use Rattle.serde_json.specs.View.{view};
 ghost use Rattle.cts_def.specs.Most.{most_packets};
 ghost use Rattle.cts_def.specs.Packets.{default_set};
-ghost use Rattle.cts_api.specs.Answers.{all_out_rows, decimal_rows, event_row, event_row_of, event_rows, events_answer, green_rows, known_set, limits_answer, limits_row, limits_set_answer, out_of_limits_answer, out_row, out_rows, set_asked};
+ghost use Rattle.cts_api.specs.Answers.{all_out_rows, decimal_rows, event_row, event_row_of, event_rows, events_answer, green_rows, known_set};
+ghost use Rattle.cts_api.specs.Answers.{limits_answer, limits_row, limits_set_answer, out_of_limits_answer, out_row, out_rows, set_asked};
 ghost use Rattle.cts_methods.specs.Seen.{item_name};
 ghost use Rattle.cts_api.specs.Shown.{color};
 ghost use Rattle.cts_api.specs.Telling.{point, Tells};

@@ -113,7 +113,8 @@ fn push_item(
     item: &Item,
 ) -> Result<(), Memory>
     requires { Contains packet.now.items item.now }
-    ensures { OnOk result (map view row.new.items ≡ map view row.old.items ++ text item.now.name ∷ shown (value_of reading.entry.kind packet.now item.now reading.entry.bytes.now) ∷ item_color (point hall.now) reading.entry.number number item.now ∷ []) }
+    ensures { OnOk result (map view row.new.items ≡ map view row.old.items ++ text item.now.name ∷ shown
+        (value_of reading.entry.kind packet.now item.now reading.entry.bytes.now) ∷ item_color (point hall.now) reading.entry.number number item.now ∷ []) }
 {
     push_text(row, alloc, item.name.as_slice())?;
     row.push(shown_of(alloc, reading, packet, item)?)?;
@@ -143,7 +144,8 @@ fn rows(
     reading: Reading<'_>,
     packet: &Packet,
 ) -> Result<Vec<Value>, Memory>
-    ensures { IfOk result (λ rows. map view rows.items ≡ rows_from (point hall.now) reading.entry.kind reading.entry.number packet.now reading.entry.bytes.now 0 packet.now.items) }
+    ensures { IfOk result (λ rows. map view rows.items ≡ rows_from (point hall.now) reading.entry.kind reading.entry.number packet.now
+        reading.entry.bytes.now 0 packet.now.items) }
 {
     let mut rows = Vec::new(alloc);
     for (place, item) in packet.items.as_slice().iter().enumerate() {

@@ -19,6 +19,7 @@ pub record RowsAreListed : Type 0 where
       → rows_from h kind p packet bytes 0 packet.items ≡ map (λ (i : ℕ × ItemData). item_row h kind p packet bytes i.0 i.1) (enumerate_from 0 packet.items)
   -- get_out_of_limits: one row an item that is out, packet by packet
   pub out : (h : Point) (packets : List PacketData)
-      → all_out_rows h 0 packets ≡ flat_map (λ (p : ℕ × PacketData). map (λ (i : ℕ × ItemData). out_row p.1 i.1 (color (h.state_of p.0 i.0))) (out_items h p.0 p.1)) (enumerate_from 0 packets)
+      → all_out_rows h 0 packets ≡ flat_map (λ (p : ℕ × PacketData). map (λ (i : ℕ × ItemData). out_row p.1 i.1 (color (h.state_of p.0 i.0)))
+      (out_items h p.0 p.1)) (enumerate_from 0 packets)
   -- get_limits_events: one row an event
   pub events : (packets : List PacketData) (es : List LimitsEvent) → event_rows packets es ≡ filter_map (event_row packets) es

@@ -14,7 +14,8 @@ use Rattle.cts_api.specs.Replies.{IsReplyOf, Reply, history_full}
 -- their names
 abbrev pub look_ups : List (List ℕ)
 look_ups =
-    codes "tlm" ∷ codes "tlm_raw" ∷ codes "tlm_formatted" ∷ codes "tlm_with_units" ∷ codes "get_tlm_packet" ∷ codes "get_tlm_cnt" ∷ codes "get_cmd_cnt" ∷ codes "get_limits"
+    codes "tlm" ∷ codes "tlm_raw" ∷ codes "tlm_formatted" ∷ codes "tlm_with_units" ∷ codes "get_tlm_packet" ∷ codes "get_tlm_cnt"
+    ∷ codes "get_cmd_cnt" ∷ codes "get_limits"
     ∷ codes "get_limits_set" ∷ codes "get_out_of_limits" ∷ codes "get_limits_events" ∷ codes "get_interface_names" ∷ codes "interface_state" ∷ []
 
 -- They append nothing.
@@ -25,4 +26,5 @@ LookUpsAppendNothing = (h : Point) (by : ℕ) (time : Time) (id : Option Data) (
 -- They need no room: at a point of a legal history they are never told that it is full.
 abbrev pub LookUpsNeedNoRoom : Type 0
 LookUpsNeedNoRoom = (b : Basis) (history : List Entry) (by : ℕ) (time : Time) (id : Data) (params : List Data) (name : List ℕ) (a : Reply)
-    → Contains look_ups name → IsLegal (rules_of b) history → IsReplyOf (point_of b history) by time (Some id) params (method_named name) a → ¬ (a ≡ history_full (Some id))
+    → Contains look_ups name → IsLegal (rules_of b) history → IsReplyOf (point_of b history) by time (Some id) params (method_named name) a
+    → ¬ (a ≡ history_full (Some id))

@@ -4,7 +4,8 @@ use Rattle.cts_base.specs.declared.decimal.Decimal.{Decimal}
 use Rattle.cts_base.specs.Decimals.{decimal_of}
 use Rattle.serde_json.specs.Data.{Data, Members, Num, boolean, no_members, number, object, string, unsigned}
 use Rattle.serde_json.specs.Find.{as_integer}
-use Rattle.cts_methods.specs.Asking.{Asking, ItemName, NewLimits, Order, PacketName, chooses_set, enables, in_parts, in_text, injects, sends, sets_limits, stops}
+use Rattle.cts_methods.specs.Asking.{Asking, ItemName, NewLimits, Order, PacketName, chooses_set, enables, in_parts, in_text, injects, sends}
+use Rattle.cts_methods.specs.Asking.{sets_limits, stops}
 use Rattle.cts_methods.specs.Kinds.{are_given, wholes}
 use Rattle.cts_api.specs.Rows.{asked}
 
@@ -29,7 +30,8 @@ AreTwoNames t p name = (t ≡ string name.target) × (p ≡ string name.packet)
 abbrev pub AreNames : Data → Data → Data → ItemName → Type 0
 AreNames t p i name = (t ≡ string name.target) × (p ≡ string name.packet) × (i ≡ string name.item)
 
--- ---- set_limits: three names, rl, yl, yh, rh, and then none, or gl and gh, or these and a set, or these and a persistence, or these and whether samples are taken
+-- ---- set_limits: three names, rl, yl, yh, rh, and then none, or gl and gh, or these and a set, or these and a persistence, or these and
+-- whether samples are taken
 
 abbrev pub AreGreen : Data → Data → NewLimits → Type 0
 AreGreen gl gh new = (low : Decimal) × (high : Decimal) × IsDecimal gl low × IsDecimal gh high × (new.limits.green ≡ Some (low, high))
@@ -52,7 +54,8 @@ AreMore (gl ∷ (gh ∷ (s ∷ (n ∷ (on ∷ (d ∷ ds)))))) new = ⊥
 abbrev pub IsSetLimits : List Data → Asking → Type 0
 IsSetLimits (t ∷ (p ∷ (i ∷ (rl ∷ (yl ∷ (yh ∷ (rh ∷ more))))))) a =
     (name : ItemName) × (new : NewLimits) × (a ≡ sets_limits name new) × AreNames t p i name
-    × IsDecimal rl new.limits.red_low × IsDecimal yl new.limits.yellow_low × IsDecimal yh new.limits.yellow_high × IsDecimal rh new.limits.red_high × AreMore more new
+    × IsDecimal rl new.limits.red_low × IsDecimal yl new.limits.yellow_low × IsDecimal yh new.limits.yellow_high × IsDecimal rh new.limits.red_high
+    × AreMore more new
 IsSetLimits _ a = ⊥
 
 -- ---- the others

@@ -1,6 +1,7 @@
 -- How a decimal is printed: a `-` where it is negative, the whole part, a point, and the fraction without trailing zeros
 -- but with one digit at least.
-use Rattle.std.specs.Prelude.{◌≡◌, ℕ, zero, suc, ◌+◌, ◌-◌, ◌*◌, ◌/◌, ◌%◌, ◌^◌, ◌≤◌, Bool, List, [], ◌∷◌, ◌++◌, length, take, drop, ℤ, pos, negsuc, unsigned_abs, ◌==◌, slice_index, IsTrue}
+use Rattle.std.specs.Prelude.{◌≡◌, ℕ, zero, suc, ◌+◌, ◌-◌, ◌*◌, ◌/◌, ◌%◌, ◌^◌, ◌≤◌, Bool, List, [], ◌∷◌, ◌++◌, length, take, drop, ℤ, pos, negsuc}
+use Rattle.std.specs.Prelude.{unsigned_abs, ◌==◌, slice_index, IsTrue}
 use Rattle.std.specs.Fmt.{decimal}
 use Rattle.std.specs.List.{suffix_len}
 use Rattle.std.specs.Str.Parse.{digits_value}

@@ -1,5 +1,6 @@
 -- Whole numbers: an optional sign, and decimal digits, or `0x` in any case and hexadecimal digits.
-use Rattle.std.specs.Prelude.{◌≡◌, ℕ, ◌^◌, Bool, ◌&&◌, ◌||◌, List, [], ◌∷◌, ◌++◌, drop, ℤ, pos, negsuc, Option, Some, None, nat_lt, ◌==◌, slice_index, if◌then◌else◌, IsTrue}
+use Rattle.std.specs.Prelude.{◌≡◌, ℕ, ◌^◌, Bool, ◌&&◌, ◌||◌, List, [], ◌∷◌, ◌++◌, drop, ℤ, pos, negsuc, Option, Some, None, nat_lt, ◌==◌, slice_index}
+use Rattle.std.specs.Prelude.{if◌then◌else◌, IsTrue}
 use Rattle.std.specs.Str.Parse.{digits_value, without_leading_sign, starts_with_minus}
 use Rattle.cts_base.specs.Digits.{is_numeral}
 use Rattle.cts_base.specs.Signs.{Sign, sign_text, is_minus, with_sign}

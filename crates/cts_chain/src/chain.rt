@@ -101,8 +101,11 @@ impl Chain {
     /// these are more. It takes no memory.
     pub fn next(&mut self) -> ChainStep
         requires { IsChain (⟦<Chain as Chained>⟧.shape self.old) }
-        ensures rises { Rises (⟦<Chain as Chained>⟧.shape self.old).stages (given_by result (⟦<Chain as Chained>⟧.shape self.new).lent (⟦<Chain as Chained>⟧.shape self.new).place) (⟦<Chain as Chained>⟧.shape self.new).stages }
-        ensures answers { Answers (⟦<Chain as Chained>⟧.shape self.new).stages (⟦<Chain as Chained>⟧.shape self.new).lent (⟦<Chain as Chained>⟧.shape self.new).place result }
+        ensures rises { Rises (⟦<Chain as Chained>⟧.shape self.old).stages
+            (given_by result (⟦<Chain as Chained>⟧.shape self.new).lent (⟦<Chain as Chained>⟧.shape self.new).place)
+            (⟦<Chain as Chained>⟧.shape self.new).stages }
+        ensures answers { Answers (⟦<Chain as Chained>⟧.shape self.new).stages (⟦<Chain as Chained>⟧.shape self.new).lent
+            (⟦<Chain as Chained>⟧.shape self.new).place result }
         ensures few { AnswersFew result (⟦<Chain as Chained>⟧.shape self.new).stages }
         ensures left { Leaves result (⟦<Chain as Chained>⟧.shape self.new) }
         ensures chain { IsChain (⟦<Chain as Chained>⟧.shape self.new) }
@@ -131,7 +134,8 @@ impl Chain {
     /// Lends the names that the packet of the last `next` brought along: its target's and its own.
     pub fn packet_names(&self) -> Option<(&[u8], &[u8])>
         requires { IsGiving (⟦<Chain as Chained>⟧.shape self.now) }
-        ensures { option_map {U = List ℕ × List ℕ} (λ n. (n.0.now, n.1.now)) result ≡ option_map {U = List ℕ × List ℕ} (λ h. (h.target, h.packet)) (packet_at (⟦<Chain as Chained>⟧.shape self.now).lent (⟦<Chain as Chained>⟧.shape self.now).place).heading }
+        ensures { option_map {U = List ℕ × List ℕ} (λ n. (n.0.now, n.1.now)) result ≡ option_map {U = List ℕ × List ℕ} (λ h. (h.target, h.packet))
+            (packet_at (⟦<Chain as Chained>⟧.shape self.now).lent (⟦<Chain as Chained>⟧.shape self.now).place).heading }
     {
         match self.stamp {
             None => None,
@@ -174,7 +178,8 @@ impl Chain {
     pub fn encode(&self, label: &Label, packet: &[u8], out: &mut Vec<u8>) -> Result<(), EncodeFault>
         requires { IsChain (⟦<Chain as Chained>⟧.shape self.now) }
         ensures put { Writes (writers (⟦<Chain as Chained>⟧.shape self.now)) (heading_of label.now) packet.now out.old.items out.new.items result }
-        ensures spelled { Spells (chain_spelling (writers (⟦<Chain as Chained>⟧.shape self.now)) (heading_of label.now) packet.now) out.old.items out.new.items result }
+        ensures spelled { Spells (chain_spelling (writers (⟦<Chain as Chained>⟧.shape self.now)) (heading_of label.now) packet.now) out.old.items
+            out.new.items result }
     {
         write_from(
             self.alloc,

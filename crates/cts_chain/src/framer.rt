@@ -28,7 +28,8 @@ pub trait Framer: Chained + Drop {
     /// The next packet, or why there is none. Where there is none, each stage that has not failed holds few bytes.
     fn next(&mut self) -> ChainStep
         requires { IsChain (Self.shape self.old) }
-        ensures rises { Rises (Self.shape self.old).stages (given_by result (Self.shape self.new).lent (Self.shape self.new).place) (Self.shape self.new).stages }
+        ensures rises { Rises (Self.shape self.old).stages (given_by result (Self.shape self.new).lent (Self.shape self.new).place)
+            (Self.shape self.new).stages }
         ensures answers { Answers (Self.shape self.new).stages (Self.shape self.new).lent (Self.shape self.new).place result }
         ensures few { AnswersFew result (Self.shape self.new).stages }
         ensures left { Leaves result (Self.shape self.new) }
@@ -43,7 +44,8 @@ pub trait Framer: Chained + Drop {
     /// Lends the names that the packet of the last `next` brought along: its target's and its own.
     fn packet_names(&self) -> Option<(&[u8], &[u8])>
         requires { IsGiving (Self.shape self.now) }
-        ensures { option_map {U = List ℕ × List ℕ} (λ n. (n.0.now, n.1.now)) result ≡ option_map {U = List ℕ × List ℕ} (λ h. (h.target, h.packet)) (packet_at (Self.shape self.now).lent (Self.shape self.now).place).heading };
+        ensures { option_map {U = List ℕ × List ℕ} (λ n. (n.0.now, n.1.now)) result ≡ option_map {U = List ℕ × List ℕ} (λ h. (h.target, h.packet))
+            (packet_at (Self.shape self.now).lent (Self.shape self.now).place).heading };
 
     /// Whether the packet of the last `next` was stored before it was sent.
     fn packet_stored(&self) -> bool

@@ -1,5 +1,6 @@
 -- What holds of all texts and of all requests, beyond what a call says of its answer.
-use Rattle.std.specs.Prelude.{ℕ, ℤ, pos, ◌≡◌, ◌⊎◌, ◌<◌, ◌≤◌, ◌+◌, ◌*◌, ◌/◌, true, false, int_le, unsigned_abs, slice_index, List, [], ◌∷◌, ◌++◌, length, replicate, Some, None}
+use Rattle.std.specs.Prelude.{ℕ, ℤ, pos, ◌≡◌, ◌⊎◌, ◌<◌, ◌≤◌, ◌+◌, ◌*◌, ◌/◌, true, false, int_le, unsigned_abs, slice_index, List, [], ◌∷◌, ◌++◌}
+use Rattle.std.specs.Prelude.{length, replicate, Some, None}
 use Rattle.cts_bits.specs.Bits.{bits_of}
 use Rattle.cts_bits.specs.Fields.{bit_place_at}
 use Rattle.cts_def.specs.declared.item_kind.Preset.{Preset}
@@ -59,7 +60,8 @@ IsLeftBy holds (i ∷ items) k = (IsWrittenBit i (holds i) k → ⊥) × IsLeftB
 -- A bit that is there, and to which none of the items is written, stays.
 abbrev pub OtherBitsStay : Type 0
 OtherBitsStay =
-    (holds : ItemData → Preset) (items : List ItemData) (old new : List ℕ) → WritesAll holds items old new → (k : ℕ) → k < 8 * length old → IsLeftBy holds items k
+    (holds : ItemData → Preset) (items : List ItemData) (old new : List ℕ) → WritesAll holds items old new → (k : ℕ) → k < 8 * length old
+    → IsLeftBy holds items k
     → slice_index (bits_of new) k ≡ slice_index (bits_of old) k
 
 -- A number stands in its field at the end, where no later item is written to a bit of it.

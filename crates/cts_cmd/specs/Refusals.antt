@@ -2,7 +2,8 @@
 use Rattle.std.specs.Prelude.{ℕ, ℤ, Bool, true, false, List, [], ◌++◌, codes}
 use Rattle.std.specs.Fmt.{signed_decimal}
 use Rattle.cts_cmd.specs.declared.refused.Refused.{Refused}
-use Rattle.cts_cmd.specs.declared.refused.Refused.TheVariants.{UnknownTarget, UnknownCommand, UnknownParameter, Twice, Missing, WrongType, UnknownState, OutOfRange, Overflow, Hazardous, Memory}
+use Rattle.cts_cmd.specs.declared.refused.Refused.TheVariants.{UnknownTarget, UnknownCommand, UnknownParameter, Twice, Missing, WrongType}
+use Rattle.cts_cmd.specs.declared.refused.Refused.TheVariants.{UnknownState, OutOfRange, Overflow, Hazardous, Memory}
 
 -- a value that is not within its range
 abbrev pub range_text : List ℕ → ℤ → ℤ → ℤ → List ℕ

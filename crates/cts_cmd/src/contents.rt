@@ -1,5 +1,6 @@
 // What the fields of a command hold.
-ghost use Rattle.std.specs.Prelude.{◌≡◌, ◌≤◌, ◌<◌, ◌/◌, length, false, true, ◌+◌, ◌^◌, pos, unsigned_abs, option_map, unwrap_or, IfOk, IsTrue, [], if◌then◌else◌};
+ghost use Rattle.std.specs.Prelude.{◌≡◌, ◌≤◌, ◌<◌, ◌/◌, length, false, true, ◌+◌, ◌^◌, pos, unsigned_abs, option_map, unwrap_or, IfOk, IsTrue, []};
+ghost use Rattle.std.specs.Prelude.{if◌then◌else◌};
 ghost use Rattle.std.specs.Int.{int_rem_euclid};
 ghost use Rattle.std.specs.Option.{option_copied};
 ghost use Rattle.cts_bits.specs.Bits.{twos_complement};

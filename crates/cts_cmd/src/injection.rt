@@ -77,7 +77,8 @@ fn written(
     current: Option<&[u8]>,
     members: &[(Bytes, Given)],
 ) -> Result<Bytes, Memory>
-    ensures { IfOk result (λ b. Injects (filter_map (with_item packet.now.items) members.now) (stood (option_map (λ t. t.now) current.entry) packet.now.length) b) }
+    ensures { IfOk result (λ b. Injects (filter_map (with_item packet.now.items) members.now)
+        (stood (option_map (λ t. t.now) current.entry) packet.now.length) b) }
 {
     let mut buffer = standing(alloc, current, packet.length as usize)?;
     write_members(alloc, &mut buffer, packet.items.as_slice(), members)?;
@@ -103,7 +104,8 @@ pub fn inject(
     members: &[(Bytes, Given)],
 ) -> Result<Bytes, Refused>
     ensures refused { IsAnswer (injection_refusal packet.now.items members.now) result }
-    ensures injected { IfOk result (λ b. Injects (filter_map (with_item packet.now.items) members.now) (stood (option_map (λ t. t.now) current.entry) packet.now.length) b) }
+    ensures injected { IfOk result (λ b. Injects (filter_map (with_item packet.now.items) members.now)
+        (stood (option_map (λ t. t.now) current.entry) packet.now.length) b) }
 {
     check_members(alloc, packet.items.as_slice(), members)?;
     Ok(written(alloc, packet, current, members)?)

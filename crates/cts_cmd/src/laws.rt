@@ -1,5 +1,6 @@
 // What holds of the definitions that the contracts cite. Each is the contract of a function that does nothing.
-ghost use Rattle.cts_cmd.specs.Laws.{InjectionsHaveOneOutcome, InjectionsStandOnBytes, NumbersStand, OtherBitsStay, RawValuesAreOfTheirKind, RequestsHaveOneCommand, TextsAreReadInOneWay, TextsAreReadOrFail};
+ghost use Rattle.cts_cmd.specs.Laws.{InjectionsHaveOneOutcome, InjectionsStandOnBytes, NumbersStand, OtherBitsStay, RawValuesAreOfTheirKind};
+ghost use Rattle.cts_cmd.specs.Laws.{RequestsHaveOneCommand, TextsAreReadInOneWay, TextsAreReadOrFail};
 
 /// A text asks for one request alone, or fails at one place alone for one cause, and never both.
 pub fn a_text_asks_for_one_request_or_fails_once()

@@ -55,4 +55,5 @@ waiting site by history cursor = capped (cursor.refused + length (queue (site_ro
 -- How many of these entries hold the next `count` of those through which a line goes; none where there are fewer of them.
 abbrev pub HoldsNext : SiteData → ℕ → List Entry → ℕ → Option ℕ → Type 0
 HoldsNext site by entries count next =
-    MatchOption next (length (walk (site_routing site) by entries) < count) (λ n. (n ≤ length entries) × (length (walk (site_routing site) by (take n entries)) ≡ count))
+    MatchOption next (length (walk (site_routing site) by entries) < count)
+    (λ n. (n ≤ length entries) × (length (walk (site_routing site) by (take n entries)) ≡ count))

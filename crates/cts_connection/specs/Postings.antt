@@ -1,5 +1,6 @@
 -- What a connection appends to the history.
-use Rattle.std.specs.Prelude.{◌≡◌, ◌==◌, ℕ, ◌-◌, ◌≤◌, true, false, if◌then◌else◌, option_map, List, [], ◌∷◌, ◌++◌, length, Option, None, Some, Result, Ok, Err, IfSome}
+use Rattle.std.specs.Prelude.{◌≡◌, ◌==◌, ℕ, ◌-◌, ◌≤◌, true, false, if◌then◌else◌, option_map, List, [], ◌∷◌, ◌++◌, length, Option, None, Some, Result}
+use Rattle.std.specs.Prelude.{Ok, Err, IfSome}
 use Rattle.cts_chain.specs.Chains.{loss_in}
 use Rattle.cts_def.specs.declared.time.Time.{Time}
 use Rattle.cts_entry.specs.declared.entry.Entry.{Entry}
@@ -71,7 +72,11 @@ pub record CanClose (s : Shown) (by : ℕ) (why : Why) : Type 0 where
 
 -- the Closed of a connection, with what its stages lose, how many packets have no entry, and how many entries for its peer are not put whole
 abbrev pub closed_of : ℕ → Time → Shown → HeldConnection → Why → ℕ → Entry
-closed_of by now s c why unposted = record { by = by; time = now; what = Closed why (loss_in c.chain.stages) unposted (waiting s.basis.site by s.entries c.cursor) }
+closed_of by now s c why unposted = record {
+  by = by;
+  time = now;
+  what = Closed why (loss_in c.chain.stages) unposted (waiting s.basis.site by s.entries c.cursor);
+}
 
 -- its Closed stands after the others, and its chain begins anew
 pub record Closes (by : ℕ) (now : Time) (s : Shown) (c : HeldConnection) (why : Why) (unposted : ℕ) (new : Shown) (d : HeldConnection) : Type 0 where
@@ -83,7 +88,8 @@ pub record Closes (by : ℕ) (now : Time) (s : Shown) (c : HeldConnection) (why 
 -- why a connection is to be closed after the packets of a piece, where a number of them have no entry and its chain has failed so: for want of
 -- memory, where any has none, and else for the failure
 abbrev pub end_of : ℕ → Option Why → Option End
-end_of unposted why = if unposted == 0 then option_map (λ (w : Why). record { why = w; unposted = 0 }) why else Some (record { why = NoMemory; unposted = unposted })
+end_of unposted why = if unposted == 0 then option_map (λ (w : Why). record { why = w; unposted = 0 }) why else
+    Some (record { why = NoMemory; unposted = unposted })
 
 -- these are the entries of packets of a line that is connected, and why it is to be closed, if it is
 pub record CanPost (s : Shown) (by : ℕ) (now : Time) (entries : List Entry) (end : Option End) : Type 0 where

@@ -21,7 +21,8 @@ blamed (Some fault) = Some (BadFrame fault.stage fault.cause)
 
 -- this is said of each output that has this definition, that was stored or not, and that has these bytes
 abbrev pub SaysOf : SiteData → List Entry → ℕ → Ident → Bool → List ℕ → What → Type 0
-SaysOf site history by ident stored bytes what = (o : Output) → ident_of site by o ≡ ident → is_stored o.heading ≡ stored → o.bytes ≡ bytes → what ≡ said_of (site_routing site) history by o
+SaysOf site history by ident stored bytes what = (o : Output) → ident_of site by o ≡ ident → is_stored o.heading ≡ stored → o.bytes ≡ bytes
+    → what ≡ said_of (site_routing site) history by o
 
 -- the entries of these packets of a line, all said of the history as it stands
 abbrev pub entries_of : SiteData → List Entry → ℕ → Time → List Output → List Entry
@@ -38,7 +39,8 @@ pub record GivesUp (old : ChainData) (unposted : ℕ) (why : Option Why) (new : 
 
 -- A chain gave packets, of which these are the entries after some others, and then a number of packets for which no memory was found, and then no
 -- more: so it closes its connection, or not.
-pub record Gathers (site : SiteData) (history : List Entry) (by : ℕ) (now : Time) (old : ChainData) (before entries : List Entry) (unposted : ℕ) (why : Option Why) (new : ChainData) : Type 0 where
+pub record Gathers (site : SiteData) (history : List Entry) (by : ℕ) (now : Time) (old : ChainData) (before entries : List Entry) (unposted : ℕ)
+    (why : Option Why) (new : ChainData) : Type 0 where
   pub packets : List Output
   pub lost : List Output
   pub stands : (ins given : List Output) → StagesStand old.stages ins given → StagesStand new.stages ins (given ++ (packets ++ lost))
@@ -50,7 +52,8 @@ pub record Gathers (site : SiteData) (history : List Entry) (by : ℕ) (now : Ti
 
 -- A chain was fed a piece. Of the packets that it gave then, these are the entries of the first ones; so many others, for which no memory
 -- was found, have none.
-pub record TakesPiece (site : SiteData) (history : List Entry) (by : ℕ) (now : Time) (old : ChainData) (piece : List ℕ) (entries : List Entry) (unposted : ℕ) (why : Option Why) (new : ChainData) : Type 0 where
+pub record TakesPiece (site : SiteData) (history : List Entry) (by : ℕ) (now : Time) (old : ChainData) (piece : List ℕ) (entries : List Entry)
+    (unposted : ℕ) (why : Option Why) (new : ChainData) : Type 0 where
   pub packets : List Output
   pub lost : List Output
   pub stands : (ins given : List Output) → StagesStand old.stages ins given → StagesStand new.stages (ins ++ plain piece ∷ []) (given ++ (packets ++ lost))

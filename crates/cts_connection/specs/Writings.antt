@@ -29,5 +29,9 @@ pub record Puts (site : SiteData) (specs : List SpecData) (by : ℕ) (entries : 
 pub record Wrote (site : SiteData) (by : ℕ) (old : HeldConnection) (history : List Entry) (next : ℕ) (bytes : List ℕ) (new : HeldConnection) : Type 0 where
   pub bytes_are : bytes ≡ spelled (spell_by site (writers old.chain)) (queue (site_routing site) by (take next (entries_ahead old history)))
   pub new_is : new ≡ record old {
-    cursor = record { place = old.cursor.place + next; refused = old.cursor.refused + refused (spell_by site (writers old.chain)) (queue (site_routing site) by (take next (entries_ahead old history))) };
+    cursor = record {
+      place = old.cursor.place + next;
+      refused = old.cursor.refused + refused (spell_by site (writers old.chain))
+          (queue (site_routing site) by (take next (entries_ahead old history)));
+    };
   }

@@ -198,7 +198,8 @@ impl<C: Framer> Connection<C> {
         requires { is_line hall.now.basis.site by ≡ true }
         ensures connected { self.new.connected ≡ self.old.connected }
         ensures cursor { self.new.cursor ≡ self.old.cursor }
-        ensures ok { IfOk result (λ t. TakesPiece hall.now.basis.site hall.now.entries by time self.old.chain piece.now t.entries.items t.unposted t.why self.new.chain) }
+        ensures ok { IfOk result (λ t. TakesPiece hall.now.basis.site hall.now.entries by time self.old.chain piece.now t.entries.items t.unposted
+            t.why self.new.chain) }
         ensures unfed { OnErr result (Reserved self.old.chain.stages self.new.chain.stages) }
         ensures same { IsSameChain self.old.chain self.new.chain }
     {
@@ -233,7 +234,8 @@ impl<C: Framer> Connection<C> {
         hall: &Hall,
         by: u32,
     ) -> Result<Vec<Option<Bytes>>, Memory>
-        ensures { IfOk result (λ v. v.items ≡ map (spell_by hall.now.basis.site (writers self.now.chain)) (queue (site_routing hall.now.basis.site) by (entries_ahead self.now hall.now.entries))) }
+        ensures { IfOk result (λ v. v.items ≡ map (spell_by hall.now.basis.site (writers self.now.chain))
+            (queue (site_routing hall.now.basis.site) by (entries_ahead self.now hall.now.entries))) }
     {
         spell_queue(alloc, hall, by, &self.chain, self.place)
     }

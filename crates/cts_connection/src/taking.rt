@@ -67,7 +67,8 @@ pub(crate) fn gather<C: Framer>(
 ) -> Given
     requires line { is_line hall.now.basis.site by ≡ true }
     requires chain { IsChain (C.shape chain.old) }
-    ensures gathers { Gathers hall.now.basis.site hall.now.entries by time (C.shape chain.old) entries.old.items entries.new.items result.unposted result.why (C.shape chain.new) }
+    ensures gathers { Gathers hall.now.basis.site hall.now.entries by time (C.shape chain.old) entries.old.items entries.new.items result.unposted
+        result.why (C.shape chain.new) }
     ensures idle { IsIdle (C.shape chain.new) }
 {
     loop {
@@ -137,7 +138,11 @@ fn push_entry<C: Framer>(
 ) -> Result<(), Memory>
     requires line { is_line hall.now.basis.site by ≡ true }
     requires giving { IsGiving (C.shape chain.now) }
-    ensures ok { OnOk result (entries.new.items ≡ entries.old.items ++ record { by = by; time = time; what = said_of (site_routing hall.now.basis.site) hall.now.entries by (packet_at (C.shape chain.now).lent (C.shape chain.now).place) } ∷ []) }
+    ensures ok { OnOk result (entries.new.items ≡ entries.old.items ++ record {
+      by = by;
+      time = time;
+      what = said_of (site_routing hall.now.basis.site) hall.now.entries by (packet_at (C.shape chain.now).lent (C.shape chain.now).place);
+    } ∷ []) }
     ensures err { OnErr result (entries.new.items ≡ entries.old.items) }
 {
     let ident = ident_by(hall.site(), by, chain.packet_bytes(), chain.packet_names());

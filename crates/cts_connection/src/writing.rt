@@ -75,7 +75,8 @@ pub(crate) fn put_queue<C: Framer>(
 ) -> Result<usize, Memory>
     requires chain { IsChain (C.shape chain.now) }
     requires within { next ≤ length (drop place hall.now.entries) }
-    ensures ok { IfOk result (λ count. Puts hall.now.basis.site (writers (C.shape chain.now)) by (take next (drop place hall.now.entries)) out.old.items out.new.items count) }
+    ensures ok { IfOk result (λ count. Puts hall.now.basis.site (writers (C.shape chain.now)) by
+        (take next (drop place hall.now.entries)) out.old.items out.new.items count) }
     ensures few { IfOk result (λ count. count ≤ next) }
 {
     hall.is_kept();
@@ -95,7 +96,8 @@ pub(crate) fn spell_queue<C: Framer>(
     place: usize,
 ) -> Result<Vec<Option<Bytes>>, Memory>
     requires chain { IsChain (C.shape chain.now) }
-    ensures { IfOk result (λ v. v.items ≡ map (spell_by hall.now.basis.site (writers (C.shape chain.now))) (queue (site_routing hall.now.basis.site) by (drop place hall.now.entries))) }
+    ensures { IfOk result (λ v. v.items ≡ map (spell_by hall.now.basis.site (writers (C.shape chain.now)))
+        (queue (site_routing hall.now.basis.site) by (drop place hall.now.entries))) }
 {
     hall.is_kept();
     let mut spellings = Vec::new(alloc);

@@ -2,7 +2,9 @@
 ghost use Rattle.std.specs.Prelude.{◌≡◌, ◌≤◌, ◌<◌, ◌^◌, ◌++◌, [], IfOk, OnOk, IsTrue, false, length, if◌then◌else◌};
 ghost use Rattle.std.specs.Fmt.{char_count, is_char_start, sign_text_with};
 ghost use Rattle.std.specs.Str.Parse.{digits_value};
-ghost use Rattle.cts_conv.specs.Formatting.{base_of, by_format, by_parts, cut, directive_text, filled_up, fixed_digits, fixed_text, fraction_of, formatted_text, has_flag, is_small, is_text, number_filled_up, parts_in, precision_of, rounded, undoubled, units_text, whole_text, width_of, with_gap, with_units_text, digits_in};
+ghost use Rattle.cts_conv.specs.Formatting.{base_of, by_format, by_parts, cut, directive_text, filled_up, fixed_digits, fixed_text, fraction_of};
+ghost use Rattle.cts_conv.specs.Formatting.{formatted_text, has_flag, is_small, is_text, number_filled_up, parts_in, precision_of, rounded};
+ghost use Rattle.cts_conv.specs.Formatting.{undoubled, units_text, whole_text, width_of, with_gap, with_units_text, digits_in};
 ghost use Rattle.cts_conv.specs.Plains.{plain_text};
 ghost use Rattle.cts_conv.specs.Raws.{is_raw_of};
 ghost use Rattle.cts_def.specs.Views.{parts_view};

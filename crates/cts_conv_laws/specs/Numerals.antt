@@ -1,5 +1,6 @@
 -- Numbers as they are read from their digits.
-use Rattle.std.specs.Prelude.{◌≡◌, ℕ, ℤ, ◌+◌, ◌-◌, ◌/◌, ◌^◌, ◌≤◌, ◌<◌, max, Bool, false, not, ◌&&◌, ◌||◌, ◌==◌, nat_le, nat_lt, true, List, [], ◌∷◌, ◌++◌, length, replicate, slice_index, unsigned_abs, IsTrue, if◌then◌else◌}
+use Rattle.std.specs.Prelude.{◌≡◌, ℕ, ℤ, ◌+◌, ◌-◌, ◌/◌, ◌^◌, ◌≤◌, ◌<◌, max, Bool, false, not, ◌&&◌, ◌||◌, ◌==◌, nat_le, nat_lt, true, List, [], ◌∷◌}
+use Rattle.std.specs.Prelude.{◌++◌, length, replicate, slice_index, unsigned_abs, IsTrue, if◌then◌else◌}
 use Rattle.std.specs.Fmt.{sign_text_with}
 use Rattle.std.specs.Int.{is_negative}
 use Rattle.std.specs.List.{list_all}
@@ -35,7 +36,8 @@ DigitsMeanTheirNumber = (base : ℕ) (upper : Bool) (n : ℕ) → 2 ≤ base →
 
 -- No other digits mean it.
 abbrev pub NoOtherDigitsMeanIt : Type 0
-NoOtherDigitsMeanIt = (base : ℕ) (upper : Bool) (n : ℕ) (text : List ℕ) → 2 ≤ base → base ≤ 16 → n < 2 ^ 128 → IsNumeralOf base upper n text → text ≡ digits_in base upper n
+NoOtherDigitsMeanIt = (base : ℕ) (upper : Bool) (n : ℕ) (text : List ℕ) → 2 ≤ base → base ≤ 16 → n < 2 ^ 128 → IsNumeralOf base upper n text
+    → text ≡ digits_in base upper n
 
 -- ---- how a format fills up
 
@@ -59,7 +61,8 @@ pub record IsWholeOf (p : FormatParts) (z : ℤ) (text : List ℕ) : Type 0 wher
 
 -- A format of another letter than `s` and `f` gives the number, cut toward zero.
 abbrev pub WholeTextsMeanTheirNumber : Type 0
-WholeTextsMeanTheirNumber = (p : FormatParts) (v : Value) → (p.letter == 115) ≡ false → (p.letter == 102) ≡ false → unsigned_abs (cut v) < 2 ^ 128 → IsWholeOf p (cut v) (directive_text p v)
+WholeTextsMeanTheirNumber = (p : FormatParts) (v : Value) → (p.letter == 115) ≡ false → (p.letter == 102) ≡ false → unsigned_abs (cut v) < 2 ^ 128
+    → IsWholeOf p (cut v) (directive_text p v)
 
 -- The plain text of a whole number: a `-` where it is negative, and the digits of its magnitude in base 10.
 pub record IsPlainOf (z : ℤ) (text : List ℕ) : Type 0 where

@@ -4,7 +4,8 @@
 #![tactic(auto)]
 
 ghost use Rattle.cts_conv_laws.specs.Blocks.{PlainTextsMeanTheirBytes};
-ghost use Rattle.cts_conv_laws.specs.Numerals.{DecimalTextsMeanTheirNumber, DigitsMeanTheirNumber, FixedDigitsMeanTheirNumber, NoOtherDigitsMeanIt, PlainWholesMeanTheirNumber, WholeTextsMeanTheirNumber};
+ghost use Rattle.cts_conv_laws.specs.Numerals.{DecimalTextsMeanTheirNumber, DigitsMeanTheirNumber, FixedDigitsMeanTheirNumber, NoOtherDigitsMeanIt};
+ghost use Rattle.cts_conv_laws.specs.Numerals.{PlainWholesMeanTheirNumber, WholeTextsMeanTheirNumber};
 ghost use Rattle.cts_conv_laws.specs.Uses.{SegmentsConvert, SomeSegmentIsUsed};
 
 use cts_def::Item;

@@ -19,7 +19,8 @@ site_commands_log site entries = commands_log (site_environment site) entries
 -- What the logs take of the next `n` entries after a place: nothing exactly where fewer stand there.
 abbrev pub Drains : SiteData → List Entry → ℕ → ℕ → Result Effect WorldFault → Type 0
 Drains site history place n (Ok effect) =
-    (n ≤ length (drop place history)) × (effect ≡ Logged (site_packets_log site (take n (drop place history))) (site_commands_log site (take n (drop place history))))
+    (n ≤ length (drop place history)) × (effect ≡ Logged (site_packets_log site (take n (drop place history)))
+    (site_commands_log site (take n (drop place history))))
 Drains site history place n (Err NotEnabled) = length (drop place history) < n
 Drains site history place n (Err Memory) = n ≤ length (drop place history)
 Drains site history place n (Err (Full entries bytes)) = ⊥

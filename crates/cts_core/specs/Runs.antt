@@ -90,7 +90,8 @@ pub record Did : Type 0 where
   pub entries : List Entry
   pub effect : Effect
 
--- An event does this, by what a desk that it asks answers. An Opens or a Piece needs room for its entries; an answer of a desk has it by itself, and a Closed and a
+-- An event does this, by what a desk that it asks answers. An Opens or a Piece needs room for its entries; an answer of a desk has it by
+-- itself, and a Closed and a
 -- Stop take none.
 pub record Does (env : Environment) (s : State) (event : Event) (did : Did) : Type 0 where
   pub enabled : is_enabled env s event ≡ true
@@ -179,7 +180,8 @@ pub data Ending : Type 0 where
 abbrev pub Refuses : Environment → State → Event → Ending → Type 0
 Refuses env s event Finished = ⊥
 Refuses env s event NotEnabled = is_enabled env s event ≡ false
-Refuses env s event HistoryFull = (is_enabled env s event ≡ true) × (takes_room event ≡ true) × ((entries : List Entry) × Appends env s event silent entries × (has_room env s entries ≡ false))
+Refuses env s event HistoryFull = (is_enabled env s event ≡ true) × (takes_room event ≡ true)
+    × ((entries : List Entry) × Appends env s event silent entries × (has_room env s entries ≡ false))
 
 -- The events do this one after another, and end so. What the events did that were done stands in the list, in order.
 abbrev pub Runs : Environment → State → List Event → List Did → Ending → Type 0

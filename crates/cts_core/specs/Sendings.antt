@@ -62,17 +62,23 @@ HasNoRoom b history c = is_within b history 1 (length c.bytes) ≡ false
 
 -- a request is refused after a history
 abbrev pub IsRefused : Basis → List Entry → Checks → Request → Type 0
-IsRefused b history checks r = FailsACheck b.site checks r ⊎ (HasNoRoute b.site history (built b.site.definitions r) ⊎ HasNoRoom b history (built b.site.definitions r))
+IsRefused b history checks r = FailsACheck b.site checks r ⊎
+    (HasNoRoute b.site history (built b.site.definitions r) ⊎ HasNoRoom b history (built b.site.definitions r))
 
 -- ---- what is appended
 
 -- the command that is built of a request, sent by a desk to an interface
 abbrev pub command_entry : SiteData → State → ℕ → ℕ → Request → Entry
-command_entry site s desk interface r = record { by = first_desk + desk; time = s.time; what = Command interface (built site.definitions r).command (built site.definitions r).bytes }
+command_entry site s desk interface r = record {
+  by = first_desk + desk;
+  time = s.time;
+  what = Command interface (built site.definitions r).command (built site.definitions r).bytes;
+}
 
 -- the request was sent to the interface that it goes to, and nothing else was appended
 abbrev pub IsSent : SiteData → State → ℕ → Request → Did → Type 0
-IsSent site s desk r did = (interface : ℕ) × (route_of site s.history (built site.definitions r).command ≡ Ok interface) × (did.entries ≡ command_entry site s desk interface r ∷ [])
+IsSent site s desk r did = (interface : ℕ) × (route_of site s.history (built site.definitions r).command ≡ Ok interface)
+    × (did.entries ≡ command_entry site s desk interface r ∷ [])
 
 -- Nothing was appended for a request exactly where it is refused, and else it was sent.
 pub record IsJudged (site : SiteData) (s : State) (desk : ℕ) (checks : Checks) (r : Request) (did : Did) : Type 0 where

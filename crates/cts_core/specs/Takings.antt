@@ -26,16 +26,19 @@ lost site by now history c why = record { by = by; time = now; what = Closed why
 -- a connection is opened: its chain begins anew, and it has passed all that stands, of which nothing is for it
 abbrev pub IsOpened : ℕ → Held → Held → Type 0
 IsOpened by w new =
-    (c : HeldConnection) × IsRenewed true (connection_of w by) c × (c.cursor ≡ record { place = length new.history; refused = 0 }) × (new ≡ changed by w (record { by = by; time = w.time; what = Opened } ∷ []) c)
+    (c : HeldConnection) × IsRenewed true (connection_of w by) c × (c.cursor ≡ record { place = length new.history; refused = 0 })
+    × (new ≡ changed by w (record { by = by; time = w.time; what = Opened } ∷ []) c)
 
 -- a connection is closed, and what its chain holds is lost
 abbrev pub IsClosed : ℕ → Held → Why → Held → Type 0
-IsClosed by w why new = (c : HeldConnection) × IsRenewed false (connection_of w by) c × (new ≡ changed by w (lost w.basis.site by w.time w.history (connection_of w by) why ∷ []) c)
+IsClosed by w why new = (c : HeldConnection) × IsRenewed false (connection_of w by) c
+    × (new ≡ changed by w (lost w.basis.site by w.time w.history (connection_of w by) why ∷ []) c)
 
 -- A piece went through the chain of a connection. These are the entries of its packets, but for a number of the last ones; they are not posted yet.
 abbrev pub Takes : ℕ → Held → List ℕ → List Entry → ℕ → Option Why → Held → Type 0
 Takes by w piece entries unposted why new =
-    (c : HeldConnection) × (c.connected ≡ (connection_of w by).connected) × (c.cursor ≡ (connection_of w by).cursor) × TakesPiece w.basis.site w.history by w.time (connection_of w by).chain piece entries unposted why c.chain × (new ≡ with_connection by w c)
+    (c : HeldConnection) × (c.connected ≡ (connection_of w by).connected) × (c.cursor ≡ (connection_of w by).cursor)
+    × TakesPiece w.basis.site w.history by w.time (connection_of w by).chain piece entries unposted why c.chain × (new ≡ with_connection by w c)
 
 -- these are entries of packets of a line whose connection stands, and why it has to be closed
 pub record CanPost (by : ℕ) (w : Held) (entries : List Entry) (why : Option Why) : Type 0 where
@@ -53,7 +56,8 @@ Settles by w (Some why) new = IsClosed by w why new
 
 -- entries are posted, and the connection is closed whose chain has failed; or nothing is done
 abbrev pub Posts : ℕ → Held → List Entry → Option Why → Result (Unit {0}) WorldFault → Held → Type 0
-Posts by w entries why (Ok done) new = (is_within w.basis w.history (entries_in entries) (bytes_in entries) ≡ true) × Settles by (record w { history = w.history ++ entries }) why new
+Posts by w entries why (Ok done) new = (is_within w.basis w.history (entries_in entries) (bytes_in entries) ≡ true)
+    × Settles by (record w { history = w.history ++ entries }) why new
 Posts by w entries why (Err (Full counted size)) new =
     (is_within w.basis w.history (entries_in entries) (bytes_in entries) ≡ false) × (counted ≡ entries_in w.history) × (size ≡ bytes_in w.history) × (new ≡ w)
 Posts by w entries why (Err Memory) new = (is_within w.basis w.history (entries_in entries) (bytes_in entries) ≡ true) × (new ≡ w)
@@ -74,6 +78,7 @@ told_as (Err Wanting) = Err Memory
 -- a connection is opened, or there is no room for its Opened and nothing is done
 abbrev pub Begins : ℕ → Held → Result (Unit {0}) WorldFault → Held → Type 0
 Begins by w (Ok done) new = (is_within w.basis w.history 1 0 ≡ true) × IsOpened by w new
-Begins by w (Err (Full counted size)) new = (is_within w.basis w.history 1 0 ≡ false) × (counted ≡ entries_in w.history) × (size ≡ bytes_in w.history) × (new ≡ w)
+Begins by w (Err (Full counted size)) new = (is_within w.basis w.history 1 0 ≡ false) × (counted ≡ entries_in w.history) × (size ≡ bytes_in w.history)
+    × (new ≡ w)
 Begins by w (Err Memory) new = (is_within w.basis w.history 1 0 ≡ true) × (new ≡ w)
 Begins by w (Err NotEnabled) new = ⊥

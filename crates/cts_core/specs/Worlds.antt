@@ -57,7 +57,12 @@ pub record IsSoundHeld (w : Held) : Type 0 where
 -- what is held before anything has happened, with these chains
 abbrev pub first_held : SiteData → ℕ → ℕ → List ChainData → Held
 first_held site entries bytes chains =
-    record { basis = record { site = site; entries = entries; bytes = bytes }; time = record { seconds = 0; micros = 0 }; history = []; connections = map shut chains }
+    record {
+      basis = record { site = site; entries = entries; bytes = bytes };
+      time = record { seconds = 0; micros = 0 };
+      history = [];
+      connections = map shut chains;
+    }
 
 -- A connection stands where the history says so. Its chain has the protocols of the interface or of the slot's router, was fed the
 -- pieces that came since the connection was opened, has given all their packets, and has not failed. One that stands has passed what
@@ -120,7 +125,9 @@ pub record WantsMemory (base : Basis) (s : State) (event : Event) : Type 0 where
 -- one as before, where it is not enabled, since nothing is changed. Where the history is full or memory ran out, nothing was
 -- appended and no clock set; what chains hold is given up.
 abbrev pub Steps : Basis → State → Event → Held → Result Effect WorldFault → Held → Type 0
-Steps base s event w (Ok effect) new = (did : Did) × Does (environment_of base) s event did × (effect ≡ did.effect) × RepresentsWithin base new (after s event did)
+Steps base s event w (Ok effect) new = (did : Did) × Does (environment_of base) s event did × (effect ≡ did.effect) × RepresentsWithin base new
+    (after s event did)
 Steps base s event w (Err RefusedEvent) new = Refuses (environment_of base) s event NotEnabled × (new ≡ w) × RepresentsWithin base new s
-Steps base s event w (Err (Full entries bytes)) new = Refuses (environment_of base) s event HistoryFull × (entries ≡ entries_in s.history) × (bytes ≡ bytes_in s.history) × IsUnmoved w new
+Steps base s event w (Err (Full entries bytes)) new = Refuses (environment_of base) s event HistoryFull × (entries ≡ entries_in s.history)
+    × (bytes ≡ bytes_in s.history) × IsUnmoved w new
 Steps base s event w (Err Memory) new = IsUnmoved w new × WantsMemory base s event

@@ -34,7 +34,8 @@ pub(crate) fn drain(
 
 fn logs_of(alloc: Global, hall: &Hall, place: usize, count: u64) -> Result<Effect, Memory>
     requires { count ≤ length (drop place hall.now.entries) }
-    ensures { IfOk result (λ effect. effect ≡ Logged (site_packets_log hall.now.basis.site (take count (drop place hall.now.entries))) (site_commands_log hall.now.basis.site (take count (drop place hall.now.entries)))) }
+    ensures { IfOk result (λ effect. effect ≡ Logged (site_packets_log hall.now.basis.site (take count (drop place hall.now.entries)))
+        (site_commands_log hall.now.basis.site (take count (drop place hall.now.entries)))) }
 {
     let mut batch = Batch::empty(alloc);
     put_logs(alloc, hall, place, count, &mut batch)?;

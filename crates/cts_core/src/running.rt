@@ -35,7 +35,8 @@ impl<C: Framer> Model for Running<C> {
 }
 
 impl<C: Framer> Running<C> {
-    ghost use Rattle.std.specs.Prelude.{◌≡◌, ◌+◌, ◌^◌, ◌&&◌, ◌<◌, ◌≤◌, not, [], length, map, true, false, vec_len, vec_capacity, IfOk, MatchOption, OnErr, OnOk, Option};
+    ghost use Rattle.std.specs.Prelude.{◌≡◌, ◌+◌, ◌^◌, ◌&&◌, ◌<◌, ◌≤◌, not, [], length, map, true, false, vec_len, vec_capacity, IfOk, MatchOption};
+    ghost use Rattle.std.specs.Prelude.{OnErr, OnOk, Option};
     ghost use Rattle.cts_core.specs.States.{State, is_piece, may_close};
     ghost use Rattle.cts_connection.specs.LineChains.{line_chains};
     ghost use Rattle.cts_core.specs.Runs.{drained};
@@ -258,7 +259,8 @@ impl<C: Framer> Running<C> {
 
     // Gives the logs the next `count` entries after those that they have passed.
     fn drain_log(&self, logged: usize, count: u64) -> Result<Effect, WorldFault>
-        ensures step { (base : Basis) (s : State) → s.log_cursor ≡ logged → RepresentsWithin base self.now s → Steps base s (event.DrainLog count) self.now result self.now }
+        ensures step { (base : Basis) (s : State) → s.log_cursor ≡ logged → RepresentsWithin base self.now s
+            → Steps base s (event.DrainLog count) self.now result self.now }
         ensures within { OnOk result (logged + count < 2 ^ 64) }
     {
         drain(self.alloc, &self.hall, logged, count)

@@ -142,7 +142,8 @@ impl<C: Framer> World<C> {
     ///
     /// `NotEnabled`, `Full` with what counts in the history, and `Memory`.
     pub fn step(&mut self, event: &Event) -> Result<Effect, WorldFault>
-        ensures step { (base : Basis) (s : State) → GoesOn self.old → HasPassed self.old s → RepresentsWithin base (held_in self.old) s → Steps base s event.now (held_in self.old) result (held_in self.new) }
+        ensures step { (base : Basis) (s : State) → GoesOn self.old → HasPassed self.old s → RepresentsWithin base (held_in self.old) s
+            → Steps base s event.now (held_in self.old) result (held_in self.new) }
         ensures log { (s : State) → HasPassed self.old s → LogPasses s event.now result self.new }
         ensures lasts { GoesOn self.old → self.new.ended ≡ lasting result }
         ensures ended { (fault : WorldFault) → self.old.ended ≡ Some fault → (result ≡ Err fault) × (self.new ≡ self.old) }

@@ -30,7 +30,8 @@ use Rattle.cts_core_laws.specs.Laws.{AreApart, IsSoundEnvironment, IsAnsweredByD
 use Rattle.cts_outside.specs.Lines.{Connection, fresh}
 use Rattle.cts_trace.specs.Told.{IsStay, Tells}
 use Rattle.cts_trace.specs.Routing.{time_in, said_of, posted_entries, walk, queue, spell}
-use Rattle.cts_trace.specs.Connections.{Says, Shows, is_bad_frame, Blames}
+use Rattle.cts_trace.specs.Connections.{Says, Shows, is_bad_frame, Blames, NoneLate}
+use Rattle.cts_trace.proofs.Lateness.{late_blank, late_more}
 use Rattle.cts_trace.proofs.Connecting.{says_connects}
 use Rattle.cts_trace.proofs.Walks.{enough_of, packets_connect, packets_open, packets_queue, packets_show}
 use Rattle.cts_core.proofs.Keeping.{pieces_turned, cursor_turned, pieces_grow, cursor_grows, pieces_stay, cursor_stays}
@@ -93,7 +94,7 @@ fits_kept env s event did m past (Some c) w n p q =
     let go = w.0 in
     let same = subst (λ (l : List Output). IsPackets (env.routing.chain m) c.pieces go.cuts l) (sym (append-nil go.packets)) go.packets_are in
     let more = going_more env.routing m s.history (s.pieces m) (s.cursor m) past c go did.entries [] c go.cuts (none_connected m did.entries n) (none_opened m did.entries n)
-    (posts_none m (Shows env.routing m) s.history did.entries n) same refl in
+    (posts_none m (Shows env.routing m) s.history did.entries n) same go.late refl in
     let well : GoingWell env.routing m (s.history ++ did.entries) c.pieces (s.cursor m) past c = (more, w.1) in
     let at_pieces = subst (λ (l : List (List ℕ)). GoingWell env.routing m (s.history ++ did.entries) l (s.cursor m) past c) (sym (p ∙ go.pieces_are)) well in
     subst (λ (k : ℕ). GoingWell env.routing m (s.history ++ did.entries) (pieces_after event did.entries s.pieces m) k past c) (sym q) at_pieces
@@ -153,6 +154,7 @@ opens_mine env s did m line sound f d =
       packets = [];
       packets_are = none.1;
       posts = refl;
+      late = late_blank (env.routing.chain m);
       reach = omega arith;
       put = zero_walk;
     } in
@@ -233,10 +235,10 @@ finish_mine env s did m why line sound f d =
 -- a piece comes
 
 -- the connection has its packets
-takes : (env : Environment) (s : State) (did : Did) (m : ℕ) (piece : List ℕ) (past : List Connection) (c : Connection) → IsSoundEnvironment env → (go : Going env.routing m s.history (s.pieces m) (s.cursor m) past c) → Does env s (Piece m piece) did
+takes : (env : Environment) (s : State) (did : Did) (m : ℕ) (piece : List ℕ) (past : List Connection) (c : Connection) → IsSoundEnvironment env → (go : Going env.routing m s.history (s.pieces m) (s.cursor m) past c) → fault_of go.cuts ≡ None → Does env s (Piece m piece) did
     → (r : Receives env s m piece did.entries)
     → (more : Going env.routing m (s.history ++ posted_entries env.routing s.history s.time m r.packets) (heard m (Piece m piece) did c).pieces (s.cursor m) past (heard m (Piece m piece) did c)) × (more.cuts ≡ r.cuts)
-takes env s did m piece past c sound go d r =
+takes env s did m piece past c sound go well d r =
     let own : List (List ℕ) = if m == m then piece ∷ [] else [] in
     let own_is : own ≡ piece ∷ [] = ap (λ (b : Bool). if b then piece ∷ [] else []) (eq-eqb m m refl) in
     let next : Connection = heard m (Piece m piece) did c in
@@ -248,7 +250,8 @@ takes env s did m piece past c sound go d r =
     let shown = subst (λ (l : List Entry). Posts m (Shows env.routing m) l (posted_entries env.routing s.history s.time m r.packets) r.packets) (append-nil s.history) (packets_show env.routing s.history s.time m r.packets [] (λ k. refl)) in
     let put : c.put ++ put_for m did.effect ≡ c.put = ap (λ (l : List ℕ). c.put ++ l) (ap (put_for m) d.effect) ∙ append-nil c.put in (
       going_more env.routing m s.history (s.pieces m) (s.cursor m) past c go (posted_entries env.routing s.history s.time m r.packets) r.packets next r.cuts
-          (packets_connect m env.routing s.history s.time m r.packets) (packets_open m env.routing s.history s.time m r.packets) shown now' put,
+          (packets_connect m env.routing s.history s.time m r.packets) (packets_open m env.routing s.history s.time m r.packets) shown now'
+          (subst (λ (l : List (List ℕ)). NoneLate (env.routing.chain m) (c.pieces ++ l)) (sym own_is) (late_more (env.routing.chain m) c.pieces piece go.cuts go.packets (sound.chains m) go.packets_are well)) put,
       refl,
     )
 
@@ -264,7 +267,7 @@ piece_goes env s did m piece past (Some c) sound w d r e a =
     let go = w.0 in
     let next = heard m (Piece m piece) did c in
     let none : latest (connects_maker m) did.entries ≡ None = ap (latest (connects_maker m)) a ∙ packets_connect m env.routing s.history s.time m r.packets in
-    let t = takes env s did m piece past c sound go d r in
+    let t = takes env s did m piece past c sound go w.1 d r in
     let well : GoingWell env.routing m (s.history ++ posted_entries env.routing s.history s.time m r.packets) next.pieces (s.cursor m) past next = (t.0, ap fault_of t.1 ∙ e) in
     let at_history = subst (λ (l : List Entry). GoingWell env.routing m (s.history ++ l) next.pieces (s.cursor m) past next) (sym a) well in
     let at_pieces = subst (λ (l : List (List ℕ)). GoingWell env.routing m (s.history ++ did.entries) l (s.cursor m) past next) (kept_pieces env s did m piece c none go.pieces_are) at_history in
@@ -279,7 +282,7 @@ piece_ends env s did m piece past (Some c) sound w d r why b a =
     let packets = posted_entries env.routing s.history s.time m r.packets in
     let next = heard m (Piece m piece) did c in
     let e = closed_entry s.time m why (unsent env s m) r.cuts in
-    let t = takes env s did m piece past c sound go d r in
+    let t = takes env s did m piece past c sound go w.1 d r in
     let reach = subst (λ (l : List Entry). s.cursor m ≤ length (walk env.routing m l)) (sym (going_since env.routing m s.history (s.pieces m) (s.cursor m) past c go)) go.reach in
     let unsent_is : unsent env s m ≡ unsent_at env.routing m (s.history ++ packets) (s.cursor m) =
     sym (unsent_kept env.routing m s.history packets (s.cursor m) (since-append m s.history packets (packets_open m env.routing s.history s.time m r.packets)) reach (packets_queue env.routing s.history s.time m r.packets)) in

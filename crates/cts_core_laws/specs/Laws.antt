@@ -25,7 +25,8 @@ use Rattle.cts_core_laws.specs.Told.{Told, told, history_of}
 pub record IsSoundEnvironment (env : Environment) : Type 0 where
   pub chains : (by : ℕ) → AllSound (env.routing.chain by)
   pub some_answer : (history : List Entry) (desk : ℕ) (time : Time) (body : List ℕ) → (a : Answer) × env.answers history desk time body a
-  pub one_answer : (history : List Entry) (desk : ℕ) (time : Time) (body : List ℕ) (a b : Answer) → env.answers history desk time body a → env.answers history desk time body b → a ≡ b
+  pub one_answer : (history : List Entry) (desk : ℕ) (time : Time) (body : List ℕ) (a b : Answer) → env.answers history desk time body a
+      → env.answers history desk time body b → a ≡ b
 
 -- each list of events has a run
 abbrev pub HasRun : Environment → Type 0
@@ -43,7 +44,8 @@ pub record AreApart (env : Environment) : Type 0 where
 
 -- what a desk replies is appended in its own name
 abbrev pub IsAnsweredByDesks : Environment → Type 0
-IsAnsweredByDesks env = (history : List Entry) (desk : ℕ) (time : Time) (body : List ℕ) (a : Answer) → env.answers history desk time body a → All (λ (e : Entry). e.by ≡ first_desk + desk) a.entries
+IsAnsweredByDesks env = (history : List Entry) (desk : ℕ) (time : Time) (body : List ℕ) (a : Answer) → env.answers history desk time body a
+    → All (λ (e : Entry). e.by ≡ first_desk + desk) a.entries
 
 -- What the history of a run says of each interface and slot is what the events told of it.
 abbrev pub CoreIsTold : Environment → Type 0
@@ -58,13 +60,16 @@ CoreIsLogged env = (events : List Event) (dids : List Did) (ending : Ending) →
 
 -- What a desk replies after a legal history in which nobody has ended leaves it legal, its limits too, and nobody ends by it.
 pub record IsAnsweredLegally (base : Basis) : Type 0 where
-  pub legal : (history : List Entry) (desk : ℕ) (time : Time) (body : List ℕ) (a : Answer) → (environment_of base).is_desk desk ≡ true → list_any (λ (e : Entry). is_ended e.what) history ≡ false
+  pub legal : (history : List Entry) (desk : ℕ) (time : Time) (body : List ℕ) (a : Answer) → (environment_of base).is_desk desk ≡ true
+      → list_any (λ (e : Entry). is_ended e.what) history ≡ false
       → (environment_of base).answers history desk time body a → IsLegal (rules_of base) history → IsLegal (rules_of base) (history ++ a.entries)
-  pub none_ended : (history : List Entry) (desk : ℕ) (time : Time) (body : List ℕ) (a : Answer) → (environment_of base).answers history desk time body a → list_any (λ (e : Entry). is_ended e.what) a.entries ≡ false
+  pub none_ended : (history : List Entry) (desk : ℕ) (time : Time) (body : List ℕ) (a : Answer)
+      → (environment_of base).answers history desk time body a → list_any (λ (e : Entry). is_ended e.what) a.entries ≡ false
 
 -- The history of a run is legal.
 abbrev pub CoreIsLegal : Basis → Type 0
-CoreIsLegal base = (events : List Event) (dids : List Did) (ending : Ending) → Runs (environment_of base) opening events dids ending → IsLegal (rules_of base) (history_of dids)
+CoreIsLegal base = (events : List Event) (dids : List Did) (ending : Ending) → Runs (environment_of base) opening events dids ending
+    → IsLegal (rules_of base) (history_of dids)
 
 -- A maker's cursor may be kept as one place of the history, and a count of what was refused before it: what is ahead, and what
 -- a Closed says is unsent, follow from these two.
@@ -83,4 +88,5 @@ SitesAreApart = (base : Basis) → IsSoundSite base.site → AreApart (environme
 -- In every run a command is refused exactly where its text asks for none, a check fails, its target has no interface, that interface
 -- is not connected, or the history is full.
 abbrev pub CommandsAreJudged : Type 0
-CommandsAreJudged = (site : SiteData) (s : State) (events : List Event) (dids : List Did) (ending : Ending) → Runs (site_environment site) s events dids ending → AreJudged site s events dids
+CommandsAreJudged = (site : SiteData) (s : State) (events : List Event) (dids : List Did) (ending : Ending)
+    → Runs (site_environment site) s events dids ending → AreJudged site s events dids

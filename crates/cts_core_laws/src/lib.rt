@@ -5,9 +5,11 @@
 #![tactic(auto)]
 
 ghost use Rattle.cts_table.specs.declared.basis.Basis.{Basis};
-ghost use Rattle.cts_core_laws.specs.Laws.{CommandsAreJudged, HasRun, HasOneRun, IsAnsweredByDesks, IsAnsweredLegally, IsSoundEnvironment, CoreIsTold, CoreIsLogged, CoreIsLegal, CursorIsPlace, OfSites, SitesAreApart};
+ghost use Rattle.cts_core_laws.specs.Laws.{CommandsAreJudged, HasRun, HasOneRun, IsAnsweredByDesks, IsAnsweredLegally, IsSoundEnvironment};
+ghost use Rattle.cts_core_laws.specs.Laws.{CoreIsTold, CoreIsLogged, CoreIsLegal, CursorIsPlace, OfSites, SitesAreApart};
 
-/// In the environment of each site, whatever the limits of its history, each list of events, from any state of the core, does exactly one thing: its chains are sound, and
+/// In the environment of each site, whatever the limits of its history, each list of events, from any state of the core, does exactly one
+/// thing: its chains are sound, and
 /// each body has exactly one reply of a desk.
 pub fn runs()
     ensures some { OfSites HasRun }

@@ -1,5 +1,6 @@
 -- Interfaces, routers and sites: what contracts see of them, and the rules that they keep.
-use Rattle.std.specs.Prelude.{◌≡◌, ℕ, zero, suc, pos, ◌≤◌, Bool, true, false, not, ◌&&◌, ◌||◌, ◌==◌, int_le, nat_le, nat_lt, nat_eq, List, [], ◌∷◌, map, length, Option, None, Some, IsTrue, if◌then◌else◌}
+use Rattle.std.specs.Prelude.{◌≡◌, ℕ, zero, suc, pos, ◌≤◌, Bool, true, false, not, ◌&&◌, ◌||◌, ◌==◌, int_le, nat_le, nat_lt, nat_eq, List, [], ◌∷◌}
+use Rattle.std.specs.Prelude.{map, length, Option, None, Some, IsTrue, if◌then◌else◌}
 use Rattle.std.specs.List.{list_any, list_all, IsDistinct, AllByRecursion, flat_map}
 use Rattle.cts_base.specs.declared.decimal.Decimal.{Decimal}
 use Rattle.cts_def.specs.Items.{is_same}

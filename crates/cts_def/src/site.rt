@@ -28,7 +28,23 @@ impl Model for Site {
 
     ghost Value = { SiteData };
 
-    ghost view = { λ s. record { definitions = s.definitions; interfaces = s.interfaces; routers = s.routers; api_port = s.api_port; desks = s.desks; log_layout = s.log_layout; log_cycle = s.log_cycle } };
+    ghost view = { λ s. record {
+      definitions = s.definitions;
+      interfaces = s.interfaces;
+      routers = s.routers;
+      api_port = s.api_port;
+      desks = s.desks;
+      log_layout = s.log_layout;
+      log_cycle = s.log_cycle;
+    } };
 
-    ghost invariant = { λ s. IsSoundSite (record { definitions = s.definitions; interfaces = s.interfaces; routers = s.routers; api_port = s.api_port; desks = s.desks; log_layout = s.log_layout; log_cycle = s.log_cycle }) };
+    ghost invariant = { λ s. IsSoundSite (record {
+      definitions = s.definitions;
+      interfaces = s.interfaces;
+      routers = s.routers;
+      api_port = s.api_port;
+      desks = s.desks;
+      log_layout = s.log_layout;
+      log_cycle = s.log_cycle;
+    }) };
 }

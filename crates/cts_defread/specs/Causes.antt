@@ -1,5 +1,6 @@
 -- Each cause that lies in what stands: judged by the definitions and limits sets before a statement, and by its line.
-use Rattle.std.specs.Prelude.{ℕ, ℤ, pos, ◌+◌, Bool, true, false, not, ◌||◌, ◌&&◌, nat_le, int_lt, int_le, unsigned_abs, List, [], ◌∷◌, length, codes, Option, Some, None, is_some, is_none, unwrap_or}
+use Rattle.std.specs.Prelude.{ℕ, ℤ, pos, ◌+◌, Bool, true, false, not, ◌||◌, ◌&&◌, nat_le, int_lt, int_le, unsigned_abs, List, [], ◌∷◌, length, codes}
+use Rattle.std.specs.Prelude.{Option, Some, None, is_some, is_none, unwrap_or}
 use Rattle.std.specs.Int.{is_negative}
 use Rattle.std.specs.Ordering.{int_eq}
 use Rattle.std.specs.List.{find, list_any}
@@ -22,7 +23,8 @@ use Rattle.cts_def.specs.Most.{most_items, most_items_in_all, most_packets, most
 use Rattle.cts_def.specs.Packets.{received_count, unknown}
 use Rattle.cts_def.specs.Spans.{is_number, is_little, is_spelled, is_too_far, is_refused_number, is_bad_from_end, is_split_text, is_text_past_end, ends_too_far}
 use Rattle.cts_defstatement.specs.declared.cause.DefCause.{DefCause}
-use Rattle.cts_defstatement.specs.declared.cause.DefCause.TheVariants.{WrongKind, IdNotWhole, DoubleName, AppendLittleBits, BadPlace, IdOutOfRange, DefaultOutOfRange, ConversionTooLarge, LimitsOrder, BadFormat, TooMany}
+use Rattle.cts_defstatement.specs.declared.cause.DefCause.TheVariants.{WrongKind, IdNotWhole, DoubleName, AppendLittleBits, BadPlace, IdOutOfRange}
+use Rattle.cts_defstatement.specs.declared.cause.DefCause.TheVariants.{DefaultOutOfRange, ConversionTooLarge, LimitsOrder, BadFormat, TooMany}
 use Rattle.cts_defstatement.specs.declared.details.Detail.TheVariants as detail
 use Rattle.cts_defstatement.specs.declared.line.Line.{Line}
 use Rattle.cts_defstatement.specs.declared.line.Line.TheVariants as line

@@ -13,7 +13,8 @@ use Rattle.cts_defstatement.specs.declared.open.PacketKind.{PacketKind}
 use Rattle.cts_defstatement.specs.declared.open.PacketKind.TheVariants.{Telemetry, Command}
 use Rattle.cts_defread.specs.Definitions.{definitions_of, lines_of}
 use Rattle.cts_defread.specs.Laws.{end_after}
-use Rattle.cts_defread.specs.Standing.{are_same_kind, conversion_of, firsts, format_in, is_hazardous, is_required, item_in, limits_from, limits_in, offset_or, overflow_in, packet_in, preset_or, set_in, state_in, units_in}
+use Rattle.cts_defread.specs.Standing.{are_same_kind, conversion_of, firsts, format_in, is_hazardous, is_required, item_in, limits_from, limits_in}
+use Rattle.cts_defread.specs.Standing.{offset_or, overflow_in, packet_in, preset_or, set_in, state_in, units_in}
 use Rattle.cts_words.specs.Blocks.{HasNoHead, last_of}
 use Rattle.cts_words.specs.declared.statement.Statement.{Statement}
 

@@ -11,7 +11,8 @@ use Rattle.cts_defstatement.specs.declared.open.PacketKind.{PacketKind}
 use Rattle.cts_defstatement.specs.declared.open.PacketKind.TheVariants.{Telemetry, Command}
 use Rattle.cts_defstatement.specs.Rules.{IsSoundLine}
 use Rattle.cts_defread.specs.declared.drafted.Drafted.{Drafted}
-use Rattle.cts_defread.specs.Causes.{has_state, has_set, has_bound, has_all_states, has_all_segments, is_wrong_kind, is_too_large_in, is_bad_order, is_bad_format}
+use Rattle.cts_defread.specs.Causes.{has_state, has_set, has_bound, has_all_states, has_all_segments, is_wrong_kind, is_too_large_in, is_bad_order}
+use Rattle.cts_defread.specs.Causes.{is_bad_format}
 use Rattle.cts_defread.specs.Standing.{packets_of}
 
 -- what a packet or a command keeps, with limits in the sets

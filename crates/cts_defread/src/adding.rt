@@ -38,7 +38,8 @@ fn know_packet(
 
 // Knows the name of a state that an item takes.
 fn know_state(states: &mut BTreeSet<Bytes>, taken: bool, name: &Bytes) -> Result<(), Memory>
-    ensures { OnOk result ((names : Items (Items ℕ)) → Knows (slice_cmp nat_cmp) states.old names → Knows (slice_cmp nat_cmp) states.new (names ++ taken_name taken (Some name.now))) }
+    ensures { OnOk result ((names : Items (Items ℕ)) → Knows (slice_cmp nat_cmp) states.old names → Knows (slice_cmp nat_cmp) states.new
+        (names ++ taken_name taken (Some name.now))) }
 {
     if taken {
         states.insert(name.clone()?)?;
@@ -67,7 +68,8 @@ fn know_names(
     detail: &Detail,
 ) -> Result<(), Memory>
     requires { Knows (slice_cmp nat_cmp) sets.old set_names.old.items }
-    ensures states { OnOk result ((names : Items (Items ℕ)) → Knows (slice_cmp nat_cmp) states.old names → Knows (slice_cmp nat_cmp) states.new (names ++ taken_name taken (state_name detail.now))) }
+    ensures states { OnOk result ((names : Items (Items ℕ)) → Knows (slice_cmp nat_cmp) states.old names → Knows (slice_cmp nat_cmp) states.new
+        (names ++ taken_name taken (state_name detail.now))) }
     ensures sets { OnOk result (Knows (slice_cmp nat_cmp) sets.new set_names.new.items) }
     ensures set_names { OnOk result (set_names.new.items ≡ place_set (line_.Detail detail.now) set_names.old.items) }
 {

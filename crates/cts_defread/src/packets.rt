@@ -47,7 +47,11 @@ fn push_item(mut packet: Packet, item: Item) -> Result<Packet, Memory>
     requires few { nat_le most_items (length packet.items) ≡ false }
     requires other { is_same item.name received_count ≡ false }
     requires single { has_item packet.items item.name ≡ false }
-    ensures { IfOk result (λ p. p ≡ record packet { items = packet.items ++ item ∷ []; length = max packet.length (bytes_needed (span_of item)); variable = packet.variable || is_variable (span_of item) }) }
+    ensures { IfOk result (λ p. p ≡ record packet {
+      items = packet.items ++ item ∷ [];
+      length = max packet.length (bytes_needed (span_of item));
+      variable = packet.variable || is_variable (span_of item);
+    }) }
 {
     let span = item.span();
     packet.length = packet.length.max(span.bytes_needed());
@@ -62,7 +66,8 @@ pub(crate) fn with_item(drafted: Drafted, item: Item) -> Result<Drafted, Memory>
     requires few { nat_le most_items (length drafted.packet.items) ≡ false }
     requires other { is_same item.name received_count ≡ false }
     requires single { has_item drafted.packet.items item.name ≡ false }
-    ensures { IfOk result (λ d. d ≡ with_items drafted (drafted.packet.items ++ item ∷ []) (max drafted.packet.length (bytes_needed (span_of item))) (drafted.packet.variable || is_variable (span_of item))) }
+    ensures { IfOk result (λ d. d ≡ with_items drafted (drafted.packet.items ++ item ∷ []) (max drafted.packet.length (bytes_needed (span_of item)))
+        (drafted.packet.variable || is_variable (span_of item))) }
 {
     Ok(Drafted {
         kind: drafted.kind,

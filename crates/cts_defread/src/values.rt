@@ -3,7 +3,8 @@ ghost use Rattle.std.specs.Prelude.{◌≡◌, ◌≤◌, ◌&&◌, ◌||◌, no
 ghost use Rattle.std.specs.Option.{option_copied};
 ghost use Rattle.cts_def.specs.Items.{has_room, is_same};
 ghost use Rattle.cts_defstatement.specs.Numbers.{is_size};
-ghost use Rattle.cts_defread.specs.Causes.{passes, fits, is_unfit_id, is_bad_id, is_unfit_preset, is_bad_preset, is_large, is_large_conversion, is_too_large_in, has_no_limits, is_bad_order, is_bad_format};
+ghost use Rattle.cts_defread.specs.Causes.{passes, fits, is_unfit_id, is_bad_id, is_unfit_preset, is_bad_preset, is_large, is_large_conversion};
+ghost use Rattle.cts_defread.specs.Causes.{is_too_large_in, has_no_limits, is_bad_order, is_bad_format};
 
 use cts_base::{Decimal, Name};
 use cts_def::{Item, ItemKind, Preset, is_format, is_too_large};

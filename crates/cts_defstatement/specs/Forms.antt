@@ -4,7 +4,8 @@ use Rattle.cts_base.specs.Names.{spells}
 use Rattle.cts_def.specs.Items.{is_same}
 use Rattle.cts_reader.specs.Words.{word_at, keyword_in}
 use Rattle.cts_defstatement.specs.declared.keyword.Keyword.{Keyword}
-use Rattle.cts_defstatement.specs.declared.keyword.Keyword.TheVariants.{Command, Telemetry, Item, Parameter, State, Limits, Poly, Segment, Units, Format, Overflow, Required, Hazardous, Meta, AllowShort}
+use Rattle.cts_defstatement.specs.declared.keyword.Keyword.TheVariants.{Command, Telemetry, Item, Parameter, State, Limits, Poly, Segment, Units}
+use Rattle.cts_defstatement.specs.declared.keyword.Keyword.TheVariants.{Format, Overflow, Required, Hazardous, Meta, AllowShort}
 use Rattle.cts_defstatement.specs.declared.keyword.Field.{Field}
 use Rattle.cts_defstatement.specs.declared.keyword.Field.TheVariants as field
 use Rattle.cts_defstatement.specs.declared.open.PacketKind.{PacketKind}

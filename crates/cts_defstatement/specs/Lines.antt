@@ -1,6 +1,7 @@
 -- What a statement says, read from its words. Of words that are not what their fields ask for the reading says nothing
 -- that is used.
-use Rattle.std.specs.Prelude.{ℕ, ℤ, pos, ◌+◌, Bool, true, false, List, [], ◌∷◌, map, drop, length, codes, Option, Some, None, option_map, unwrap_or, nat_le, IsTrue, if◌then◌else◌}
+use Rattle.std.specs.Prelude.{ℕ, ℤ, pos, ◌+◌, Bool, true, false, List, [], ◌∷◌, map, drop, length, codes, Option, Some, None, option_map, unwrap_or}
+use Rattle.std.specs.Prelude.{nat_le, IsTrue, if◌then◌else◌}
 use Rattle.std.specs.List.{slice_get}
 use Rattle.cts_base.specs.Names.{in_upper_case, is_name}
 use Rattle.cts_base.specs.declared.decimal.Decimal.{Decimal}

@@ -1,6 +1,7 @@
 -- The numbers that words spell, where a definition asks for one. A word that spells none reads as 0 or as the
 -- first choice, and nothing uses that: its statement is refused.
-use Rattle.std.specs.Prelude.{ℕ, ℤ, pos, neg_ℤ, ◌-◌, ◌^◌, Bool, ◌&&◌, ◌||◌, int_le, unsigned_abs, List, [], ◌∷◌, codes, Option, Some, None, option_map, is_some, unwrap_or, find, Result, Ok, Err, if◌then◌else◌}
+use Rattle.std.specs.Prelude.{ℕ, ℤ, pos, neg_ℤ, ◌-◌, ◌^◌, Bool, ◌&&◌, ◌||◌, int_le, unsigned_abs, List, [], ◌∷◌, codes, Option, Some, None}
+use Rattle.std.specs.Prelude.{option_map, is_some, unwrap_or, find, Result, Ok, Err, if◌then◌else◌}
 use Rattle.cts_base.specs.Wholes.{whole_of}
 use Rattle.cts_base.specs.Decimals.{decimal_of}
 use Rattle.cts_base.specs.declared.decimal.Decimal.{Decimal}

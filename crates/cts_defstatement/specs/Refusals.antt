@@ -1,7 +1,8 @@
 -- Why the words of a statement are refused, by what is open before it and the words alone.
 use Rattle.std.specs.Prelude.{ℕ, Bool, true, false, not, ◌||◌, List, [], ◌∷◌, ◌++◌, codes, Option, Some, None, is_none, find, if◌then◌else◌}
 use Rattle.cts_defstatement.specs.declared.cause.DefCause.{DefCause}
-use Rattle.cts_defstatement.specs.declared.cause.DefCause.TheVariants.{UnknownKeyword, OutsidePacket, WrongCount, BadName, FloatItem, DerivedItem, ArrayItem, NotNumber}
+use Rattle.cts_defstatement.specs.declared.cause.DefCause.TheVariants.{UnknownKeyword, OutsidePacket, WrongCount, BadName, FloatItem, DerivedItem}
+use Rattle.cts_defstatement.specs.declared.cause.DefCause.TheVariants.{ArrayItem, NotNumber}
 use Rattle.cts_defstatement.specs.declared.keyword.Keyword.{Keyword}
 use Rattle.cts_defstatement.specs.declared.keyword.Keyword.TheVariants.{Command, Telemetry, Item, Parameter, Hazardous, Meta, AllowShort}
 use Rattle.cts_defstatement.specs.declared.keyword.Field.{Field}

@@ -47,14 +47,16 @@ range_said size kind least greatest = Some (bound_said size kind least, bound_sa
 -- the statements of items and parameters, each with the words in their order; after them stand a description and the order
 pub record ItemsAreOfTheirWords : Type 0 where
   pub item : (word name offset size kind : List ℕ) (more : List (List ℕ)) → keyword_of word ≡ Some (keyword.Item false false)
-      → line_in (word ∷ name ∷ offset ∷ size ∷ kind ∷ more) ≡ item_said name (Some offset) size kind (slice_get more 1) None None (Some (no_value (kind_said kind)))
+      → line_in (word ∷ name ∷ offset ∷ size ∷ kind ∷ more) ≡ item_said name (Some offset) size kind
+      (slice_get more 1) None None (Some (no_value (kind_said kind)))
   pub appended_item : (word name size kind : List ℕ) (more : List (List ℕ)) → keyword_of word ≡ Some (keyword.Item true false)
       → line_in (word ∷ name ∷ size ∷ kind ∷ more) ≡ item_said name None size kind (slice_get more 1) None None (Some (no_value (kind_said kind)))
   pub id_item : (word name offset size kind id : List ℕ) (more : List (List ℕ)) → keyword_of word ≡ Some (keyword.Item false true)
       → line_in (word ∷ name ∷ offset ∷ size ∷ kind ∷ id ∷ more)
       ≡ item_said name (Some offset) size kind (slice_get more 1) (Some (bound_said size kind id)) None (Some (no_value (kind_said kind)))
   pub appended_id_item : (word name size kind id : List ℕ) (more : List (List ℕ)) → keyword_of word ≡ Some (keyword.Item true true)
-      → line_in (word ∷ name ∷ size ∷ kind ∷ id ∷ more) ≡ item_said name None size kind (slice_get more 1) (Some (bound_said size kind id)) None (Some (no_value (kind_said kind)))
+      → line_in (word ∷ name ∷ size ∷ kind ∷ id ∷ more) ≡ item_said name None size kind (slice_get more 1)
+      (Some (bound_said size kind id)) None (Some (no_value (kind_said kind)))
   pub parameter : (word name offset size kind least greatest default : List ℕ) (more : List (List ℕ)) → keyword_of word ≡ Some (keyword.Parameter false false)
       → is_number (kind_said kind) ≡ true
       → line_in (word ∷ name ∷ offset ∷ size ∷ kind ∷ least ∷ greatest ∷ default ∷ more)
@@ -69,13 +71,16 @@ pub record ItemsAreOfTheirWords : Type 0 where
       ≡ item_said name (Some offset) size kind (slice_get more 1) None None (option_map Raw (text_bytes (kind_said kind) default))
   pub appended_text_parameter : (word name size kind default : List ℕ) (more : List (List ℕ)) → keyword_of word ≡ Some (keyword.Parameter true false)
       → is_number (kind_said kind) ≡ false
-      → line_in (word ∷ name ∷ size ∷ kind ∷ default ∷ more) ≡ item_said name None size kind (slice_get more 1) None None (option_map Raw (text_bytes (kind_said kind) default))
+      → line_in (word ∷ name ∷ size ∷ kind ∷ default ∷ more) ≡ item_said name None size kind
+      (slice_get more 1) None None (option_map Raw (text_bytes (kind_said kind) default))
   pub id_parameter : (word name offset size kind least greatest id : List ℕ) (more : List (List ℕ)) → keyword_of word ≡ Some (keyword.Parameter false true)
       → line_in (word ∷ name ∷ offset ∷ size ∷ kind ∷ least ∷ greatest ∷ id ∷ more)
-      ≡ item_said name (Some offset) size kind (slice_get more 1) (Some (bound_said size kind id)) (range_said size kind least greatest) (Some (Whole (bound_said size kind id)))
+      ≡ item_said name (Some offset) size kind (slice_get more 1) (Some (bound_said size kind id)) (range_said size kind least greatest)
+      (Some (Whole (bound_said size kind id)))
   pub appended_id_parameter : (word name size kind least greatest id : List ℕ) (more : List (List ℕ)) → keyword_of word ≡ Some (keyword.Parameter true true)
       → line_in (word ∷ name ∷ size ∷ kind ∷ least ∷ greatest ∷ id ∷ more)
-      ≡ item_said name None size kind (slice_get more 1) (Some (bound_said size kind id)) (range_said size kind least greatest) (Some (Whole (bound_said size kind id)))
+      ≡ item_said name None size kind (slice_get more 1) (Some (bound_said size kind id)) (range_said size kind least greatest)
+      (Some (Whole (bound_said size kind id)))
 
 -- ---- details
 
@@ -98,9 +103,15 @@ limits_said set samples enabled red_low yellow_low yellow_high red_high green = 
 pub record DetailsAreOfTheirWords : Type 0 where
   pub state : (word name value : List ℕ) (more : List (List ℕ)) → keyword_of word ≡ Some keyword.State
       → line_in (word ∷ name ∷ value ∷ more)
-      ≡ Some (line.Detail (detail.State (record { name = in_upper_case name; value = whole value; color = color_of (word_at more 0); hazardous = is_same (word_at more 0) (codes "HAZARDOUS") })))
+      ≡ Some (line.Detail (detail.State (record {
+        name = in_upper_case name;
+        value = whole value;
+        color = color_of (word_at more 0);
+        hazardous = is_same (word_at more 0) (codes "HAZARDOUS");
+      })))
   pub limits : (word set samples enabled red_low yellow_low yellow_high red_high : List ℕ) → keyword_of word ≡ Some keyword.Limits
-      → line_in (word ∷ set ∷ samples ∷ enabled ∷ red_low ∷ yellow_low ∷ yellow_high ∷ red_high ∷ []) ≡ limits_said set samples enabled red_low yellow_low yellow_high red_high None
+      → line_in (word ∷ set ∷ samples ∷ enabled ∷ red_low ∷ yellow_low ∷ yellow_high ∷ red_high ∷ [])
+      ≡ limits_said set samples enabled red_low yellow_low yellow_high red_high None
   pub green_limits : (word set samples enabled red_low yellow_low yellow_high red_high green_low green_high : List ℕ) → keyword_of word ≡ Some keyword.Limits
       → line_in (word ∷ set ∷ samples ∷ enabled ∷ red_low ∷ yellow_low ∷ yellow_high ∷ red_high ∷ green_low ∷ green_high ∷ [])
       ≡ limits_said set samples enabled red_low yellow_low yellow_high red_high (Some (decimal green_low, decimal green_high))
@@ -108,6 +119,8 @@ pub record DetailsAreOfTheirWords : Type 0 where
       → line_in (word ∷ coefficients) ≡ Some (line.Detail (detail.Poly (map decimal coefficients)))
   pub segment : (word bound : List ℕ) (coefficients : List (List ℕ)) → keyword_of word ≡ Some keyword.Segment
       → line_in (word ∷ bound ∷ coefficients) ≡ Some (line.Detail (detail.Segment (record { bound = decimal bound; coefficients = map decimal coefficients })))
-  pub units : (word full short : List ℕ) → keyword_of word ≡ Some keyword.Units → line_in (word ∷ full ∷ short ∷ []) ≡ Some (line.Detail (detail.Units full short))
+  pub units : (word full short : List ℕ) → keyword_of word ≡ Some keyword.Units → line_in (word ∷ full ∷ short ∷ [])
+      ≡ Some (line.Detail (detail.Units full short))
   pub format : (word text : List ℕ) → keyword_of word ≡ Some keyword.Format → line_in (word ∷ text ∷ []) ≡ Some (line.Detail (detail.Format text))
-  pub overflow : (word choice : List ℕ) → keyword_of word ≡ Some keyword.Overflow → line_in (word ∷ choice ∷ []) ≡ Some (line.Detail (detail.Overflow (overflow_of choice)))
+  pub overflow : (word choice : List ℕ) → keyword_of word ≡ Some keyword.Overflow → line_in (word ∷ choice ∷ [])
+      ≡ Some (line.Detail (detail.Overflow (overflow_of choice)))

@@ -1,7 +1,8 @@
 // The words that follow each keyword.
 ghost use Rattle.std.specs.Prelude.{◌≡◌, ◌+◌, ◌≤◌, ◌++◌, Bool, false, length, true};
 ghost use Rattle.cts_defstatement.specs.Fields.{fails};
-ghost use Rattle.cts_defstatement.specs.Forms.{size_at, is_text_type, has_text_type, item_fields, number_fields, text_fields, parameter_fields, last_fields, state_wanted, state_fields, wanted, more, fits_in};
+ghost use Rattle.cts_defstatement.specs.Forms.{size_at, is_text_type, has_text_type, item_fields, number_fields, text_fields, parameter_fields};
+ghost use Rattle.cts_defstatement.specs.Forms.{last_fields, state_wanted, state_fields, wanted, more, fits_in};
 ghost use Rattle.cts_reader.specs.Words.{any_word};
 
 use crate::field::Check;

@@ -2,7 +2,8 @@
 ghost use Rattle.std.specs.Prelude.{◌≡◌, ◌+◌, ◌≤◌, IfOk, IsTrue};
 ghost use Rattle.cts_base.specs.Names.{is_name};
 ghost use Rattle.cts_reader.specs.Words.{word_at};
-ghost use Rattle.cts_defstatement.specs.Lines.{size_in, kind_in, offset_in, or_big, order_at, no_value, bound_in, telemetry_item, number_parameter, text_parameter, parameter};
+ghost use Rattle.cts_defstatement.specs.Lines.{size_in, kind_in, offset_in, or_big, order_at, no_value, bound_in, telemetry_item, number_parameter};
+ghost use Rattle.cts_defstatement.specs.Lines.{text_parameter, parameter};
 
 use crate::ItemLine;
 use crate::fixed::{kind_of, order_of};

@@ -2,7 +2,8 @@
 ghost use Rattle.std.specs.Prelude.{◌≡◌, find, is_ok, option_map, not};
 ghost use Rattle.cts_base.specs.Decimals.{decimal_of};
 ghost use Rattle.cts_def.specs.Items.{is_same};
-ghost use Rattle.cts_defstatement.specs.Numbers.{whole, decimal, named_bound, is_size, least_number, greatest_number, is_bound, is_bound_of_types, bound, is_count, count_in, persistence_of, persistence};
+ghost use Rattle.cts_defstatement.specs.Numbers.{whole, decimal, named_bound, is_size, least_number, greatest_number, is_bound, is_bound_of_types};
+ghost use Rattle.cts_defstatement.specs.Numbers.{bound, is_count, count_in, persistence_of, persistence};
 
 use crate::words::is_same;
 use cts_base::{Decimal, read_decimal, read_whole};

@@ -62,6 +62,11 @@ settled_at stop now was xs None e s = tt
 settled_at true now was xs (Some line) e s = subst (λ b. Settled b was xs (Some line)) (sym (e refl)) s
 settled_at false now was xs (Some line) e s = (s.0, s.1, s.2, serves_any now [] s.1 xs s.3)
 
+-- a line that was hung up has no connection
+pub idle_hung : (told : Option Line) → IsIdle (told_after hung_up told)
+idle_hung None = tt
+idle_hung (Some line) = refl
+
 -- at first nothing was served
 pub settled_first : (told : Option Line) → IsIdle told → Settled false (past_of told) [] told
 settled_first None i = tt

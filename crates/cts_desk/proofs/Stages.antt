@@ -10,7 +10,7 @@ use Rattle.cts_http.specs.Readings.{Reading, Stands, Steps, stands_by, steps_by}
 use Rattle.cts_http.specs.Requests.{Takes, Requests, Refused as RefusedWith}
 use Rattle.cts_http.specs.declared.step.HttpStep.TheVariants.{Request, Refuse}
 use Rattle.cts_desk.specs.Exchanges.{Exchange, bodies_of, fronts_of}
-use Rattle.cts_desk.specs.Streams.{PeerEnded, ReadFault, WriteFault, LastAsked, Refused, NoMemory, IsPut, last_put, responses, response_to, last_front}
+use Rattle.cts_desk.specs.Streams.{PeerEnded, ReadFault, WriteFault, LastAsked, Refused, NoMemory, IsPut, IsTaking, last_put, responses, response_to, last_front}
 use Rattle.cts_desk.specs.Serving.{Reads, Waits, Asks, Over, Halted, StageSo, TalkingBy, TalksBy, IsAnswering}
 use Rattle.cts_http.specs.Texts.{refusal_text}
 use Rattle.cts_desk.proofs.Putting.{take_after}
@@ -60,6 +60,10 @@ responses_snoc xs x = flat_map-append response_to xs (x ∷ []) ∙ ap (λ l. re
 put_whole : (failed : Bool) (put before bytes : List ℕ) → failed ≡ false → put ≡ before → IsPut failed (put ++ bytes) (before ++ bytes)
 put_whole failed put before bytes none is = subst (λ b. IsPut b (put ++ bytes) (before ++ bytes)) (sym none) (ap (λ l. l ++ bytes) is)
 
+-- a put has not failed that did not fail
+never : (b : Bool) {A : Type 0} → b ≡ true → b ≡ false → A
+never b on off = absurd (let f : true ≡ false = sym on ∙ off in cc)
+
 put_part : (put before bytes : List ℕ) (n : ℕ) → put ≡ before → n ≤ length bytes → IsPut true (put ++ take n bytes) (before ++ bytes)
 put_part put before bytes n is le = (
   length before + n,
@@ -87,6 +91,7 @@ pub answered_whole : (r : Reading) (earlier mine : List Exchange) (x : Exchange)
 answered_whole r earlier mine x c so = (
   subst (Stands r (concat c.pieces)) (sym (bodies_snoc mine x)) so.0,
   (ap (λ l. l ++ response_to x) so.1.0 ∙ sym (responses_snoc mine x), so.1.1),
+  so.2,
 )
 
 -- and it is the last
@@ -99,6 +104,7 @@ answered_last r earlier mine x c none closed so =
         asked = (true, r.left, subst (λ b. Takes (concat c.pieces) (bodies_of (mine ++ x ∷ [])) b r.left) closed (takes_of r (concat c.pieces) (bodies_of (mine ++ x ∷ [])) none whole.0), refl);
         put = subst (λ b. IsPut b (c.put ++ response_to x) (responses (mine ++ x ∷ []) ++ [])) (sym whole.1.1) (whole.1.0 ∙ sym (append-nil (responses (mine ++ x ∷ []))));
         cause = tt;
+        last = (whole.2, whole.1.1);
       },
     )
 
@@ -112,6 +118,7 @@ answered_part r earlier mine x c n none le so =
         asked = (r.closed, r.left, takes_of r (concat c.pieces) (bodies_of (mine ++ x ∷ [])) none (subst (Stands r (concat c.pieces)) (sym (bodies_snoc mine x)) so.0));
         put = subst (IsPut true (c.put ++ take n (response_to x))) (sym all) (put_part c.put (responses mine) (response_to x) n so.1.0 le);
         cause = refl;
+        last = (so.2, (mine, x, refl, (n, le, ap (λ l. l ++ take n (response_to x)) so.1.0)));
       },
     )
 
@@ -124,6 +131,7 @@ unasked_whole r earlier mine body c none so = (
     asked = inr (body, r.closed, r.left, takes_of r (concat c.pieces) (bodies_of mine ++ body ∷ []) none so.0);
     put = put_whole c.put_failed c.put (responses mine) (last_put NoMemory (last_front (fronts_of (earlier ++ mine)))) so.1.1 so.1.0;
     cause = tt;
+    last = (so.2, λ failed. never c.put_failed failed so.1.1);
   },
 )
 
@@ -136,23 +144,24 @@ unasked_part r earlier mine body c n none le so = (
     asked = inr (body, r.closed, r.left, takes_of r (concat c.pieces) (bodies_of mine ++ body ∷ []) none so.0);
     put = put_part c.put (responses mine) (last_put NoMemory (last_front (fronts_of (earlier ++ mine)))) n so.1.0 le;
     cause = tt;
+    last = (so.2, λ failed. (n, le, ap (λ l. l ++ take n (last_put NoMemory (last_front (fronts_of (earlier ++ mine))))) so.1.0));
   },
 )
 
 -- the bytes are refused
-pub refused_whole : (r r' : Reading) (earlier mine : List Exchange) (status : ℕ) (c : Connection) → Requests (concat c.pieces) (bodies_of mine) (RefusedWith status) → IsAnswering c mine → StageSo Over r' earlier mine (with_put (refusal_text status) c)
-refused_whole r r' earlier mine status c asked so = (
+pub refused_whole : (r r' : Reading) (earlier mine : List Exchange) (status : ℕ) (c : Connection) → Requests (concat c.pieces) (bodies_of mine) (RefusedWith status) → IsAnswering c mine → IsTaking c → StageSo Over r' earlier mine (with_put (refusal_text status) c)
+refused_whole r r' earlier mine status c asked so taking = (
   Refused status,
   refl,
-  record { asked = asked; put = put_whole c.put_failed c.put (responses mine) (refusal_text status) so.1 so.0; cause = tt },
+  record { asked = asked; put = put_whole c.put_failed c.put (responses mine) (refusal_text status) so.1 so.0; cause = tt; last = (taking, λ failed. never c.put_failed failed so.1) },
 )
 
-pub refused_part : (r r' : Reading) (earlier mine : List Exchange) (status : ℕ) (c : Connection) (n : ℕ) → n ≤ length (refusal_text status) → Requests (concat c.pieces) (bodies_of mine) (RefusedWith status) → IsAnswering c mine
+pub refused_part : (r r' : Reading) (earlier mine : List Exchange) (status : ℕ) (c : Connection) (n : ℕ) → n ≤ length (refusal_text status) → Requests (concat c.pieces) (bodies_of mine) (RefusedWith status) → IsAnswering c mine → IsTaking c
     → StageSo Over r' earlier mine (with_failed_put (take n (refusal_text status)) c)
-refused_part r r' earlier mine status c n le asked so = (
+refused_part r r' earlier mine status c n le asked so taking = (
   Refused status,
   refl,
-  record { asked = asked; put = put_part c.put (responses mine) (refusal_text status) n so.0 le; cause = tt },
+  record { asked = asked; put = put_part c.put (responses mine) (refusal_text status) n so.0 le; cause = tt; last = (taking, λ failed. (n, le, ap (λ l. l ++ take n (refusal_text status)) so.0)) },
 )
 
 -- ---- takes
@@ -166,14 +175,19 @@ pub took_piece : (r r' : Reading) (earlier mine : List Exchange) (n : ℕ) (buff
 took_piece r r' earlier mine n buffer c fed so = (
   subst (λ b. Stands r' b (bodies_of mine)) (sym (concat_snoc c.pieces (take n buffer))) (fed (concat c.pieces) (bodies_of mine) so.0),
   so.1,
+  (inr (c.pieces, take n buffer, bodies_of mine, r.left, refl, so.2), so.3.1, so.3.2),
 )
 
 -- a piece was taken, and not fed
 abbrev pub HasTaken : Reading → List Exchange → List Exchange → ℕ → List ℕ → Connection → Type 0
-HasTaken r earlier mine n buffer d = (c : Connection) × StageSo Waits r earlier mine c × (d.pieces ≡ c.pieces ++ take n buffer ∷ []) × (d.put ≡ c.put) × (d.put_failed ≡ c.put_failed)
+HasTaken r earlier mine n buffer d = (c : Connection) × StageSo Waits r earlier mine c × (d.pieces ≡ c.pieces ++ take n buffer ∷ []) × (d.put ≡ c.put) × (d.put_failed ≡ c.put_failed) × (d.ended ≡ c.ended)
+    × (d.take_failed ≡ c.take_failed)
 
 pub has_taken : (r : Reading) (earlier mine : List Exchange) (n : ℕ) (buffer : List ℕ) (c : Connection) → StageSo Waits r earlier mine c → HasTaken r earlier mine n buffer (after_take (Got n) buffer c)
-has_taken r earlier mine n buffer c so = (c, so, refl, refl, refl)
+has_taken r earlier mine n buffer c so = (c, so, refl, refl, refl, refl, refl)
+
+has_taking : (r : Reading) (earlier mine : List Exchange) (n : ℕ) (buffer : List ℕ) (d : Connection) → HasTaken r earlier mine n buffer d → IsTaking d
+has_taking r earlier mine n buffer d has = (inr (has.0.pieces, take n buffer, bodies_of mine, r.left, has.2, has.1.2), has.5 ∙ has.1.3.1, has.6 ∙ has.1.3.2)
 
 -- what is put then
 pub unfed_whole : (r r' : Reading) (earlier mine : List Exchange) (n : ℕ) (buffer : List ℕ) (d : Connection) → HasTaken r earlier mine n buffer d
@@ -185,6 +199,7 @@ unfed_whole r r' earlier mine n buffer d has = (
     asked = inl (has.0.pieces, take n buffer, r.left, has.2, has.1.2);
     put = put_whole d.put_failed d.put (responses mine) (last_put NoMemory (last_front (fronts_of (earlier ++ mine)))) (has.4 ∙ has.1.1.1) (has.3 ∙ has.1.1.0);
     cause = tt;
+    last = (has_taking r earlier mine n buffer d has, λ failed. never d.put_failed failed (has.4 ∙ has.1.1.1));
   },
 )
 
@@ -197,21 +212,25 @@ unfed_part r r' earlier mine n buffer k d le has = (
     asked = inl (has.0.pieces, take n buffer, r.left, has.2, has.1.2);
     put = put_part d.put (responses mine) (last_put NoMemory (last_front (fronts_of (earlier ++ mine)))) k (has.3 ∙ has.1.1.0) le;
     cause = tt;
+    last = (
+      has_taking r earlier mine n buffer d has,
+      λ failed. (k, le, ap (λ l. l ++ take k (last_put NoMemory (last_front (fronts_of (earlier ++ mine))))) (has.3 ∙ has.1.1.0)),
+    );
   },
 )
 
 pub took_nothing : (r : Reading) (earlier mine : List Exchange) (buffer : List ℕ) (c : Connection) → StageSo Waits r earlier mine c → StageSo Reads r earlier mine (after_take Nothing buffer c)
-took_nothing r earlier mine buffer c so = (so.0, so.1)
+took_nothing r earlier mine buffer c so = (so.0, so.1, so.3)
 
 still_put : (mine : List Exchange) (c : Connection) → IsAnswering c mine → IsPut c.put_failed c.put (responses mine ++ [])
 still_put mine c so = subst (λ b. IsPut b c.put (responses mine ++ [])) (sym so.1) (so.0 ∙ sym (append-nil (responses mine)))
 
 pub took_end : (r : Reading) (earlier mine : List Exchange) (buffer : List ℕ) (c : Connection) → StageSo Waits r earlier mine c → StageSo Over r earlier mine (after_take End buffer c)
-took_end r earlier mine buffer c so = (PeerEnded, refl, record { asked = (r.left, so.2); put = still_put mine c so.1; cause = refl })
+took_end r earlier mine buffer c so = (PeerEnded, refl, record { asked = (r.left, so.2); put = still_put mine c so.1; cause = refl; last = (so.3.2, so.1.1) })
 
 pub take_failed : (r : Reading) (earlier mine : List Exchange) (buffer : List ℕ) (c : Connection) → StageSo Waits r earlier mine c → StageSo Over r earlier mine (after_take Failed buffer c)
-take_failed r earlier mine buffer c so = (ReadFault, refl, record { asked = (r.left, so.2); put = still_put mine c so.1; cause = refl })
+take_failed r earlier mine buffer c so = (ReadFault, refl, record { asked = (r.left, so.2); put = still_put mine c so.1; cause = refl; last = (so.3.1, so.1.1) })
 
 -- a Stop was seen
 pub halted : (r : Reading) (earlier mine : List Exchange) (c : Connection) → StageSo Waits r earlier mine c → StageSo Halted r earlier mine c
-halted r earlier mine c so = record { asked = (r.left, so.2); put = still_put mine c so.1; cause = tt }
+halted r earlier mine c so = record { asked = (r.left, so.2); put = still_put mine c so.1; cause = tt; last = (so.3, so.1.1) }

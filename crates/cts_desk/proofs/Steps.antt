@@ -1,5 +1,5 @@
 -- What each function of the desk leaves, beside the history.
-use Rattle.std.proofs.Common.{◌≡◌, ℕ, ◌≤◌, Bool, true, false, List, [], ◌∷◌, ◌++◌, length, take, sym, refl, ap, ◌∙◌, subst, append-nil, append_assoc, Option, Some, None, Result}
+use Rattle.std.proofs.Common.{◌≡◌, ℕ, ◌≤◌, Bool, true, false, List, [], ◌∷◌, ◌++◌, length, take, sym, refl, ap, ◌∙◌, subst, append-nil, append_assoc, inl, Option, Some, None, Result}
 use Rattle.std.specs.Prelude.{not, unwrap_or}
 use Rattle.std.specs.List.{concat}
 use Rattle.cts_def.specs.declared.time.Time.{Time}
@@ -15,7 +15,7 @@ use Rattle.cts_desk.specs.Exchanges.{Exchange, Exchanges, Among, bodies_of, fron
 use Rattle.cts_trace.specs.Makers.{of_maker}
 use Rattle.cts_http.specs.Streams.{response_with}
 use Rattle.cts_desk.specs.Streams.{NoMemory, last_put, last_front}
-use Rattle.cts_desk.specs.Told.{Ends, past_of, IsIdle}
+use Rattle.cts_desk.specs.Told.{Ends, Settled, past_of}
 use Rattle.cts_worker.specs.Lasts.{last_entries}
 use Rattle.cts_desk.specs.Holds.{AskedHold}
 use Rattle.cts_worker.specs.Holds.{Hold, EndedHold}
@@ -23,7 +23,7 @@ use Rattle.cts_desk.specs.Serving.{Going, Stage, Reads, Waits, Asks, Over, Halte
 use Rattle.cts_desk.proofs.Histories.{going_look, going_ask, among_more, exchanges_end}
 use Rattle.cts_trace.proofs.Looking.{stop_kept}
 use Rattle.cts_worker.proofs.Lasting.{last_own}
-use Rattle.cts_desk.proofs.Connections.{hangs_up, settled_at, settled_first}
+use Rattle.cts_desk.proofs.Connections.{hangs_up, idle_hung, settled_at, settled_first}
 use Rattle.cts_desk.proofs.Stages.{talks_at, talks_map, talks_put, answered_whole, answered_last, answered_part, unasked_whole, unasked_part, refused_whole, refused_part, halted}
 
 module _ (b : Basis) (by : ℕ) (was : List Connection) (r : Reading) where
@@ -82,8 +82,8 @@ module _ (b : Basis) (by : ℕ) (was : List Connection) (r : Reading) where
       mine = s.mine;
       going = s.going;
       talks = talks_put was s.earlier (StageSo Reads r s.earlier s.mine) (StageSo Over r' s.earlier s.mine) (refusal_text status) told new result puts
-          (λ c so. refused_whole r r' s.earlier s.mine status c (answers (concat c.pieces) (bodies_of s.mine) so.0).0 so.1)
-          (λ c n le so. refused_part r r' s.earlier s.mine status c n le (answers (concat c.pieces) (bodies_of s.mine) so.0).0 so.1) s.talks;
+          (λ c so. refused_whole r r' s.earlier s.mine status c (answers (concat c.pieces) (bodies_of s.mine) so.0).0 so.1 so.2)
+          (λ c n le so. refused_part r r' s.earlier s.mine status c n le (answers (concat c.pieces) (bodies_of s.mine) so.0).0 so.1 so.2) s.talks;
     }
 
     -- more bytes are waited for
@@ -93,7 +93,7 @@ module _ (b : Basis) (by : ℕ) (was : List Connection) (r : Reading) where
       mine = s.mine;
       going = s.going;
       talks = talks_map was s.earlier (StageSo Reads r s.earlier s.mine) (StageSo Waits r' s.earlier s.mine) told
-          (λ c so. let a = answers (concat c.pieces) (bodies_of s.mine) so.0 in (a.1, so.1, a.0)) s.talks;
+          (λ c so. let a = answers (concat c.pieces) (bodies_of s.mine) so.0 in (a.1, so.1, a.0, so.2)) s.talks;
     }
 
     -- a request was given
@@ -106,7 +106,7 @@ module _ (b : Basis) (by : ℕ) (was : List Connection) (r : Reading) where
           (λ c so.
           let a = answers (concat c.pieces) (bodies_of s.mine) so.0 in
           let same : a.0 ≡ body = ap (λ (o : Option (List ℕ)). unwrap_or o []) (sym a.1 ∙ sym given) in
-          (subst (λ l. Stands r' (concat c.pieces) (bodies_of s.mine ++ l ∷ [])) same a.3, so.1)) s.talks;
+          (subst (λ l. Stands r' (concat c.pieces) (bodies_of s.mine ++ l ∷ [])) same a.3, so.1, so.2)) s.talks;
     }
 
   -- a piece was taken, or none
@@ -129,7 +129,7 @@ module _ (b : Basis) (by : ℕ) (was : List Connection) (r : Reading) where
 
   begins_line : (xs : List Exchange) (told : Option Line) → Stands r [] [] → Dials was xs told → TalksBy was xs (StageSo Reads r xs []) told
   begins_line xs None stands d = tt
-  begins_line xs (Some line) stands d = record { connection = fresh; stands = d.0; gone = d.1; past = d.2; serves = d.3; so = (stands, (refl, refl)) }
+  begins_line xs (Some line) stands d = record { connection = fresh; stands = d.0; gone = d.1; past = d.2; serves = d.3; so = (stands, (refl, refl), (inl refl, refl, refl)) }
 
   -- a connection begins
   pub serving_begins : (fronts : List ℕ) (v : View Entry Basis) (told : Option Line) → Stands r [] [] → Begins b by was fronts v told → Serving b by was Reads fronts v r told
@@ -154,8 +154,12 @@ given_of old new last s = given_by old.refused old new last s
 
 -- ---- between connections
 
-pub resting_first : (b : Basis) (by : ℕ) (v : View Entry Basis) (told : Option Line) → of_maker by v.seen ≡ [] → IsIdle told → Resting b by (past_of told) false [] v told
-resting_first b by v told none idle = record { exchanges = []; going = record { fronts_are = refl; among = tt; stand = none }; settled = settled_first told idle }
+pub resting_first : (b : Basis) (by : ℕ) (v : View Entry Basis) (old new : Option Line) → of_maker by v.seen ≡ [] → new ≡ told_after hung_up old → Resting b by (past_of (told_after hung_up old)) false [] v new
+resting_first b by v old new none hung = record {
+  exchanges = [];
+  going = record { fronts_are = refl; among = tt; stand = none };
+  settled = subst (Settled false (past_of (told_after hung_up old)) []) (sym hung) (settled_first (told_after hung_up old) (idle_hung old));
+}
 
 pub resting_looked : (b : Basis) (by : ℕ) (was : List Connection) (stop : Bool) (fronts : List ℕ) (v v' : View Entry Basis) (told : Option Line) → Hold by v v' [] → Resting b by was stop fronts v told → Resting b by was stop fronts v' told
 resting_looked b by was stop fronts v v' told hold s = record { exchanges = s.exchanges; going = going_look b by fronts v v' s.exchanges hold s.going; settled = s.settled }

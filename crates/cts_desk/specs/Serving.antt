@@ -8,7 +8,7 @@ use Rattle.cts_http.specs.Requests.{Requests, Waiting}
 use Rattle.cts_table.specs.declared.basis.Basis.{Basis}
 use Rattle.cts_turn.specs.declared.rule.View.{View}
 use Rattle.cts_desk.specs.Exchanges.{Exchange, Exchanges, Among, fronts_of, bodies_of}
-use Rattle.cts_desk.specs.Streams.{Cut, PeerEnded, ReadFault, WriteFault, LastAsked, Refused, NoMemory, Stopped, Served, responses, last_front}
+use Rattle.cts_desk.specs.Streams.{Cut, PeerEnded, ReadFault, WriteFault, LastAsked, Refused, NoMemory, Stopped, IsTaking, Served, responses, last_front}
 use Rattle.cts_desk.specs.Told.{Serves, Settled}
 
 -- the exchanges of a desk in what it has seen
@@ -40,9 +40,10 @@ abbrev pub IsAnswering : Connection → List Exchange → Type 0
 IsAnswering c mine = (c.put ≡ responses mine) × (c.put_failed ≡ false)
 
 abbrev pub StageSo : Stage → Reading → List Exchange → List Exchange → Connection → Type 0
-StageSo Reads r earlier mine c = Stands r (concat c.pieces) (bodies_of mine) × IsAnswering c mine
-StageSo Waits r earlier mine c = Stands r (concat c.pieces) (bodies_of mine) × IsAnswering c mine × Requests (concat c.pieces) (bodies_of mine) (Waiting r.left)
-StageSo (Asks body) r earlier mine c = Stands r (concat c.pieces) (bodies_of mine ++ body ∷ []) × IsAnswering c mine
+StageSo Reads r earlier mine c = Stands r (concat c.pieces) (bodies_of mine) × IsAnswering c mine × IsTaking c
+StageSo Waits r earlier mine c =
+    Stands r (concat c.pieces) (bodies_of mine) × IsAnswering c mine × Requests (concat c.pieces) (bodies_of mine) (Waiting r.left) × IsTaking c
+StageSo (Asks body) r earlier mine c = Stands r (concat c.pieces) (bodies_of mine ++ body ∷ []) × IsAnswering c mine × IsTaking c
 StageSo Over r earlier mine c = (cut : Cut) × (is_stop_cut cut ≡ false) × Served cut (last_front (fronts_of (earlier ++ mine))) c mine
 StageSo Halted r earlier mine c = Served Stopped (last_front (fronts_of (earlier ++ mine))) c mine
 
@@ -62,7 +63,8 @@ TalksBy was earlier Known (Some line) = TalkingBy was earlier Known line
 abbrev pub Talks : List Connection → Stage → Reading → List Exchange → List Exchange → Option Line → Type 0
 Talks was stage r earlier mine told = TalksBy was earlier (StageSo stage r earlier mine) told
 
-pub record Serving (b : Basis) (by : ℕ) (was : List Connection) (stage : Stage) (fronts : List ℕ) (v : View Entry Basis) (r : Reading) (told : Option Line) : Type 0 where
+pub record Serving (b : Basis) (by : ℕ) (was : List Connection) (stage : Stage) (fronts : List ℕ) (v : View Entry Basis) (r : Reading)
+    (told : Option Line) : Type 0 where
   pub earlier : List Exchange
   pub mine : List Exchange
   pub going : Going b by fronts v (earlier ++ mine)

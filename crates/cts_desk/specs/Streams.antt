@@ -39,7 +39,8 @@ pub data Cut : Type 0 where
 
 -- all pieces but the last were read, and more were waited for
 abbrev pub IsUnfed : List (List ℕ) → List (List ℕ) → Type 0
-IsUnfed pieces bodies = (earlier : List (List ℕ)) × (piece : List ℕ) × (rest : List ℕ) × (pieces ≡ earlier ++ piece ∷ []) × Requests (concat earlier) bodies (Waiting rest)
+IsUnfed pieces bodies = (earlier : List (List ℕ)) × (piece : List ℕ) × (rest : List ℕ) × (pieces ≡ earlier ++ piece ∷ [])
+    × Requests (concat earlier) bodies (Waiting rest)
 
 -- one more request stands in the bytes
 abbrev pub IsUnasked : List (List ℕ) → List (List ℕ) → Type 0
@@ -79,11 +80,36 @@ abbrev pub IsPut : Bool → List ℕ → List ℕ → Type 0
 IsPut false put stream = put ≡ stream
 IsPut true put stream = (n : ℕ) × (n ≤ length stream) × (put ≡ take n stream)
 
+-- nothing was taken, or more bytes were waited for up to the last piece
+abbrev pub IsUnread : List (List ℕ) → Type 0
+IsUnread pieces = (pieces ≡ []) ⊎ ((earlier : List (List ℕ)) × (piece : List ℕ) × (bodies : List (List ℕ)) × (rest : List ℕ)
+    × (pieces ≡ earlier ++ piece ∷ []) × Requests (concat earlier) bodies (Waiting rest))
+
+-- Nothing was taken once what ends the connection stood in its bytes, and no take has answered End or failed.
+abbrev pub IsTaking : Connection → Type 0
+IsTaking c = IsUnread c.pieces × (c.ended ≡ false) × (c.take_failed ≡ false)
+
+-- a text was begun after all that was put before
+abbrev pub IsBegun : Connection → List ℕ → List ℕ → Type 0
+IsBegun c before text = (n : ℕ) × (n ≤ length text) × (c.put ≡ before ++ take n text)
+
+-- What ended a connection was the last of it: nothing was taken after it, no request was answered after a put that failed, and no other put
+-- and no take have failed.
+abbrev pub IsAtLast : Cut → ℕ → Connection → List Exchange → Type 0
+IsAtLast PeerEnded front c xs = (c.take_failed ≡ false) × (c.put_failed ≡ false)
+IsAtLast ReadFault front c xs = (c.ended ≡ false) × (c.put_failed ≡ false)
+IsAtLast WriteFault front c xs = IsTaking c × ((ys : List Exchange) × (y : Exchange) × (xs ≡ ys ++ y ∷ []) × IsBegun c (responses ys) (response_to y))
+IsAtLast LastAsked front c xs = IsTaking c × (c.put_failed ≡ false)
+IsAtLast (Refused status) front c xs = IsTaking c × (c.put_failed ≡ true → IsBegun c (responses xs) (refusal_text status))
+IsAtLast NoMemory front c xs = IsTaking c × (c.put_failed ≡ true → IsBegun c (responses xs) (response_with front (Some out_of_memory)))
+IsAtLast Stopped front c xs = IsTaking c × (c.put_failed ≡ false)
+
 -- A connection came to this end after the exchanges, and `front` was the desk's last.
 pub record Served (cut : Cut) (front : ℕ) (c : Connection) (xs : List Exchange) : Type 0 where
   pub asked : HasAsked cut c.pieces (bodies_of xs)
   pub put : IsPut c.put_failed c.put (responses xs ++ last_put cut front)
   pub cause : HasCause cut c
+  pub last : IsAtLast cut front c xs
 
 -- these bytes were put, or, where the put failed, a beginning of them
 abbrev pub LinksTold : Option Line → Option Line → List ℕ → Type 0

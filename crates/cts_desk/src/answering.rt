@@ -11,8 +11,8 @@ ghost use Rattle.cts_desk.specs.Streams.{LinksTold, NoMemory, last_put, last_fro
 ghost use Rattle.cts_desk.specs.Serving.{Serving, Reads, Waits, Asks, goes_on};
 
 use crate::Talk;
+use crate::hand::AtHand;
 use crate::holds::ask;
-use crate::means::Means;
 use crate::puts::{out_of_memory, put_memory, put_refusal, put_response};
 use cts_api::Answer;
 use cts_base::Memory;
@@ -71,7 +71,7 @@ fn tell_memory<R: Dialer>(talk: Talk, door: &mut R) -> (Talk, bool)
 
 // One hold, and one response, after which the connection goes on or not.
 fn reply_to<W: Wait, R: Dialer, K: Clock, G: Gate>(
-    means: &Means<'_, W, K, G>,
+    hand: &AtHand<'_, W, K, G>,
     by: u32,
     turn: &Turn<Hall>,
     talk: Talk,
@@ -99,17 +99,17 @@ fn reply_to<W: Wait, R: Dialer, K: Clock, G: Gate>(
         → Serving (ground turn.now) by was (goes_on result.1 Reads) result.0.fronts.items (view result.0.pass) reader.now (R.seen door.new).told }
 {
     let Talk { pass, mut fronts } = talk;
-    means.gate.pass(means.rt, by, GateStage::Took);
-    let time = time_of(means.clock);
-    let (pass, front, answer) = ask(means.rt, means.alloc, turn, pass, by, time, reader.body());
+    hand.gate.pass(hand.rt, by, GateStage::Took);
+    let time = time_of(hand.clock);
+    let (pass, front, answer) = ask(hand.rt, hand.alloc, turn, pass, by, time, reader.body());
     fronts.push_reserved(front);
-    posted(means.rt, by, means.gate, &answer);
+    posted(hand.rt, by, hand.gate, &answer);
     let put = put_response(door, front, text_of(&answer));
     drop(answer);
     let talk = Talk { pass, fronts };
     match put {
         Ok(()) => {
-            means.gate.pass(means.rt, by, GateStage::Answered);
+            hand.gate.pass(hand.rt, by, GateStage::Answered);
             (talk, !last)
         }
         Err(_) => (talk, false),
@@ -118,7 +118,7 @@ fn reply_to<W: Wait, R: Dialer, K: Clock, G: Gate>(
 
 // Answers the request that the reader gave. Says whether the connection goes on.
 fn answer<W: Wait, R: Dialer, K: Clock, G: Gate>(
-    means: &Means<'_, W, K, G>,
+    hand: &AtHand<'_, W, K, G>,
     by: u32,
     turn: &Turn<Hall>,
     mut talk: Talk,
@@ -145,14 +145,14 @@ fn answer<W: Wait, R: Dialer, K: Clock, G: Gate>(
         → Serving (ground turn.now) by was (goes_on result.1 Reads) result.0.fronts.items (view result.0.pass) reader.now (R.seen door.new).told }
 {
     match talk.fronts.reserve(1) {
-        Ok(()) => reply_to(means, by, turn, talk, door, reader, last),
+        Ok(()) => reply_to(hand, by, turn, talk, door, reader, last),
         Err(_) => tell_memory(talk, door),
     }
 }
 
 /// Answers all requests that stand in the bytes that the reader was fed. Says whether the connection goes on, for more bytes.
 pub(crate) fn answer_all<W: Wait, R: Dialer, K: Clock, G: Gate>(
-    means: &Means<'_, W, K, G>,
+    hand: &AtHand<'_, W, K, G>,
     by: u32,
     turn: &Turn<Hall>,
     mut talk: Talk,
@@ -175,7 +175,7 @@ pub(crate) fn answer_all<W: Wait, R: Dialer, K: Clock, G: Gate>(
         → Serving (ground turn.now) by was Reads talk.fronts.items (view talk.pass) reader.old (R.seen door.old).told
         → Serving (ground turn.now) by was (goes_on result.1 Waits) result.0.fronts.items (view result.0.pass) reader.new (R.seen door.new).told }
 {
-    'requests: for _ in means.rt.forever() {
+    'requests: for _ in hand.rt.forever() {
         let step = reader.next();
         match step {
             HttpStep::More => return (talk, true),
@@ -185,7 +185,7 @@ pub(crate) fn answer_all<W: Wait, R: Dialer, K: Clock, G: Gate>(
                 return (talk, false);
             }
             HttpStep::Request { last } => {
-                let (next, goes) = answer(means, by, turn, talk, door, reader, last);
+                let (next, goes) = answer(hand, by, turn, talk, door, reader, last);
                 talk = next;
                 if !goes {
                     return (talk, false);

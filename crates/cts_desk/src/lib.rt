@@ -2,13 +2,13 @@
 #![tactic(auto)]
 
 mod answering;
-mod clients;
+mod dials;
 mod ending;
+mod hand;
 mod holds;
 mod laws;
-mod means;
 mod puts;
-mod serving;
+mod rounds;
 mod taking;
 mod talk;
 mod worker;

@@ -1,5 +1,5 @@
 // What clients of a desk are answered: whole and cut, refused, where the door fails, and where the server is stopped.
-use crate::clients::{Asked, answered, in_short};
+use crate::clients::{Asked, answered, answered_after_a_dial, entries_left, in_short};
 use cts_rows::{asked_and_wanted, cut, number, same};
 use std::alloc::Global;
 use std::sync::Wait;
@@ -202,4 +202,35 @@ fn a_body_is_bounded(rt: HostRuntime) -> Result<(), Fail> {
         large_holds(&rt, rt.alloc(), row)?;
     }
     Ok(())
+}
+
+/// The first of two clients is linked before the desk begins.
+const STOOD: &str =
+    r#"$&$|&HTTP/1.1 200 OK;Content-Type: application/json-rpc;Content-Length: 43;X-Cts-Front: 0;;{"id":1,"jsonrpc":"2.0","result":"DEFAULT"}&(Finished, [0], 1)"#;
+
+#[test]
+fn a_connection_that_stood_is_hung_up_first(rt: HostRuntime) -> Result<(), Fail> {
+    let (texts, wanted) = parts(rt.alloc(), STOOD)?;
+    let asked = Asked {
+        texts: &texts,
+        at_once: ALL,
+        failing: "",
+    };
+    same(
+        &answered_after_a_dial(&rt, rt.alloc(), asked)?,
+        wanted,
+        STOOD,
+    )
+}
+
+/// Two clients that choose a set of limits, the first of them twice, where the clock goes on each time that it is asked: each entry, the last one of the
+/// desk too, has a time of its own.
+const CHOICES: &str =
+    "POST / HTTP/1.1;Content-Length: 64;;{\"jsonrpc\":\"2.0\",\"method\":\"set_limits_set\",\"params\":[\"DEFAULT\"]}";
+
+#[test]
+fn each_entry_has_the_time_of_its_request(rt: HostRuntime) -> Result<(), Fail> {
+    let texts = format!(in rt.alloc(); "{CHOICES}{CHOICES}&{CHOICES}")?;
+    let left = entries_left(&rt, rt.alloc(), &texts)?;
+    same(&left, "(Finished, 4, 3)", "three choices")
 }

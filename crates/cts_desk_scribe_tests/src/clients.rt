@@ -1,7 +1,7 @@
 // What clients of a desk are answered.
 use crate::desks::{Left, desk_over, hall_of};
 use cts_base::Bytes;
-use cts_outside::{MemConnection, MemDialer, MemPiece};
+use cts_outside::{Dialed, Dialer, MemConnection, MemDialer, MemPiece};
 use cts_rows::{as_text, bytes_by_number, debug_of, numbers};
 use std::alloc::Global;
 use std::sync::Wait;
@@ -86,6 +86,36 @@ pub fn answered<W: Wait>(rt: &W, alloc: Global, asked: Asked<'_>) -> Result<Stri
     let mut door = MemDialer::new(alloc, clients, failing);
     let left = desk_over(rt, alloc, hall, &mut door)?;
     shown(alloc, &door, asked.texts.split('&').count(), &left)
+}
+
+/// The same over a door of which the first client is linked already when the desk begins.
+pub fn answered_after_a_dial<W: Wait>(
+    rt: &W,
+    alloc: Global,
+    asked: Asked<'_>,
+) -> Result<String, Fail> {
+    let clients = clients(alloc, asked)?;
+    let hall = hall_of(alloc, "")?;
+    let mut door = MemDialer::new(alloc, clients, Vec::new(alloc));
+    if let Dialed::Later = door.dial() {
+        let _ = door.dial();
+    }
+    let left = desk_over(rt, alloc, hall, &mut door)?;
+    shown(alloc, &door, asked.texts.split('&').count(), &left)
+}
+
+/// Why a desk ends for clients whose door does not fail, how many entries it leaves, and how many of them are later than the one before them.
+pub fn entries_left<W: Wait>(rt: &W, alloc: Global, texts: &str) -> Result<String, Fail> {
+    let asked = Asked {
+        texts,
+        at_once: 2_000_000,
+        failing: "",
+    };
+    let clients = clients(alloc, asked)?;
+    let hall = hall_of(alloc, "")?;
+    let mut door = MemDialer::new(alloc, clients, Vec::new(alloc));
+    let left = desk_over(rt, alloc, hall, &mut door)?;
+    debug_of(alloc, &(left.why, left.entries, left.later))
 }
 
 /// The same in short: of what is put to a client, the status of each response.

@@ -17,8 +17,12 @@ mod logs;
 #[cfg(test)]
 mod narrow;
 #[cfg(test)]
+mod parts;
+#[cfg(test)]
 mod scribes;
 #[cfg(test)]
 mod scribing;
+#[cfg(test)]
+mod ticking;
 #[cfg(test)]
 mod words;

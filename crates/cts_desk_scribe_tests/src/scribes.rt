@@ -47,7 +47,7 @@ open:0 packet:0:0:0105 command:24:0:03|7|(VaultFailed, 12) SE T 146/146 T A 0105
 open:0 packet:0:0:0105 command:24:0:03|8|(Drained, 12) E T 146/146 T A 0105;end C 146/146 T GO 03;end";
 
 /// What a scribe leaves of a history that has these entries before all others have ended, over a site with these texts.
-fn logged<R: Wait, V: Vault>(
+pub fn logged<R: Wait, V: Vault>(
     rt: &R,
     alloc: Global,
     texts: (&str, &str),

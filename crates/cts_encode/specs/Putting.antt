@@ -31,7 +31,8 @@ lacks_place l total = nat_lt total (length l.sync) || has_no_count l total
 -- the count of a frame of `total` bytes, or why it has none
 abbrev pub CountsFor : LengthData → ℕ → Result ℕ EncodeFault → Type 0
 CountsFor l total (Ok count) =
-    (lacks_place l total ≡ false) × (count_of l total ≡ Some count) × (is_large l (Some count) ≡ false) × (count < 2 ^ l.place.bits) × (nat_lt frame_limit total ≡ false)
+    (lacks_place l total ≡ false) × (count_of l total ≡ Some count) × (is_large l (Some count) ≡ false) × (count < 2 ^ l.place.bits)
+    × (nat_lt frame_limit total ≡ false)
 CountsFor l total (Err NoPlace) = lacks_place l total ≡ true
 CountsFor l total (Err LengthTooLarge) = (lacks_place l total ≡ false) × ((is_large l (count_of l total) || nat_lt frame_limit total) ≡ true)
 CountsFor l total (Err HoldsTermination) = ⊥

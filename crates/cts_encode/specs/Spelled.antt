@@ -18,7 +18,8 @@ with_field p number old =
     let size = span p.offset p.bits in
     let first = reach p - size in
     let touched = take (reach p - first) (drop first old) in
-    take first old ++ (in_order p.order (big_bytes size (replaced (number_in p.order touched) (tail_of p.offset p.bits) p.bits number)) ++ drop size (drop first old))
+    take first old ++ (in_order p.order (big_bytes size (replaced (number_in p.order touched) (tail_of p.offset p.bits) p.bits number)) ++ drop size
+    (drop first old))
 
 abbrev pub with_count : LengthData → Option ℕ → List ℕ → List ℕ
 with_count l None old = old

@@ -1,5 +1,6 @@
 -- How bytes are put into a frame, and which bytes are refused.
-use Rattle.std.specs.Prelude.{◌≡◌, ◌<◌, ℕ, ◌/◌, ◌%◌, ◌^◌, ℤ, pos, ◌-ℤ◌, int_lt, Bool, true, false, ◌&&◌, ◌||◌, ◌==◌, nat_le, nat_lt, List, [], ◌++◌, length, drop, replicate, slice_index, Option, Some, None, Result, Ok, Err, unsigned_abs, if◌then◌else◌}
+use Rattle.std.specs.Prelude.{◌≡◌, ◌<◌, ℕ, ◌/◌, ◌%◌, ◌^◌, ℤ, pos, ◌-ℤ◌, int_lt, Bool, true, false, ◌&&◌, ◌||◌, ◌==◌, nat_le, nat_lt, List, [], ◌++◌}
+use Rattle.std.specs.Prelude.{length, drop, replicate, slice_index, Option, Some, None, Result, Ok, Err, unsigned_abs, if◌then◌else◌}
 use Rattle.cts_bits.specs.Bits.{bits_of}
 use Rattle.cts_bits.specs.Fields.{bit_place_at}
 use Rattle.cts_def.specs.Protocols.{LengthData, PreidentifiedData, SpecData, Burst, Fixed, Length, Terminated, Preidentified}

@@ -97,7 +97,8 @@ fn encode_length(
     bytes: &[u8],
 ) -> Result<(), EncodeFault>
     requires { 1 ≤ per_count }
-    ensures put { (h : Heading) → Encodes (Length (length_row (place_data place.now) value_offset.now per_count discard sync.now max fill)) h bytes.now out.old.items out.new.items result }
+    ensures put { (h : Heading) → Encodes (Length (length_row (place_data place.now) value_offset.now per_count discard sync.now max fill)) h
+        bytes.now out.old.items out.new.items result }
     ensures bytes { AreBytes sync.now }
 {
     if fill {

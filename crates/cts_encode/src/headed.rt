@@ -18,7 +18,8 @@ pub(crate) fn encode_headed(
     bytes: &[u8],
 ) -> Result<(), EncodeFault>
     requires { length sync.now ≤ 64 }
-    ensures { Encodes (Preidentified (record { sync = sync.now; max = max; layout = layout })) (heading_of label.now) bytes.now out.old.items out.new.items result }
+    ensures { Encodes (Preidentified (record { sync = sync.now; max = max; layout = layout }))
+        (heading_of label.now) bytes.now out.old.items out.new.items result }
 {
     if bytes.len() > u32::MAX as usize || is_over(max, bytes.len() as u128) {
         return Err(EncodeFault::LengthTooLarge);

@@ -19,7 +19,8 @@ fn judge(
     deciding: &[u8],
 ) -> Result<usize, BadCause>
     requires { length deciding.now ≡ discard + min_id }
-    ensures { stated_by result ≡ start_states (fixed_row min_id discard [] raise starts.now) (first_start (fixed_row min_id discard [] raise starts.now) deciding.now) }
+    ensures { stated_by result ≡ start_states (fixed_row min_id discard [] raise starts.now)
+        (first_start (fixed_row min_id discard [] raise starts.now) deciding.now) }
 {
     let len = match first_start(starts, &deciding[discard as usize..]) {
         Some(start) => discard as usize + start.length as usize,

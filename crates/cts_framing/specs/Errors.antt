@@ -1,6 +1,7 @@
 -- Which errors stand where a frame of each protocol would begin, said once more by all that holds there.
 use Rattle.std.specs.Prelude.{◌≡◌, ◌≤◌, ◌<◌, ◌⊎◌, ℕ, ◌+◌, ℤ, pos, ◌<ℤ◌, Bool, true, false, List, ◌∷◌, ◌++◌, length, Option, Some, None}
-use Rattle.cts_def.specs.Protocols.{BurstData, FixedData, LengthData, TerminatedData, PreidentifiedData, SpecData, Burst, Fixed, Length, Terminated, Preidentified}
+use Rattle.cts_def.specs.Protocols.{BurstData, FixedData, LengthData, TerminatedData, PreidentifiedData, SpecData, Burst, Fixed, Length, Terminated}
+use Rattle.cts_def.specs.Protocols.{Preidentified}
 use Rattle.cts_def.specs.Starts.{StartData}
 use Rattle.cts_def.specs.declared.bad_cause.BadCause.{BadCause}
 use Rattle.cts_def.specs.declared.bad_cause.BadCause.TheVariants.{Short, OverMax, TooLong, UnknownStart, Flags}

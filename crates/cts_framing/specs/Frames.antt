@@ -1,6 +1,7 @@
 -- What a whole frame of each protocol is, said once more by all that holds of it.
 use Rattle.std.specs.Prelude.{◌≡◌, ◌≤◌, ℕ, ◌+◌, pos, Bool, false, ◌&&◌, List, [], ◌++◌, length, drop, Option, Some, None, if◌then◌else◌}
-use Rattle.cts_def.specs.Protocols.{BurstData, FixedData, LengthData, TerminatedData, PreidentifiedData, SpecData, Burst, Fixed, Length, Terminated, Preidentified}
+use Rattle.cts_def.specs.Protocols.{BurstData, FixedData, LengthData, TerminatedData, PreidentifiedData, SpecData, Burst, Fixed, Length, Terminated}
+use Rattle.cts_def.specs.Protocols.{Preidentified}
 use Rattle.cts_def.specs.Starts.{StartData}
 use Rattle.cts_framing.specs.Framing.{BeginsWith, Output, plain}
 use Rattle.cts_framing.specs.Heads.{HeadData, FitsHead}
@@ -74,4 +75,7 @@ output_of (Burst b) w x h = plain (drop b.discard w)
 output_of (Fixed f) w x h = plain (drop f.discard w)
 output_of (Length l) w x h = plain (drop l.discard w)
 output_of (Terminated t) w x h = plain (drop t.discard (if t.strip then t.sync ++ h.body else w))
-output_of (Preidentified p) w x h = record { bytes = h.bytes; heading = Some (record { time = h.head.time; target = h.head.target; packet = h.head.packet; stored = has_flags p.layout && h.stored }) }
+output_of (Preidentified p) w x h = record {
+  bytes = h.bytes;
+  heading = Some (record { time = h.head.time; target = h.head.target; packet = h.head.packet; stored = has_flags p.layout && h.stored });
+}

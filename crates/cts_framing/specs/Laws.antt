@@ -43,7 +43,8 @@ pub record IsSameStage (f : Framing) (pieces : List (List ℕ)) (c d : Pieces) (
 
 -- a stage cuts what comes to it in one way
 abbrev pub HasOneStage : Type 0
-HasOneStage = (f : Framing) (pieces : List (List ℕ)) (c d : Pieces) → IsSound f → (h : IsStage f pieces c) (k : IsStage f pieces d) → IsSameStage f pieces c d h k
+HasOneStage = (f : Framing) (pieces : List (List ℕ)) (c d : Pieces) → IsSound f → (h : IsStage f pieces c) (k : IsStage f pieces d)
+    → IsSameStage f pieces c d h k
 
 -- each framing of a chain is sound
 abbrev pub AllSound : List Framing → Type 0
@@ -52,7 +53,8 @@ AllSound (f ∷ fs) = IsSound f × AllSound fs
 
 -- a chain cuts each list of pieces
 abbrev pub HasPackets : Type 0
-HasPackets = (chain : List Framing) (pieces : List (List ℕ)) → AllSound chain → (cuts : List Pieces) × (packets : List Output) × IsPackets chain pieces cuts packets
+HasPackets = (chain : List Framing) (pieces : List (List ℕ)) → AllSound chain → (cuts : List Pieces) × (packets : List Output)
+    × IsPackets chain pieces cuts packets
 
 -- and in one way
 abbrev pub HasOnePackets : Type 0

@@ -32,4 +32,5 @@ ErrorsAreExact = (s : SpecData) (u : List ℕ) (c : BadCause) → IsTrue (is_sou
 -- with flags or without, bytes hold a whole head, whose flags are right, exactly where they begin with the bytes of one
 abbrev pub HeadsAreExact : Type 0
 HeadsAreExact = (flagged : Bool) (u : List ℕ) → AreBytes u
-    → ((has_wrong_flags flagged u ≡ false) × (has_laid flagged u ≡ true)) ↔ ((stored : Bool) × (h : HeadData) × (x : List ℕ) × FitsHead h × (u ≡ laid_head flagged stored h ++ x))
+    → ((has_wrong_flags flagged u ≡ false) × (has_laid flagged u ≡ true)) ↔
+    ((stored : Bool) × (h : HeadData) × (x : List ℕ) × FitsHead h × (u ≡ laid_head flagged stored h ++ x))

@@ -1,10 +1,12 @@
 -- What each protocol reads: how long the frame is that begins with some bytes, and which error stands there instead.
-use Rattle.std.specs.Prelude.{ℕ, ◌+◌, ◌-◌, ◌*◌, ℤ, pos, ◌+ℤ◌, int_lt, Bool, true, false, ◌&&◌, ◌||◌, ◌==◌, nat_le, nat_lt, List, length, take, drop, Option, Some, None, option_map, unsigned_abs, if◌then◌else◌}
+use Rattle.std.specs.Prelude.{ℕ, ◌+◌, ◌-◌, ◌*◌, ℤ, pos, ◌+ℤ◌, int_lt, Bool, true, false, ◌&&◌, ◌||◌, ◌==◌, nat_le, nat_lt, List, length, take, drop}
+use Rattle.std.specs.Prelude.{Option, Some, None, option_map, unsigned_abs, if◌then◌else◌}
 use Rattle.std.specs.List.{find}
 use Rattle.cts_bits.specs.Fields.{field_at}
 use Rattle.cts_bits.specs.Places.{reach_of}
 use Rattle.cts_def.specs.Beginnings.{begins_with}
-use Rattle.cts_def.specs.Protocols.{BurstData, FixedData, LengthData, TerminatedData, PreidentifiedData, SpecData, Burst, Fixed, Length, Terminated, Preidentified}
+use Rattle.cts_def.specs.Protocols.{BurstData, FixedData, LengthData, TerminatedData, PreidentifiedData, SpecData, Burst, Fixed, Length, Terminated}
+use Rattle.cts_def.specs.Protocols.{Preidentified}
 use Rattle.cts_def.specs.Starts.{StartData, PlaceData}
 use Rattle.cts_def.specs.declared.bad_cause.BadCause.{BadCause}
 use Rattle.cts_def.specs.declared.bad_cause.BadCause.TheVariants.{Short, OverMax, TooLong, UnknownStart, Flags}
@@ -111,7 +113,12 @@ preidentified_states p u = head_states p (has_flags p.layout) (drop (length p.sy
 abbrev pub after_head : Bool → List ℕ → Output
 after_head flagged v = record {
   bytes = drop (laid_end flagged v) v;
-  heading = Some (record { time = (laid_of flagged v).time; target = (laid_of flagged v).target; packet = (laid_of flagged v).packet; stored = stored_at flagged v });
+  heading = Some (record {
+    time = (laid_of flagged v).time;
+    target = (laid_of flagged v).target;
+    packet = (laid_of flagged v).packet;
+    stored = stored_at flagged v;
+  });
 }
 
 -- ---- BURST: all bytes of a piece

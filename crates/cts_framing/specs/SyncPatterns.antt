@@ -33,7 +33,8 @@ pub record EndsByPattern (s b gap rest : List ℕ) : Type 0 where
 abbrev pub FollowPattern : Framing → List Part → List ℕ → List ℕ → List ℕ → Type 0
 FollowPattern f [] b gap rest = EndsByPattern f.sync b gap rest
 FollowPattern f (p ∷ ps) b gap rest =
-    (x : List ℕ) × (b ≡ p.gap ++ (p.frame ++ x)) × (f.whole p.frame x ≡ true) × BeginsWith f.sync p.frame × IsLeftmost f.sync b p.gap × FollowPattern f ps x gap rest
+    (x : List ℕ) × (b ≡ p.gap ++ (p.frame ++ x)) × (f.whole p.frame x ≡ true) × BeginsWith f.sync p.frame × IsLeftmost f.sync b p.gap
+    × FollowPattern f ps x gap rest
 
 -- The cut of b, said by the occurrences of the sync pattern. What lies before frames and before the rest is what is skipped.
 pub record IsCutByPattern (f : Framing) (b : List ℕ) (c : Pieces) : Type 0 where

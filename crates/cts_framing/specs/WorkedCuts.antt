@@ -12,7 +12,15 @@ use Rattle.cts_framing.specs.Rows.{framing_of}
 -- frames with a length field of so many bits at a bit offset, and a sync pattern
 abbrev pub length_at : ℕ → ℕ → List ℕ → LengthData
 length_at offset bits sync =
-    record { place = record { offset = offset; bits = bits; order = Big }; value_offset = pos 0; per_count = 1; discard = 0; sync = sync; max = None; fill = true }
+    record {
+      place = record { offset = offset; bits = bits; order = Big };
+      value_offset = pos 0;
+      per_count = 1;
+      discard = 0;
+      sync = sync;
+      max = None;
+      fill = true;
+    }
 
 -- frames that end with this termination, which is stripped
 abbrev pub ended_by : List ℕ → TerminatedData
@@ -41,14 +49,19 @@ pub record WorkedCuts : Type 0 where
       (record { outs = plain (65 ∷ 66 ∷ []) ∷ []; skipped = 0; empty = 1; rest = []; bad = None })
   -- the second stage cuts what the first one gave, one after another
   pub stages : IsPackets (framing_of (Terminated (ended_by (10 ∷ []))) ∷ framing_of (Length (length_at 0 8 [])) ∷ []) ((3 ∷ 17 ∷ 10 ∷ 34 ∷ 10 ∷ []) ∷ [])
-      (record { outs = plain (3 ∷ 17 ∷ []) ∷ plain (34 ∷ []) ∷ []; skipped = 0; empty = 0; rest = []; bad = None } ∷ record { outs = plain (3 ∷ 17 ∷ 34 ∷ []) ∷ []; skipped = 0; empty = 0; rest = []; bad = None } ∷ [])
+      (record { outs = plain (3 ∷ 17 ∷ []) ∷ plain (34 ∷ []) ∷ []; skipped = 0; empty = 0; rest = []; bad = None }
+      ∷ record { outs = plain (3 ∷ 17 ∷ 34 ∷ []) ∷ []; skipped = 0; empty = 0; rest = []; bad = None } ∷ [])
       (plain (3 ∷ 17 ∷ 34 ∷ []) ∷ [])
   -- each piece is a frame
-  pub pieces : CutEach (framing_of (Burst burst)) [] ((1 ∷ []) ∷ (2 ∷ []) ∷ []) (record { outs = plain (1 ∷ []) ∷ plain (2 ∷ []) ∷ []; skipped = 0; empty = 0; rest = []; bad = None })
+  pub pieces : CutEach (framing_of (Burst burst)) [] ((1 ∷ []) ∷ (2 ∷ []) ∷ [])
+      (record { outs = plain (1 ∷ []) ∷ plain (2 ∷ []) ∷ []; skipped = 0; empty = 0; rest = []; bad = None })
   -- the greatest frame is waited for, and one byte more is an error
-  pub greatest : IsCut (framing_of (Length (length_at 0 32 []))) (0 ∷ 16 ∷ 0 ∷ 0 ∷ []) (record { outs = []; skipped = 0; empty = 0; rest = 0 ∷ 16 ∷ 0 ∷ 0 ∷ []; bad = None })
-  pub too_long : IsCut (framing_of (Length (length_at 0 32 []))) (0 ∷ 16 ∷ 0 ∷ 1 ∷ []) (record { outs = []; skipped = 0; empty = 0; rest = 0 ∷ 16 ∷ 0 ∷ 1 ∷ []; bad = Some TooLong })
+  pub greatest : IsCut (framing_of (Length (length_at 0 32 []))) (0 ∷ 16 ∷ 0 ∷ 0 ∷ [])
+      (record { outs = []; skipped = 0; empty = 0; rest = 0 ∷ 16 ∷ 0 ∷ 0 ∷ []; bad = None })
+  pub too_long : IsCut (framing_of (Length (length_at 0 32 []))) (0 ∷ 16 ∷ 0 ∷ 1 ∷ [])
+      (record { outs = []; skipped = 0; empty = 0; rest = 0 ∷ 16 ∷ 0 ∷ 1 ∷ []; bad = Some TooLong })
   -- two packets by their starts, and a byte that begins none: a frame, or an error
   pub starts : IsCut (framing_of (Fixed (fixed_by false))) (1 ∷ 5 ∷ 6 ∷ 1 ∷ 7 ∷ 8 ∷ 2 ∷ [])
       (record { outs = plain (1 ∷ 5 ∷ 6 ∷ []) ∷ plain (1 ∷ 7 ∷ 8 ∷ []) ∷ plain (2 ∷ []) ∷ []; skipped = 0; empty = 0; rest = []; bad = None })
-  pub unknown : IsCut (framing_of (Fixed (fixed_by true))) (1 ∷ 5 ∷ 6 ∷ 2 ∷ []) (record { outs = plain (1 ∷ 5 ∷ 6 ∷ []) ∷ []; skipped = 0; empty = 0; rest = 2 ∷ []; bad = Some UnknownStart })
+  pub unknown : IsCut (framing_of (Fixed (fixed_by true))) (1 ∷ 5 ∷ 6 ∷ 2 ∷ [])
+      (record { outs = plain (1 ∷ 5 ∷ 6 ∷ []) ∷ []; skipped = 0; empty = 0; rest = 2 ∷ []; bad = Some UnknownStart })

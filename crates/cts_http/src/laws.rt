@@ -1,6 +1,7 @@
 //! Laws of the requests in the bytes of a connection, and of what is put on it.
 
-ghost use Rattle.cts_http.specs.Laws.{NoneLacksRequests, HaveOneRequests, RequestsGrow, RefusalsStay, ClosedStays, WaitingIsBounded, HaveOneStream, OneMoreResponse};
+ghost use Rattle.cts_http.specs.Laws.{NoneLacksRequests, HaveOneRequests, RequestsGrow, RefusalsStay, ClosedStays, WaitingIsBounded, HaveOneStream};
+ghost use Rattle.cts_http.specs.Laws.{OneMoreResponse};
 
 /// No bytes of a connection lack a list of requests, and they have no two, nor two endings, but that a target which no UTF-8 can become, and which
 /// stands last after them, may be refused before its end. More bytes only add requests, and change nothing after a refusal

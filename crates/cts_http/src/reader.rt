@@ -37,9 +37,17 @@ impl Model for Reader {
 
     ghost Value = { Reading };
 
-    ghost view = { λ r. record { left = drop r.from r.held.items; given = option_map (λ start. slice_range r.held.items start r.from) r.body; closed = r.closed; refused = r.refused; held = length r.held.items } };
+    ghost view = { λ r. record {
+      left = drop r.from r.held.items;
+      given = option_map (λ start. slice_range r.held.items start r.from) r.body;
+      closed = r.closed;
+      refused = r.refused;
+      held = length r.held.items;
+    } };
 
-    ghost invariant = { λ r. (r.from ≤ length r.held.items) × IfSome r.head (λ head. HasAccepted (drop r.from r.held.items) head) × IfSome r.body (λ start. start ≤ r.from) × (length (take most_head r.held.items) ≤ 3 * length r.room.items + 2) × IfSome r.refused (λ status. IsTrue (is_refusal status)) };
+    ghost invariant = { λ r. (r.from ≤ length r.held.items) × IfSome r.head (λ head. HasAccepted (drop r.from r.held.items) head) × IfSome r.body
+        (λ start. start ≤ r.from) × (length (take most_head r.held.items) ≤ 3 * length r.room.items + 2) × IfSome r.refused
+        (λ status. IsTrue (is_refusal status)) };
 }
 
 impl Reader {

@@ -52,7 +52,8 @@ fn put_pieces(out: &mut [u8; 160], pieces: &[&[u8]]) -> usize
     at
 }
 
-/// Writes a whole refusal with this status, which is one of those of [`crate::HttpStep::Refuse`], from the first byte of `out` on, and answers how many bytes that are. The
+/// Writes a whole refusal with this status, which is one of those of [`crate::HttpStep::Refuse`], from the first byte of `out` on, and
+/// answers how many bytes that are. The
 /// others keep what they have.
 pub fn refusal(status: u16, out: &mut [u8; 160]) -> usize
     requires { IsTrue (is_refusal status) }

@@ -2,8 +2,9 @@
 ghost use Rattle.std.specs.Prelude.{◌≡◌, option_map};
 ghost use Rattle.std.specs.List.{list_any};
 ghost use Rattle.cts_def.specs.Protocols.{spec_data};
-ghost use Rattle.cts_hub.specs.Ties.{alone, are_same_heads, are_tied, chains_fit, is_used, same_max, specs_used};
+ghost use Rattle.cts_hub.specs.Ties.{alone, are_same_heads, are_tied, chains_fit, is_used, specs_used};
 
+use crate::same::same_option;
 use cts_def::{ProtoSpec, ProtoUse};
 
 /// Whether what the one chain writes is one PREIDENTIFIED, and what reads of the other is one with the same parameters.
@@ -43,6 +44,7 @@ fn is_used(it: &ProtoUse, reading: bool) -> bool
     if reading { it.reads } else { it.writes }
 }
 
+#[tactic(auto, using(crate::proofs::Equal::max_is))]
 fn are_same_heads(one: &ProtoSpec, other: &ProtoSpec) -> bool
     ensures { result ≡ are_same_heads (spec_data one.now) (spec_data other.now) }
 {
@@ -54,17 +56,7 @@ fn are_same_heads(one: &ProtoSpec, other: &ProtoSpec) -> bool
                 max: max_read,
                 layout: layout_read,
             },
-        ) => sync == sync_read && (same_max(*max, *max_read) && *layout == *layout_read),
-        _ => false,
-    }
-}
-
-fn same_max(one: Option<u64>, other: Option<u64>) -> bool
-    ensures { result ≡ same_max one other }
-{
-    match (one, other) {
-        (None, None) => true,
-        (Some(m), Some(n)) => m == n,
+        ) => sync == sync_read && (same_option(max, max_read) && *layout == *layout_read),
         _ => false,
     }
 }

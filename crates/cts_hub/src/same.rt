@@ -36,6 +36,24 @@ fn same_all<T: Same>(one: &[T], other: &[T]) -> bool
     }
 }
 
+/// Whether both are there and the same, or none is there.
+pub(crate) fn same_option<T: Same>(one: &Option<T>, other: &Option<T>) -> bool
+    ensures same { result ≡ true → one.now ≡ other.now }
+    ensures apart { result ≡ false → one.now ≡ other.now → ⊥ }
+{
+    match (one, other) {
+        (None, None) => true,
+        (Some(a), Some(b)) => a.same(b),
+        _ => false,
+    }
+}
+
+impl<A: Same, B: Same> Same for (A, B) {
+    fn same(&self, other: &Self) -> bool {
+        self.0.same(&other.0) && self.1.same(&other.1)
+    }
+}
+
 impl Same for Packet {
     fn same(&self, other: &Self) -> bool {
         self.target.same(&other.target)
@@ -77,32 +95,10 @@ fn same_rules(one: &Item, other: &Item) -> bool
     ensures apart { result ≡ false → one.now ≡ other.now → ⊥ }
 {
     one.order == other.order
-        && same_id(one.id, other.id)
-        && same_range(one.range, other.range)
+        && same_option(&one.id, &other.id)
+        && same_option(&one.range, &other.range)
         && one.required == other.required
         && one.overflow == other.overflow
-}
-
-fn same_id(one: Option<i128>, other: Option<i128>) -> bool
-    ensures same { result ≡ true → one ≡ other }
-    ensures apart { result ≡ false → one ≡ other → ⊥ }
-{
-    match (one, other) {
-        (None, None) => true,
-        (Some(a), Some(b)) => a == b,
-        _ => false,
-    }
-}
-
-fn same_range(one: Option<(i128, i128)>, other: Option<(i128, i128)>) -> bool
-    ensures same { result ≡ true → one ≡ other }
-    ensures apart { result ≡ false → one ≡ other → ⊥ }
-{
-    match (one, other) {
-        (None, None) => true,
-        (Some(a), Some(b)) => a.0 == b.0 && a.1 == b.1,
-        _ => false,
-    }
 }
 
 fn same_values(one: &Item, other: &Item) -> bool
@@ -118,9 +114,9 @@ fn same_texts(one: &Item, other: &Item) -> bool
     ensures same { result ≡ true → SameTexts one.now other.now }
     ensures apart { result ≡ false → one.now ≡ other.now → ⊥ }
 {
-    same_setup(&one.limits, &other.limits)
-        && same_units(&one.units, &other.units)
-        && same_format(&one.format, &other.format)
+    same_option(&one.limits, &other.limits)
+        && same_option(&one.units, &other.units)
+        && same_option(&one.format, &other.format)
 }
 
 impl Same for Preset {
@@ -137,19 +133,8 @@ impl Same for StateDef {
     fn same(&self, other: &Self) -> bool {
         self.name.same(&other.name)
             && self.value == other.value
-            && same_color(self.color, other.color)
+            && same_option(&self.color, &other.color)
             && self.hazardous == other.hazardous
-    }
-}
-
-fn same_color(one: Option<Color>, other: Option<Color>) -> bool
-    ensures same { result ≡ true → one ≡ other }
-    ensures apart { result ≡ false → one ≡ other → ⊥ }
-{
-    match (one, other) {
-        (None, None) => true,
-        (Some(a), Some(b)) => a == b,
-        _ => false,
     }
 }
 
@@ -179,28 +164,11 @@ impl Same for Decimal {
     }
 }
 
-fn same_setup(one: &Option<LimitsSetup>, other: &Option<LimitsSetup>) -> bool
-    ensures same { result ≡ true → one.now ≡ other.now }
-    ensures apart { result ≡ false → one.now ≡ other.now → ⊥ }
-{
-    match (one, other) {
-        (None, None) => true,
-        (Some(a), Some(b)) => a.same(b),
-        _ => false,
-    }
-}
-
 impl Same for LimitsSetup {
     fn same(&self, other: &Self) -> bool {
         same_all(self.sets.as_slice(), other.sets.as_slice())
             && self.persistence == other.persistence
             && self.enabled == other.enabled
-    }
-}
-
-impl Same for (Name, Limits) {
-    fn same(&self, other: &Self) -> bool {
-        self.0.same(&other.0) && self.1.same(&other.1)
     }
 }
 
@@ -210,40 +178,7 @@ impl Same for Limits {
             && self.yellow_low.same(&other.yellow_low)
             && self.yellow_high.same(&other.yellow_high)
             && self.red_high.same(&other.red_high)
-            && same_green(&self.green, &other.green)
-    }
-}
-
-fn same_green(one: &Option<(Decimal, Decimal)>, other: &Option<(Decimal, Decimal)>) -> bool
-    ensures same { result ≡ true → one.now ≡ other.now }
-    ensures apart { result ≡ false → one.now ≡ other.now → ⊥ }
-{
-    match (one, other) {
-        (None, None) => true,
-        (Some(a), Some(b)) => a.0.same(&b.0) && a.1.same(&b.1),
-        _ => false,
-    }
-}
-
-fn same_units(one: &Option<(Bytes, Bytes)>, other: &Option<(Bytes, Bytes)>) -> bool
-    ensures same { result ≡ true → one.now ≡ other.now }
-    ensures apart { result ≡ false → one.now ≡ other.now → ⊥ }
-{
-    match (one, other) {
-        (None, None) => true,
-        (Some(a), Some(b)) => a.0.same(&b.0) && a.1.same(&b.1),
-        _ => false,
-    }
-}
-
-fn same_format(one: &Option<Bytes>, other: &Option<Bytes>) -> bool
-    ensures same { result ≡ true → one.now ≡ other.now }
-    ensures apart { result ≡ false → one.now ≡ other.now → ⊥ }
-{
-    match (one, other) {
-        (None, None) => true,
-        (Some(a), Some(b)) => a.same(b),
-        _ => false,
+            && same_option(&self.green, &other.green)
     }
 }
 
@@ -258,5 +193,23 @@ impl Same for Bytes {
     #[tactic(auto, using(crate::proofs::Equal::same_is, crate::proofs::Equal::is_same_itself))]
     fn same(&self, other: &Self) -> bool {
         self == other
+    }
+}
+
+impl Same for Color {
+    fn same(&self, other: &Self) -> bool {
+        *self == *other
+    }
+}
+
+impl Same for i128 {
+    fn same(&self, other: &Self) -> bool {
+        *self == *other
+    }
+}
+
+impl Same for u64 {
+    fn same(&self, other: &Self) -> bool {
+        *self == *other
     }
 }

@@ -20,4 +20,5 @@ pub record StatesAreLeft : Type 0 where
   pub none : state_of [] ≡ Stale
   pub first : (s : List Sample) (x : Sample) → state_of s ≡ Stale → state_of (s ++ x ∷ []) ≡ x.color
   pub changes : (s : List Sample) (x : Sample) → HaveLastOthers (state_of s) x.persistence (s ++ x ∷ []) → state_of (s ++ x ∷ []) ≡ x.color
-  pub stays : (s : List Sample) (x : Sample) → state_of s ≢ Stale → (¬ HaveLastOthers (state_of s) x.persistence (s ++ x ∷ [])) → state_of (s ++ x ∷ []) ≡ state_of s
+  pub stays : (s : List Sample) (x : Sample) → state_of s ≢ Stale → (¬ HaveLastOthers (state_of s) x.persistence (s ++ x ∷ []))
+      → state_of (s ++ x ∷ []) ≡ state_of s

@@ -139,5 +139,5 @@ quiet_stop true by now =
       connects = ap (λ (x : Bool). or_earlier None (if x then connects Stop else None)) mine;
       ended = ap (λ (x : Bool). (x && false) || false) mine;
       opened = ap (λ (x : Bool). (x && false) || false) mine;
-      faults = ap (λ (x : Bool). (x && false) || false) mine;
+      closed = λ test. ap (λ (x : Bool). (x && false) || false) mine;
     }

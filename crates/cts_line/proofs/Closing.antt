@@ -18,14 +18,14 @@ use Rattle.cts_framing.specs.Packets.{Fault, IsPackets, capped, loss_of}
 use Rattle.cts_outside.specs.Lines.{Connection, Line}
 use Rattle.cts_proto.specs.Meaning.{Meaning}
 use Rattle.cts_trace.specs.Routing.{Routing, queue, spell}
-use Rattle.cts_trace.specs.Connections.{Carries, Blames, Fed, Left, Stay, Tail}
+use Rattle.cts_trace.specs.Connections.{Carries, Blames, Fed, Left, NoneLate, Stay, Tail}
 use Rattle.cts_entry.specs.Room.{Capacity}
-use Rattle.cts_trace.specs.Lines.{Causes, Looked, IsLook, LastTwo, PutsAll, PostsNone, looks}
+use Rattle.cts_trace.specs.Lines.{Causes, Looked, IsLook, LastTwo, PutsAll, PostsNone, TellsWhy, looks}
 use Rattle.cts_trace.specs.Told.{Said}
 use Rattle.cts_trace.proofs.Looking.{looks_append, puts_all_map}
 use Rattle.cts_trace.proofs.Walks.{queue-append}
 use Rattle.cts_worker.specs.Lasts.{entry_of}
-use Rattle.cts_line.specs.Talks.{Body, Holds}
+use Rattle.cts_line.specs.Talks.{Body, Holds, SoonBy}
 use Rattle.cts_line.proofs.Bodies.{inside, drop_whole}
 use Rattle.cts_line.proofs.Growing.{looks_all}
 
@@ -41,13 +41,16 @@ pub record Closing (g : Routing) (room : Capacity) (m : ℕ) (why : Why) (stages
   pub settled : AllSettled stages
   pub framings : framings_of stages ≡ g.chain m
   pub blames : Blames (last_fault 1 stages) why
+  pub late : NoneLate (g.chain m) connection.pieces
   pub left_is : Left g m why fed body.posted left
   pub unposted_is : unposted ≡ capped (length left)
   pub past : Said g room m found line.past body.before
   pub place_is : place ≡ length body.before + 1 + length body.looked
   pub holds : Holds found (length body.before) (length history)
+  pub soon : SoonBy 3 found (length body.before) history
   pub look_is : (body.looked ≡ []) ⊎ IsLook found place (length history)
   pub cause : Causes room why (record { connection = connection; looked = body.before ++ body.opened ∷ body.looked; whole = history; left = left })
+  pub tells : TellsWhy why connection
   pub quiet : PostsNone why (has_own m body.ahead ≡ false)
   pub tail : List ℕ
   pub put : connection.put ≡ spelled (spell g m) body.done ++ tail
@@ -109,6 +112,7 @@ closes g room m time why stages place unsent unposted found history line t =
       tail = t.tail;
       carries = carries;
       blames = subst (λ (f : Option Fault). Blames f why) are.fault_is t.blames;
+      late = t.late;
       fed_is = t.fed_is;
       left_is = t.left_is;
       put = t.put;
@@ -124,6 +128,7 @@ closes g room m time why stages place unsent unposted found history line t =
       between_is = refl;
       look_is = look_at found place look (length history) end b.looked t.place_is long t.look_is;
       cause = subst (λ (l : List Entry). Causes room why (record { connection = t.connection; looked = b.before ++ b.opened ∷ b.looked; whole = l; left = t.left })) b.whole t.cause;
+      tells = t.tells;
       waits = b.rest;
       saw = b.queue_is;
       tail_is = t.tail_is;
@@ -144,6 +149,11 @@ closes g room m time why stages place unsent unposted found history line t =
               later_beyond = All-nil (λ (k : ℕ). end < k);
             },
           )) t.last;
+      soon = λ earlier later are stop.
+          (let front : List Entry = b.before ++ b.opened ∷ earlier in
+          let is : history ≡ front ++ later = b.whole ∙ (ap (λ (l : List Entry). b.before ++ b.opened ∷ l) are ∙ sym (append_assoc b.before (b.opened ∷ earlier) later)) in
+          let n = length-append b.before (b.opened ∷ earlier) in
+          subst (λ (k : ℕ). looks found (o + length earlier) k ≤ 3) long (t.soon front later (o + length earlier) is (omega (arith, n)) (omega arith) stop));
     } in
     subst (λ (c : Option Connection). Said g room m found (line.past ++ option_to_list c) (history ++ closed ∷ [])) (sym t.stands)
     (subst (λ (l : List Entry). Said g room m found (line.past ++ t.connection ∷ []) l) (sym whole)

@@ -38,6 +38,7 @@ use Rattle.cts_worker.proofs.Holdings.{looked_in}
 use Rattle.cts_worker.proofs.Lasting.{ended_onward, ended_seen}
 use Rattle.cts_line.specs.Doing.{OpensIn}
 use Rattle.cts_line.specs.Ending.{after_closed, reconnects, unless_again, CausesEnd, FaultsRise, IsUndialed, Keeps, fails, has_closed, has_stop, is_any, is_full, opened_in, refused, stops_all}
+use Rattle.cts_turn.specs.Lists.{climbs}
 use Rattle.cts_line.specs.Talks.{Begins, IsClosed, Talks, TalksAt, ToldSoFar, Waits, Went, room_of}
 use Rattle.cts_line.specs.declared.ending.LineWhy.{LineWhy}
 use Rattle.cts_line.specs.declared.ending.LineWhy.TheVariants.{Stopped, Finished, NoReconnect, DoorFailed, Full, NoMemory, Cancelled}
@@ -45,7 +46,7 @@ use Rattle.cts_line.specs.declared.opening.Opening.{Opening}
 use Rattle.cts_line.specs.declared.opening.Opening.TheVariants.{Opened, Stopped as StoppedThere, Full as NoRoom, NoMemory as NoMemoryThere}
 use Rattle.cts_chain.proofs.Anew.{anew}
 use Rattle.cts_line.proofs.Growing.{Grows, said_grown}
-use Rattle.cts_line.proofs.Keeping.{Quiet, counted_none, faults_quiet, keeps_quiet, opened_quiet, quiet_none, quiet_others, stop_both, stop_opened, stop_strange}
+use Rattle.cts_line.proofs.Keeping.{Quiet, closed_quiet, counted_none, faults_quiet, keeps_quiet, opened_quiet, quiet_none, quiet_others, stop_both, stop_opened, stop_strange}
 use Rattle.cts_line.proofs.Boarding.{quiet_stop}
 use Rattle.cts_line.proofs.Following.{filter_few, grows_by, look_grows, look_kept, look_onward, look_stop, onward_by, quiet_keeps, stop_kept_by}
 use Rattle.cts_line.proofs.Steps.{opens_talk}
@@ -145,6 +146,7 @@ pub record Opens (m : ℕ) (old new : List Entry) : Type 0 where
   pub opened : opened_in m new ≡ opened_in m old + 1
   pub faults : faults_of m new ≡ faults_of m old
   pub on : is_connected m new ≡ true
+  pub closed : (test : Why → Bool) → has_closed m test new ≡ has_closed m test old
 
 opens_own : (m : ℕ) (history es : List Entry) (time : Time) → Quiet m es → Opens m history ((history ++ es) ++ opened_entry m time ∷ [])
 opens_own m history es time q =
@@ -158,6 +160,9 @@ opens_own m history es time q =
       faults = (let c = count (λ (x : Entry). (x.by == m) && closes_for is_fault x.what) mid (e ∷ []) in let f = k.faults in
           let none : length (filter (λ (x : Entry). (x.by == m) && closes_for is_fault x.what) (e ∷ [])) ≡ 0 = ap (λ (b : Bool). length (cond (b && false) (e ∷ []) [])) mine in omega (arith, c, f, none));
       on = connected-append m mid (e ∷ []) ∙ ap (λ (b : Bool). unwrap_or (or_earlier (or_earlier None (if b then Some true else None)) (latest (connects_maker m) mid)) false) mine;
+      closed = λ test.
+          list_any-append (λ (x : Entry). (x.by == m) && closes_for test x.what) mid (e ∷ [])
+          ∙ (ap (λ (b : Bool). has_closed m test mid || ((b && false) || false)) mine ∙ (or-false (has_closed m test mid) ∙ closed_quiet m test history es q));
     }
   where
     count : (test : Entry → Bool) (xs ys : List Entry) → length (filter test (xs ++ ys)) ≡ length (filter test xs) + length (filter test ys)
@@ -192,7 +197,7 @@ pub record OpeningView {G : Type 0} (base : Basis) (m : ℕ) (old new : View Ent
   pub stop : has_stop m new.seen ≡ has_stop m old.seen
   pub same : IsSameChain c.chain d.chain
   pub place : d.cursor.place ≤ length new.seen
-  pub talks : (told : Option Line) → Begins (site_routing base.site) (room_of base) m old.found old.seen told → TalksAt (site_routing base.site) (room_of base) m Waits d new told
+  pub talks : climbs 0 old.found (length old.seen) ≡ true → (told : Option Line) → Begins (site_routing base.site) (room_of base) m old.found old.seen told → TalksAt (site_routing base.site) (room_of base) m Waits d new told
 
 module _ {G : Type 0} (m : ℕ) (old new : View Entry G) (s t : Shown) (held : Held m old new s t) (c d : HeldConnection) where
   refusal_by : (why : LineWhy) (added : List Entry) → t.entries ≡ s.entries ++ added → Quiet m added → has_own m added ≡ false → (stops_all why ≡ false → has_stop m added ≡ false) → d ≡ c → is_stopped t.entries ≡ true
@@ -240,9 +245,9 @@ module _ {G : Type 0} (m : ℕ) (old new : View Entry G) (s t : Shown) (held : H
         stop = stop_kept_by m old new s t held (e ∷ []) o.0.entries (stop_opened m time);
         same = o.1.same;
         place = omega (arith, place);
-        talks = λ told begins.
+        talks = λ climbing told begins.
             subst (λ (k : ℕ). Talks (site_routing s.basis.site) (room_of s.basis) m Waits d.chain.stages d.cursor.place k new.found new.seen told) (sym (ap (λ x. x.refused) o.2))
-            (opens_talk (site_routing s.basis.site) (room_of s.basis) m d.cursor.place d.chain.stages old.found new.found old.seen new.seen e told grows (record { maker = refl; what_is = refl }) place fresh.stands fresh.settled fresh.sound begins);
+            (opens_talk (site_routing s.basis.site) (room_of s.basis) m d.cursor.place d.chain.stages old.found new.found old.seen new.seen e told grows (record { maker = refl; what_is = refl }) place fresh.stands fresh.settled fresh.sound climbing begins);
       }
   opening_of time StoppedThere is o = absurd (cc is)
   opening_of time NoRoom is o = absurd (cc is)
@@ -304,6 +309,7 @@ pub record Untouched (m : ℕ) (history : List Entry) : Type 0 where
   pub opened : opened_in m history ≡ 0
   pub faults : faults_of m history ≡ 0
   pub stop : has_stop m history ≡ false
+  pub closed : (test : Why → Bool) → has_closed m test history ≡ false
   pub quiet : has_own m history ≡ false
 
 pub untouched : (m : ℕ) (history : List Entry) → of_maker m history ≡ [] → Untouched m history
@@ -315,6 +321,7 @@ untouched m history none =
       opened = k.opened;
       faults = k.faults;
       stop = stop_strange m history none;
+      closed = q.closed;
       quiet = strange_own m history none;
     }
 
@@ -344,9 +351,9 @@ last_opens : (b : Bool) (m : ℕ) (time : Time) → list_any (opens m) (stop_if 
 last_opens true m time = ap (λ (x : Bool). (x && false) || ((x && false) || false)) (eq-eqb m m refl)
 last_opens false m time = ap (λ (x : Bool). (x && false) || false) (eq-eqb m m refl)
 
-last_faults : (b : Bool) (m : ℕ) (time : Time) → list_any (λ (e : Entry). (e.by == m) && closes_for is_fault e.what) (stop_if b m time ++ entry_of m time Ended ∷ []) ≡ false
-last_faults true m time = ap (λ (x : Bool). (x && false) || ((x && false) || false)) (eq-eqb m m refl)
-last_faults false m time = ap (λ (x : Bool). (x && false) || false) (eq-eqb m m refl)
+last_closes : (b : Bool) (m : ℕ) (time : Time) (test : Why → Bool) → has_closed m test (stop_if b m time ++ entry_of m time Ended ∷ []) ≡ false
+last_closes true m time test = ap (λ (x : Bool). (x && false) || ((x && false) || false)) (eq-eqb m m refl)
+last_closes false m time test = ap (λ (x : Bool). (x && false) || false) (eq-eqb m m refl)
 
 pub causes_more : (site : SiteData) (most m : ℕ) (history more : List Entry) (told : Option Line) (before now : ℕ) (why : LineWhy) → CausesEnd site most m history told before now why → CausesEnd site most m (history ++ more) told before now why
 causes_more site most m history more told before now Stopped c = stop_kept history more c
@@ -384,7 +391,14 @@ module _ {G : Type 0} (m : ℕ) (old new : View Entry G) (stops : Bool) (time : 
 
   pub last_faults_same : faults_of m new.seen ≡ faults_of m old.seen
   last_faults_same =
-      ap (faults_of m) last_is ∙ (counted_none (λ (e : Entry). (e.by == m) && closes_for is_fault e.what) before last (last_faults _ m time) ∙ faults_quiet m old.seen ended.hold.others others_quiet)
+      ap (faults_of m) last_is ∙ (counted_none (λ (e : Entry). (e.by == m) && closes_for is_fault e.what) before last (last_closes _ m time is_fault) ∙ faults_quiet m old.seen ended.hold.others others_quiet)
+
+  pub last_closed_same : (test : Why → Bool) → has_closed m test new.seen ≡ has_closed m test old.seen
+  last_closed_same test =
+      ap (has_closed m test) last_is
+      ∙ (list_any-append (λ (e : Entry). (e.by == m) && closes_for test e.what) before last
+      ∙ (ap (λ (b : Bool). has_closed m test before || b) (last_closes _ m time test)
+      ∙ (or-false (has_closed m test before) ∙ closed_quiet m test old.seen ended.hold.others others_quiet)))
 
   pub last_opened_same : opened_in m new.seen ≡ opened_in m old.seen
   last_opened_same = ap (opened_in m) last_is ∙ (counted_none (opens m) before last (last_opens _ m time) ∙ opened_quiet m old.seen ended.hold.others others_quiet)

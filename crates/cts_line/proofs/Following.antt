@@ -24,6 +24,7 @@ use Rattle.cts_entry.specs.Histories.{bytes_in, entries_in, is_stopped}
 use Rattle.cts_entry.specs.Places.{Posts}
 use Rattle.cts_framing.specs.Framing.{Output}
 use Rattle.cts_framing.specs.Packets.{capped}
+use Rattle.cts_framing.proofs.Sound.{chains_are_sound}
 use Rattle.cts_outside.specs.Lines.{Line, at_now, after_take, told_after}
 use Rattle.cts_outside.specs.declared.link.Taken.TheVariants.{Got, Nothing, End, Failed}
 use Rattle.cts_table.specs.States.{Shown, fits}
@@ -156,6 +157,7 @@ module _ {G : Type 0} (m : ℕ) (old new : View Entry G) (s t : Shown) (held : H
     feeds mid entries unposted failed k = record {
       stands = k.stands;
       settled = k.settled;
+      sound = chains_are_sound s.basis.site m;
       framings_old = suits.framings;
       framings = same_framings c.chain mid.chain k.same ∙ suits.framings;
     }
@@ -223,7 +225,7 @@ module _ {G : Type 0} (m : ℕ) (old new : View Entry G) (s t : Shown) (held : H
         closed_told time s k.mid d NoMemory 0 (at_now (after_take (Got n) buffer) line) refl k.closes
         (cursor_closing k.mid NoMemory 0 s.entries (at_now (after_take (Got n) buffer) line) k.cursor
         (unfed_closing g (room_of s.basis) m c.cursor.place c.cursor.refused c.chain.stages k.mid.chain.stages old.found new.found old.seen [] s.entries line (grows_to s.entries [] (sym (append-nil s.entries))) x n buffer piece is
-        k.reserved (same_framings c.chain k.mid.chain k.same ∙ suits.framings) refl))
+        (chains_are_sound s.basis.site m) suits.framings k.reserved (same_framings c.chain k.mid.chain k.same ∙ suits.framings) refl))
 
   pub post_follows : (time : Time) (c d : HeldConnection) (piece : List ℕ) (posting : Posting) → Suits s.basis.site m c.chain → PostsIn m time s c piece posting t d → (told : Option Line) (n : ℕ) (buffer : List ℕ) → piece ≡ take n buffer
       → TalksAt (site_routing s.basis.site) (room_of s.basis) m Takes c old told → Went (site_routing s.basis.site) (room_of s.basis) m d new (told_after (at_now (after_take (Got n) buffer)) told) (closed_by posting)

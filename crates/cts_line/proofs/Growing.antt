@@ -1,6 +1,6 @@
 -- The history grows by a hold: entries of others, and then those that were added.
-use Rattle.std.proofs.Common.{◌≡◌, ℕ, suc, ◌+◌, ◌<◌, ◌≤◌, ◌&&◌, Bool, false, cond, List, [], ◌∷◌, ◌++◌, length, filter, refl, sym, ◌∙◌, ap, subst, arith, append_assoc, length-append, le-leb, lt-ltb, inl, inr}
-use Rattle.std.specs.Prelude.{◌⊎◌, nat_le}
+use Rattle.std.proofs.Common.{◌≡◌, ℕ, suc, ◌+◌, ◌<◌, ◌≤◌, ◌&&◌, Bool, true, false, cond, List, [], ◌∷◌, ◌++◌, length, filter, refl, sym, ◌∙◌, ap, subst, arith, append_assoc, length-append, le-leb, leb-true, lt-ltb, inl, inr}
+use Rattle.std.specs.Prelude.{◌⊎◌, leb, nat_le}
 use Rattle.cts_entry.specs.declared.entry.Entry.{Entry}
 use Rattle.cts_entry.specs.Histories.{has_own}
 use Rattle.cts_outside.specs.Lines.{Connection}
@@ -11,7 +11,8 @@ use Rattle.cts_trace.specs.Routing.{Routing}
 use Rattle.cts_trace.specs.Told.{Said}
 use Rattle.cts_trace.proofs.Looking.{said_found, said_more}
 use Rattle.cts_trace.proofs.Others.{strange_own}
-use Rattle.cts_line.specs.Talks.{AllWithin, Holds, IsAmong, IsLast}
+use Rattle.cts_turn.specs.Lists.{climbs}
+use Rattle.cts_line.specs.Talks.{AllAtMost, AllWithin, Holds, IsAmong, IsLast}
 
 -- others had appended entries, none of them m's, when a hold began, and then these were added
 pub record Grows (m : ℕ) (found : List ℕ) (history : List Entry) (added : List Entry) (found' : List ℕ) (history' : List Entry) : Type 0 where
@@ -21,6 +22,11 @@ pub record Grows (m : ℕ) (found : List ℕ) (history : List Entry) (added : Li
   pub found_is : found' ≡ found ++ length (history ++ others) ∷ []
 
 -- ---- places at which holds began
+
+both_are : (a b : Bool) → (a && b) ≡ true → (a ≡ true) × (b ≡ true)
+both_are true true h = (refl, refl)
+both_are true false h = absurd (cc h)
+both_are false b h = absurd (cc h)
 
 -- members that are all between count in full
 pub looks_all : (mine : List ℕ) (o c : ℕ) → AllWithin o c mine → looks mine o c ≡ length mine
@@ -32,6 +38,20 @@ looks_all (n ∷ ns) o c all =
 pub within_more : (o end end' n : ℕ) (mine : List ℕ) → AllWithin o end mine → end ≤ end' → o < n → n ≤ end' → AllWithin o end' (mine ++ n ∷ [])
 within_more o end end' n [] all le lt here = (lt, here, tt)
 within_more o end end' n (x ∷ mine) all le lt here = (all.0, (let f : x ≤ end = all.1 in omega arith), within_more o end end' n mine all.2 le lt here)
+
+-- no place that is counted up to an end is beyond it
+pub at_most_more : (end end' n : ℕ) (found : List ℕ) → AllAtMost end found → end ≤ end' → n ≤ end' → AllAtMost end' (found ++ n ∷ [])
+at_most_more end end' n [] all le here = (here, tt)
+at_most_more end end' n (x ∷ found) all le here = ((let f : x ≤ end = all.0 in omega arith), at_most_more end end' n found all.1 le here)
+
+climbs_from : (lo hi : ℕ) (found : List ℕ) → climbs lo found hi ≡ true → lo ≤ hi
+climbs_from lo hi [] up = leb-true lo hi up
+climbs_from lo hi (x ∷ found) up = let two = both_are (leb lo x) (climbs x found hi) up in let a = leb-true lo x two.0 in let b = climbs_from x hi found two.1 in omega (arith, a, b)
+
+-- those of a pass never fall, and none is beyond what it has seen
+pub climbs_within : (lo hi : ℕ) (found : List ℕ) → climbs lo found hi ≡ true → AllAtMost hi found
+climbs_within lo hi [] up = tt
+climbs_within lo hi (x ∷ found) up = let two = both_are (leb lo x) (climbs x found hi) up in (climbs_from x hi found two.1, climbs_within x hi found two.1)
 
 -- ---- what a hold leaves
 
@@ -62,6 +82,11 @@ module _ (m : ℕ) (found : List ℕ) (history added : List Entry) (found' : Lis
         let a = others_long in
         let b = long_grown in
         within_more o (length history) (length history') n h.mine h.within (omega arith) (omega arith) (omega arith));
+    all_within =
+        (let n : ℕ = length (history ++ grows.others) in
+        let a = others_long in
+        let b = long_grown in
+        subst (AllAtMost (length history')) (sym grows.found_is) (at_most_more (length history) (length history') n found h.all_within (omega arith) (omega arith)));
   }
 
   pub among_grown : (place : ℕ) → IsAmong found place → IsAmong found' place

@@ -26,7 +26,7 @@ use Rattle.cts_trace.proofs.Others.{strange_if, strange_own}
 use Rattle.cts_trace.proofs.Stretches.{filter_none}
 use Rattle.cts_trace.proofs.Walks.{packets_connect, packets_open}
 use Rattle.cts_worker.specs.Counts.{one_if}
-use Rattle.cts_line.specs.Ending.{Keeps, has_closed, has_stop, opened_in}
+use Rattle.cts_line.specs.Ending.{Keeps, has_closed, has_stop, opened_in, passes}
 
 -- ---- what packets say
 
@@ -81,7 +81,7 @@ pub record Quiet (m : ℕ) (es : List Entry) : Type 0 where
   pub connects : latest (connects_maker m) es ≡ None
   pub ended : has_ended m es ≡ false
   pub opened : list_any (opens m) es ≡ false
-  pub faults : list_any (λ (e : Entry). (e.by == m) && closes_for is_fault e.what) es ≡ false
+  pub closed : (test : Why → Bool) → has_closed m test es ≡ false
 
 strange_kind : (m : ℕ) (kind : What → Bool) (es : List Entry) → of_maker m es ≡ [] → list_any (λ (e : Entry). (e.by == m) && kind e.what) es ≡ false
 strange_kind m kind [] none = refl
@@ -94,7 +94,7 @@ quiet_others m es none = record {
   connects = none_connected m es (strange_own m es none);
   ended = strange_kind m is_ended es none;
   opened = none_opened m es (strange_own m es none);
-  faults = strange_kind m (closes_for is_fault) es none;
+  closed = λ test. strange_kind m (closes_for test) es none;
 }
 
 pub quiet_packets : (g : Routing) (history : List Entry) (now : Time) (m : ℕ) (outs : List Output) → Quiet m (posted_entries g history now m outs)
@@ -102,11 +102,11 @@ quiet_packets g history now m outs = record {
   connects = packets_connect m g history now m outs;
   ended = packets_none is_ended g history now m m outs (λ o. (says_packet g history m o).ended);
   opened = packets_open m g history now m outs;
-  faults = packets_none (closes_for is_fault) g history now m m outs (λ o. (says_packet g history m o).closes is_fault);
+  closed = λ test. packets_none (closes_for test) g history now m m outs (λ o. (says_packet g history m o).closes test);
 }
 
 pub quiet_none : (m : ℕ) → Quiet m []
-quiet_none m = record { connects = refl; ended = refl; opened = refl; faults = refl }
+quiet_none m = record { connects = refl; ended = refl; opened = refl; closed = λ test. refl }
 
 or_none : (a b : Bool) → a ≡ false → b ≡ false → (a || b) ≡ false
 or_none true b h k = absurd (cc h)
@@ -117,7 +117,7 @@ quiet_both m xs ys a b = record {
   connects = latest-append (connects_maker m) xs ys ∙ (ap (λ (t : Option Bool). or_earlier t (latest (connects_maker m) xs)) b.connects ∙ a.connects);
   ended = list_any-append (λ (e : Entry). (e.by == m) && is_ended e.what) xs ys ∙ or_none _ _ a.ended b.ended;
   opened = list_any-append (opens m) xs ys ∙ or_none _ _ a.opened b.opened;
-  faults = list_any-append (λ (e : Entry). (e.by == m) && closes_for is_fault e.what) xs ys ∙ or_none _ _ a.faults b.faults;
+  closed = λ test. list_any-append (λ (e : Entry). (e.by == m) && closes_for test e.what) xs ys ∙ or_none _ _ (a.closed test) (b.closed test);
 }
 
 -- ---- counts
@@ -129,13 +129,17 @@ pub counted_none : (test : Entry → Bool) (xs ys : List Entry) → list_any tes
 counted_none test xs ys none = let c = counted test xs ys in let n = ap length (filter_none test ys none) in omega (arith, c, n)
 
 pub faults_quiet : (m : ℕ) (history es : List Entry) → Quiet m es → faults_of m (history ++ es) ≡ faults_of m history
-faults_quiet m history es q = counted_none (λ (e : Entry). (e.by == m) && closes_for is_fault e.what) history es q.faults
+faults_quiet m history es q = counted_none (λ (e : Entry). (e.by == m) && closes_for is_fault e.what) history es (q.closed is_fault)
 
 pub opened_quiet : (m : ℕ) (history es : List Entry) → Quiet m es → opened_in m (history ++ es) ≡ opened_in m history
 opened_quiet m history es q = counted_none (opens m) history es q.opened
 
 pub ended_quiet : (m : ℕ) (history es : List Entry) → Quiet m es → has_ended m (history ++ es) ≡ has_ended m history
 ended_quiet m history es q = list_any-append (λ (e : Entry). (e.by == m) && is_ended e.what) history es ∙ (ap (λ (b : Bool). has_ended m history || b) q.ended ∙ or-false (has_ended m history))
+
+pub closed_quiet : (m : ℕ) (test : Why → Bool) (history es : List Entry) → Quiet m es → has_closed m test (history ++ es) ≡ has_closed m test history
+closed_quiet m test history es q =
+    list_any-append (λ (e : Entry). (e.by == m) && closes_for test e.what) history es ∙ (ap (λ (b : Bool). has_closed m test history || b) (q.closed test) ∙ or-false (has_closed m test history))
 
 pub connected_quiet : (m : ℕ) (history es : List Entry) → Quiet m es → is_connected m (history ++ es) ≡ is_connected m history
 connected_quiet m history es q = connected-append m history es ∙ ap (λ (t : Option Bool). unwrap_or (or_earlier t (latest (connects_maker m) history)) false) q.connects
@@ -163,7 +167,7 @@ stop_same m history es none = list_any-append (λ (e : Entry). (e.by == m) && is
 -- ---- what is kept
 
 pub keeps_same : (m : ℕ) (history : List Entry) → Keeps m history history None
-keeps_same m history = record { ended = refl; opened = refl; faults = omega arith; on = sym (and-true (is_connected m history)); said = tt }
+keeps_same m history = record { ended = refl; opened = refl; faults = omega arith; on = sym (and-true (is_connected m history)); said = tt; only = λ test. sym (or-false (has_closed m test history)) }
 
 pub keeps_quiet : (m : ℕ) (history es : List Entry) → Quiet m es → Keeps m history (history ++ es) None
 keeps_quiet m history es q = record {
@@ -172,6 +176,7 @@ keeps_quiet m history es q = record {
   faults = (let f = faults_quiet m history es q in omega (arith, f));
   on = connected_quiet m history es q ∙ sym (and-true (is_connected m history));
   said = tt;
+  only = λ test. closed_quiet m test history es q ∙ sym (or-false (has_closed m test history));
 }
 
 same_maker : (m : ℕ) → (m == m) ≡ true
@@ -197,6 +202,10 @@ keeps_closed m history es time why loss unposted unsent q =
       faults = (let c = counted (λ (x : Entry). (x.by == m) && closes_for is_fault x.what) mid (e ∷ []) in let f = faults_quiet m history es q in omega (arith, c, f, one));
       on = connected-append m mid (e ∷ []) ∙ (ap (λ (t : Option Bool). unwrap_or (or_earlier t (latest (connects_maker m) mid)) false) closes ∙ sym (and-false (is_connected m history)));
       said = λ test is. list_any-append (λ (x : Entry). (x.by == m) && closes_for test x.what) mid (e ∷ []) ∙ (ap (λ (b : Bool). has_closed m test mid || ((b && test why) || false)) mine ∙ (ap (λ (b : Bool). has_closed m test mid || (b || false)) is ∙ or_true (has_closed m test mid)));
+      only = λ test.
+          list_any-append (λ (x : Entry). (x.by == m) && closes_for test x.what) mid (e ∷ [])
+          ∙ (ap (λ (b : Bool). has_closed m test mid || ((b && test why) || false)) mine
+          ∙ (ap (λ (b : Bool). has_closed m test mid || b) (or-false (test why)) ∙ ap (λ (b : Bool). b || test why) (closed_quiet m test history es q)));
     }
   where
     or_true : (a : Bool) → (a || true) ≡ true
@@ -210,4 +219,5 @@ keeps_then m a b c closed k l = record {
   faults = (let x = k.faults in let y = l.faults in omega (arith, x, y));
   on = l.on ∙ ap (λ (t : Bool). t && is_none closed) (k.on ∙ and-true (is_connected m a));
   said = l.said;
+  only = λ test. l.only test ∙ ap (λ (x : Bool). x || passes test closed) (k.only test ∙ or-false (has_closed m test a));
 }

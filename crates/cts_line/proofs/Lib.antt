@@ -1,4 +1,5 @@
 pub mod Growing
+pub mod Soon
 pub mod Bodies
 pub mod Closing
 pub mod Steps
@@ -10,3 +11,4 @@ pub mod Boarding
 pub mod Chaining
 pub mod Dialing
 pub mod Telling
+pub mod Heeding

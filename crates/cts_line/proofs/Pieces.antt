@@ -17,20 +17,23 @@ use Rattle.cts_entry.specs.declared.why.Why.TheVariants.{BadFrame, Full, NoMemor
 use Rattle.cts_entry.specs.Places.{Posts}
 use Rattle.cts_framing.specs.Cuts.{Ends as EndsCut}
 use Rattle.cts_framing.specs.Framing.{Framing, Output, plain}
+use Rattle.cts_framing.specs.Laws.{AllSound}
 use Rattle.cts_framing.specs.Packets.{Fault, IsPackets, capped}
 use Rattle.cts_framing.specs.Rows.{framing_of}
 use Rattle.cts_outside.specs.Causes.{raised}
-use Rattle.cts_outside.specs.Lines.{Line, at_now, after_take}
+use Rattle.cts_outside.specs.Lines.{Connection, Line, at_now, after_take}
 use Rattle.cts_outside.specs.declared.link.Taken.TheVariants.{Got}
 use Rattle.cts_proto.specs.Meaning.{Meaning, framing}
-use Rattle.cts_trace.specs.Connections.{Blames, Fed, Left, Shows}
+use Rattle.cts_trace.specs.Connections.{Blames, Fed, Left, NoneLate, Shows}
+use Rattle.cts_trace.proofs.Lateness.{late_more}
 use Rattle.cts_entry.specs.Room.{Capacity}
-use Rattle.cts_trace.specs.Lines.{Causes, PutsAll, PostsNone, Seen}
+use Rattle.cts_trace.specs.Lines.{Causes, Flags, PutsAll, PostsNone, Seen, TellsWhy}
 use Rattle.cts_trace.specs.Routing.{Routing}
 use Rattle.cts_line.specs.Talks.{Takes, Talking, Waits}
 use Rattle.cts_line.proofs.Bodies.{grown_body, inside}
 use Rattle.cts_line.proofs.Closing.{Closing}
 use Rattle.cts_line.proofs.Growing.{Grows, among_or_none, holds_grown, last_grown, look_grown, past_grown}
+use Rattle.cts_line.proofs.Soon.{soon_grown, soon_more}
 use Rattle.cts_line.proofs.Steps.{no_tail, raised_few}
 
 -- ---- why a connection is closed after a piece
@@ -39,15 +42,16 @@ use Rattle.cts_line.proofs.Steps.{no_tail, raised_few}
 pub record ByPiece (why : Why) : Type 1 where
   pub puts : (A : Type 0) → A → PutsAll why A
   pub posts : (A : Type 0) → PostsNone why A
+  pub tells : (c : Connection) → Flags c false false false → TellsWhy why c
 
 pub by_memory : ByPiece NoMemory
-by_memory = record { puts = λ A a. tt; posts = λ A. tt }
+by_memory = record { puts = λ A a. tt; posts = λ A. tt; tells = λ c f. f }
 
 pub by_room : ByPiece Full
-by_room = record { puts = λ A a. tt; posts = λ A. tt }
+by_room = record { puts = λ A a. tt; posts = λ A. tt; tells = λ c f. f }
 
 pub by_fault : (stage : ℕ) (cause : _) → ByPiece (BadFrame stage cause)
-by_fault stage cause = record { puts = λ A a. a; posts = λ A. tt }
+by_fault stage cause = record { puts = λ A a. a; posts = λ A. tt; tells = λ c f. f }
 
 pub blames_memory : (f : Option Fault) → Blames f NoMemory
 blames_memory None = refl
@@ -118,14 +122,21 @@ reserved_settled (m ∷ ms) (n ∷ ns) r s =
 
 -- ---- a piece was fed
 
+-- a piece that is taken does not come late
+next_late : (g : Routing) (room : Capacity) (m place unsent : ℕ) (stages : List Meaning) (found : List ℕ) (history : List Entry) (line : Line) → (t : Talking g room m Takes stages place unsent found history line) (piece : List ℕ)
+    → AllSound (g.chain m) → framings_of stages ≡ g.chain m → NoneLate (g.chain m) (t.connection.pieces ++ piece ∷ [])
+next_late g room m place unsent stages found history line t piece sound framings =
+    let are : AreOf stages t.connection.pieces t.body.posted = settled_gives_all stages t.connection.pieces t.body.posted t.settled t.fed in
+    late_more (g.chain m) t.connection.pieces piece are.cuts t.body.posted sound (subst (λ (fs : List Framing). IsPackets fs t.connection.pieces are.cuts t.body.posted) framings are.packets_are) (sym are.fault_is ∙ t.sound)
+
 -- a connection of whose last piece some packets are posted, and the others left, is closed
 module _ (g : Routing) (room : Capacity) (m place unsent : ℕ) (why : Why) (stages stages' : List Meaning) (found found' : List ℕ) (history added history' : List Entry) (line : Line)
     (grows : Grows m found history added found' history') (t : Talking g room m Takes stages place unsent found history line) (n : ℕ) (buffer : List ℕ) where
-  pub piece_closing : (by : ByPiece why) (fed : List (List ℕ)) (packets left : List Output) (unposted : ℕ) → Posts m (Shows g m) (history ++ grows.others) added packets → Fed why (t.connection.pieces ++ take n buffer ∷ []) fed
+  pub piece_closing : AllSound (g.chain m) → framings_of stages ≡ g.chain m → (by : ByPiece why) (fed : List (List ℕ)) (packets left : List Output) (unposted : ℕ) → Posts m (Shows g m) (history ++ grows.others) added packets → Fed why (t.connection.pieces ++ take n buffer ∷ []) fed
       → StagesStand stages' (map plain fed) ((t.body.posted ++ packets) ++ left) → AllSettled stages' → framings_of stages' ≡ g.chain m → Blames (last_fault 1 stages') why → Left g m why fed (t.body.posted ++ packets) left
       → unposted ≡ capped (length left) → Causes room why (record { connection = after_take (Got n) buffer t.connection; looked = t.body.before ++ t.body.opened ∷ t.body.looked; whole = history'; left = left })
       → Closing g room m why stages' place unsent unposted found' history' (at_now (after_take (Got n) buffer) line)
-  piece_closing by fed packets left unposted shown fed_is chain settled framings blames left_is count causes =
+  piece_closing sound was by fed packets left unposted shown fed_is chain settled framings blames left_is count causes =
       let b = t.body in
       let grown = grown_body g m found history added found' history' grows b packets shown in
       let long = inside history b.before (b.looked ++ b.ahead) b.opened b.whole in
@@ -141,13 +152,16 @@ module _ (g : Routing) (room : Capacity) (m place unsent : ℕ) (why : Why) (sta
         settled = settled;
         framings = framings;
         blames = blames;
+        late = next_late g room m place unsent stages found history line t (take n buffer) sound was;
         left_is = left_is;
         unposted_is = count;
         past = past_grown m found history added found' history' grows g room line.past b.before t.past (omega arith);
         place_is = t.place_is;
         holds = holds_grown m found history added found' history' grows (length b.before) (omega arith) t.holds;
+        soon = soon_more 1 3 found' (length b.before) history' (omega arith) (soon_grown m found history added found' history' grows 0 (length b.before) t.holds.all_within t.soon_so);
         look_is = look_grown m found history added found' history' grows place b.looked t.among;
         cause = causes;
+        tells = by.tells _ t.tells_so;
         quiet = by.posts _;
         tail = [];
         put = no_tail g room m place unsent stages found history line b.done t.connection.put t.put_so.1;
@@ -162,6 +176,7 @@ module _ (g : Routing) (room : Capacity) (m place unsent : ℕ) (why : Why) (sta
 pub record Feeds (g : Routing) (m : ℕ) (old new : List Meaning) (piece : List ℕ) (packets : List Output) : Type 0 where
   pub stands : (ins was : List Output) → StagesStand old ins was → StagesStand new (ins ++ plain piece ∷ []) (was ++ packets)
   pub settled : AllSettled new
+  pub sound : AllSound (g.chain m)
   pub framings_old : framings_of old ≡ g.chain m
   pub framings : framings_of new ≡ g.chain m
 
@@ -174,11 +189,11 @@ module _ (g : Routing) (room : Capacity) (m place unsent : ℕ) (stages stages' 
   fed_chain packets f = subst (λ (l : List Output). StagesStand stages' l (t.body.posted ++ packets)) pieces_plain (f.stands (map plain t.connection.pieces) t.body.posted t.fed)
 
   -- all packets before the last piece are posted
-  left_so : (why : Why) (packets more left : List Output) → Feeds g m stages stages' piece packets → ((left ≡ []) ⊎ ((why ≡ Full) ⊎ (why ≡ NoMemory))) → Left g m why (t.connection.pieces ++ take n buffer ∷ []) (t.body.posted ++ more) left
+  left_so : (why : Why) (packets more left : List Output) → Feeds g m stages stages' piece packets → ((left ≡ []) ⊎ (((why ≡ Full) × (more ≡ [])) ⊎ (why ≡ NoMemory))) → Left g m why (t.connection.pieces ++ take n buffer ∷ []) (t.body.posted ++ more) left
   left_so why packets more left f (inl none) = inl none
   left_so why packets more left f (inr wants) =
       let are : AreOf stages t.connection.pieces t.body.posted = settled_gives_all stages t.connection.pieces t.body.posted t.settled t.fed in
-      inr (wants, (t.connection.pieces, take n buffer, are.cuts, t.body.posted, more, refl, subst (λ (fs : List Framing). IsPackets fs t.connection.pieces are.cuts t.body.posted) f.framings_old are.packets_are, refl))
+      inr (t.connection.pieces, take n buffer, are.cuts, t.body.posted, more, refl, subst (λ (fs : List Framing). IsPackets fs t.connection.pieces are.cuts t.body.posted) f.framings_old are.packets_are, refl, wants)
 
   -- a piece was fed, and its packets are posted
   pub takes_piece : (packets : List Output) → Feeds g m stages stages' piece packets → last_fault 1 stages' ≡ None → Posts m (Shows g m) (history ++ grows.others) added packets
@@ -198,7 +213,10 @@ module _ (g : Routing) (room : Capacity) (m place unsent : ℕ) (stages stages' 
         past = past_grown m found history added found' history' grows g room line.past b.before t.past (omega arith);
         place_is = t.place_is;
         holds = holds_grown m found history added found' history' grows (length b.before) (omega arith) t.holds;
+        soon_so = soon_grown m found history added found' history' grows 0 (length b.before) t.holds.all_within t.soon_so;
         among = among_or_none m found history added found' history' grows place b.looked t.among;
+        late = next_late g room m place unsent stages found history line t (take n buffer) feeds.sound feeds.framings_old;
+        tells_so = t.tells_so;
         saw_so = tt;
         quiet_so = tt;
         put_so = t.put_so;
@@ -206,31 +224,35 @@ module _ (g : Routing) (room : Capacity) (m place unsent : ℕ) (stages stages' 
         looked_so = omega (arith, few, l);
       }
 
-  wants_full : (lost : List Output) (why : Why) → (lost ≡ []) ⊎ (why ≡ NoMemory) → (lost ≡ []) ⊎ ((why ≡ Full) ⊎ (why ≡ NoMemory))
-  wants_full lost why (inl e) = inl e
-  wants_full lost why (inr e) = inr (inr e)
+  wants_memory : (lost packets : List Output) (why : Why) → (lost ≡ []) ⊎ (why ≡ NoMemory) → (lost ≡ []) ⊎ (((why ≡ Full) × (packets ≡ [])) ⊎ (why ≡ NoMemory))
+  wants_memory lost packets why (inl e) = inl e
+  wants_memory lost packets why (inr e) = inr (inr e)
+
+  wants_either : (packets : List Output) (why : Why) → packets ≡ [] → (why ≡ Full) ⊎ (why ≡ NoMemory) → ((why ≡ Full) × (packets ≡ [])) ⊎ (why ≡ NoMemory)
+  wants_either packets why none (inl e) = inl (e, none)
+  wants_either packets why none (inr e) = inr e
 
   -- its packets are posted but for those that are lost, and the connection is closed
   pub last_closing : (end : End) (packets lost : List Output) → Feeds g m stages stages' piece (packets ++ lost) → LastBy room end lost (last_fault 1 stages') → Posts m (Shows g m) (history ++ grows.others) added packets
       → Closing g room m end.why stages' place unsent end.unposted found' history' (at_now (after_take (Got n) buffer) line)
   last_closing end packets lost feeds by shown =
-      piece_closing g room m place unsent end.why stages stages' found found' history added history' line grows t n buffer by.by (t.connection.pieces ++ take n buffer ∷ []) packets lost end.unposted shown (inl refl)
+      piece_closing g room m place unsent end.why stages stages' found found' history added history' line grows t n buffer feeds.sound feeds.framings_old by.by (t.connection.pieces ++ take n buffer ∷ []) packets lost end.unposted shown (inl refl)
       (subst (λ (l : List Output). StagesStand stages' (map plain (t.connection.pieces ++ take n buffer ∷ [])) l) (sym (append_assoc t.body.posted packets lost)) (fed_chain (packets ++ lost) feeds))
-      feeds.settled feeds.framings by.blames (left_so end.why (packets ++ lost) packets lost feeds (wants_full lost end.why by.wants)) by.count (by.causes _)
+      feeds.settled feeds.framings by.blames (left_so end.why (packets ++ lost) packets lost feeds (wants_memory lost packets end.why by.wants)) by.count (by.causes _)
 
   -- none of its packets is posted, and the connection is closed
   pub refused_closing : (why : Why) (unposted : ℕ) (left : List Output) → Feeds g m stages stages' piece left → ByPiece why → Blames (last_fault 1 stages') why → ((why ≡ Full) ⊎ (why ≡ NoMemory)) → added ≡ [] → unposted ≡ capped (length left)
       → ((s : Seen) → s.whole ≡ history' → s.left ≡ left → Causes room why s) → Closing g room m why stages' place unsent unposted found' history' (at_now (after_take (Got n) buffer) line)
   refused_closing why unposted left feeds by blames wants none count causes =
-      piece_closing g room m place unsent why stages stages' found found' history added history' line grows t n buffer by (t.connection.pieces ++ take n buffer ∷ []) [] left unposted
+      piece_closing g room m place unsent why stages stages' found found' history added history' line grows t n buffer feeds.sound feeds.framings_old by (t.connection.pieces ++ take n buffer ∷ []) [] left unposted
       (subst (λ (l : List Entry). Posts m (Shows g m) (history ++ grows.others) l []) (sym none) refl) (inl refl)
       (subst (λ (l : List Output). StagesStand stages' (map plain (t.connection.pieces ++ take n buffer ∷ [])) (l ++ left)) (sym (append-nil t.body.posted)) (fed_chain left feeds))
-      feeds.settled feeds.framings blames (left_so why left [] left feeds (inr wants)) count (causes _ refl refl)
+      feeds.settled feeds.framings blames (left_so why left [] left feeds (inr (wants_either [] why refl wants))) count (causes _ refl refl)
 
   -- the piece was not fed
-  pub unfed_closing : Reserved stages stages' → framings_of stages' ≡ g.chain m → added ≡ [] → Closing g room m NoMemory stages' place unsent 0 found' history' (at_now (after_take (Got n) buffer) line)
-  unfed_closing r framings none =
-      piece_closing g room m place unsent NoMemory stages stages' found found' history added history' line grows t n buffer by_memory t.connection.pieces [] [] 0
+  pub unfed_closing : AllSound (g.chain m) → framings_of stages ≡ g.chain m → Reserved stages stages' → framings_of stages' ≡ g.chain m → added ≡ [] → Closing g room m NoMemory stages' place unsent 0 found' history' (at_now (after_take (Got n) buffer) line)
+  unfed_closing sound was r framings none =
+      piece_closing g room m place unsent NoMemory stages stages' found found' history added history' line grows t n buffer sound was by_memory t.connection.pieces [] [] 0
       (subst (λ (l : List Entry). Posts m (Shows g m) (history ++ grows.others) l []) (sym none) refl) (inr (refl, (take n buffer, refl)))
       (subst (λ (l : List Output). StagesStand stages' (map plain t.connection.pieces) l) (sym (append-nil (t.body.posted ++ []) ∙ append-nil t.body.posted)) (reserved_stand stages stages' r (map plain t.connection.pieces) t.body.posted t.fed))
       (reserved_settled stages stages' r t.settled) framings (blames_memory (last_fault 1 stages')) (inl refl) refl tt

@@ -1,5 +1,5 @@
 -- Puts of what the last look saw.
-use Rattle.std.proofs.Common.{◌≡◌, ℕ, ◌+◌, cond, List, [], ◌∷◌, ◌++◌, length, map, refl, sym, ◌∙◌, ap, subst, arith, append-nil, Option, Some, None, option_map, inr}
+use Rattle.std.proofs.Common.{◌≡◌, ℕ, ◌+◌, false, cond, List, [], ◌∷◌, ◌++◌, length, map, refl, sym, ◌∙◌, ap, subst, arith, append-nil, Option, Some, None, option_map, inr}
 use Rattle.std.specs.Prelude.{take, drop}
 use Rattle.std.proofs.lemmas.List.{take-append-drop, length-map}
 use Rattle.std.proofs.lemmas.List.Sums.{sum_by-cons}
@@ -12,6 +12,8 @@ use Rattle.cts_chain.specs.Chains.{StagesStand}
 use Rattle.cts_framing.specs.Framing.{Output, plain}
 use Rattle.cts_proto.specs.Meaning.{Meaning}
 use Rattle.cts_entry.specs.Room.{Capacity}
+use Rattle.cts_trace.specs.Connections.{NoneLate}
+use Rattle.cts_trace.specs.Lines.{Flags}
 use Rattle.cts_trace.specs.Routing.{Routing, spell}
 use Rattle.cts_line.specs.Talks.{Caught, Ends, Puts, Talking}
 use Rattle.cts_line.proofs.Bodies.{done_body}
@@ -38,9 +40,9 @@ one_if_refused o = cond (is_refused o) 1 0
 module _ (g : Routing) (room : Capacity) (m place : ℕ) (stages : List Meaning) (found : List ℕ) (history : List Entry) (s : Option (List ℕ)) (ss : List (Option (List ℕ))) where
   -- one less to put
   puts_next : (unsent unsent' : ℕ) (line : Line) (f : Connection → Connection) (t : Talking g room m (Puts (s ∷ ss)) stages place unsent found history line)
-      → (f t.connection).pieces ≡ t.connection.pieces → (f t.connection).takes ≡ t.connection.takes → (f t.connection).put ≡ t.connection.put ++ bytes_or_none s
+      → Flags (f t.connection) false false false → (f t.connection).pieces ≡ t.connection.pieces → (f t.connection).takes ≡ t.connection.takes → (f t.connection).put ≡ t.connection.put ++ bytes_or_none s
       → unsent' ≡ unsent + cond (is_refused s) 1 0 → Talking g room m (Puts ss) stages place unsent' found history (at_now f line)
-  puts_next unsent unsent' line f t pieces takes put more =
+  puts_next unsent unsent' line f t tells pieces takes put more =
       let b = t.body in
       let r = map_cons (spell g m) b.rest s ss t.put_so.0 in
       let u = t.unsent_is in
@@ -56,7 +58,10 @@ module _ (g : Routing) (room : Capacity) (m place : ℕ) (stages : List Meaning)
         past = t.past;
         place_is = t.place_is;
         holds = t.holds;
+        soon_so = t.soon_so;
         among = t.among;
+        late = subst (NoneLate (g.chain m)) (sym pieces) t.late;
+        tells_so = tells;
         saw_so = tt;
         quiet_so = t.quiet_so;
         put_so = (r.4, put ∙ (ap (λ (x : List ℕ). x ++ bytes_or_none s) t.put_so.1 ∙ (ap (λ (o : Option (List ℕ)). spelled (spell g m) b.done ++ bytes_or_none o) (sym r.3) ∙ sym (spelled_more (spell g m) b.done r.0))));
@@ -70,7 +75,7 @@ module _ (g : Routing) (room : Capacity) (m place : ℕ) (stages : List Meaning)
   pub puts_whole : (unsent unsent' : ℕ) (bytes : List ℕ) (line : Line) → s ≡ Some bytes → unsent' ≡ unsent → Talking g room m (Puts (s ∷ ss)) stages place unsent found history line → Talking g room m (Puts ss) stages place unsent' found history (at_now (with_put bytes) line)
   puts_whole unsent unsent' bytes line is same t =
       let none = ap (one_if_refused) is in
-      puts_next unsent unsent' line (with_put bytes) t refl refl (ap (λ (o : Option (List ℕ)). t.connection.put ++ bytes_or_none o) (sym is)) (omega (arith, same, none))
+      puts_next unsent unsent' line (with_put bytes) t t.tells_so refl refl (ap (λ (o : Option (List ℕ)). t.connection.put ++ bytes_or_none o) (sym is)) (omega (arith, same, none))
 
   same_line : (line : Line) (connection : Connection) → line.now ≡ Some connection → at_now (λ x. x) line ≡ line
   same_line line connection e = ap (λ (o : Option Connection). record line { now = o }) (ap (option_map (λ x. x)) e ∙ sym e)
@@ -80,7 +85,7 @@ module _ (g : Routing) (room : Capacity) (m place : ℕ) (stages : List Meaning)
   puts_refused unsent unsent' line is more t =
       let one = ap (one_if_refused) is in
       subst (λ (l : Line). Talking g room m (Puts ss) stages place unsent' found history l) (same_line line t.connection t.stands)
-      (puts_next unsent unsent' line (λ x. x) t refl refl (sym (append-nil t.connection.put) ∙ ap (λ (o : Option (List ℕ)). t.connection.put ++ bytes_or_none o) (sym is)) (omega (arith, more, one)))
+      (puts_next unsent unsent' line (λ x. x) t t.tells_so refl refl (sym (append-nil t.connection.put) ∙ ap (λ (o : Option (List ℕ)). t.connection.put ++ bytes_or_none o) (sym is)) (omega (arith, more, one)))
 
   pub puts_fault : (unsent unsent' n : ℕ) (bytes : List ℕ) (line : Line) → s ≡ Some bytes → unsent' ≡ unsent + length (s ∷ ss)
       → Talking g room m (Puts (s ∷ ss)) stages place unsent found history line → Talking g room m (Ends WriteFault) stages place unsent' found history (at_now (with_failed_put (take n bytes)) line)
@@ -100,7 +105,10 @@ module _ (g : Routing) (room : Capacity) (m place : ℕ) (stages : List Meaning)
         past = t.past;
         place_is = t.place_is;
         holds = t.holds;
+        soon_so = t.soon_so;
         among = t.among;
+        late = t.late;
+        tells_so = (t.tells_so.0, t.tells_so.1, refl);
         saw_so = refl;
         quiet_so = tt;
         put_so = (
@@ -132,7 +140,10 @@ module _ (g : Routing) (room : Capacity) (m place unsent : ℕ) (stages : List M
         past = t.past;
         place_is = t.place_is;
         holds = t.holds;
+        soon_so = t.soon_so;
         among = t.among;
+        late = t.late;
+        tells_so = t.tells_so;
         saw_so = tt;
         quiet_so = t.quiet_so;
         put_so = (none, t.put_so.1);

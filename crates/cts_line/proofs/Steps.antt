@@ -19,13 +19,16 @@ use Rattle.cts_entry.specs.Room.{Capacity}
 use Rattle.cts_trace.specs.Lines.{Causes, PostsNone}
 use Rattle.cts_trace.specs.Routing.{Routing, queue, spell}
 use Rattle.cts_trace.specs.Told.{Said}
+use Rattle.cts_trace.proofs.Lateness.{late_blank}
 use Rattle.cts_trace.proofs.Looking.{posts_none_both, puts_all_map, said_found, said_more}
 use Rattle.cts_trace.proofs.Others.{strange_own}
 use Rattle.cts_entry.proofs.Queuing.{any_append}
-use Rattle.cts_line.specs.Talks.{Begins, Body, Ends, HasCause, IsLast, Phase, Caught, Puts, Takes, Talking, Talks, Waits, after, stopped_by}
+use Rattle.cts_turn.specs.Lists.{climbs}
+use Rattle.cts_line.specs.Talks.{AllAtMost, Begins, Body, Ends, HasCause, IsLast, Phase, Caught, Puts, Takes, Talking, Talks, Waits, after, stopped_by}
 use Rattle.cts_line.proofs.Bodies.{drop_whole, inside, grown_body, seen_body}
 use Rattle.cts_line.proofs.Closing.{Closing}
-use Rattle.cts_line.proofs.Growing.{Grows, among_or_none, holds_grown, last_grown, look_grown, long_grown, past_grown}
+use Rattle.cts_line.proofs.Soon.{soon_clear, soon_grown, soon_more, soon_opened}
+use Rattle.cts_line.proofs.Growing.{Grows, among_or_none, at_most_more, climbs_within, holds_grown, last_grown, look_grown, long_grown, past_grown}
 
 module _ (g : Routing) (room : Capacity) (m : ℕ) (phase phase' : Phase) (stages stages' : List Meaning) (place place' unsent unsent' : ℕ) (found found' : List ℕ) (history history' : List Entry) where
   -- a step of the connection that stands, and of what the dialer tells
@@ -46,11 +49,13 @@ raised_few n k le = omega arith
 -- ---- the Opened
 
 pub opens_talk : (g : Routing) (room : Capacity) (m place : ℕ) (stages : List Meaning) (found found' : List ℕ) (history history' : List Entry) (opened : Entry) (told : Option Line) → Grows m found history (opened ∷ []) found' history' → Says m opened Opened
-    → place ≡ length history' → StagesStand stages [] [] → AllSettled stages → last_fault 1 stages ≡ None → Begins g room m found history told → Talks g room m Waits stages place 0 found' history' told
-opens_talk g room m place stages found found' history history' opened None grows says is blank settled sound b = tt
-opens_talk g room m place stages found found' history history' opened (Some line) grows says is blank settled sound b =
+    → place ≡ length history' → StagesStand stages [] [] → AllSettled stages → last_fault 1 stages ≡ None → climbs 0 found (length history) ≡ true → Begins g room m found history told → Talks g room m Waits stages place 0 found' history' told
+opens_talk g room m place stages found found' history history' opened None grows says is blank settled sound climbing b = tt
+opens_talk g room m place stages found found' history history' opened (Some line) grows says is blank settled sound climbing b =
     let before : List Entry = history ++ grows.others in
     let long = inside history' before [] opened grows.seen in
+    let others = length-append history grows.others in
+    let held = subst (AllAtMost (length before)) (sym grows.found_is) (at_most_more (length history) (length before) (length before) found (climbs_within 0 (length history) found climbing) (omega (arith, others)) (omega arith)) in
     record {
       connection = fresh;
       stands = b.0;
@@ -73,8 +78,17 @@ opens_talk g room m place stages found found' history history' opened (Some line
       past = subst (λ (f : List ℕ). Said g room m f line.past before) (sym grows.found_is)
           (said_found g room m found (length before) line.past before (omega arith) (said_more g room m found line.past history grows.others (strange_own m grows.others grows.strange) b.1));
       place_is = omega arith;
-      holds = record { earlier = found'; mine = []; found_is = sym (append-nil found'); within = tt };
+      holds = record {
+        earlier = found';
+        mine = [];
+        found_is = sym (append-nil found');
+        within = tt;
+        all_within = subst (AllAtMost (length history')) (sym grows.found_is) (at_most_more (length history) (length history') (length before) found (climbs_within 0 (length history) found climbing) (omega (arith, others, long)) (omega (arith, long)));
+      };
+      soon_so = soon_opened 1 (length before) found' history' held;
       among = inl refl;
+      late = late_blank (g.chain m);
+      tells_so = (refl, refl, refl);
       saw_so = tt;
       quiet_so = tt;
       put_so = (refl, refl);
@@ -109,7 +123,10 @@ module _ (g : Routing) (room : Capacity) (m place unsent : ℕ) (stages : List M
         past = past_grown m found history [] found' history' grows g room line.past b.before t.past (omega arith);
         place_is = long';
         holds = holds_grown m found history [] found' history' grows (length b.before) (omega arith) t.holds;
+        soon_so = soon_grown m found history [] found' history' grows 1 (length b.before) t.holds.all_within t.soon_so;
         among = inr (found, [], grows.found_is ∙ ap (λ (k : ℕ). found ++ k ∷ []) here);
+        late = t.late;
+        tells_so = t.tells_so;
         saw_so = tt;
         quiet_so = refl;
         put_so = (ap (map (spell g m)) rest_is ∙ (ap (λ (l : List Entry). map (spell g m) (queue g m l)) (sym ahead_is) ∙ sym saw), t.put_so.1);
@@ -133,7 +150,10 @@ module _ (g : Routing) (room : Capacity) (m place unsent : ℕ) (stages : List M
         past = past_grown m found history [] found' history' grows g room line.past b.before t.past (omega arith);
         place_is = t.place_is;
         holds = holds_grown m found history [] found' history' grows (length b.before) (omega arith) t.holds;
+        soon_so = soon_grown m found history [] found' history' grows 1 (length b.before) t.holds.all_within t.soon_so;
         among = among_or_none m found history [] found' history' grows place b.looked t.among;
+        late = t.late;
+        tells_so = t.tells_so;
         saw_so = tt;
         quiet_so = tt;
         put_so = (([], t.put_so.1 ∙ sym (append-nil (spelled (spell g m) b.done)), inl refl), tt);
@@ -165,7 +185,10 @@ module _ (g : Routing) (room : Capacity) (m place unsent : ℕ) (stages : List M
         past = t.past;
         place_is = t.place_is;
         holds = t.holds;
+        soon_so = t.soon_so;
         among = t.among;
+        late = t.late;
+        tells_so = t.tells_so;
         saw_so = ap is_stopped (sym (saw_all b t.quiet_so)) ∙ stop;
         quiet_so = ap (has_own m) t.quiet_so;
         put_so = (([], no_tail b.done t.connection.put t.put_so.1, inl refl), t.put_so.0);
@@ -186,7 +209,10 @@ module _ (g : Routing) (room : Capacity) (m place unsent : ℕ) (stages : List M
         past = t.past;
         place_is = t.place_is;
         holds = t.holds;
+        soon_so = soon_clear found (length t.body.before) history clear;
         among = t.among;
+        late = t.late;
+        tells_so = t.tells_so;
         saw_so = ap is_stopped (sym (saw_all t.body t.quiet_so)) ∙ clear;
         quiet_so = t.quiet_so;
         put_so = t.put_so;
@@ -208,7 +234,10 @@ module _ (g : Routing) (room : Capacity) (m place unsent : ℕ) (stages : List M
         past = t.past;
         place_is = t.place_is;
         holds = t.holds;
+        soon_so = soon_more 0 1 found (length t.body.before) history (omega arith) t.soon_so;
         among = t.among;
+        late = t.late;
+        tells_so = t.tells_so;
         saw_so = tt;
         quiet_so = tt;
         put_so = t.put_so;
@@ -228,7 +257,10 @@ module _ (g : Routing) (room : Capacity) (m place unsent : ℕ) (stages : List M
         past = t.past;
         place_is = t.place_is;
         holds = t.holds;
+        soon_so = soon_more 0 2 found (length t.body.before) history (omega arith) t.soon_so;
         among = t.among;
+        late = t.late;
+        tells_so = (refl, t.tells_so.1, t.tells_so.2);
         saw_so = (refl, t.saw_so);
         quiet_so = ap (has_own m) t.quiet_so;
         put_so = (([], no_tail t.body.done t.connection.put t.put_so.1, inl refl), t.put_so.0);
@@ -248,7 +280,10 @@ module _ (g : Routing) (room : Capacity) (m place unsent : ℕ) (stages : List M
         past = t.past;
         place_is = t.place_is;
         holds = t.holds;
+        soon_so = soon_more 0 2 found (length t.body.before) history (omega arith) t.soon_so;
         among = t.among;
+        late = t.late;
+        tells_so = (t.tells_so.0, refl, t.tells_so.2);
         saw_so = (refl, t.saw_so);
         quiet_so = tt;
         put_so = (([], no_tail t.body.done t.connection.put t.put_so.1, inl refl), t.put_so.0);
@@ -308,13 +343,16 @@ ends_closing g room m place unsent why stages found found' history history' line
       settled = t.settled;
       framings = framings;
       blames = subst (λ (f : Option Fault). Blames f why) (sym t.sound) (unblamed why t.connection (b.before ++ b.opened ∷ b.looked) t.saw_so);
+      late = t.late;
       left_is = inl refl;
       unposted_is = refl;
       past = past_grown m found history [] found' history' grows g room line.past b.before t.past (omega arith);
       place_is = t.place_is;
       holds = holds_grown m found history [] found' history' grows (length b.before) (omega arith) t.holds;
+      soon = soon_grown m found history [] found' history' grows 2 (length b.before) t.holds.all_within t.soon_so;
       look_is = look_grown m found history [] found' history' grows place b.looked t.among;
       cause = causes_of room why t.connection (b.before ++ b.opened ∷ b.looked) history' t.saw_so;
+      tells = t.tells_so;
       quiet = quiet_more m why b.ahead grows.others (strange_own m grows.others grows.strange) t.quiet_so;
       tail = t.put_so.0.0;
       put = t.put_so.0.1;

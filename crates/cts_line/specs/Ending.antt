@@ -1,10 +1,12 @@
 -- Why a line ends, and what it leaves.
-use Rattle.std.specs.Prelude.{◌≡◌, ℕ, ◌+◌, ◌-◌, ◌^◌, ◌≤◌, ◌==◌, ◌&&◌, ◌⊎◌, min, Bool, true, false, List, length, Option, Some, None, option_map, unwrap_or, slice_get, is_none, IfSome, if◌then◌else◌, []}
+use Rattle.std.specs.Prelude.{◌≡◌, ℕ, ◌+◌, ◌-◌, ◌^◌, ◌≤◌, ◌==◌, ◌&&◌, ◌||◌, ◌⊎◌, min, Bool, true, false, List, length, Option, Some, None, option_map}
+use Rattle.std.specs.Prelude.{unwrap_or, slice_get, is_none, IfSome, if◌then◌else◌, []}
 use Rattle.std.specs.List.{filter, list_any}
 use Rattle.cts_def.specs.Sites.{InterfaceData, SiteData}
 use Rattle.cts_entry.specs.declared.entry.Entry.{Entry}
 use Rattle.cts_entry.specs.declared.why.Why.{Why}
-use Rattle.cts_entry.specs.declared.why.Why.TheVariants.{PeerEnded, ReadFault, WriteFault, BadFrame, Stopped as StoppedWhy, NoMemory as NoMemoryWhy, Full as FullWhy}
+use Rattle.cts_entry.specs.declared.why.Why.TheVariants.{PeerEnded, ReadFault, WriteFault, BadFrame, Stopped as StoppedWhy, NoMemory as NoMemoryWhy}
+use Rattle.cts_entry.specs.declared.why.Why.TheVariants.{Full as FullWhy}
 use Rattle.cts_entry.specs.Histories.{entries_in, is_connected, is_stop, is_stopped, opens}
 use Rattle.cts_entry.specs.Legal.{has_ended}
 use Rattle.cts_entry.specs.Workers.{is_interface}
@@ -41,14 +43,20 @@ has_closed m test history = list_any (λ e. e.by == m && closes_for test e.what)
 abbrev pub has_stop : ℕ → List Entry → Bool
 has_stop m history = list_any (λ e. e.by == m && is_stop e.what) history
 
+-- the reason for which a connection was closed, if it was, passes a test
+abbrev pub passes : (Why → Bool) → Option Why → Bool
+passes test None = false
+passes test (Some why) = test why
+
 -- What some holds of a line leave of what the history says of it: it has opened no connection and has not ended, and if it has closed its
--- connection, then for this reason.
+-- connection, then for this reason and for no other.
 pub record Keeps (m : ℕ) (old new : List Entry) (closed : Option Why) : Type 0 where
   pub ended : has_ended m new ≡ has_ended m old
   pub opened : opened_in m new ≡ opened_in m old
   pub faults : faults_of m new ≡ faults_of m old + one_if (fails closed)
   pub on : is_connected m new ≡ (is_connected m old && is_none closed)
   pub said : IfSome closed (λ why. (test : Why → Bool) → test why ≡ true → has_closed m test new ≡ true)
+  pub only : (test : Why → Bool) → has_closed m test new ≡ (has_closed m test old || passes test closed)
 
 -- ---- why a line ends
 
@@ -63,6 +71,15 @@ is_full (BadFrame stage cause) = false
 is_full StoppedWhy = false
 is_full NoMemoryWhy = false
 is_full FullWhy = true
+
+abbrev pub is_no_memory : Why → Bool
+is_no_memory PeerEnded = false
+is_no_memory ReadFault = false
+is_no_memory WriteFault = false
+is_no_memory (BadFrame stage cause) = false
+is_no_memory StoppedWhy = false
+is_no_memory NoMemoryWhy = true
+is_no_memory FullWhy = false
 
 -- whether a line connects again where its connection ended: an interface by the site, and a slot always
 abbrev pub reconnects : SiteData → ℕ → Bool
@@ -92,6 +109,11 @@ after_closed site by FullWhy = Some Full
 -- why it ends since a dial failed, if it ends
 abbrev pub after_failed : SiteData → ℕ → Option LineWhy
 after_failed site by = if is_interface site by then unless_again (reconnects site by) else Some DoorFailed
+
+-- Where a connection is closed for want of room, and none was before, the line ends for that; and so for want of memory.
+pub record Heeds (m : ℕ) (old new : List Entry) (end : Option LineWhy) : Type 0 where
+  pub full : has_closed m is_full old ≡ false → has_closed m is_full new ≡ true → end ≡ Some Full
+  pub memory : has_closed m is_no_memory old ≡ false → has_closed m is_no_memory new ≡ true → end ≡ Some NoMemory
 
 -- Why a line ends has its cause in the history and in what its dialer tells: the history of a site with so many entries at most, and the
 -- count of failed dials before and now. Want of memory has none.

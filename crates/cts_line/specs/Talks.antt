@@ -20,9 +20,9 @@ use Rattle.cts_outside.specs.Lines.{Connection, Line, fresh}
 use Rattle.cts_proto.specs.Meaning.{Meaning}
 use Rattle.cts_table.specs.declared.basis.Basis.{Basis}
 use Rattle.cts_trace.specs.Routing.{Routing, queue, spell}
-use Rattle.cts_trace.specs.Connections.{Says, Shows, Tail}
+use Rattle.cts_trace.specs.Connections.{NoneLate, Says, Shows, Tail}
 use Rattle.cts_entry.specs.Room.{Capacity}
-use Rattle.cts_trace.specs.Lines.{PutsAll, PostsNone}
+use Rattle.cts_trace.specs.Lines.{Flags, PutsAll, PostsNone, TellsWhy, looks}
 use Rattle.cts_trace.specs.Told.{Said, Settled, ToldBy}
 use Rattle.cts_turn.specs.Lists.{has}
 use Rattle.cts_turn.specs.declared.rule.View.{View}
@@ -81,12 +81,18 @@ abbrev pub AllWithin : ℕ → ℕ → List ℕ → Type 0
 AllWithin o end [] = Unit {0}
 AllWithin o end (n ∷ ns) = (o < n) × (n ≤ end) × AllWithin o end ns
 
+-- no hold began beyond what stands
+abbrev pub AllAtMost : ℕ → List ℕ → Type 0
+AllAtMost end [] = Unit {0}
+AllAtMost end (n ∷ ns) = (n ≤ end) × AllAtMost end ns
+
 -- the holds since the Opened
 pub record Holds (found : List ℕ) (o end : ℕ) : Type 0 where
   pub earlier : List ℕ
   pub mine : List ℕ
   pub found_is : found ≡ earlier ++ mine
   pub within : AllWithin o end mine
+  pub all_within : AllAtMost end found
 
 -- one of these is the place of the look
 abbrev pub IsAmong : List ℕ → ℕ → Type 0
@@ -107,6 +113,14 @@ HasCause (BadFrame stage cause) c saw = ⊥
 HasCause Stopped c saw = is_stopped saw ≡ true
 HasCause NoMemory c saw = Unit {0}
 HasCause Full c saw = ⊥
+
+-- no take has answered End, and none and no put failed, until the connection is to be closed for that
+abbrev pub TellsSo : Phase → Connection → Type 0
+TellsSo Waits c = Flags c false false false
+TellsSo (Puts spellings) c = Flags c false false false
+TellsSo Caught c = Flags c false false false
+TellsSo Takes c = Flags c false false false
+TellsSo (Ends why) c = TellsWhy why c
 
 abbrev pub SawSo : Phase → Connection → List Entry → Type 0
 SawSo Waits c saw = Unit {0}
@@ -147,19 +161,36 @@ LookedSo Caught mine place takes = (takes + 1 ≤ length mine) × IsLast mine pl
 LookedSo Takes mine place takes = (takes + 1 ≤ length mine) × IsLast mine place
 LookedSo (Ends why) mine place takes = (takes ≤ length mine) × PutsAll why (IsLast mine place)
 
+-- no more holds than this began at places behind a beginning of the history in which a Stop stands
+abbrev pub SoonBy : ℕ → List ℕ → ℕ → List Entry → Type 0
+SoonBy limit found o history = (earlier later : List Entry) (n : ℕ) → history ≡ earlier ++ later → length earlier ≡ n + 1 → o ≤ n → is_stopped earlier ≡ true
+    → looks found n (length history) ≤ limit
+
+-- how many may have: the last hold that posted, and the look after it; none, where a look has seen no Stop
+abbrev pub late_holds : Phase → ℕ
+late_holds Waits = 1
+late_holds (Puts spellings) = 2
+late_holds Caught = 2
+late_holds Takes = 0
+late_holds (Ends why) = 2
+
 -- A connection that stands, of a line that has put, or is putting, what it saw up to a place, some of which were not put whole. All packets
 -- of what was fed are posted, and no stage of its chain has failed.
-pub record Talking (g : Routing) (room : Capacity) (m : ℕ) (phase : Phase) (stages : List Meaning) (place unsent : ℕ) (found : List ℕ) (history : List Entry) (line : Line) : Type 0 where
+pub record Talking (g : Routing) (room : Capacity) (m : ℕ) (phase : Phase) (stages : List Meaning) (place unsent : ℕ) (found : List ℕ)
+    (history : List Entry) (line : Line) : Type 0 where
   pub connection : Connection
   pub stands : line.now ≡ Some connection
   pub body : Body g m history
   pub fed : StagesStand stages (map plain connection.pieces) body.posted
   pub settled : AllSettled stages
   pub sound : last_fault 1 stages ≡ None
+  pub late : NoneLate (g.chain m) connection.pieces
   pub past : Said g room m found line.past body.before
   pub place_is : place ≡ length body.before + 1 + length body.looked
   pub holds : Holds found (length body.before) (length history)
+  pub soon_so : SoonBy (late_holds phase) found (length body.before) history
   pub among : (body.looked ≡ []) ⊎ IsAmong found place
+  pub tells_so : TellsSo phase connection
   pub saw_so : SawSo phase connection (body.before ++ body.opened ∷ body.looked)
   pub quiet_so : QuietSo phase m body.ahead
   pub put_so : PutSo phase (spell g m) body.done body.rest connection.put

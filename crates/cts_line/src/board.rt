@@ -70,7 +70,8 @@ pub(crate) fn see<C: Framer>(
     by: u32,
     connection: &Connection<C>,
 ) -> Result<Sight, Memory>
-    ensures spellings { IfOk result (λ s. s.spellings.items ≡ map (spell_by hall.now.basis.site (writers connection.now.chain)) (queue (site_routing hall.now.basis.site) by (entries_ahead connection.now hall.now.entries))) }
+    ensures spellings { IfOk result (λ s. s.spellings.items ≡ map (spell_by hall.now.basis.site (writers connection.now.chain))
+        (queue (site_routing hall.now.basis.site) by (entries_ahead connection.now hall.now.entries))) }
     ensures place { IfOk result (λ s. s.place ≡ length hall.now.entries) }
     ensures stop { IfOk result (λ s. s.stop ≡ is_stopped hall.now.entries) }
 {

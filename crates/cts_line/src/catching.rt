@@ -58,8 +58,10 @@ pub(crate) fn catch_up<R: Wait, C: Framer, D: Dialer>(
     ensures dials { (D.seen dialer.new).failed_dials ≡ (D.seen dialer.old).failed_dials }
     ensures stop { has_stop by (view result.0).seen ≡ has_stop by (view pass).seen }
     ensures retells { Retells (D.seen dialer.old).told (D.seen dialer.new).told }
-    ensures talks { (k : ℕ) → TalksAt (site_routing (ground turn.now).site) (room_of (ground turn.now)) by Waits connection.old (view pass) (since k (D.seen dialer.old).told)
-        → TalksAt (site_routing (ground turn.now).site) (room_of (ground turn.now)) by (after Takes result.1) connection.new (view result.0) (since k (D.seen dialer.new).told) }
+    ensures talks { (k : ℕ) → TalksAt (site_routing (ground turn.now).site) (room_of (ground turn.now)) by Waits connection.old (view pass)
+        (since k (D.seen dialer.old).told)
+        → TalksAt (site_routing (ground turn.now).site) (room_of (ground turn.now)) by (after Takes result.1) connection.new (view result.0)
+        (since k (D.seen dialer.new).told) }
 {
     let (pass, sight) = look(rt, alloc, turn, pass, by, connection);
     match sight {

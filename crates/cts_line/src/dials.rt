@@ -1,5 +1,5 @@
 // One connection of a line after another.
-ghost use Rattle.std.specs.Prelude.{◌≡◌, ◌≤◌, ◌<◌, ◌+◌, ℕ, None, length, true, false, IfSome};
+ghost use Rattle.std.specs.Prelude.{◌≡◌, ◌≤◌, ◌<◌, ◌+◌, ℕ, None, Some, length, true, false, IfSome};
 ghost use Rattle.cts_chain.specs.Shapes.{IsSameChain};
 ghost use Rattle.cts_framing.specs.Packets.{capped};
 ghost use Rattle.cts_worker.specs.Grounds.{ground};
@@ -9,7 +9,9 @@ ghost use Rattle.cts_entry.specs.Workers.{is_interface};
 ghost use Rattle.cts_trace.specs.Told.{Settled, ToldBy};
 ghost use Rattle.cts_worker.specs.Holds.{Onward};
 ghost use Rattle.cts_worker.specs.Lasts.{IsShut};
-ghost use Rattle.cts_line.specs.Ending.{CausesEnd, FaultsRise, after_closed, after_failed, has_stop, opened_in, reconnects, refused, stops_all, stops_then};
+ghost use Rattle.cts_line.specs.Ending.{CausesEnd, FaultsRise, Heeds, after_closed, after_failed, has_stop, opened_in, reconnects, refused};
+ghost use Rattle.cts_line.specs.Ending.{stops_all, stops_then};
+ghost use Rattle.cts_line.specs.declared.ending.LineWhy.{LineWhy as LineWhyData};
 ghost use Rattle.cts_line.specs.Telling.{Has, Retells, since};
 ghost use Rattle.cts_line.specs.Talks.{Begins, IsReady, ToldSoFar, room_of};
 
@@ -104,11 +106,15 @@ fn serve<R: Wait, C: Framer, D: Dialer, K: Clock, G: Gate>(
     ensures retells { Retells (D.seen dialer.old).told (D.seen dialer.new).told }
     ensures stop { stops_then result.1 ≡ false → has_stop hand.now.by (view result.0).seen ≡ has_stop hand.now.by (view pass).seen }
     ensures dials { (D.seen dialer.new).failed_dials ≡ (D.seen dialer.old).failed_dials }
+    ensures heeds { Heeds hand.now.by (view pass).seen (view result.0).seen result.1 }
     ensures again { result.1 ≡ None → reconnects hand.now.site.now hand.now.by ≡ true }
     ensures few { opened_in hand.now.by (view result.0).seen ≤ opened_in hand.now.by (view pass).seen + 1 }
-    ensures told { (k : ℕ) → Has k (D.seen dialer.old).told → Begins (site_routing (ground hand.now.turn.now).site) (room_of (ground hand.now.turn.now)) hand.now.by (view pass).found (view pass).seen (since k (D.seen dialer.old).told)
-        → ToldSoFar (site_routing (ground hand.now.turn.now).site) (room_of (ground hand.now.turn.now)) hand.now.by (view result.0).found (view result.0).seen (since k (D.seen dialer.new).told) result.1 }
-    ensures cause { IfSome result.1 (λ why. CausesEnd (ground hand.now.turn.now).site (ground hand.now.turn.now).entries hand.now.by (view result.0).seen (D.seen dialer.new).told (D.seen dialer.old).failed_dials (D.seen dialer.new).failed_dials why) }
+    ensures told { (k : ℕ) → Has k (D.seen dialer.old).told → Begins (site_routing (ground hand.now.turn.now).site)
+        (room_of (ground hand.now.turn.now)) hand.now.by (view pass).found (view pass).seen (since k (D.seen dialer.old).told)
+        → ToldSoFar (site_routing (ground hand.now.turn.now).site) (room_of (ground hand.now.turn.now)) hand.now.by (view result.0).found
+        (view result.0).seen (since k (D.seen dialer.new).told) result.1 }
+    ensures cause { IfSome result.1 (λ why. CausesEnd (ground hand.now.turn.now).site (ground hand.now.turn.now).entries hand.now.by
+        (view result.0).seen (D.seen dialer.new).told (D.seen dialer.old).failed_dials (D.seen dialer.new).failed_dials why) }
 {
     let (pass, opening) = holds::open(hand.rt, hand.turn, pass, hand.by, hand.clock, connection);
     if let Some(why) = refused(opening) {
@@ -146,11 +152,18 @@ fn attempt<R: Wait, C: Framer, D: Dialer, K: Clock, G: Gate>(
     ensures retells { Retells (D.seen dialer.old).told (D.seen dialer.new).told }
     ensures stop { stops_then result.1 ≡ false → has_stop hand.now.by (view result.0).seen ≡ has_stop hand.now.by (view pass).seen }
     ensures dials { (D.seen dialer.old).failed_dials ≤ (D.seen dialer.new).failed_dials }
-    ensures again { reconnects hand.now.site.now hand.now.by ≡ false → result.1 ≡ None → opened_in hand.now.by (view result.0).seen ≡ opened_in hand.now.by (view pass).seen }
+    ensures failed { (why : LineWhyData) → after_failed hand.now.site.now hand.now.by ≡ Some why → (result.1 ≡ Some why → ⊥)
+        → (D.seen dialer.new).failed_dials ≡ (D.seen dialer.old).failed_dials }
+    ensures heeds { Heeds hand.now.by (view pass).seen (view result.0).seen result.1 }
+    ensures again { reconnects hand.now.site.now hand.now.by ≡ false → result.1 ≡ None → opened_in hand.now.by (view result.0).seen
+        ≡ opened_in hand.now.by (view pass).seen }
     ensures few { opened_in hand.now.by (view result.0).seen ≤ opened_in hand.now.by (view pass).seen + 1 }
-    ensures told { (k : ℕ) → Has k (D.seen dialer.old).told → Settled (site_routing (ground hand.now.turn.now).site) (room_of (ground hand.now.turn.now)) hand.now.by (view pass).found (view pass).seen (since k (D.seen dialer.old).told)
-        → ToldSoFar (site_routing (ground hand.now.turn.now).site) (room_of (ground hand.now.turn.now)) hand.now.by (view result.0).found (view result.0).seen (since k (D.seen dialer.new).told) result.1 }
-    ensures cause { IfSome result.1 (λ why. CausesEnd (ground hand.now.turn.now).site (ground hand.now.turn.now).entries hand.now.by (view result.0).seen (D.seen dialer.new).told (D.seen dialer.old).failed_dials (D.seen dialer.new).failed_dials why) }
+    ensures told { (k : ℕ) → Has k (D.seen dialer.old).told → Settled (site_routing (ground hand.now.turn.now).site)
+        (room_of (ground hand.now.turn.now)) hand.now.by (view pass).found (view pass).seen (since k (D.seen dialer.old).told)
+        → ToldSoFar (site_routing (ground hand.now.turn.now).site) (room_of (ground hand.now.turn.now)) hand.now.by (view result.0).found
+        (view result.0).seen (since k (D.seen dialer.new).told) result.1 }
+    ensures cause { IfSome result.1 (λ why. CausesEnd (ground hand.now.turn.now).site (ground hand.now.turn.now).entries hand.now.by
+        (view result.0).seen (D.seen dialer.new).told (D.seen dialer.old).failed_dials (D.seen dialer.new).failed_dials why) }
 {
     match dialer.dial() {
         Dialed::Linked => serve(hand, pass, connection, dialer, buffer, connections),
@@ -184,10 +197,16 @@ pub(crate) fn connect<R: Wait, C: Framer, D: Dialer, K: Clock, G: Gate>(
     ensures retells { Retells (D.seen dialer.old).told (D.seen dialer.new).told }
     ensures stop { stops_all result.1 ≡ false → has_stop hand.now.by (view result.0).seen ≡ has_stop hand.now.by (view pass).seen }
     ensures dials { (D.seen dialer.old).failed_dials ≤ (D.seen dialer.new).failed_dials }
+    ensures failed { (why : LineWhyData) → after_failed hand.now.site.now hand.now.by ≡ Some why → (result.1 ≡ why → ⊥)
+        → (D.seen dialer.new).failed_dials ≡ (D.seen dialer.old).failed_dials }
+    ensures heeds { Heeds hand.now.by (view pass).seen (view result.0).seen (Some result.1) }
     ensures once { reconnects hand.now.site.now hand.now.by ≡ false → opened_in hand.now.by (view result.0).seen ≤ opened_in hand.now.by (view pass).seen + 1 }
-    ensures told { (k : ℕ) → Has k (D.seen dialer.old).told → Settled (site_routing (ground hand.now.turn.now).site) (room_of (ground hand.now.turn.now)) hand.now.by (view pass).found (view pass).seen (since k (D.seen dialer.old).told)
-        → ToldBy (site_routing (ground hand.now.turn.now).site) (room_of (ground hand.now.turn.now)) hand.now.by (view result.0).found (view result.0).seen (since k (D.seen dialer.new).told) }
-    ensures cause { CausesEnd (ground hand.now.turn.now).site (ground hand.now.turn.now).entries hand.now.by (view result.0).seen (D.seen dialer.new).told (D.seen dialer.old).failed_dials (D.seen dialer.new).failed_dials result.1 }
+    ensures told { (k : ℕ) → Has k (D.seen dialer.old).told → Settled (site_routing (ground hand.now.turn.now).site)
+        (room_of (ground hand.now.turn.now)) hand.now.by (view pass).found (view pass).seen (since k (D.seen dialer.old).told)
+        → ToldBy (site_routing (ground hand.now.turn.now).site) (room_of (ground hand.now.turn.now)) hand.now.by (view result.0).found
+        (view result.0).seen (since k (D.seen dialer.new).told) }
+    ensures cause { CausesEnd (ground hand.now.turn.now).site (ground hand.now.turn.now).entries hand.now.by (view result.0).seen
+        (D.seen dialer.new).told (D.seen dialer.old).failed_dials (D.seen dialer.new).failed_dials result.1 }
 {
     'dials: for _ in hand.rt.forever() {
         let (next, stop) = sees_stop(hand.rt, hand.turn, pass, hand.by);

@@ -52,7 +52,8 @@ pub(crate) fn open<R: Wait, C: Framer, K: Clock>(
     requires line { is_line (ground turn.now).site by ≡ true }
     requires shut { IsShut by (view pass).seen }
     ensures pass { IsPassOf turn.now result.0 }
-    ensures hold { (time : TimeData) × InHold (ground turn.now) by (view pass) (view result.0) (λ s t. OpensIn by time s connection.old result.1 t connection.new) }
+    ensures hold { (time : TimeData) × InHold (ground turn.now) by (view pass) (view result.0)
+        (λ s t. OpensIn by time s connection.old result.1 t connection.new) }
 {
     let mut held = turn.enter(rt, pass);
     let opening = board::open(held.state_mut(), by, time_of(clock), connection);
@@ -72,7 +73,8 @@ pub(crate) fn look<R: Wait, C: Framer>(
     requires by { has by (view pass).makers ≡ true }
     ensures pass { IsPassOf turn.now result.0 }
     ensures hold { InHold (ground turn.now) by (view pass) (view result.0) (λ s t. t ≡ s) }
-    ensures spellings { IfOk result.1 (λ s. s.spellings.items ≡ map (spell_by (ground turn.now).site (writers connection.now.chain)) (queue (site_routing (ground turn.now).site) by (entries_ahead connection.now (view result.0).seen))) }
+    ensures spellings { IfOk result.1 (λ s. s.spellings.items ≡ map (spell_by (ground turn.now).site (writers connection.now.chain))
+        (queue (site_routing (ground turn.now).site) by (entries_ahead connection.now (view result.0).seen))) }
     ensures place { IfOk result.1 (λ s. s.place ≡ length (view result.0).seen) }
     ensures stop { IfOk result.1 (λ s. s.stop ≡ is_stopped (view result.0).seen) }
 {
@@ -97,7 +99,8 @@ pub(crate) fn post<R: Wait, C: Framer, K: Clock>(
     requires line { is_line (ground turn.now).site by ≡ true }
     requires on { is_connected by (view pass).seen ≡ true }
     ensures pass { IsPassOf turn.now result.0 }
-    ensures hold { (time : TimeData) × InHold (ground turn.now) by (view pass) (view result.0) (λ s t. PostsIn by time s connection.old piece.now result.1 t connection.new) }
+    ensures hold { (time : TimeData) × InHold (ground turn.now) by (view pass) (view result.0)
+        (λ s t. PostsIn by time s connection.old piece.now result.1 t connection.new) }
 {
     let mut held = turn.enter(rt, pass);
     let posting = board::post(

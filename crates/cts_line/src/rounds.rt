@@ -66,7 +66,8 @@ fn close<R: Wait, C: Framer, K: Clock, G: Gate>(
     ensures same { IsSameChain connection.old.chain connection.new.chain }
     ensures keeps { Keeps hand.now.by (view pass).seen (view result.0).seen (Some why) }
     ensures stop { has_stop hand.now.by (view result.0).seen ≡ has_stop hand.now.by (view pass).seen }
-    ensures talks { (told : Option Line) → TalksAt (site_routing (ground hand.now.turn.now).site) (room_of (ground hand.now.turn.now)) hand.now.by (Ends why) connection.old (view pass) told
+    ensures talks { (told : Option Line) → TalksAt (site_routing (ground hand.now.turn.now).site) (room_of (ground hand.now.turn.now)) hand.now.by
+        (Ends why) connection.old (view pass) told
         → IsClosed (site_routing (ground hand.now.turn.now).site) (room_of (ground hand.now.turn.now)) hand.now.by (view result.0) told }
 {
     let pass = holds::close(
@@ -98,7 +99,8 @@ fn post<R: Wait, C: Framer, K: Clock, G: Gate>(
     ensures no_fault { fails result.1 ≡ false }
     ensures talks { (told : Option Line) (n : ℕ) (buffer : List ℕ) → piece.now ≡ take n buffer
         → TalksAt (site_routing (ground hand.now.turn.now).site) (room_of (ground hand.now.turn.now)) hand.now.by Takes connection.old (view pass) told
-        → Went (site_routing (ground hand.now.turn.now).site) (room_of (ground hand.now.turn.now)) hand.now.by connection.new (view result.0) (told_after (at_now (after_take (Got n) buffer)) told) result.1 }
+        → Went (site_routing (ground hand.now.turn.now).site) (room_of (ground hand.now.turn.now)) hand.now.by connection.new (view result.0)
+        (told_after (at_now (after_take (Got n) buffer)) told) result.1 }
 {
     hand.gate.pass(hand.rt, hand.by, GateStage::Took);
     let (pass, posting) = holds::post(
@@ -135,8 +137,10 @@ pub(crate) fn round<R: Wait, C: Framer, D: Dialer, K: Clock, G: Gate>(
     ensures cause { RoseIf (fails result.1) (D.seen dialer.old).faults (D.seen dialer.new).faults }
     ensures dials { (D.seen dialer.new).failed_dials ≡ (D.seen dialer.old).failed_dials }
     ensures retells { Retells (D.seen dialer.old).told (D.seen dialer.new).told }
-    ensures talks { (k : ℕ) → TalksAt (site_routing (ground hand.now.turn.now).site) (room_of (ground hand.now.turn.now)) hand.now.by Waits connection.old (view pass) (since k (D.seen dialer.old).told)
-        → Went (site_routing (ground hand.now.turn.now).site) (room_of (ground hand.now.turn.now)) hand.now.by connection.new (view result.0) (since k (D.seen dialer.new).told) result.1 }
+    ensures talks { (k : ℕ) → TalksAt (site_routing (ground hand.now.turn.now).site) (room_of (ground hand.now.turn.now)) hand.now.by Waits
+        connection.old (view pass) (since k (D.seen dialer.old).told)
+        → Went (site_routing (ground hand.now.turn.now).site) (room_of (ground hand.now.turn.now)) hand.now.by connection.new (view result.0)
+        (since k (D.seen dialer.new).told) result.1 }
 {
     let (pass, end) = catch_up(
         hand.rt, hand.alloc, hand.turn, pass, hand.by, connection, dialer,
@@ -178,8 +182,10 @@ pub(crate) fn talk<R: Wait, C: Framer, D: Dialer, K: Clock, G: Gate>(
     ensures cause { RoseIf (is_fault result.1) (D.seen dialer.old).faults (D.seen dialer.new).faults }
     ensures dials { (D.seen dialer.new).failed_dials ≡ (D.seen dialer.old).failed_dials }
     ensures retells { Retells (D.seen dialer.old).told (D.seen dialer.new).told }
-    ensures closed { (k : ℕ) → TalksAt (site_routing (ground hand.now.turn.now).site) (room_of (ground hand.now.turn.now)) hand.now.by Waits connection.old (view pass) (since k (D.seen dialer.old).told)
-        → IsClosed (site_routing (ground hand.now.turn.now).site) (room_of (ground hand.now.turn.now)) hand.now.by (view result.0) (since k (D.seen dialer.new).told) }
+    ensures closed { (k : ℕ) → TalksAt (site_routing (ground hand.now.turn.now).site) (room_of (ground hand.now.turn.now)) hand.now.by Waits
+        connection.old (view pass) (since k (D.seen dialer.old).told)
+        → IsClosed (site_routing (ground hand.now.turn.now).site) (room_of (ground hand.now.turn.now)) hand.now.by (view result.0)
+        (since k (D.seen dialer.new).told) }
 {
     'rounds: for _ in hand.rt.forever() {
         let (next, closed) = round(hand, pass, connection, dialer, buffer);

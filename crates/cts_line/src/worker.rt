@@ -1,5 +1,5 @@
 // The worker of a line.
-ghost use Rattle.std.specs.Prelude.{◌≡◌, ◌≤◌, ℕ, List, [], length, true, false, IfOk};
+ghost use Rattle.std.specs.Prelude.{◌≡◌, ◌≤◌, ℕ, List, [], Some, length, true, false, IfOk};
 ghost use Rattle.cts_chain.specs.Builds.{IsFresh};
 ghost use Rattle.cts_def.specs.declared.time.Time.{Time as TimeData};
 ghost use Rattle.cts_entry.specs.declared.entry.Entry.{Entry};
@@ -13,12 +13,14 @@ ghost use Rattle.cts_connection.specs.Routings.{site_routing};
 ghost use Rattle.cts_outside.specs.Lines.{hung_up, told_after};
 ghost use Rattle.cts_trace.specs.Makers.{LastEnded, faults_of, of_maker};
 ghost use Rattle.cts_trace.specs.Told.{ToldBy};
-ghost use Rattle.cts_line.specs.declared.ending.LineWhy.TheVariants.{Cancelled};
+ghost use Rattle.cts_line.specs.declared.ending.LineWhy.TheVariants.{Cancelled, Full, NoMemory};
+ghost use Rattle.cts_line.specs.declared.ending.LineWhy.{LineWhy as LineWhyData};
 ghost use Rattle.cts_worker.specs.Counts.{RoseBy};
 ghost use Rattle.cts_worker.specs.Grounds.{ground};
 ghost use Rattle.cts_worker.specs.Holds.{EndedHold, Onward};
 ghost use Rattle.cts_worker.specs.Lasts.{IsShut, MayEnd, first_moment, last_entries};
-ghost use Rattle.cts_line.specs.Ending.{CausesEnd, IsUndialed, has_stop, opened_in, reconnects, stops_all};
+ghost use Rattle.cts_line.specs.Ending.{CausesEnd, Heeds, IsUndialed, after_failed, has_closed, has_stop, is_full, is_no_memory};
+ghost use Rattle.cts_line.specs.Ending.{opened_in, reconnects, stops_all};
 ghost use Rattle.cts_line.specs.Telling.{Has, Retells, made_by, since};
 ghost use Rattle.cts_line.specs.Talks.{room_of};
 
@@ -70,16 +72,22 @@ impl LineWorker {
         requires chain { IsFresh (uses_at site.now by) (C.shape chain) }
         ensures pass { IsPassOf turn.now result.pass }
         ensures onward { Onward (view pass) (view result.pass) }
-        ensures told { ToldBy (site_routing site.now) (room_of (ground turn.now)) by (view result.pass).found (view result.pass).seen (since (made_by (D.seen dialer.old).told) (D.seen dialer.new).told) }
+        ensures told { ToldBy (site_routing site.now) (room_of (ground turn.now)) by (view result.pass).found (view result.pass).seen
+            (since (made_by (D.seen dialer.old).told) (D.seen dialer.new).told) }
         ensures retells { Retells (told_after hung_up (D.seen dialer.old).told) (D.seen dialer.new).told }
         ensures ended { LastEnded by (view result.pass).seen }
         ensures connections { result.connections ≡ opened_in by (view result.pass).seen }
         ensures once { reconnects site.now by ≡ false → result.connections ≤ 1 }
-        ensures cause { CausesEnd site.now (ground turn.now).entries by (view result.pass).seen (D.seen dialer.new).told (D.seen dialer.old).failed_dials (D.seen dialer.new).failed_dials result.why }
+        ensures cause { CausesEnd site.now (ground turn.now).entries by (view result.pass).seen (D.seen dialer.new).told
+            (D.seen dialer.old).failed_dials (D.seen dialer.new).failed_dials result.why }
         ensures stops { stops_all result.why ≡ true → is_stopped (view result.pass).seen ≡ true }
         ensures own_stop { has_stop by (view result.pass).seen ≡ true → stops_all result.why ≡ true }
         ensures faults { RoseBy (faults_of by (view result.pass).seen) (D.seen dialer.old).faults (D.seen dialer.new).faults }
         ensures dials { (D.seen dialer.old).failed_dials ≤ (D.seen dialer.new).failed_dials }
+        ensures failed { (why : LineWhyData) → after_failed site.now by ≡ Some why → (result.why ≡ why → ⊥)
+            → (D.seen dialer.new).failed_dials ≡ (D.seen dialer.old).failed_dials }
+        ensures full { has_closed by is_full (view result.pass).seen ≡ true → result.why ≡ Full }
+        ensures memory { has_closed by is_no_memory (view result.pass).seen ≡ true → result.why ≡ NoMemory }
         ensures idle { (D.seen dialer.new).linked ≡ false }
     {
         gate.pass(rt, by, GateStage::Started);
@@ -112,7 +120,8 @@ impl LineWorker {
         requires line { is_line (ground turn.now).site by ≡ true }
         ensures pass { IsPassOf turn.now result.pass }
         ensures onward { Onward (view pass) (view result.pass) }
-        ensures own { (stood : List Entry) × StartsWith stood (view pass).seen × StartsWith (view result.pass).seen stood × (of_maker by (view result.pass).seen ≡ last_entries true by first_moment stood) }
+        ensures own { (stood : List Entry) × StartsWith stood (view pass).seen × StartsWith (view result.pass).seen stood
+            × (of_maker by (view result.pass).seen ≡ last_entries true by first_moment stood) }
         ensures stops { is_stopped (view result.pass).seen ≡ true }
         ensures connections { result.connections ≡ 0 }
         ensures why { result.why ≡ Cancelled }
@@ -183,12 +192,17 @@ fn work<R: Wait, C: Framer, D: Dialer, K: Clock, G: Gate>(
     ensures count { connections.new ≡ capped (opened_in hand.now.by (view result.0).seen) }
     ensures faults { RoseBy (faults_of hand.now.by (view result.0).seen) (D.seen dialer.old).faults (D.seen dialer.new).faults }
     ensures dials { (D.seen dialer.old).failed_dials ≤ (D.seen dialer.new).failed_dials }
+    ensures failed { (why : LineWhyData) → after_failed hand.now.site.now hand.now.by ≡ Some why → (result.1 ≡ why → ⊥)
+        → (D.seen dialer.new).failed_dials ≡ (D.seen dialer.old).failed_dials }
+    ensures heeds { Heeds hand.now.by (view pass).seen (view result.0).seen (Some result.1) }
     ensures retells { Retells (D.seen dialer.old).told (D.seen dialer.new).told }
     ensures stop { stops_all result.1 ≡ false → has_stop hand.now.by (view result.0).seen ≡ false }
     ensures once { reconnects hand.now.site.now hand.now.by ≡ false → opened_in hand.now.by (view result.0).seen ≤ 1 }
     ensures told { (k : ℕ) → Has k (D.seen dialer.old).told → IsUndialed (since k (D.seen dialer.old).told)
-        → ToldBy (site_routing hand.now.site.now) (room_of (ground hand.now.turn.now)) hand.now.by (view result.0).found (view result.0).seen (since k (D.seen dialer.new).told) }
-    ensures cause { CausesEnd hand.now.site.now (ground hand.now.turn.now).entries hand.now.by (view result.0).seen (D.seen dialer.new).told (D.seen dialer.old).failed_dials (D.seen dialer.new).failed_dials result.1 }
+        → ToldBy (site_routing hand.now.site.now) (room_of (ground hand.now.turn.now)) hand.now.by (view result.0).found (view result.0).seen
+        (since k (D.seen dialer.new).told) }
+    ensures cause { CausesEnd hand.now.site.now (ground hand.now.turn.now).entries hand.now.by (view result.0).seen (D.seen dialer.new).told
+        (D.seen dialer.old).failed_dials (D.seen dialer.new).failed_dials result.1 }
 {
     let Ok(mut buffer) = buffer_of(hand.alloc) else {
         return (pass, LineWhy::NoMemory);

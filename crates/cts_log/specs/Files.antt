@@ -1,5 +1,6 @@
 -- Log files: a head that says which log it is and of which definitions, and entries.
-use Rattle.std.specs.Prelude.{◌≡◌, ℕ, Bool, true, false, ◌&&◌, ◌==◌, nat_le, if◌then◌else◌, List, ◌∷◌, ◌++◌, length, replicate, slice_index, slice_range, codes, Option, Some, None, is_some, option_map}
+use Rattle.std.specs.Prelude.{◌≡◌, ℕ, Bool, true, false, ◌&&◌, ◌==◌, nat_le, if◌then◌else◌, List, ◌∷◌, ◌++◌, length, replicate, slice_index}
+use Rattle.std.specs.Prelude.{slice_range, codes, Option, Some, None, is_some, option_map}
 use Rattle.std.specs.List.{AllPass, flat_map, list_all}
 use Rattle.hex.specs.Hex.{encode_lower, is_hex_digit}
 use Rattle.cts_framing.specs.Patterns.{begins}

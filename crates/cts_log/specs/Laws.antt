@@ -19,15 +19,18 @@ EntriesAreRead = (flagged : Bool) (e : Logged) (after : List ℕ) → FitsLogged
 
 -- bytes hold a whole entry exactly where they begin with one
 abbrev pub EntriesAreExact : Type 0
-EntriesAreExact = (flagged : Bool) (u : List ℕ) → AreBytes u → (has_entry flagged u ≡ true) ↔ ((e : Logged) × (x : List ℕ) × FitsLogged flagged e × (u ≡ entry_bytes flagged e ++ x))
+EntriesAreExact = (flagged : Bool) (u : List ℕ) → AreBytes u → (has_entry flagged u ≡ true) ↔
+    ((e : Logged) × (x : List ℕ) × FitsLogged flagged e × (u ≡ entry_bytes flagged e ++ x))
 
 -- a file is a log of a kind, with flags or without, exactly where it begins with such a head
 abbrev pub HeadsAreExact : Type 0
-HeadsAreExact = (file : List ℕ) (kind : LogKind) (flagged : Bool) → ((kind_of file ≡ Some kind) × (flagged_of file ≡ flagged)) ↔ ((head x : List ℕ) × IsLogHead kind flagged head × (file ≡ head ++ x))
+HeadsAreExact = (file : List ℕ) (kind : LogKind) (flagged : Bool) → ((kind_of file ≡ Some kind) × (flagged_of file ≡ flagged)) ↔
+    ((head x : List ℕ) × IsLogHead kind flagged head × (file ≡ head ++ x))
 
 -- the head that is written is one that is read
 abbrev pub HeadsAreWritten : Type 0
-HeadsAreWritten = (kind : LogKind) (flagged : Bool) (digest : List ℕ) → length digest ≡ 16 → AreBytes digest → IsLogHead kind flagged (log_head kind flagged digest)
+HeadsAreWritten = (kind : LogKind) (flagged : Bool) (digest : List ℕ) → length digest ≡ 16 → AreBytes digest → IsLogHead kind flagged
+    (log_head kind flagged digest)
 
 -- a log that was written is read as its entries, up to its end
 abbrev pub LogsAreReadAgain : Type 0
@@ -36,11 +39,13 @@ LogsAreReadAgain = (kind : LogKind) (flagged : Bool) (digest : List ℕ) (es : L
 
 -- a file with a head has a read
 abbrev pub LogsHaveARead : Type 0
-LogsHaveARead = (file : List ℕ) (kind : LogKind) → AreBytes file → kind_of file ≡ Some kind → (es : List Logged) × (place : ℕ) × IsLogRead file kind (flagged_of file) es place
+LogsHaveARead = (file : List ℕ) (kind : LogKind) → AreBytes file → kind_of file ≡ Some kind → (es : List Logged) × (place : ℕ) × IsLogRead file kind
+    (flagged_of file) es place
 
 -- and no two
 abbrev pub LogsAreReadOnce : Type 0
-LogsAreReadOnce = (file : List ℕ) (kind other : LogKind) (flagged too : Bool) (es fs : List Logged) (place end : ℕ) → IsLogRead file kind flagged es place → IsLogRead file other too fs end
+LogsAreReadOnce = (file : List ℕ) (kind other : LogKind) (flagged too : Bool) (es fs : List Logged) (place end : ℕ)
+    → IsLogRead file kind flagged es place → IsLogRead file other too fs end
     → (kind ≡ other) × (flagged ≡ too) × (es ≡ fs) × (place ≡ end)
 
 -- a file without a head has none
@@ -50,14 +55,17 @@ NoHeadNoRead = (file : List ℕ) (kind : LogKind) (flagged : Bool) (es : List Lo
 -- the first of these entries, as long as they lie whole within `room` bytes
 abbrev pub whole_within : Bool → ℕ → List Logged → List Logged
 whole_within flagged room [] = []
-whole_within flagged room (e ∷ es) = if nat_le (length (entry_bytes flagged e)) room then e ∷ whole_within flagged (room - length (entry_bytes flagged e)) es else []
+whole_within flagged room (e ∷ es) = if nat_le (length (entry_bytes flagged e)) room then e ∷ whole_within flagged
+    (room - length (entry_bytes flagged e)) es else []
 
 -- Each beginning of a written log that has its whole head is read as the entries that lie whole in it, and the place is that of the
 -- first byte after these.
 abbrev pub BeginningsAreRead : Type 0
-BeginningsAreRead = (kind : LogKind) (flagged : Bool) (digest : List ℕ) (es : List Logged) (n : ℕ) → length digest ≡ 16 → AreBytes digest → All (FitsLogged flagged) es
+BeginningsAreRead = (kind : LogKind) (flagged : Bool) (digest : List ℕ) (es : List Logged) (n : ℕ) → length digest ≡ 16 → AreBytes digest
+    → All (FitsLogged flagged) es
     → log_head_len ≤ n → n ≤ length (log_file kind flagged digest es)
-    → IsLogRead (take n (log_file kind flagged digest es)) kind flagged (whole_within flagged (n - log_head_len) es) (length (log_file kind flagged digest (whole_within flagged (n - log_head_len) es)))
+    → IsLogRead (take n (log_file kind flagged digest es)) kind flagged (whole_within flagged (n - log_head_len) es)
+    (length (log_file kind flagged digest (whole_within flagged (n - log_head_len) es)))
 
 -- an entry has one line
 abbrev pub EntriesHaveOneLine : Type 0

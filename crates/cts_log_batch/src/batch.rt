@@ -94,7 +94,8 @@ fn put_packet(
 ) -> Result<(), Memory>
     requires ident { IsIdent site.now ident }
     requires counted { length bytes.now < 2 ^ 32 }
-    ensures { OnOk result (out.new.items ≡ out.old.items ++ laid_out (has_flags site.now.log_layout) (heading_of (packet_names site.now ident) stored time) bytes.now) }
+    ensures { OnOk result (out.new.items ≡ out.old.items ++ laid_out (has_flags site.now.log_layout)
+        (heading_of (packet_names site.now ident) stored time) bytes.now) }
 {
     let label = packet_label(alloc, site, time, ident, stored)?;
     encode_entry(&label, bytes, site.log_layout, out)
@@ -109,7 +110,8 @@ fn put_command(
 ) -> Result<(), Memory>
     requires number { command < length site.now.definitions.commands }
     requires counted { length bytes.now < 2 ^ 32 }
-    ensures { OnOk result (out.new.items ≡ out.old.items ++ laid_out (has_flags site.now.log_layout) (heading_of (command_names site.now command) false time) bytes.now) }
+    ensures { OnOk result (out.new.items ≡ out.old.items ++ laid_out (has_flags site.now.log_layout)
+        (heading_of (command_names site.now command) false time) bytes.now) }
 {
     let label = command_label(site, time, command)?;
     encode_entry(&label, bytes, site.log_layout, out)

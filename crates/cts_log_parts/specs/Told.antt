@@ -47,4 +47,5 @@ told_of kind told = option_map (log_of kind) told
 
 -- the log of a kind has grown by these parts, and the other one is as it was
 abbrev pub PutsGrowth : {T E : Type 0} → LogKind → Option Logs → Option Logs → List (List ℕ) → Result T E → Type 0
-PutsGrowth kind old new growth result = Grows (told_of kind old) (told_of kind new) growth result × (told_of (other_kind kind) new ≡ told_of (other_kind kind) old)
+PutsGrowth kind old new growth result = Grows (told_of kind old) (told_of kind new) growth result
+    × (told_of (other_kind kind) new ≡ told_of (other_kind kind) old)

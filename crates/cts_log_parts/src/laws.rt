@@ -1,6 +1,7 @@
 //! Laws of the parts of a log. Each function does nothing: its contract is the law.
 
-ghost use Rattle.cts_log_parts.specs.Laws.{CutsTellGrowth, CyclesCount, GivenOneMore, OnePartWithout, PartsAreGrown, PartsAreOne, PartsAreRead, PartsAreThese, PartsGoOn, PartsGrow, PartsHaveTheEntries, SizeIsOfTheLast, StopsLeaveParts, SyncedAreRead};
+ghost use Rattle.cts_log_parts.specs.Laws.{CutsTellGrowth, CyclesCount, GivenOneMore, OnePartWithout, PartsAreGrown, PartsAreOne, PartsAreRead};
+ghost use Rattle.cts_log_parts.specs.Laws.{PartsAreThese, PartsGoOn, PartsGrow, PartsHaveTheEntries, SizeIsOfTheLast, StopsLeaveParts, SyncedAreRead};
 
 /// The parts of a log are those that the rule asks for, and no others are; they have its entries, in order; without a limit there is one.
 pub fn parts_are_one()

@@ -1,11 +1,14 @@
 // The objects of a server.
+ghost use Rattle.std.specs.Prelude.{◌≡◌, IfOk, codes};
+
 use cts_adapters::{DiskVault, LogNames, Opening};
 use cts_base::Memory;
 use cts_chain::Framer;
 use cts_connection::Supplier;
-use cts_net::{Listeners, SystemClock};
-use cts_outside::{Clock, Files, OpenGate, Sink, ThreadCrew};
+use cts_net::{Bells, Listeners, SystemClock};
+use cts_outside::{Clock, Files, Sink, ThreadCrew};
 use cts_serve::{Status, serve};
+use std::alloc::Global;
 use std::fs::File;
 use std::io::Read;
 use std::net::{Net, TcpListener, TcpStream};
@@ -37,8 +40,16 @@ pub fn serve_words<
 >(rt: &R, words: &[&str], shelf: &mut B, files: &mut F, out: &mut O) -> Result<Status, Memory> {
     let (seconds, _) = SystemClock::new(rt).now();
     let names = LogNames::of_second(rt.alloc(), seconds)?;
-    let listeners = Listeners::new(rt.alloc(), STREAMS, REQUESTS)?;
-    serve_over::<C, B, N, R, F, O>(rt, &listeners, &names, words, shelf, files, out)
+    let listeners = listeners_of(rt.alloc())?;
+    let bells = Bells::new(rt.alloc())?;
+    serve_over::<C, B, N, R, F, O>(rt, &listeners, &bells, &names, words, shelf, files, out)
+}
+
+// The listeners of a server: those of requests are on this machine alone.
+fn listeners_of(alloc: Global) -> Result<Listeners, Memory>
+    ensures requests { IfOk result (λ l. l.desks.host.now ≡ codes "127.0.0.1") }
+{
+    Listeners::new(alloc, STREAMS, REQUESTS)
 }
 
 // The same over these listeners and files of this name.
@@ -59,32 +70,25 @@ fn serve_over<
 >(
     rt: &'a R,
     listeners: &'a Listeners,
+    bells: &'a Bells,
     names: &'a LogNames,
     words: &[&str],
     shelf: &mut B,
     files: &mut F,
     out: &mut O,
-) -> Result<Status, Memory> {
+) -> Result<Status, Memory>
+    requires requests { listeners.now.desks.host.now ≡ codes "127.0.0.1" }
+{
     let alloc = rt.alloc();
-    let mut lines = listeners.lines(rt, alloc)?;
-    let mut doors = listeners.doors(rt, alloc)?;
+    let mut lines = listeners.lines(rt, alloc, bells)?;
+    let mut doors = listeners.doors(rt, alloc, bells)?;
     let vault = DiskVault::new(rt, Opening::New, names.tlm.as_str(), names.cmd.as_str());
     let mut vault = Some(vault);
     let clock = SystemClock::new(rt);
     let mut crew = ThreadCrew::new();
     let ended = serve(
-        rt,
-        alloc,
-        words,
-        shelf,
-        files,
-        out,
-        &mut lines,
-        &mut doors,
-        &mut vault,
-        &clock,
-        &mut crew,
-        &OpenGate::new(),
+        rt, alloc, words, shelf, files, out, &mut lines, &mut doors, &mut vault, &clock, &mut crew,
+        bells,
     );
     Ok(ended.status)
 }

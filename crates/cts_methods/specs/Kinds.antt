@@ -1,5 +1,6 @@
 -- The kinds of params: of which values a list of params is, and what it then asks.
-use Rattle.std.specs.Prelude.{ℕ, ℤ, pos, ◌*ℤ◌, Bool, true, not, nat_le, ◌&&◌, ◌==◌, List, [], ◌∷◌, length, drop, Option, Some, None, option_map, option_and_then, is_some, Result, Ok, Err, if◌then◌else◌, codes}
+use Rattle.std.specs.Prelude.{ℕ, ℤ, pos, ◌*ℤ◌, Bool, true, not, nat_le, ◌&&◌, ◌==◌, List, [], ◌∷◌, length, drop, Option, Some, None, option_map}
+use Rattle.std.specs.Prelude.{option_and_then, is_some, Result, Ok, Err, if◌then◌else◌, codes}
 use Rattle.std.specs.List.{before_first, position_or_len}
 use Rattle.std.specs.Str.{bytes_eq}
 use Rattle.cts_base.specs.declared.decimal.Decimal.{Decimal}
@@ -13,7 +14,8 @@ use Rattle.cts_conv.specs.declared.value.ValueKind.TheVariants.{Raw, Converted, 
 use Rattle.cts_def.specs.declared.limits.Limits.{Limits}
 use Rattle.serde_json.specs.Data.{Data, null, boolean, number, string, array, object, Items, no_items, item, Members, no_members, member}
 use Rattle.serde_json.specs.Find.{as_bool, as_integer, as_number, as_str, as_u64}
-use Rattle.cts_methods.specs.Asking.{PacketName, ItemName, Order, in_text, in_parts, NewLimits, Asking, asks_value, asks_packet, sends, asks_limits, sets_limits, enables, chooses_set, asks_events, asks_interface, injects}
+use Rattle.cts_methods.specs.Asking.{PacketName, ItemName, Order, in_text, in_parts, NewLimits, Asking, asks_value, asks_packet, sends, asks_limits}
+use Rattle.cts_methods.specs.Asking.{sets_limits, enables, chooses_set, asks_events, asks_interface, injects}
 
 abbrev pub listed : Items → List Data
 listed no_items = []

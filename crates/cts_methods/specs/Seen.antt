@@ -9,7 +9,9 @@ use Rattle.cts_methods.specs.declared.reading.Order.TheVariants as orders
 use Rattle.cts_methods.specs.declared.params.PacketWords.{PacketWords}
 use Rattle.cts_methods.specs.declared.params.ItemWords.{ItemWords}
 use Rattle.cts_methods.specs.declared.params.LimitsWords.{LimitsWords}
-use Rattle.cts_methods.specs.Asking.{PacketName, ItemName, NewLimits, Order, in_text, in_parts, Asking, asks_value, asks_packet, asks_received, asks_sent, sends, asks_limits, sets_limits, enables, asks_set, chooses_set, asks_out_of_limits, asks_events, asks_interfaces, asks_interface, injects, stops}
+use Rattle.cts_methods.specs.Asking.{PacketName, ItemName, NewLimits, Order, in_text, in_parts, Asking, asks_value, asks_packet, asks_received}
+use Rattle.cts_methods.specs.Asking.{asks_sent, sends, asks_limits, sets_limits, enables, asks_set, chooses_set, asks_out_of_limits, asks_events}
+use Rattle.cts_methods.specs.Asking.{asks_interfaces, asks_interface, injects, stops}
 use Rattle.cts_methods.specs.Kinds.{or_else}
 
 abbrev pub packet_name : PacketWords → PacketName

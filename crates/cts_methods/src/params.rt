@@ -3,7 +3,9 @@
 ghost use Rattle.std.specs.Prelude.{◌≡◌, is_some, map, option_map};
 ghost use Rattle.serde_json.specs.Find.{as_integer};
 ghost use Rattle.serde_json.specs.View.{members_view, number_view, view};
-ghost use Rattle.cts_methods.specs.Kinds.{are_given, decimal_in, first_in, given_in, green_first, item_in, kind_in, kind_named, limits_first, may_be, maybe_first, names_first, names_in, natural_in, new_limits, object_in, packet_first, packet_in, pair_first, persistence_in, single, switch_in, text_in, wholes};
+ghost use Rattle.cts_methods.specs.Kinds.{are_given, decimal_in, first_in, given_in, green_first, item_in, kind_in, kind_named, limits_first, may_be};
+ghost use Rattle.cts_methods.specs.Kinds.{maybe_first, names_first, names_in, natural_in, new_limits, object_in, packet_first, packet_in, pair_first};
+ghost use Rattle.cts_methods.specs.Kinds.{persistence_in, single, switch_in, text_in, wholes};
 ghost use Rattle.cts_methods.specs.Seen.{item_name, limits_asked, packet_name};
 
 use crate::words::three_words;

@@ -1,5 +1,6 @@
 -- What is kept of all items and the events, after a packet more, and what it stands for.
-use Rattle.std.specs.Prelude.{◌≡◌, ℕ, ◌-◌, if◌then◌else◌, List, [], ◌++◌, length, map, slice_get, slice_set, slice_index_or, option_and_then, Option, None, Some, Bool, true, false}
+use Rattle.std.specs.Prelude.{◌≡◌, ℕ, ◌-◌, if◌then◌else◌, List, [], ◌++◌, length, map, slice_get, slice_set, slice_index_or, option_and_then, Option}
+use Rattle.std.specs.Prelude.{None, Some, Bool, true, false}
 use Rattle.std.specs.List.{filter}
 use Rattle.std.specs.Option.{ForSome}
 use Rattle.cts_def.specs.Packets.{PacketData}
@@ -62,7 +63,8 @@ pub record GridTells (site : SiteData) (h : List Entry) (k : GridData) : Type 0 
 
 -- the events at entries from this one on stand after all others
 abbrev pub IsPartedAt : ℕ → List LimitsEvent → Type 0
-IsPartedAt n events = (front : List LimitsEvent) × (back : List LimitsEvent) × (events ≡ front ++ back) × (filter (is_from n) front ≡ []) × (filter (is_from n) back ≡ back)
+IsPartedAt n events = (front : List LimitsEvent) × (back : List LimitsEvent) × (events ≡ front ++ back) × (filter (is_from n) front ≡ [])
+    × (filter (is_from n) back ≡ back)
 
 abbrev pub cell_in : List (List Cell) → ℕ → ℕ → Option Cell
 cell_in rows p i = option_and_then (λ (row : List Cell). slice_get row i) (slice_get rows p)

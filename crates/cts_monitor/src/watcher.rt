@@ -39,7 +39,15 @@ impl Model for Watcher {
 
     ghost Value = { WatcherData };
 
-    ghost view = { λ w. record { rows = w.grid.rows; events = w.grid.events; given = w.places.given; sets = w.places.sets; chosen = w.places.chosen; width = w.width; spare = w.spare } };
+    ghost view = { λ w. record {
+      rows = w.grid.rows;
+      events = w.grid.events;
+      given = w.places.given;
+      sets = w.places.sets;
+      chosen = w.places.chosen;
+      width = w.width;
+      spare = w.spare;
+    } };
 
     ghost invariant = { λ w. HasSpare w.width w.spare w.grid.free w.places.free };
 }

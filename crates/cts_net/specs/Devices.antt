@@ -7,6 +7,11 @@ use Rattle.cts_outside.specs.Seen.{LineSeen}
 abbrev pub unused : LineSeen
 unused = record { told = None; linked = false; faults = 0; failed_dials = 0 }
 
+-- a door stands in the place, and accepts its clients at this address of the machine
+abbrev pub AcceptsAt : {X : Type 0} → (X → List ℕ) → List ℕ → Option X → Type 0
+AcceptsAt host address (Some x) = host x ≡ address
+AcceptsAt host address None = ⊥
+
 module _ {X : Type 0} (seen : X → LineSeen) where
   -- a dialer stands in the place, and was not used yet
   abbrev pub IsUnused : Option X → Type 0

@@ -1,10 +1,15 @@
 -- What the answers of a socket mean.
-use Rattle.std.specs.Prelude.{◌≡◌, ℕ, ◌+◌, ◌<◌, ◌≤◌, Bool, true, false, List, take, Option, Some, None, Result, Ok, Err}
+use Rattle.std.specs.Prelude.{◌≡◌, ℕ, ◌+◌, ◌<◌, ◌≤◌, ℤ, pos, Bool, true, false, ◌||◌, List, take, Option, Some, None, option_map, unwrap_or}
+use Rattle.std.specs.Prelude.{Result, Ok, Err}
+use Rattle.std.specs.Ordering.{int_eq}
 use Rattle.std.specs.Io.KnownBytes.{Keeps, Consumes, IsAtEnd}
-use Rattle.std.specs.IoError.{error_kind}
+use Rattle.std.specs.IoError.{error_kind, raw_os_error}
 use Rattle.std.specs.declared.io.Error.{Error}
 use Rattle.std.specs.declared.io.ErrorKind.{ErrorKind}
-use Rattle.std.specs.declared.io.ErrorKind.TheVariants.{WouldBlock, TimedOut, Interrupted, ConnectionAborted, ConnectionReset, HostUnreachable, NetworkUnreachable, NetworkDown}
+use Rattle.std.specs.declared.io.ErrorKind.TheVariants.{WouldBlock, TimedOut, Interrupted, ConnectionAborted, ConnectionReset, HostUnreachable}
+use Rattle.std.specs.declared.io.ErrorKind.TheVariants.{NetworkUnreachable, NetworkDown}
+use Rattle.cts_net.specs.declared.patience.Patience.{Patience}
+use Rattle.cts_net.specs.declared.patience.Waited.{Waited}
 use Rattle.cts_outside.specs.declared.link.Taken.{Taken}
 use Rattle.cts_outside.specs.declared.link.Taken.TheVariants.{Got, Nothing, End, Failed}
 
@@ -46,18 +51,28 @@ TakesOf old new Nothing buffer = Keeps old new
 TakesOf old new End buffer = Keeps old new × IsAtEnd new
 TakesOf old new Failed buffer = Keeps old new
 
--- How many takes in a row found nothing, before and after one of them: one that finds nothing is counted, and no more of them than
--- may be; bytes and an end begin anew.
-abbrev pub IsHeard : Taken → ℕ → ℕ → ℕ → Type 0
-IsHeard (Got n) old new most = new ≡ 0
-IsHeard Nothing old new most = (old < most) × (new ≡ old + 1)
-IsHeard End old new most = new ≡ 0
-IsHeard Failed old new most = Unit {0}
+-- How often a dialer waits in vain: for the takes of one connection that find nothing, those in a row and all of them.
+-- Bytes and an end begin the row anew, and leave the number of all; a take that finds nothing counts in both, and no more of them are
+-- answered so than a connection is borne with.
+abbrev pub IsHeard : Patience → Taken → Waited → Waited → Type 0
+IsHeard most (Got n) old new = new ≡ record { in_row = 0; in_all = old.in_all }
+IsHeard most Nothing old new =
+    (old.in_row < most.in_row) × (old.in_all < most.in_all) × (new ≡ record { in_row = old.in_row + 1; in_all = old.in_all + 1 })
+IsHeard most End old new = new ≡ record { in_row = 0; in_all = old.in_all }
+IsHeard most Failed old new = Unit {0}
 
 -- ---- accept
 
--- What an accept means for a door: a client, nobody where it passes, and a fault at every other error.
+-- The system has no room for one more connection: the numbers of Linux for want of memory, for files of the system and of the
+-- process, of which no more may be open, and for want of buffers.
+abbrev pub is_full : ℤ → Bool
+is_full code = int_eq code (pos 12) || int_eq code (pos 23) || int_eq code (pos 24) || int_eq code (pos 105)
+
+abbrev pub is_no_room : Error → Bool
+is_no_room e = unwrap_or (option_map is_full (raw_os_error e)) false
+
+-- What an accept means for a door: a client, nobody where it passes or the system has no room, and a fault at every other error.
 abbrev pub Accepts : {T : Type 0} → Result T Error → Result (Option T) Error → Type 0
 Accepts (Ok x) found = found ≡ Ok (Some x)
-Accepts (Err e) (Ok found) = (found ≡ None) × (is_passing (error_kind e) ≡ true)
-Accepts (Err e) (Err f) = (f ≡ e) × (is_passing (error_kind e) ≡ false)
+Accepts (Err e) (Ok found) = (found ≡ None) × ((is_passing (error_kind e) || is_no_room e) ≡ true)
+Accepts (Err e) (Err f) = (f ≡ e) × ((is_passing (error_kind e) || is_no_room e) ≡ false)

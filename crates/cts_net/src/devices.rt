@@ -1,9 +1,11 @@
 // The devices of a server: the dialers of its lines, the doors of its routers and desks, and the listeners that these stand at.
-ghost use Rattle.std.specs.Prelude.{◌≡◌, ℕ, ◌+◌, length, IfOk, OnOk};
+ghost use Rattle.std.specs.Prelude.{◌≡◌, ℕ, ◌+◌, ◌≤◌, List, drop, length, IfOk, OnOk};
+ghost use Rattle.std.specs.List.{AllByRecursion};
 ghost use Rattle.cts_def.specs.Most.{most_desks, most_interfaces, most_routers, most_slots};
-ghost use Rattle.cts_net.specs.Devices.{AreUnused};
+ghost use Rattle.cts_net.specs.Devices.{AcceptsAt, AreUnused};
 
-use crate::{SharedListener, TcpDialer};
+use crate::bells::Bell;
+use crate::{Bells, Patience, SharedListener, TcpDialer};
 use cts_base::Memory;
 use cts_def::{MOST_DESKS, MOST_INTERFACES, MOST_ROUTERS};
 use cts_outside::Link;
@@ -11,8 +13,32 @@ use std::alloc::Global;
 use std::net::{Net, TcpListener, TcpStream};
 use std::time::Clock;
 
-/// How many takes in a row may find nothing at a desk: a client that says nothing for about a minute is taken to be gone.
-const SILENT_CLIENT: u64 = 6_000;
+/// A line bears with a silent device for good. Its bell ends a take where the history has something new.
+const LINE: Patience = Patience {
+    take: 100,
+    in_row: u64::MAX,
+    in_all: u64::MAX,
+    rest: 0,
+};
+
+/// A slot bears with a silent client for good, and rests for 100 milliseconds after it: each client leaves an Opened and a Closed in
+/// the history, so a loop of connects could fill it.
+const SLOT: Patience = Patience {
+    take: 100,
+    in_row: u64::MAX,
+    in_all: u64::MAX,
+    rest: 100,
+};
+
+/// A desk takes a client that says nothing for about a minute to be gone, and hangs up on one for which it has waited ten minutes in
+/// all, once nothing more is there to take: so clients that are idle, or send a byte now and then, do not keep others out for good.
+/// It leaves nothing in the history, and goes on with the next client at once.
+const DESK: Patience = Patience {
+    take: 10,
+    in_row: 6_000,
+    in_all: 60_000,
+    rest: 0,
+};
 
 /// The listeners of a server's ports: one for each interface, which opens it where its site says that it serves; one for each router,
 /// whose two slots share it; and one for all desks.
@@ -20,7 +46,8 @@ const SILENT_CLIENT: u64 = 6_000;
 pub struct Listeners {
     interfaces: Vec<SharedListener<'static>>,
     routers: Vec<SharedListener<'static>>,
-    desks: SharedListener<'static>,
+    /// That of all desks.
+    pub desks: SharedListener<'static>,
     ghost interfaces_are: { length interfaces.items ≡ most_interfaces },
     ghost routers_are: { length routers.items ≡ most_routers },
 }
@@ -32,7 +59,9 @@ impl Listeners {
         alloc: Global,
         streams: &'static str,
         requests: &'static str,
-    ) -> Result<Listeners, Memory> {
+    ) -> Result<Listeners, Memory>
+        ensures requests { IfOk result (λ l. l.desks.host.now ≡ requests.now) }
+    {
         Ok(Listeners {
             interfaces: at(alloc, MOST_INTERFACES, streams)?,
             routers: at(alloc, MOST_ROUTERS, streams)?,
@@ -45,12 +74,13 @@ impl Listeners {
         &'a self,
         rt: &'a R,
         alloc: Global,
+        bells: &'a Bells,
     ) -> Result<Vec<Option<TcpDialer<'a, R>>>, Memory>
         ensures { IfOk result (λ places. AreUnused (⟦<TcpDialer<'a, R> as Link>⟧.seen) most_interfaces places.items) }
     {
         let mut lines = Vec::new(alloc);
-        for listener in &self.interfaces {
-            put(rt, listener, u64::MAX, &mut lines)?;
+        for (place, listener) in self.interfaces.iter().enumerate() {
+            put(rt, alloc, listener, LINE, bells.of(place), &mut lines)?;
         }
         Ok(lines)
     }
@@ -60,16 +90,21 @@ impl Listeners {
         &'a self,
         rt: &'a R,
         alloc: Global,
+        bells: &'a Bells,
     ) -> Result<Vec<Option<TcpDialer<'a, R>>>, Memory>
-        ensures { IfOk result (λ places. AreUnused (⟦<TcpDialer<'a, R> as Link>⟧.seen) (most_slots + most_desks) places.items) }
+        ensures there { IfOk result (λ places. AreUnused (⟦<TcpDialer<'a, R> as Link>⟧.seen) (most_slots + most_desks) places.items) }
+        // Each desk accepts its clients where requests are to be accepted.
+        ensures requests { IfOk result (λ places. AllByRecursion (AcceptsAt (λ d. d.listener.now.host.now) self.now.desks.host.now)
+            (drop most_slots places.items)) }
     {
         let mut doors = Vec::new(alloc);
-        for listener in &self.routers {
-            put(rt, listener, u64::MAX, &mut doors)?;
-            put(rt, listener, u64::MAX, &mut doors)?;
+        for (place, listener) in self.routers.iter().enumerate() {
+            let first = MOST_INTERFACES + 2 * place;
+            put(rt, alloc, listener, SLOT, bells.of(first), &mut doors)?;
+            put(rt, alloc, listener, SLOT, bells.of(first + 1), &mut doors)?;
         }
         for _ in 0..MOST_DESKS {
-            put(rt, &self.desks, SILENT_CLIENT, &mut doors)?;
+            put(rt, alloc, &self.desks, DESK, None, &mut doors)?;
         }
         Ok(doors)
     }
@@ -78,13 +113,19 @@ impl Listeners {
 // Puts a dialer that was not used yet into the next place.
 fn put<'a, R: Net<Listener = TcpListener, Stream = TcpStream> + Clock>(
     rt: &'a R,
+    alloc: Global,
     listener: &'a SharedListener<'a>,
-    most_silent: u64,
+    patience: Patience,
+    bell: Option<&'a Bell>,
     places: &mut Vec<Option<TcpDialer<'a, R>>>,
 ) -> Result<(), Memory>
-    ensures { OnOk result ((n : ℕ) → AreUnused (⟦<TcpDialer<'a, R> as Link>⟧.seen) n places.old.items → AreUnused (⟦<TcpDialer<'a, R> as Link>⟧.seen) (n + 1) places.new.items) }
+    ensures host { OnOk result ((n : ℕ) (host : List ℕ) → listener.now.host.now ≡ host → n ≤ length places.old.items
+        → AllByRecursion (AcceptsAt (λ d. d.listener.now.host.now) host) (drop n places.old.items)
+        → AllByRecursion (AcceptsAt (λ d. d.listener.now.host.now) host) (drop n places.new.items)) }
+    ensures there { OnOk result ((n : ℕ) → AreUnused (⟦<TcpDialer<'a, R> as Link>⟧.seen) n places.old.items → AreUnused (⟦<TcpDialer<'a, R> as Link>⟧.seen)
+        (n + 1) places.new.items) }
 {
-    places.push(Some(TcpDialer::new(rt, listener, most_silent)))?;
+    places.push(Some(TcpDialer::new(rt, alloc, listener, patience, bell)?))?;
     Ok(())
 }
 

@@ -1,13 +1,14 @@
 // A port on which doors accept clients.
+ghost use Rattle.std.specs.Prelude.{◌≡◌};
 ghost use Rattle.cts_net.specs.Waits.{Accepts};
 
-use crate::stream::{is_passing, patient};
-use std::io;
+use crate::stream::{at_once, is_no_room, is_passing};
 use std::io::ErrorKind;
 use std::net::{Net, SocketAddr, TcpListener, TcpStream};
 use std::os::fd::OwnedFd;
 use std::sync::OnceLock;
-use std::time::Duration;
+use std::time::{Clock, Duration};
+use std::{io, thread};
 
 /// How many milliseconds a dial waits for a client.
 const ACCEPT: u64 = 100;
@@ -15,13 +16,16 @@ const ACCEPT: u64 = 100;
 /// The one listener of the doors of a port, which the first of them that is aimed opens.
 #[derive(Drop)]
 pub struct SharedListener<'a> {
-    host: &'a str,
+    /// The address of the machine at which it is.
+    pub host: &'a str,
     cell: OnceLock<TcpListener>,
 }
 
 impl<'a> SharedListener<'a> {
     /// A listener that will be at this address of the machine, `0.0.0.0` for all of them.
-    pub fn new(host: &'a str) -> SharedListener<'a> {
+    pub fn new(host: &'a str) -> SharedListener<'a>
+        ensures host { result.host.now ≡ host.now }
+    {
         SharedListener {
             host,
             cell: OnceLock::new(),
@@ -62,21 +66,29 @@ fn listen<R: Net<Listener = TcpListener, Stream = TcpStream>>(
     Ok(TcpListener::from(OwnedFd::from(socket)))
 }
 
-/// A client that is there now, or comes in a moment.
-pub(crate) fn accept(listener: &TcpListener) -> io::Result<Option<TcpStream>> {
-    match accepted(listener.accept())? {
-        Some((stream, _)) => Ok(patient(stream).ok()),
+/// A client that is there now, or comes in a moment. Where the system has no room for one more it rests for a moment, since the
+/// system would say so again at once.
+pub(crate) fn accept<R: Clock>(
+    rt: &R,
+    listener: &TcpListener,
+) -> io::Result<Option<mio::net::TcpStream>> {
+    let client = listener.accept();
+    if client.as_ref().is_err_and(is_no_room) {
+        thread::sleep(rt, Duration::from_millis(ACCEPT));
+    }
+    match accepted(client)? {
+        Some((stream, _)) => Ok(at_once(stream).ok()),
         None => Ok(None),
     }
 }
 
-// That nobody came, or that a client is gone before it was accepted, is no fault of the door.
+// That nobody came, that a client is gone before it was accepted, or that the system has no room for one more, is no fault of the door.
 fn accepted<T: Drop>(client: io::Result<T>) -> io::Result<Option<T>>
     ensures { Accepts client result }
 {
     match client {
         Ok(client) => Ok(Some(client)),
-        Err(error) if is_passing(error.kind()) => Ok(None),
+        Err(error) if is_passing(error.kind()) || is_no_room(&error) => Ok(None),
         Err(error) => Err(error),
     }
 }

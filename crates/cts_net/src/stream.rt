@@ -3,36 +3,30 @@ ghost use Rattle.std.specs.Prelude.{◌≡◌, ◌<◌, length, OnOk, OnErr};
 ghost use Rattle.std.specs.Io.KnownBytes.{Appends};
 ghost use Rattle.cts_adapters.specs.Writes.{AppendsPart};
 ghost use Rattle.cts_outside.specs.Lines.{TakeFits};
-ghost use Rattle.cts_net.specs.Waits.{is_wait, is_passing, IsTaken, TakesOf};
+ghost use Rattle.cts_net.specs.Waits.{is_no_room, is_wait, is_passing, IsTaken, TakesOf};
 
 use cts_base::Bytes;
 use cts_outside::{PutFailed, Taken};
 use std::io;
 use std::io::{ErrorKind, Read, Write};
-use std::net::{Net, Shutdown, TcpListener, TcpStream, ToSocketAddrs};
+use std::net::{Net, TcpListener, TcpStream, ToSocketAddrs};
 use std::time::Duration;
 
-/// How many milliseconds a take waits for bytes. What the history has for a peer waits as long before it is put.
-const TAKE: u64 = 10;
+/// How many writes of a put in a row may take nothing: a peer that takes nothing for 0.8 seconds is gone.
+const STALLS: u64 = 8;
 
-/// How many milliseconds one write waits for its peer.
-const WRITE: u64 = 100;
-
-/// How many writes a put may take, so that it waits no longer than all of them.
-const WRITES: u64 = 8;
+/// How many writes a put may take, so that it waits for half a minute at most: a slow peer is given a large reply as long as it takes
+/// some of it again and again.
+const WRITES: u64 = 300;
 
 /// How many milliseconds a dial waits for an answer, from all addresses of its host together.
 const CONNECT: u64 = 800;
 
-/// How many reads a close may take.
-const LAST_READS: u64 = 16;
-
-/// A stream whose reads and writes wait only so long, and which sends at once what is put.
-pub(crate) fn patient(stream: TcpStream) -> io::Result<TcpStream> {
-    stream.set_read_timeout(Some(Duration::from_millis(TAKE)))?;
-    stream.set_write_timeout(Some(Duration::from_millis(WRITE)))?;
+/// A stream whose reads and writes do not wait, and which sends at once what is put.
+pub(crate) fn at_once(stream: TcpStream) -> io::Result<mio::net::TcpStream> {
+    stream.set_nonblocking(true)?;
     stream.set_nodelay(true)?;
-    Ok(stream)
+    Ok(mio::net::TcpStream::from_std(stream))
 }
 
 /// A connection to the first address of the host that answers in time.
@@ -40,7 +34,7 @@ pub(crate) fn connect<R: Net<Listener = TcpListener, Stream = TcpStream>>(
     rt: &R,
     host: &Bytes,
     port: u16,
-) -> io::Result<TcpStream> {
+) -> io::Result<mio::net::TcpStream> {
     let Ok(host) = str::from_utf8(host.as_slice()) else {
         return Err(io::Error::from(ErrorKind::InvalidInput));
     };
@@ -49,27 +43,11 @@ pub(crate) fn connect<R: Net<Listener = TcpListener, Stream = TcpStream>>(
     let mut last = io::Error::from(ErrorKind::NotFound);
     for address in addresses {
         match TcpStream::connect_timeout(rt, &address, each) {
-            Ok(stream) => return patient(stream),
+            Ok(stream) => return at_once(stream),
             Err(error) => last = error,
         }
     }
     Err(last)
-}
-
-/// Ends a connection. What its peer still sends is read for a moment, since a socket that is closed over unread bytes may take from
-/// the peer what was put last.
-pub(crate) fn close(stream: TcpStream) {
-    if stream.shutdown(Shutdown::Write).is_err() {
-        return;
-    }
-    let mut peer = &stream;
-    let mut rest = [0u8; 4096];
-    'reads: for _ in 0..LAST_READS {
-        match peer.read(&mut rest) {
-            Ok(count) if count > 0 => {}
-            _ => return,
-        }
-    }
 }
 
 /// Takes bytes that are there or come in time.
@@ -94,21 +72,26 @@ fn taken(read: io::Result<usize>) -> Taken
     }
 }
 
-/// Writes all bytes, again where a write took only some of them in time or was interrupted, and no more often than it may. A write
-/// that takes nothing is a fault.
+/// Writes all bytes, again where a write took only some of them in time or was interrupted, and no more often than it may, in all and
+/// in a row without a byte that was taken. A write that is done and took nothing is a fault.
 pub(crate) fn put_to<S: Write>(peer: &mut S, bytes: &[u8]) -> Result<(), PutFailed>
     ensures whole { OnOk result (Appends (S.contents peer.old) (S.contents peer.new) bytes.now) }
     ensures part { OnErr result (AppendsPart (S.contents peer.old) (S.contents peer.new) bytes.now) }
 {
     let mut at = 0;
+    // (how many more writes in a row may take nothing)
+    let mut stalls = STALLS;
     'writes: for _ in 0..WRITES {
         if at == bytes.len() {
             return Ok(());
         }
         match peer.write(&bytes[at..]) {
             Ok(0) => return Err(PutFailed),
-            Ok(count) => at += count,
-            Err(error) if is_wait(error.kind()) => {}
+            Ok(count) => {
+                at += count;
+                stalls = STALLS;
+            }
+            Err(error) if is_wait(error.kind()) && stalls > 1 => stalls -= 1,
             Err(_) => return Err(PutFailed),
         }
     }
@@ -141,4 +124,12 @@ pub(crate) fn is_passing(kind: ErrorKind) -> bool
             | ErrorKind::NetworkUnreachable
             | ErrorKind::NetworkDown
     ) || is_wait(kind)
+}
+
+/// Whether the system has no room for one more connection: no memory, no buffers, or no more open files.
+pub(crate) fn is_no_room(error: &io::Error) -> bool
+    ensures { result ≡ is_no_room error.now }
+{
+    // (the numbers of Linux: ENOMEM, ENFILE, EMFILE, ENOBUFS)
+    matches!(error.raw_os_error(), Some(12 | 23 | 24 | 105))
 }

@@ -43,7 +43,16 @@ pub record DialerHeld : Type 0 where
   pub failed_dials : ℕ
 
 abbrev pub dialer_at_first : List MemConnection → List ℕ → DialerHeld
-dialer_at_first connections failing = record { waiting = connections; script = []; room = 0; line = no_connections; failing = failing; calls = 0; faults = 0; failed_dials = 0 }
+dialer_at_first connections failing = record {
+  waiting = connections;
+  script = [];
+  room = 0;
+  line = no_connections;
+  failing = failing;
+  calls = 0;
+  faults = 0;
+  failed_dials = 0;
+}
 
 -- ---- take
 

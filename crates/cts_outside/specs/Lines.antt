@@ -1,5 +1,6 @@
 -- What a dialer tells: all its connections so far, and what each call leaves of them.
-use Rattle.std.specs.Prelude.{length, ◌≡◌, ℕ, ◌≤◌, Bool, true, false, List, [], ◌∷◌, ◌++◌, take, Option, Some, None, option_map, option_to_list, Result, Ok, Err}
+use Rattle.std.specs.Prelude.{length, ◌≡◌, ℕ, ◌≤◌, Bool, true, false, List, [], ◌∷◌, ◌++◌, take, Option, Some, None, option_map, option_to_list}
+use Rattle.std.specs.Prelude.{Result, Ok, Err}
 use Rattle.cts_outside.specs.Causes.{raised}
 use Rattle.cts_outside.specs.declared.link.Aim.{Aim}
 use Rattle.cts_outside.specs.declared.link.Taken.{Taken}

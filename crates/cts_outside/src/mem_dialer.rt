@@ -3,7 +3,8 @@ ghost use Rattle.std.specs.Prelude.{◌≡◌, ◌+◌, ◌<◌, ◌≤◌, ◌�
 ghost use Rattle.cts_outside.specs.Causes.{Cause, TakeCause, DialCause, raised};
 ghost use Rattle.cts_outside.specs.InMemory.{fails_at, faults_after};
 ghost use Rattle.cts_outside.specs.Lines.{at_now, after_take, after_dial, aimed, hung_up, with_failed_put, LinkPuts, TakeFits, links};
-ghost use Rattle.cts_outside.specs.Dialers.{dialer_at_first, GivesBy, DialsBy, WantsMemory, WantsRoom, faults_after_take, failed_after_dial, piece_bytes, bytes_put, pieces_after, passed, Reaches};
+ghost use Rattle.cts_outside.specs.Dialers.{dialer_at_first, GivesBy, DialsBy, WantsMemory, WantsRoom, faults_after_take, failed_after_dial};
+ghost use Rattle.cts_outside.specs.Dialers.{piece_bytes, bytes_put, pieces_after, passed, Reaches};
 
 use crate::failing::Failing;
 use crate::noted::Noted;

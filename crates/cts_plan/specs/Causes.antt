@@ -1,5 +1,6 @@
 -- Each cause, judged by what stands before a statement and by the statement.
-use Rattle.std.specs.Prelude.{ℕ, ◌+◌, Bool, true, false, not, ◌||◌, ◌&&◌, nat_eq, nat_lt, nat_le, List, [], ◌∷◌, length, Option, Some, None, is_none, is_some, codes, if◌then◌else◌}
+use Rattle.std.specs.Prelude.{ℕ, ◌+◌, Bool, true, false, not, ◌||◌, ◌&&◌, nat_eq, nat_lt, nat_le, List, [], ◌∷◌, length, Option, Some, None, is_none}
+use Rattle.std.specs.Prelude.{is_some, codes, if◌then◌else◌}
 use Rattle.std.specs.List.{list_any}
 use Rattle.std.specs.Option.{option_eq}
 use Rattle.cts_def.specs.declared.proto_spec.Kind.{Kind}
@@ -16,9 +17,12 @@ use Rattle.cts_plan.specs.declared.line.Line.{Line}
 use Rattle.cts_plan.specs.declared.line.Line.TheVariants as line
 use Rattle.cts_plan.specs.declared.line.Detail.TheVariants as detail
 use Rattle.cts_plan.specs.declared.fault.SiteCause.{SiteCause}
-use Rattle.cts_plan.specs.declared.fault.SiteCause.TheVariants.{UnknownKeyword, WrongCount, BadName, NotNumber, DoubleName, OutsideInterface, UnknownTarget, TargetTwice, UnknownInterface, TwoPorts, ProtocolKind, ChainTooLong, NotLast, MinIdSize, VariableLength, EmptySync, TooMany}
+use Rattle.cts_plan.specs.declared.fault.SiteCause.TheVariants.{UnknownKeyword, WrongCount, BadName, NotNumber, DoubleName, OutsideInterface}
+use Rattle.cts_plan.specs.declared.fault.SiteCause.TheVariants.{UnknownTarget, TargetTwice, UnknownInterface, TwoPorts, ProtocolKind, ChainTooLong}
+use Rattle.cts_plan.specs.declared.fault.SiteCause.TheVariants.{NotLast, MinIdSize, VariableLength, EmptySync, TooMany}
 use Rattle.cts_plan.specs.Words.{word, is_nil, port_of}
-use Rattle.cts_plan.specs.Forms.{role_of, head_fields, required, parameter_fields, has_protocol, protocol_of, parameters, is_other_choice, is_bad_name, is_no_number, is_empty_sync, any_field}
+use Rattle.cts_plan.specs.Forms.{role_of, head_fields, required, parameter_fields, has_protocol, protocol_of, parameters, is_other_choice}
+use Rattle.cts_plan.specs.Forms.{is_bad_name, is_no_number, is_empty_sync, any_field}
 use Rattle.cts_plan.specs.Steps.{StepData, step_reads, step_reads_packets}
 use Rattle.cts_plan.specs.Lines.{port_at, is_bad_length}
 use Rattle.cts_plan.specs.Standing.{has_name, number_of}

@@ -1,5 +1,6 @@
 -- The table of statements: which words follow a keyword.
-use Rattle.std.specs.Prelude.{ℕ, ◌+◌, Bool, true, false, not, ◌&&◌, ◌||◌, nat_lt, List, [], ◌∷◌, length, drop, zip, codes, Option, Some, None, is_none, is_some, if◌then◌else◌}
+use Rattle.std.specs.Prelude.{ℕ, ◌+◌, Bool, true, false, not, ◌&&◌, ◌||◌, nat_lt, List, [], ◌∷◌, length, drop, zip, codes, Option, Some, None}
+use Rattle.std.specs.Prelude.{is_none, is_some, if◌then◌else◌}
 use Rattle.std.specs.List.{list_any}
 use Rattle.std.specs.Str.{bytes_eq}
 use Rattle.cts_base.specs.Names.{is_name}
@@ -14,7 +15,8 @@ use Rattle.cts_plan.specs.declared.keyword.Field.{Field}
 use Rattle.cts_plan.specs.declared.keyword.Field.TheVariants as field
 use Rattle.cts_plan.specs.declared.keyword.Check.{Check}
 use Rattle.cts_plan.specs.declared.keyword.Check.TheVariants as check
-use Rattle.cts_plan.specs.Words.{word, is_nil, flag_of, order_of, way_of, kind_of, port_of, desks_of, size_of, bits_of, per_count_of, max_of, layout_of, log_layout_of, cycle_of, signed_of, is_decimal, delay_of, is_pattern_word, is_empty_pattern}
+use Rattle.cts_plan.specs.Words.{word, is_nil, flag_of, order_of, way_of, kind_of, port_of, desks_of, size_of, bits_of, per_count_of, max_of}
+use Rattle.cts_plan.specs.Words.{layout_of, log_layout_of, cycle_of, signed_of, is_decimal, delay_of, is_pattern_word, is_empty_pattern}
 
 abbrev pub keywords : List (List ℕ × Keyword)
 keywords =

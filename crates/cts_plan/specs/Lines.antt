@@ -1,6 +1,7 @@
 -- What a statement says, read from its words. Of words that are not what their fields ask for, the reading says nothing
 -- that is used: a missing parameter and one that is no such number read as the default.
-use Rattle.std.specs.Prelude.{ℕ, pos, Bool, true, false, nat_eq, List, [], length, option_to_list, Option, Some, None, unwrap_or, option_map, is_none, if◌then◌else◌}
+use Rattle.std.specs.Prelude.{ℕ, pos, Bool, true, false, nat_eq, List, [], length, option_to_list, Option, Some, None, unwrap_or, option_map, is_none}
+use Rattle.std.specs.Prelude.{if◌then◌else◌}
 use Rattle.cts_base.specs.Names.{is_name, in_upper_case}
 use Rattle.cts_bits.specs.Places.{is_refused}
 use Rattle.cts_bits.specs.declared.order.Order.{Order}
@@ -20,7 +21,8 @@ use Rattle.cts_plan.specs.declared.line.Line.TheVariants as line
 use Rattle.cts_plan.specs.declared.line.Detail.TheVariants as detail
 use Rattle.cts_plan.specs.Steps.{StepData}
 use Rattle.cts_plan.specs.Drafts.{InterfaceDraftData, RouterDraftData}
-use Rattle.cts_plan.specs.Words.{word, flag_of, order_of, way_of, way_reads, way_writes, port_of, desks_of, size_of, bits_of, per_count_of, max_of, layout_of, log_layout_of, cycle_of, signed_of, delay_of, pattern_of}
+use Rattle.cts_plan.specs.Words.{word, flag_of, order_of, way_of, way_reads, way_writes, port_of, desks_of, size_of, bits_of, per_count_of, max_of}
+use Rattle.cts_plan.specs.Words.{layout_of, log_layout_of, cycle_of, signed_of, delay_of, pattern_of}
 use Rattle.cts_plan.specs.Forms.{role_of, protocol_of, parameters}
 
 abbrev pub flag_or : Bool → List ℕ → Bool

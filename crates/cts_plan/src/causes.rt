@@ -5,7 +5,11 @@ ghost use Rattle.cts_def.specs.Sites.{has_target, is_known_target};
 ghost use Rattle.cts_def.specs.Protocols.{is_packet_kind, spec_data};
 ghost use Rattle.cts_plan.specs.Steps.{spec_in, step_reads_packets};
 ghost use Rattle.cts_plan.specs.Standing.{has_name};
-ghost use Rattle.cts_plan.specs.Causes.{is_nothing, is_interface, is_router, chain_in, targets_in, routes_in, is_outside, is_wrong_protocol_count, is_file_unknown, is_protocol_missing, has_wrong_rest, is_wrong_count, is_unrouted, is_unknown_interface, is_length, is_not_number, are_two, are_two_at, is_two_ports, is_other_kind, is_router_named, has_route, is_double, is_unknown_target, maps, is_target_twice, is_chain_too_long, is_not_last, is_too_many, holds, order};
+ghost use Rattle.cts_plan.specs.Causes.{is_nothing, is_interface, is_router, chain_in, targets_in, routes_in, is_outside, is_wrong_protocol_count};
+ghost use Rattle.cts_plan.specs.Causes.{is_file_unknown, is_protocol_missing, has_wrong_rest, is_wrong_count, is_unrouted, is_unknown_interface};
+ghost use Rattle.cts_plan.specs.Causes.{is_length, is_not_number, are_two, are_two_at, is_two_ports, is_other_kind, is_router_named, has_route};
+ghost use Rattle.cts_plan.specs.Causes.{is_double, is_unknown_target, maps, is_target_twice, is_chain_too_long, is_not_last, is_too_many, holds};
+ghost use Rattle.cts_plan.specs.Causes.{order};
 
 use crate::draft::{Draft, number_of};
 use crate::fault::SiteCause;

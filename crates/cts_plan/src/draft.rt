@@ -3,7 +3,8 @@ ghost use Rattle.std.specs.Prelude.{◌≡◌, ◌≤◌, length, Some, OnOk, If
 ghost use Rattle.cts_def.specs.Most.{most_desks, most_interfaces};
 ghost use Rattle.cts_def.specs.Protocols.{is_layout};
 ghost use Rattle.cts_def.specs.Sites.{is_cycle};
-ghost use Rattle.cts_plan.specs.Standing.{start, closed, number_of, change_interface, change_router, change, with_port, with_desks, with_log_layout, with_log_cycle, place};
+ghost use Rattle.cts_plan.specs.Standing.{start, closed, number_of, change_interface, change_router, change, with_port, with_desks, with_log_layout};
+ghost use Rattle.cts_plan.specs.Standing.{with_log_cycle, place};
 ghost use Rattle.cts_plan.specs.Completing.{due};
 ghost use Rattle.cts_plan.specs.Keeping.{KeepsRules, FitsInterface, IsNewRoute, FitsRouter, FitsCurrent, Fits};
 ghost use Rattle.cts_reader.specs.Reading.{Settles};

@@ -27,7 +27,23 @@ impl Model for FixedParameters {
 
     ghost Value = { FixedData };
 
-    ghost view = { λ f. record { min_id = f.min_id; discard = f.discard; sync = f.sync; telemetry = f.telemetry; fill = f.fill; raise = f.raise; starts = [] } };
+    ghost view = { λ f. record {
+      min_id = f.min_id;
+      discard = f.discard;
+      sync = f.sync;
+      telemetry = f.telemetry;
+      fill = f.fill;
+      raise = f.raise;
+      starts = [];
+    } };
 
-    ghost invariant = { λ f. IsSoundFixed (record { min_id = f.min_id; discard = f.discard; sync = f.sync; telemetry = f.telemetry; fill = f.fill; raise = f.raise; starts = [] }) };
+    ghost invariant = { λ f. IsSoundFixed (record {
+      min_id = f.min_id;
+      discard = f.discard;
+      sync = f.sync;
+      telemetry = f.telemetry;
+      fill = f.fill;
+      raise = f.raise;
+      starts = [];
+    }) };
 }

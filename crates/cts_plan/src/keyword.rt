@@ -3,7 +3,9 @@ ghost use Rattle.std.specs.Prelude.{◌≡◌, ◌+◌, length, drop, map, zip};
 ghost use Rattle.std.specs.List.{list_any};
 ghost use Rattle.cts_plan.specs.Words.{is_nil};
 ghost use Rattle.cts_reader.specs.Words.{keyword_in};
-ghost use Rattle.cts_plan.specs.Forms.{keyword_of, role_of, opening_fields, head_fields, parameter_fields, required, takes_protocol, has_protocol, protocol_of, parameters, fields_of, is_other_choice, is_bad_name, is_no_number, is_empty_sync, fails, any_field};
+ghost use Rattle.cts_plan.specs.Forms.{keyword_of, role_of, opening_fields, head_fields, parameter_fields, required, takes_protocol, has_protocol};
+ghost use Rattle.cts_plan.specs.Forms.{protocol_of, parameters, fields_of, is_other_choice, is_bad_name, is_no_number, is_empty_sync, fails};
+ghost use Rattle.cts_plan.specs.Forms.{any_field};
 
 use crate::words::{
     bits_of, cycle_of, delay_of, desks_of, flag_of, is_decimal, is_empty_pattern, is_nil,

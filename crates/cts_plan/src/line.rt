@@ -7,7 +7,10 @@ ghost use Rattle.cts_def.specs.Starts.{is_place, place_data};
 ghost use Rattle.cts_plan.specs.declared.words.Way.TheVariants.{ReadWrite};
 ghost use Rattle.cts_plan.specs.Words.{signed_of, per_count_of};
 ghost use Rattle.cts_plan.specs.Steps.{is_fixed};
-ghost use Rattle.cts_plan.specs.Lines.{flag_or, size_or_zero, layout_or_two, name_of, length_offset, length_bits, length_order, length_place, is_bad_length, burst_of, fixed_of, length_of, terminated_of, preidentified_of, step_with, step_of, step_at, is_server, port_at, host_of, port_or_one, interface_by, router_by, place_at, interface_line, router_line, target_line, protocol_line, port_line, desks_line, layout_line, cycle_line, delay_line, line_of};
+ghost use Rattle.cts_plan.specs.Lines.{flag_or, size_or_zero, layout_or_two, name_of, length_offset, length_bits, length_order, length_place};
+ghost use Rattle.cts_plan.specs.Lines.{is_bad_length, burst_of, fixed_of, length_of, terminated_of, preidentified_of, step_with, step_of, step_at};
+ghost use Rattle.cts_plan.specs.Lines.{is_server, port_at, host_of, port_or_one, interface_by, router_by, place_at, interface_line, router_line};
+ghost use Rattle.cts_plan.specs.Lines.{target_line, protocol_line, port_line, desks_line, layout_line, cycle_line, delay_line, line_of};
 
 use crate::fixed::FixedParameters;
 use crate::keyword::{Keyword, Role, parameters, protocol_of, role_of};

@@ -93,9 +93,31 @@ impl Model for InterfaceDraft {
 
     ghost Value = { InterfaceDraftData };
 
-    ghost view = { λ i. record { line = i.line; name = i.name; host = i.host; serves = i.serves; port = i.port; chain = i.chain; targets = i.targets; delay = i.delay; reconnect = i.reconnect; logged = i.logged } };
+    ghost view = { λ i. record {
+      line = i.line;
+      name = i.name;
+      host = i.host;
+      serves = i.serves;
+      port = i.port;
+      chain = i.chain;
+      targets = i.targets;
+      delay = i.delay;
+      reconnect = i.reconnect;
+      logged = i.logged;
+    } };
 
-    ghost invariant = { λ i. IsSoundInterfaceDraft (record { line = i.line; name = i.name; host = i.host; serves = i.serves; port = i.port; chain = i.chain; targets = i.targets; delay = i.delay; reconnect = i.reconnect; logged = i.logged }) };
+    ghost invariant = { λ i. IsSoundInterfaceDraft (record {
+      line = i.line;
+      name = i.name;
+      host = i.host;
+      serves = i.serves;
+      port = i.port;
+      chain = i.chain;
+      targets = i.targets;
+      delay = i.delay;
+      reconnect = i.reconnect;
+      logged = i.logged;
+    }) };
 }
 
 /// A router that is read.

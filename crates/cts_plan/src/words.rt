@@ -7,7 +7,9 @@ ghost use Rattle.hex.specs.Hex.{is_hex_digit, decode_of};
 ghost use Rattle.cts_def.specs.Most.{frame_limit, most_desks};
 ghost use Rattle.cts_def.specs.Protocols.{is_layout};
 ghost use Rattle.cts_def.specs.Sites.{is_cycle};
-ghost use Rattle.cts_plan.specs.Words.{word, is_nil, flag_of, order_of, way_of, way_reads, way_writes, log_layout_of, is_one_of, kind_of, natural, port_of, desks_of, size_of, bits_of, per_count_of, max_of, layout_of, cycle_of, signed_of, is_decimal, delay_of, hex_digits, are_byte_digits, is_pattern_word, pattern_of, bytes_in, is_empty_pattern};
+ghost use Rattle.cts_plan.specs.Words.{word, is_nil, flag_of, order_of, way_of, way_reads, way_writes, log_layout_of, is_one_of, kind_of, natural};
+ghost use Rattle.cts_plan.specs.Words.{port_of, desks_of, size_of, bits_of, per_count_of, max_of, layout_of, cycle_of, signed_of, is_decimal};
+ghost use Rattle.cts_plan.specs.Words.{delay_of, hex_digits, are_byte_digits, is_pattern_word, pattern_of, bytes_in, is_empty_pattern};
 
 use cts_base::{Bytes, Decimal, Memory, read_decimal, read_whole, spells};
 use cts_bits::Order;

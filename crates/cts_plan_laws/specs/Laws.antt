@@ -15,7 +15,8 @@ use Rattle.cts_plan.specs.Lines.{is_server, host_of, port_at, port_or_one}
 use Rattle.cts_plan.specs.Standing.{number_of}
 use Rattle.cts_plan.specs.Completing.{Refused}
 use Rattle.cts_plan.specs.SiteFiles.{parts, opens, line_of_statement, after, refusal, at_end, site_in, site_of}
-use Rattle.cts_plan_laws.specs.SiteLaws.{target, route, logging, waiting, is_dont_reconnect, all_said, last_said, five_seconds, Opener, opener, opens_router, protocols}
+use Rattle.cts_plan_laws.specs.SiteLaws.{target, route, logging, waiting, is_dont_reconnect, all_said, last_said, five_seconds, Opener, opener}
+use Rattle.cts_plan_laws.specs.SiteLaws.{opens_router, protocols}
 
 -- ---- the first refusal
 

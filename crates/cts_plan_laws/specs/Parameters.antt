@@ -4,7 +4,8 @@ use Rattle.std.specs.List.{list_any}
 use Rattle.cts_bits.specs.declared.order.Order.TheVariants.{Big}
 use Rattle.cts_def.specs.declared.proto_spec.Kind.{Kind}
 use Rattle.cts_def.specs.Packets.{DefinitionsData}
-use Rattle.cts_def.specs.Protocols.{BurstData, FixedData, LengthData, TerminatedData, PreidentifiedData, SpecData, Burst, Fixed, Length, Terminated, Preidentified, UseData, kind_of}
+use Rattle.cts_def.specs.Protocols.{BurstData, FixedData, LengthData, TerminatedData, PreidentifiedData, SpecData, Burst, Fixed, Length, Terminated}
+use Rattle.cts_def.specs.Protocols.{Preidentified, UseData, kind_of}
 use Rattle.cts_plan.specs.declared.words.Way.{Way}
 use Rattle.cts_plan.specs.Steps.{StepData}
 use Rattle.cts_plan.specs.Words.{flag_of, order_of, way_reads, way_writes, size_of, bits_of, per_count_of, max_of, layout_of, signed_of, pattern_of}

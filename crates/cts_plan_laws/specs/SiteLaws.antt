@@ -1,5 +1,6 @@
 -- What a site has of the statements of its file.
-use Rattle.std.specs.Prelude.{◌≡◌, ◌≤◌, ℕ, pos, Bool, true, false, not, List, [], ◌∷◌, ◌++◌, map, length, option_to_list, option_map, Option, Some, None, Ok, unwrap_or, if◌then◌else◌}
+use Rattle.std.specs.Prelude.{◌≡◌, ◌≤◌, ℕ, pos, Bool, true, false, not, List, [], ◌∷◌, ◌++◌, map, length, option_to_list, option_map, Option, Some}
+use Rattle.std.specs.Prelude.{None, Ok, unwrap_or, if◌then◌else◌}
 use Rattle.std.specs.List.{filter, filter_map, list_any}
 use Rattle.cts_base.specs.declared.decimal.Decimal.{Decimal}
 use Rattle.cts_def.specs.Packets.{DefinitionsData}

@@ -3,7 +3,8 @@
 //! They are said of the definitions that the contract of `read_site` cites, so they are laws of what it reads.
 #![tactic(auto)]
 
-ghost use Rattle.cts_plan_laws.specs.Laws.{RefusesTheFirst, TakesTheOthers, StatementsSayLines, ConnectionsAreOfTheirStatements, ConnectionsHaveTheirStatements, NoneStandsBefore};
+ghost use Rattle.cts_plan_laws.specs.Laws.{RefusesTheFirst, TakesTheOthers, StatementsSayLines, ConnectionsAreOfTheirStatements};
+ghost use Rattle.cts_plan_laws.specs.Laws.{ConnectionsHaveTheirStatements, NoneStandsBefore};
 ghost use Rattle.cts_plan_laws.specs.Parameters.{ParametersAreOfTheirWords};
 ghost use Rattle.cts_plan_laws.specs.SiteLaws.{SitesAreOfTheirStatements, SitesAreSound, StatementsFit};
 

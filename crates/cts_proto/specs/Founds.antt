@@ -18,7 +18,12 @@ StampFits len (Some s) = IsSpan len s.target × IsSpan len s.packet
 -- the heading whose names stand in these spans
 abbrev pub heading_at : List ℕ → Option Stamp → Option Heading
 heading_at held None = None
-heading_at held (Some s) = Some (record { time = s.time; target = slice_range held s.target.0 s.target.1; packet = slice_range held s.packet.0 s.packet.1; stored = s.stored })
+heading_at held (Some s) = Some (record {
+  time = s.time;
+  target = slice_range held s.target.0 s.target.1;
+  packet = slice_range held s.packet.0 s.packet.1;
+  stored = s.stored;
+})
 
 -- the output that stands in this span
 abbrev pub output_at : List ℕ → ℕ → ℕ → Option Stamp → Output

@@ -18,7 +18,16 @@ Looked f s = NothingStands f (take s.seen (left s))
 -- the store of a protocol with this spec
 abbrev pub meaning_of : SpecData → Store → Meaning
 meaning_of spec s =
-    record { configured = s.configured; spec = spec; pending = left s; skipped = s.skipped; empty = s.empty; failed = s.failed; drained = s.drained; spare = vec_capacity s.bytes - vec_len s.bytes }
+    record {
+      configured = s.configured;
+      spec = spec;
+      pending = left s;
+      skipped = s.skipped;
+      empty = s.empty;
+      failed = s.failed;
+      drained = s.drained;
+      spare = vec_capacity s.bytes - vec_len s.bytes;
+    }
 
 -- spans of what is left, as spans of what is held
 abbrev pub moved_span : ℕ → ℕ × ℕ → ℕ × ℕ

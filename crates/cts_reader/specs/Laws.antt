@@ -22,10 +22,12 @@ NoneIsToldWhereNoneHolds C = (holds : C → Bool) (order : List C) → (find hol
 -- Statements are refused exactly where one of them is refused after those before it, and by the first such one, or where
 -- none of them is and their end is.
 abbrev pub RefusesTheFirst : Type 0 → Type 0 → Type 0
-RefusesTheFirst C X = (at : List Statement → Statement → Option (Refusal C)) (end : List Statement → Option (Refusal C)) (says : List Statement → X) (all : List Statement) (r : Refusal C)
+RefusesTheFirst C X = (at : List Statement → Statement → Option (Refusal C)) (end : List Statement → Option (Refusal C)) (says : List Statement → X)
+    (all : List Statement) (r : Refusal C)
     → (said_of at end says all ≡ Err r) ↔ IsFirstRefusal at end all (Some r)
 
 -- Where neither a statement nor the end is refused, they say what all of them say.
 abbrev pub TakesTheOthers : Type 0 → Type 0 → Type 0
-TakesTheOthers C X = (at : List Statement → Statement → Option (Refusal C)) (end : List Statement → Option (Refusal C)) (says : List Statement → X) (all : List Statement)
+TakesTheOthers C X = (at : List Statement → Statement → Option (Refusal C)) (end : List Statement → Option (Refusal C)) (says : List Statement → X)
+    (all : List Statement)
     → NoneRefused at all → end all ≡ None → said_of at end says all ≡ Ok (says all)

@@ -40,15 +40,18 @@ Gives (Err e) said = Fails e said
 -- ---- one pass
 
 -- A statement that is not refused after some others is added to what stands for these, and one that is refused is so.
-abbrev pub TakesBehind : {C : Type 0} → (List Statement → Statement → Option (Refusal C)) → (List Statement → Type 0) → List Statement → Statement → Result Unit (Fault C) → Type 0
+abbrev pub TakesBehind : {C : Type 0} → (List Statement → Statement → Option (Refusal C)) → (List Statement → Type 0) → List Statement → Statement
+    → Result Unit (Fault C) → Type 0
 TakesBehind at stands before s (Ok u) = (at before s ≡ None) × stands (before ++ s ∷ [])
 TakesBehind at stands before s (Err e) = IsRefused e (at before s)
 
-abbrev pub Takes : {C : Type 0} → (List Statement → Statement → Option (Refusal C)) → (List Statement → Type 0) → (List Statement → Type 0) → Statement → Result Unit (Fault C) → Type 0
+abbrev pub Takes : {C : Type 0} → (List Statement → Statement → Option (Refusal C)) → (List Statement → Type 0) → (List Statement → Type 0)
+    → Statement → Result Unit (Fault C) → Type 0
 Takes at stood stands s result = (before : List Statement) → stood before → TakesBehind at stands before s result
 
 -- All statements are read where none is refused, and else the first one that is refused is so.
-abbrev pub Reads : {C : Type 0} → (List Statement → Statement → Option (Refusal C)) → (List Statement → Type 0) → List Statement → Result Unit (Fault C) → Type 0
+abbrev pub Reads : {C : Type 0} → (List Statement → Statement → Option (Refusal C)) → (List Statement → Type 0) → List Statement
+    → Result Unit (Fault C) → Type 0
 Reads at stands all (Ok u) = NoneRefused at all × stands all
 Reads at stands all (Err fault.Memory) = Unit {0}
 Reads at stands all (Err (fault.Refused line cause)) = IsRefusedFirst at all (line, cause)
@@ -61,5 +64,6 @@ unless_refused said None = Ok said
 unless_refused said (Some r) = Err r
 
 -- What the statements say, or the first refusal: of a statement after those before it, or at the end of all.
-abbrev pub said_of : {C X : Type 0} → (List Statement → Statement → Option (Refusal C)) → (List Statement → Option (Refusal C)) → (List Statement → X) → List Statement → Result X (Refusal C)
+abbrev pub said_of : {C X : Type 0} → (List Statement → Statement → Option (Refusal C)) → (List Statement → Option (Refusal C)) → (List Statement → X)
+    → List Statement → Result X (Refusal C)
 said_of at end says all = unless_refused (says all) (first_refusal at end [] all)

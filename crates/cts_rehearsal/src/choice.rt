@@ -32,7 +32,8 @@ pub(crate) fn put_choice(alloc: Global, events: &mut Vec<Event>, choice: u64) ->
 
 // A frame in two pieces.
 fn put_frame(alloc: Global, events: &mut Vec<Event>, choice: u64) -> Result<(), Memory>
-    ensures { OnOk result (events.new.items ≡ events.old.items ++ (Piece 0 (take (frame_cut choice) (frame choice)) ∷ Piece 0 (drop (frame_cut choice) (frame choice)) ∷ [])) }
+    ensures { OnOk result (events.new.items ≡ events.old.items
+        ++ (Piece 0 (take (frame_cut choice) (frame choice)) ∷ Piece 0 (drop (frame_cut choice) (frame choice)) ∷ [])) }
 {
     let bytes = frame(choice);
     let cut = 1 + (choice / 1_048_576 % 5) as usize;

@@ -40,4 +40,5 @@ WritesAreEnabled = (site : SiteData) → HasDemoCommand site → (s : State) (v 
 
 -- A command that is out of range leaves the history as it was.
 abbrev pub RefusedOrdersLeaveNothing : Type 0
-RefusedOrdersLeaveNothing = (site : SiteData) → HasDemoCommand site → (s : State) (did : Did) → Does (site_environment site) s (Call 0 (order 11)) did → did.entries ≡ []
+RefusedOrdersLeaveNothing = (site : SiteData) → HasDemoCommand site → (s : State) (did : Did) → Does (site_environment site) s (Call 0 (order 11)) did
+    → did.entries ≡ []

@@ -54,14 +54,18 @@ take_front n xs ys =
     ap (λ (t : List Act). take k (t ++ ys)) (sym (take-append-drop n xs)) ∙ (ap (take k) (append_assoc (take n xs) (drop n xs) ys) ∙ take_at (take n xs) (drop n xs ++ ys) k refl)
 
 -- These acts were wanted to be done, and memory ran out before one of them.
-abbrev Wants : List Act → Outside → Outside → Type 0
+abbrev pub Wants : List Act → Outside → Outside → Type 0
 Wants acts old new = (n : ℕ) × AreDone (take n acts) old new
 
-wants_first : (old new : Outside) (xs ys : List Act) → Wants xs old new → Wants (xs ++ ys) old new
+pub wants_first : (old new : Outside) (xs ys : List Act) → Wants xs old new → Wants (xs ++ ys) old new
 wants_first old new xs ys w = (length (take w.0 xs), w.1 ∙ ap (λ (t : List Act). after_acts t old) (sym (take_front w.0 xs ys)))
 
+-- all of a front are done, and so many of what follows
+pub done_front : (old mid new : Outside) (xs ys : List Act) (n : ℕ) → AreDone xs old mid → AreDone (take n ys) mid new → AreDone (take (length xs + n) (xs ++ ys)) old new
+done_front old mid new xs ys n p q = done_then old mid new xs (take n ys) p q ∙ ap (λ (t : List Act). after_acts t old) (sym (take-append-add xs ys n))
+
 wants_then : (old mid new : Outside) (xs ys : List Act) → AreDone xs old mid → Wants ys mid new → Wants (xs ++ ys) old new
-wants_then old mid new xs ys p w = (length xs + w.0, done_then old mid new xs (take w.0 ys) p w.1 ∙ ap (λ (t : List Act). after_acts t old) (sym (take-append-add xs ys w.0)))
+wants_then old mid new xs ys p w = (length xs + w.0, done_front old mid new xs ys w.0 p w.1)
 
 -- all of a front are done, and then memory is wanted
 pub wants_whole : (old new : Outside) (xs ys : List Act) → AreDone xs old new → (n : ℕ) × AreDone (take n (xs ++ ys)) old new
@@ -96,6 +100,7 @@ all_then old mid new xs ys due (Err (halt.Refused name kind line cause)) p d = (
 all_then old mid new xs ys due (Err (halt.ShelfEmpty kind needed stocked)) p d = (d.0, done_then old mid new xs ys p d.1)
 all_then old mid new xs ys due (Err (halt.HistoryFull entries bytes)) p d = (d.0, done_then old mid new xs ys p d.1)
 all_then old mid new xs ys due (Err (halt.LogRefused place)) p d = (d.0, done_then old mid new xs ys p d.1)
+all_then old mid new xs ys due (Err (halt.UnknownName name)) p d = (d.0, done_then old mid new xs ys p d.1)
 
 -- acts in front that were not all done
 pub all_first : (old new : Outside) (xs ys : List Act) (due : Result (Unit {0}) Halt) (why : Undone) → DoesActs xs (Err why) old new → DoesAll (xs ++ ys) due (put_answer (Err why)) old new
@@ -231,7 +236,7 @@ done_counts acts old new d =
     let stay = no_count_rises acts old in
     (ap (λ (o : Outside). o.out.faults) d ∙ stay.0, ap (λ (o : Outside). o.vault.faults) d ∙ stay.1)
 
-rose_from : (a b c : ℕ) → a ≡ b → Rose a c → Rose b c
+pub rose_from : (a b c : ℕ) → a ≡ b → Rose a c → Rose b c
 rose_from a b c e r = subst (λ (n : ℕ). Rose n c) e r
 
 put_counts_by : (act : Act) (mid new : Outside) → is_put act ≡ true → Fails act mid new → Rose mid.out.faults new.out.faults × (new.vault.faults ≡ mid.vault.faults)
@@ -268,6 +273,7 @@ sink_of acts due (Err (halt.Refused name kind line cause)) old new k = (done_cou
 sink_of acts due (Err (halt.ShelfEmpty kind needed stocked)) old new k = (done_counts acts old new k.1).0
 sink_of acts due (Err (halt.HistoryFull entries bytes)) old new k = (done_counts acts old new k.1).0
 sink_of acts due (Err (halt.LogRefused place)) old new k = (done_counts acts old new k.1).0
+sink_of acts due (Err (halt.UnknownName name)) old new k = (done_counts acts old new k.1).0
 
 pub vault_of : (acts : List Act) (due answer : Result (Unit {0}) Halt) (old new : Outside) → DoesAll acts due answer old new → VaultCounts answer old.vault new.vault
 vault_of acts due (Ok done) old new k = (done_counts acts old new k.1).1
@@ -280,3 +286,4 @@ vault_of acts due (Err (halt.Refused name kind line cause)) old new k = (done_co
 vault_of acts due (Err (halt.ShelfEmpty kind needed stocked)) old new k = (done_counts acts old new k.1).1
 vault_of acts due (Err (halt.HistoryFull entries bytes)) old new k = (done_counts acts old new k.1).1
 vault_of acts due (Err (halt.LogRefused place)) old new k = (done_counts acts old new k.1).1
+vault_of acts due (Err (halt.UnknownName name)) old new k = (done_counts acts old new k.1).1

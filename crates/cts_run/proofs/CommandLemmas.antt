@@ -1,8 +1,7 @@
 -- What a command answers and does, from its phases.
 use Rattle.std.proofs.Common.{◌≡◌, ◌≢◌, ℕ, Bool, true, false, List, [], ◌∷◌, ◌++◌, length, take, Option, Some, None, option_map, IfSome, MatchOption, Result, Ok, Err, refl, sym, ◌∙◌, ap, subst, arith, ◌⊎◌, inl, inr}
-use Rattle.std.specs.Prelude.{nat_lt, nat_eq}
+use Rattle.std.specs.Prelude.{nat_eq}
 use Rattle.std.proofs.Math.Seq.{take-length}
-use Rattle.std.proofs.lemmas.Bool.Decides.{nat_tests}
 use Rattle.cts_chain.specs.Builds.{FaultIs, Taken}
 use Rattle.cts_chain.specs.declared.build.ChainFault.{ChainFault}
 use Rattle.cts_chain.specs.declared.build.ChainFault.TheVariants as chain
@@ -14,6 +13,7 @@ use Rattle.cts_core.specs.Runs.{Did, Ending, Finished, NotEnabled, HistoryFull}
 use Rattle.cts_core.specs.States.{opening}
 use Rattle.cts_def.specs.Sites.{IsSoundSite, SiteData}
 use Rattle.cts_entry.specs.declared.event.Event.{Event}
+use Rattle.cts_framing.specs.Patterns.{begins as starts}
 use Rattle.cts_outside.specs.Causes.{Rose, Steady}
 use Rattle.cts_outside.specs.Seen.{FilesSeen, SinkSeen, VaultSeen}
 use Rattle.cts_proto.specs.Meaning.{Meaning}
@@ -21,14 +21,14 @@ use Rattle.cts_proto.specs.Stock.{stocked}
 use Rattle.cts_rehearsal.specs.Generated.{generated}
 use Rattle.cts_run.specs.Acts.{Act, AreDone, DoesAll, EndsWith, LogFails, Outside, PutFails, outside, puts}
 use Rattle.cts_run.specs.Causes.{chain_halt, put_answer}
-use Rattle.cts_run.specs.Command.{Answers, CommandLeaves, Completes, DoesFor, DoesOf, IsDone, IsDueOf, LeavesShelf, Outcome, Performs, PerformsOf, PerformsScript, ShelfAfter, ShelfAt, ShelfBy, first_phases, misused, outcome_of, phases}
+use Rattle.cts_run.specs.Command.{Answers, CommandLeaves, Completes, DoesFor, DoesOf, DumpsFile, IsDone, IsDueOf, IsReadFirst, IsReadIn, LeavesShelf, Outcome, Performs, PerformsOf, PerformsScript, ShelfAfter, ShelfAt, ShelfBy, first_phases, misused, outcome_of, phases}
 use Rattle.cts_run.specs.Demo.{definitions_name, demo_files, demo_site, site_name}
-use Rattle.cts_run.specs.Dump.{IsDump, PutsLog, dump_answer, log_phase}
+use Rattle.cts_run.specs.Dump.{IsDump, PutsFile, dump_answer, other_head}
 use Rattle.cts_run.specs.Endings.{Ends, EndsHalted, halt_line, halt_status, refused_as}
 use Rattle.cts_run.specs.Lines.{counts_line, log_fault_line, memory_line, read_fault_line, usage_line}
-use Rattle.cts_run.specs.Load.{bytes_of, digest_asked, events_asked, script_phase, site_asked, site_phases}
-use Rattle.cts_run.specs.Load.Files.{GivesBytes, log_limit, within}
-use Rattle.cts_run.specs.Phases.{FileCounts, HaltsAt, HaltsIn, IsFound, Phase, Takes, TakesAt, file_halt, first_halt, is_fault}
+use Rattle.cts_run.specs.Load.{bytes_of, definitions_asked, digest_asked, events_asked, script_phase, site_asked, site_phases}
+use Rattle.cts_run.specs.Load.Files.{GivesBytes, log_limit}
+use Rattle.cts_run.specs.Phases.{FileCounts, HaltsAt, HaltsIn, IsFound, Phase, Takes, TakesAt, answer_seen, first_halt, is_fault}
 use Rattle.cts_run.specs.Putting.{Printed, PutsText, SinkCounts, VaultCounts}
 use Rattle.cts_run.specs.Rehearsal.{IsRehearsal, Rehearses, rehearsal_acts, rehearsal_answer}
 use Rattle.cts_run.specs.Replay.{IsReplay, Replays, replay_acts, replay_answer}
@@ -43,10 +43,11 @@ use Rattle.cts_run.specs.declared.halt.status.Status.{Status}
 use Rattle.cts_run.specs.declared.halt.status.Status.TheVariants as is
 use Rattle.cts_run.specs.declared.putting.Undone.{Undone}
 use Rattle.cts_run.specs.declared.words.Command.{Command}
-use Rattle.cts_run.specs.declared.words.Command.TheVariants.{Check, Replay, Rehearse, Dump}
+use Rattle.cts_run.specs.declared.words.Command.TheVariants.{Check, Replay, Rehearse, Dump, Extract}
 use Rattle.cts_run.proofs.ActLemmas.{all_of, put_done, sink_of, vault_of}
-use Rattle.cts_run.proofs.DumpLemmas.{some_dump}
+use Rattle.cts_run.proofs.DumpedLemmas.{IsFileDue, another_head, file_dumped, same_head, some_dumped}
 use Rattle.cts_run.proofs.EndingLemmas.{ends_with, fails_still}
+use Rattle.cts_run.proofs.ExtractLemmas.{some_table}
 use Rattle.cts_run.proofs.LoadLemmas.{site_asked_sound}
 use Rattle.cts_run.proofs.LogLemmas.{replay_is}
 use Rattle.cts_run.proofs.PhaseLemmas.{first_past, front, here, none_alone, past, read_past}
@@ -72,12 +73,12 @@ is_due ps done acts due first e m = subst (λ (o : Option Halt). MatchOption o (
 pub halts_so : (ps : List Phase) (done : List Act → Result (Unit {0}) Halt → Type 0) (h : Halt) → first_halt ps ≡ Some h → IsDueOf ps done [] (Err h)
 halts_so ps done h e = is_due ps done [] (Err h) (Some h) e (refl, refl)
 
-goes_so : (ps : List Phase) (done : List Act → Result (Unit {0}) Halt → Type 0) (acts : List Act) (due : Result (Unit {0}) Halt) → first_halt ps ≡ None → done acts due → IsDueOf ps done acts due
+pub goes_so : (ps : List Phase) (done : List Act → Result (Unit {0}) Halt → Type 0) (acts : List Act) (due : Result (Unit {0}) Halt) → first_halt ps ≡ None → done acts due → IsDueOf ps done acts due
 goes_so ps done acts due e k = is_due ps done acts due None e k
 
 pub halts_here : (ps : List Phase) (done : List Act → Result (Unit {0}) Halt → Type 0) → Some_due done → (h : Halt) (o : Outside) → HaltsIn ps h → PerformsOf ps done (Err h) o o
 halts_here ps done some halt.Memory o k = let d = some_due ps done some in record { acts = d.0; due = d.1; is = d.2; does = (0, refl) }
-halts_here ps done some (halt.ReadFault name) o k = let d = some_due ps done some in record { acts = d.0; due = d.1; is = d.2; does = (k, refl) }
+halts_here ps done some (halt.ReadFault name) o k = let d = some_due ps done some in record { acts = d.0; due = d.1; is = d.2; does = (0, (refl, k), refl) }
 halts_here ps done some (halt.Absent name) o k = record { acts = []; due = Err (halt.Absent name); is = halts_so ps done (halt.Absent name) k; does = (refl, refl) }
 halts_here ps done some halt.WriteFault o k = absurd k
 halts_here ps done some halt.LogFault o k = absurd k
@@ -85,12 +86,13 @@ halts_here ps done some (halt.Refused name kind line cause) o k = record { acts 
 halts_here ps done some (halt.ShelfEmpty kind needed stocked) o k = record { acts = []; due = Err (halt.ShelfEmpty kind needed stocked); is = halts_so ps done (halt.ShelfEmpty kind needed stocked) k; does = (refl, refl) }
 halts_here ps done some (halt.HistoryFull entries bytes) o k = record { acts = []; due = Err (halt.HistoryFull entries bytes); is = halts_so ps done (halt.HistoryFull entries bytes) k; does = (refl, refl) }
 halts_here ps done some (halt.LogRefused place) o k = record { acts = []; due = Err (halt.LogRefused place); is = halts_so ps done (halt.LogRefused place) k; does = (refl, refl) }
+halts_here ps done some (halt.UnknownName name) o k = record { acts = []; due = Err (halt.UnknownName name); is = halts_so ps done (halt.UnknownName name) k; does = (refl, refl) }
 
 -- phases in front that have no reason to halt
-does_past : (ps qs : List Phase) (acts : List Act) (due answer : Result (Unit {0}) Halt) (old new : Outside) → first_halt ps ≡ None → DoesOf qs acts due answer old new → DoesOf (ps ++ qs) acts due answer old new
+does_past : (ps qs : List Phase) (acts : List Act) (due answer : Result (Unit {0}) Halt) (old new : Outside) → first_halt ps ≡ None → DoesOf (IsReadFirst qs) acts due answer old new → DoesOf (IsReadFirst (ps ++ qs)) acts due answer old new
 does_past ps qs acts due (Ok done) old new e k = k
 does_past ps qs acts due (Err halt.Memory) old new e k = k
-does_past ps qs acts due (Err (halt.ReadFault name)) old new e k = (read_past ps qs name e k.0, k.1)
+does_past ps qs acts due (Err (halt.ReadFault name)) old new e k = (k.0, (k.1.0, read_past ps qs name e k.1.1), k.2)
 does_past ps qs acts due (Err (halt.Absent name)) old new e k = k
 does_past ps qs acts due (Err halt.WriteFault) old new e k = k
 does_past ps qs acts due (Err halt.LogFault) old new e k = k
@@ -98,11 +100,12 @@ does_past ps qs acts due (Err (halt.Refused name kind line cause)) old new e k =
 does_past ps qs acts due (Err (halt.ShelfEmpty kind needed stocked)) old new e k = k
 does_past ps qs acts due (Err (halt.HistoryFull entries bytes)) old new e k = k
 does_past ps qs acts due (Err (halt.LogRefused place)) old new e k = k
+does_past ps qs acts due (Err (halt.UnknownName name)) old new e k = k
 
-due_past : (ps qs : List Phase) (done : List Act → Result (Unit {0}) Halt → Type 0) (acts : List Act) (due : Result (Unit {0}) Halt) → first_halt ps ≡ None → IsDueOf qs done acts due → IsDueOf (ps ++ qs) done acts due
+pub due_past : (ps qs : List Phase) (done : List Act → Result (Unit {0}) Halt → Type 0) (acts : List Act) (due : Result (Unit {0}) Halt) → first_halt ps ≡ None → IsDueOf qs done acts due → IsDueOf (ps ++ qs) done acts due
 due_past ps qs done acts due e k = subst (λ (o : Option Halt). MatchOption o (done acts due) (λ x. (acts ≡ []) × (due ≡ Err x))) (sym (first_past ps qs e)) k
 
-performs_past : (ps qs : List Phase) (done : List Act → Result (Unit {0}) Halt → Type 0) (answer : Result (Unit {0}) Halt) (old new : Outside) → first_halt ps ≡ None → PerformsOf qs done answer old new → PerformsOf (ps ++ qs) done answer old new
+pub performs_past : (ps qs : List Phase) (done : List Act → Result (Unit {0}) Halt → Type 0) (answer : Result (Unit {0}) Halt) (old new : Outside) → first_halt ps ≡ None → PerformsOf qs done answer old new → PerformsOf (ps ++ qs) done answer old new
 performs_past ps qs done answer old new e k = record { acts = k.acts; due = k.due; is = due_past ps qs done k.acts k.due e k.is; does = does_past ps qs k.acts k.due answer old new e k.does }
 
 -- what is done is named otherwise
@@ -124,17 +127,18 @@ OfNoFile (Err (halt.ReadFault name)) = ⊥
 OfNoFile (Err (halt.Absent name)) = ⊥
 OfNoFile (Err h) = Unit {0}
 
-pub does_of : (ps : List Phase) (acts : List Act) (due answer : Result (Unit {0}) Halt) (old new : Outside) (own : OfNoFile due) → DoesAll acts due answer old new → DoesOf ps acts due answer old new
-does_of ps acts due (Ok done) old new own k = k
-does_of ps acts due (Err halt.Memory) old new own k = k
-does_of ps acts due (Err (halt.ReadFault name)) old new own k = absurd (subst OfNoFile (sym k.0) own)
-does_of ps acts due (Err (halt.Absent name)) old new own k = k
-does_of ps acts due (Err halt.WriteFault) old new own k = k
-does_of ps acts due (Err halt.LogFault) old new own k = k
-does_of ps acts due (Err (halt.Refused name kind line cause)) old new own k = k
-does_of ps acts due (Err (halt.ShelfEmpty kind needed stocked)) old new own k = k
-does_of ps acts due (Err (halt.HistoryFull entries bytes)) old new own k = k
-does_of ps acts due (Err (halt.LogRefused place)) old new own k = k
+pub does_of : (reads : List Act → List ℕ → Type 0) (acts : List Act) (due answer : Result (Unit {0}) Halt) (old new : Outside) (own : OfNoFile due) → DoesAll acts due answer old new → DoesOf reads acts due answer old new
+does_of reads acts due (Ok done) old new own k = k
+does_of reads acts due (Err halt.Memory) old new own k = k
+does_of reads acts due (Err (halt.ReadFault name)) old new own k = absurd (subst OfNoFile (sym k.0) own)
+does_of reads acts due (Err (halt.Absent name)) old new own k = k
+does_of reads acts due (Err halt.WriteFault) old new own k = k
+does_of reads acts due (Err halt.LogFault) old new own k = k
+does_of reads acts due (Err (halt.Refused name kind line cause)) old new own k = k
+does_of reads acts due (Err (halt.ShelfEmpty kind needed stocked)) old new own k = k
+does_of reads acts due (Err (halt.HistoryFull entries bytes)) old new own k = k
+does_of reads acts due (Err (halt.LogRefused place)) old new own k = k
+does_of reads acts due (Err (halt.UnknownName name)) old new own k = k
 
 pub counts_of : (acts : List Act) (due answer : Result (Unit {0}) Halt) (old new : Outside) (files files' : FilesSeen) → OfNoFile due → DoesAll acts due answer old new → IsFound files files' → FileCounts answer files files'
 counts_of acts due (Ok done) old new files files' own k f = f
@@ -147,6 +151,7 @@ counts_of acts due (Err (halt.Refused name kind line cause)) old new files files
 counts_of acts due (Err (halt.ShelfEmpty kind needed stocked)) old new files files' own k f = f
 counts_of acts due (Err (halt.HistoryFull entries bytes)) old new files files' own k f = f
 counts_of acts due (Err (halt.LogRefused place)) old new files files' own k f = f
+counts_of acts due (Err (halt.UnknownName name)) old new files files' own k f = f
 
 -- ---- a check
 
@@ -180,7 +185,7 @@ check_performs stock (Some all) definitions site x put old new vault s p = recor
   acts = puts (counts_line x.0);
   due = Ok tt;
   is = goes_so (site_phases all definitions site) (IsDone all (Check definitions site)) (puts (counts_line x.0)) (Ok tt) s.0 (ap (λ (y : SiteData × List ℕ). puts (counts_line y.0)) s.1, refl);
-  does = does_of (site_phases all definitions site) (puts (counts_line x.0)) (Ok tt) (put_answer put) (outside old vault) (outside new vault) tt (check_does (counts_line x.0) put old new vault p);
+  does = does_of (IsReadFirst (site_phases all definitions site)) (puts (counts_line x.0)) (Ok tt) (put_answer put) (outside old vault) (outside new vault) tt (check_does (counts_line x.0) put old new vault p);
 }
 
 pub check_fails : (stock : List Meaning) (told : Option (List ℕ → Option (List ℕ))) (definitions site : List ℕ) (h : Halt) (o : Outside)
@@ -198,39 +203,46 @@ dump_of_no_file file acts due (inl a) = subst OfNoFile (sym a.due_is) (by_place 
     by_place place false e = rw e tt
 dump_of_no_file file acts due (inr a) = subst OfNoFile (sym a.refused) tt
 
-pub dump_counts : (file : List ℕ) (answer : Result (Unit {0}) Halt) (old new : Outside) (files files' : FilesSeen) → PutsLog file answer old new → IsFound files files' → FileCounts answer files files'
-dump_counts file answer old new files files' p f = counts_of p.acts p.due answer old new files files' (dump_of_no_file file p.acts p.due p.is) p.does f
+-- a file among others
+file_of_no_file : (head file : List ℕ) (so : Bool) (acts : List Act) (due : Result (Unit {0}) Halt) → starts head file ≡ so → IsFileDue file (other_head head file) acts due → OfNoFile due
+file_of_no_file head file true acts due e m = dump_of_no_file file acts due (subst (λ (o : Option Halt). IsFileDue file o acts due) (same_head head file e) m)
+file_of_no_file head file false acts due e m =
+    let k = subst (λ (o : Option Halt). IsFileDue file o acts due) (another_head head file e) m in
+    subst OfNoFile (sym k.1) tt
 
-pub dump_faults : (file : List ℕ) (answer : Result (Unit {0}) Halt) (old new : Outside) → PutsLog file answer old new → SinkCounts answer old.out new.out
-dump_faults file answer old new p = sink_of p.acts p.due answer old new p.does
+puts_no_file : (head file : List ℕ) (answer : Result (Unit {0}) Halt) (old new : Outside) (p : PutsFile head file answer old new) → OfNoFile p.due
+puts_no_file head file answer old new p = file_of_no_file head file (starts head file) p.acts p.due refl p.is
 
-pub dump_logs : (file : List ℕ) (answer : Result (Unit {0}) Halt) (old new : Outside) → PutsLog file answer old new → VaultCounts answer old.vault new.vault
-dump_logs file answer old new p = vault_of p.acts p.due answer old new p.does
+pub file_counts : {T : Type 0} (head file : List ℕ) (answer : Result T Halt) (old new : Outside) (files files' : FilesSeen) → PutsFile head file (answer_seen (λ x. tt) answer) old new → IsFound files files' → FileCounts answer files files'
+file_counts head file answer old new files files' p f = seen_counts answer files files' (counts_of p.acts p.due (answer_seen (λ x. tt) answer) old new files files' (puts_no_file head file _ old new p) p.does f)
+  where
+    seen_counts : {T : Type 0} (answer : Result T Halt) (files files' : FilesSeen) → FileCounts (answer_seen {T = Unit {0}} (λ x. tt) answer) files files' → FileCounts answer files files'
+    seen_counts (Ok x) files files' k = k
+    seen_counts (Err h) files files' k = k
 
-some_dumped : (all : List ℕ → Option (List ℕ)) (log : List ℕ) → Some_due (IsDone all (Dump log))
-some_dumped all log = some_dump (bytes_of (all log))
+pub file_faults : {T : Type 0} (head file : List ℕ) (answer : Result T Halt) (old new : Outside) → PutsFile head file (answer_seen (λ x. tt) answer) old new → SinkCounts answer old.out new.out
+file_faults head file answer old new p = seen_faults answer old.out new.out (sink_of p.acts p.due (answer_seen (λ x. tt) answer) old new p.does)
+  where
+    seen_faults : {T : Type 0} (answer : Result T Halt) (out out' : SinkSeen) → SinkCounts (answer_seen {T = Unit {0}} (λ x. tt) answer) out out' → SinkCounts answer out out'
+    seen_faults (Ok x) out out' k = k
+    seen_faults (Err h) out out' k = k
 
-small_log : (all : List ℕ → Option (List ℕ)) (log file : List ℕ) → GivesBytes log_limit (halt.LogRefused log_limit) log (all log) (Ok file) → (log_phase all log).halts ≡ None
-small_log all log file k =
-    let small : nat_lt log_limit (length file) ≡ false = grind (arith, nat_tests, k.1) in
-    let judged : within log_limit (halt.LogRefused log_limit) (λ b. None) file ≡ None = rw small refl in
-    ap (file_halt log (within log_limit (halt.LogRefused log_limit) (λ b. None))) k.0 ∙ judged
+pub file_logs : {T : Type 0} (head file : List ℕ) (answer : Result T Halt) (old new : Outside) → PutsFile head file (answer_seen (λ x. tt) answer) old new → VaultCounts answer old.vault new.vault
+file_logs head file answer old new p = seen_logs answer old.vault new.vault (vault_of p.acts p.due (answer_seen (λ x. tt) answer) old new p.does)
+  where
+    seen_logs : {T : Type 0} (answer : Result T Halt) (vault vault' : VaultSeen) → VaultCounts (answer_seen {T = Unit {0}} (λ x. tt) answer) vault vault' → VaultCounts answer vault vault'
+    seen_logs (Ok x) vault vault' k = k
+    seen_logs (Err h) vault vault' k = k
 
-pub dump_performs : (stock : List Meaning) (told : Option (List ℕ → Option (List ℕ))) (log file : List ℕ) (answer : Result (Unit {0}) Halt) (old new : Outside)
-    → IfSome told (λ all. GivesBytes log_limit (halt.LogRefused log_limit) log (all log) (Ok file)) → PutsLog file answer old new → IfSome told (λ all. Performs stock all (Dump log) answer old new)
-dump_performs stock None log file answer old new k p = tt
-dump_performs stock (Some all) log file answer old new k p = record {
+pub told_dumps : (told : Option (List ℕ → Option (List ℕ))) (head log file : List ℕ) (answer : Result (Unit {0}) Halt) (old new : Outside)
+    → IfSome told (λ all. GivesBytes log_limit (halt.LogRefused log_limit) log (all log) (Ok file)) → PutsFile head file answer old new → IfSome told (λ all. DumpsFile all head log answer old new)
+told_dumps None head log file answer old new k p = tt
+told_dumps (Some all) head log file answer old new k p = record {
   acts = p.acts;
   due = p.due;
-  is = goes_so (log_phase all log ∷ []) (IsDone all (Dump log)) p.acts p.due (none_alone (log_phase all log) (small_log all log file k))
-      (subst (λ (f : Option (List ℕ)). IsDump (bytes_of f) p.acts p.due) (sym k.0) p.is);
-  does = does_of (log_phase all log ∷ []) p.acts p.due answer old new (dump_of_no_file file p.acts p.due p.is) p.does;
+  is = file_dumped all head log file p.acts p.due k.0 k.1 p.is;
+  does = does_of (λ before name. (before ≡ []) × (log ≡ name)) p.acts p.due answer old new (puts_no_file head file answer old new p) p.does;
 }
-
-pub dump_fails : (stock : List Meaning) (told : Option (List ℕ → Option (List ℕ))) (log : List ℕ) (h : Halt) (o : Outside)
-    → IfSome told (λ all. GivesBytes log_limit (halt.LogRefused log_limit) log (all log) (Err h)) → IfSome told (λ all. Performs stock all (Dump log) (Err h) o o)
-dump_fails stock None log h o k = tt
-dump_fails stock (Some all) log h o k = halts_here (log_phase all log ∷ []) (IsDone all (Dump log)) (some_dumped all log) h o (here (log_phase all log) [] h (k (λ bytes. None)))
 
 -- ---- a replay's world
 
@@ -278,7 +290,7 @@ script_replays (Some all) digest site script events answer old new sound t k =
       due = due;
       is = goes_so (script_phase all site script ∷ []) (IsReplay digest site script (events_asked all site script)) acts due (none_alone (script_phase all site script) t.0)
           (subst (λ (es : List (ℕ × Event)). IsReplay digest site script es acts due) t.1 (replay_is digest site script events k.dids k.ending sound k.runs));
-      does = does_of (script_phase all site script ∷ []) acts due answer old new (replay_of_no_file script events k.dids k.ending) k.does;
+      does = does_of (IsReadFirst (script_phase all site script ∷ [])) acts due answer old new (replay_of_no_file script events k.dids k.ending) k.does;
     }
 
 pub script_counts : (digest : List ℕ) (site : SiteData) (script : List ℕ) (events : List (ℕ × Event)) (answer : Result (Unit {0}) Halt) (old new : Outside) (files files' : FilesSeen)
@@ -368,7 +380,7 @@ module _ (stock : List Meaning) (n : ℕ) (files : List ℕ → Option (List ℕ
         acts = acts;
         due = due;
         is = goes_so (phases stock files (Rehearse n)) (IsDone files (Rehearse n)) acts due none (record { dids = k.dids; ending = k.ending; runs = k.runs; acts_are = refl; due_is = refl });
-        does = does_of (phases stock files (Rehearse n)) acts due answer old new (rehearsal_of_no_file k.dids k.ending) k.does;
+        does = does_of (IsReadFirst (phases stock files (Rehearse n))) acts due answer old new (rehearsal_of_no_file k.dids k.ending) k.does;
       }
 
 -- what holds of all files holds of those that are told
@@ -392,13 +404,19 @@ pub some_outcome : (stock : List Meaning) (files : List ℕ → Option (List ℕ
 some_outcome stock files (Check definitions site) = some_due (phases stock files (Check definitions site)) (IsDone files (Check definitions site)) (some_check files definitions site)
 some_outcome stock files (Replay definitions site script) = some_due (phases stock files (Replay definitions site script)) (IsDone files (Replay definitions site script)) (some_done stock definitions site script files)
 some_outcome stock files (Rehearse n) = some_due (phases stock files (Rehearse n)) (IsDone files (Rehearse n)) (some_rehearsed stock n files)
-some_outcome stock files (Dump log) = some_due (phases stock files (Dump log)) (IsDone files (Dump log)) (some_dumped files log)
+some_outcome stock files (Dump logs) = some_due (phases stock files (Dump logs)) (IsDone files (Dump logs)) (some_dumped files [] logs)
+some_outcome stock files (Extract definitions log wanted) =
+    some_due (phases stock files (Extract definitions log wanted)) (IsDone files (Extract definitions log wanted)) (some_table (definitions_asked files definitions) wanted (bytes_of (files log)))
 
 -- ---- the status of what was done, and what is put with its last line
 
 module _ (stock : List Meaning) (files : List ℕ → Option (List ℕ)) (command : Command) where
   abbrev For : List Act → Result (Unit {0}) Halt → Status → Outside → Outside → Type 0
   For acts due status old new = DoesFor stock files (Some command) (outcome_of acts due) status old new
+
+  -- a read that failed after some of these acts
+  abbrev Reading : Outside → Outside → List Act → Type 0
+  Reading old new t = (n : ℕ) × (name : List ℕ) × IsReadIn stock files command (take n t) name × EndsWith (take n t) (read_fault_line name) old new
 
   acts_of : (acts : List Act) (due : Result (Unit {0}) Halt) → acts ≡ (outcome_of acts due).acts
   acts_of acts (Ok done) = refl
@@ -421,7 +439,7 @@ module _ (stock : List Meaning) (files : List ℕ → Option (List ℕ)) (comman
   refused_own name Configuration line cause acts old new k = (refl, k)
   refused_own name Script line cause acts old new k = (refl, k)
 
-  pub answered : (acts : List Act) (due answer : Result (Unit {0}) Halt) (status : Status) (old mid new : Outside) → DoesOf (phases stock files command) acts due answer old mid → Ends answer status mid.out new.out → new.vault ≡ mid.vault → For acts due status old new
+  pub answered : (acts : List Act) (due answer : Result (Unit {0}) Halt) (status : Status) (old mid new : Outside) → DoesOf (IsReadIn stock files command) acts due answer old mid → Ends answer status mid.out new.out → new.vault ≡ mid.vault → For acts due status old new
   answered acts due (Ok done) status old mid new p h v =
       let same : new ≡ mid = λ i. record { out = h.1 i; vault = v i } in
       subst (λ (d : Result (Unit {0}) Halt). For acts d status old new) p.0
@@ -435,13 +453,15 @@ module _ (stock : List Meaning) (files : List ℕ → Option (List ℕ)) (comman
   answered acts due (Err halt.Memory) status old mid new p (inl h) v = wanted acts due p.0 status old mid new p.1 h.0 h.1 v
   answered acts due (Err halt.Memory) status old mid new p (inr h) v = wanted acts due p.0 status old mid new p.1 h.1 h.2 v
   answered acts due (Err (halt.ReadFault name)) status old mid new p (inl h) v =
-      subst (λ (st : Status). For acts due st old new) (sym h.0) (name, p.0, ends_with [] (read_fault_line name) old mid new p.1 h.1 v)
-  answered acts due (Err (halt.ReadFault name)) status old mid new p (inr h) v = wanted acts due 0 status old mid new p.1 h.1 h.2 v
+      subst (λ (st : Status). For acts due st old new) (sym h.0)
+      (subst (Reading old new) (acts_of acts due) (p.0, name, p.1, ends_with (take p.0 acts) (read_fault_line name) old mid new p.2 h.1 v))
+  answered acts due (Err (halt.ReadFault name)) status old mid new p (inr h) v = wanted acts due p.0 status old mid new p.2 h.1 h.2 v
   answered acts due (Err (halt.Absent name)) status old mid new p h v = halted (halt.Absent name) (λ a o n k. (refl, k)) acts due status old mid new p h v
   answered acts due (Err (halt.Refused name kind line cause)) status old mid new p h v = halted (halt.Refused name kind line cause) (refused_own name kind line cause) acts due status old mid new p h v
   answered acts due (Err (halt.ShelfEmpty kind needed stocked)) status old mid new p h v = halted (halt.ShelfEmpty kind needed stocked) (λ a o n k. (refl, k)) acts due status old mid new p h v
   answered acts due (Err (halt.HistoryFull entries bytes)) status old mid new p h v = halted (halt.HistoryFull entries bytes) (λ a o n k. (refl, k)) acts due status old mid new p h v
   answered acts due (Err (halt.LogRefused place)) status old mid new p h v = halted (halt.LogRefused place) (λ a o n k. (refl, k)) acts due status old mid new p h v
+  answered acts due (Err (halt.UnknownName name)) status old mid new p h v = halted (halt.UnknownName name) (λ a o n k. (refl, k)) acts due status old mid new p h v
 
 -- what a command performed, with its last line, is its answer
 pub answers : (stock : List Meaning) (told : Option (List ℕ → Option (List ℕ))) (command : Command) (asked : Option Command) (answer : Result (Unit {0}) Halt) (status : Status) (old mid new : Outside) → asked ≡ Some command
@@ -479,6 +499,7 @@ status_of stock files asked o is.HistoryFull old new a b c h = inl (sym h.0)
 status_of stock files asked o is.LogRefused old new a b c h = inl (sym h.0)
 status_of stock files asked o is.NoWorker old new a b c h = inl (sym h.0)
 status_of stock files asked o is.DoorFault old new a b c h = inl (sym h.0)
+status_of stock files asked o is.UnknownName old new a b c h = inl (sym h.0)
 
 pub steady_rose : (before now : ℕ) → Steady before now → Rose before now → ⊥
 steady_rose before now s r = omega (arith, s, r.1)
@@ -508,6 +529,7 @@ begun_shelf site (Err (halt.Refused name kind line cause)) old new t = t
 begun_shelf site (Err (halt.ShelfEmpty kind needed stocked)) old new t = t
 begun_shelf site (Err (halt.HistoryFull entries bytes)) old new t = t
 begun_shelf site (Err (halt.LogRefused place)) old new t = t
+begun_shelf site (Err (halt.UnknownName name)) old new t = t
 
 pub never_some : {A : Type 0} (ps : List Phase) (h : Halt) → first_halt ps ≡ None → first_halt ps ≡ Some h → A
 never_some ps h e k = absurd (cc (sym e ∙ k))
@@ -524,6 +546,7 @@ unbegun_by site ps (halt.Refused name kind line cause) None old new e k same = n
 unbegun_by site ps (halt.ShelfEmpty kind needed stocked) None old new e k same = never_some ps (halt.ShelfEmpty kind needed stocked) e k
 unbegun_by site ps (halt.HistoryFull entries bytes) None old new e k same = never_some ps (halt.HistoryFull entries bytes) e k
 unbegun_by site ps (halt.LogRefused place) None old new e k same = never_some ps (halt.LogRefused place) e k
+unbegun_by site ps (halt.UnknownName name) None old new e k same = never_some ps (halt.UnknownName name) e k
 
 module _ (stock new : List Meaning) (definitions site : List ℕ) where
   pub unloaded_shelf : (told : Option (List ℕ → Option (List ℕ))) (h : Halt) → IfSome told (λ all. TakesSite all definitions site (Err h)) → new ≡ stock → IfSome told (λ all. LeavesShelf all definitions site (Err h) stock new)
@@ -570,7 +593,9 @@ shelf_status site None (Err (halt.ShelfEmpty kind needed stocked)) status old ne
 shelf_status site None (Err (halt.HistoryFull entries bytes)) status old new out out' k (inl h) = rw h.0 k
 shelf_status site None (Err (halt.HistoryFull entries bytes)) status old new out out' k (inr h) = rw h.1 (inr k)
 shelf_status site None (Err (halt.LogRefused place)) status old new out out' k (inl h) = rw h.0 k
+shelf_status site None (Err (halt.UnknownName name)) status old new out out' k (inl h) = rw h.0 k
 shelf_status site None (Err (halt.LogRefused place)) status old new out out' k (inr h) = rw h.1 (inr k)
+shelf_status site None (Err (halt.UnknownName name)) status old new out out' k (inr h) = rw h.1 (inr k)
 
 pub command_shelf : (told : Option (List ℕ → Option (List ℕ))) (command : Command) (asked : Option Command) (answer : Result (Unit {0}) Halt) (status : Status) (old new : List Meaning) (out out' : SinkSeen) → asked ≡ Some command
     → IfSome told (λ all. CommandLeaves all command answer old new) → Ends answer status out out' → IfSome told (λ all. ShelfAfter all asked status old new)
@@ -579,6 +604,7 @@ command_shelf (Some all) command asked answer status old new out out' e k h = su
   where
     by_command : (c : Command) → CommandLeaves all c answer old new → ShelfAfter all (Some c) status old new
     by_command (Check definitions site) k = k
-    by_command (Dump log) k = k
+    by_command (Dump logs) k = k
+    by_command (Extract definitions log wanted) k = k
     by_command (Rehearse n) k = shelf_status demo_site (first_halt (first_phases old demo_files definitions_name site_name)) answer status old new out out' k h
     by_command (Replay definitions site script) k = shelf_status (site_asked all definitions site) (first_halt (first_phases old all definitions site)) answer status old new out out' k h

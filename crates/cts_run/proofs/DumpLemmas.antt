@@ -24,7 +24,7 @@ use Rattle.cts_run.proofs.ActLemmas.{done_then, fails_first, fails_then, wants_w
 
 -- ---- whether some numbers begin with a whole entry, also where they are no bytes
 
-abbrev Not : Type 0 → Type 0
+abbrev pub Not : Type 0 → Type 0
 Not A = A → ⊥
 
 both : {A B : Type 0} → (A ⊎ Not A) → (B ⊎ Not B) → (A × B) ⊎ Not (A × B)
@@ -32,7 +32,7 @@ both (inl a) (inl b) = inl (a, b)
 both (inl a) (inr n) = inr (λ p. n p.1)
 both (inr n) b = inr (λ p. n p.0)
 
-below : (a b : ℕ) → (a < b) ⊎ Not (a < b)
+pub below : (a b : ℕ) → (a < b) ⊎ Not (a < b)
 below a b =
     elim (cases_order a b) [
       | inl e ↦ inr (λ l. absurd (omega (arith, e, l)))
@@ -161,7 +161,7 @@ ahead r es h =
 
 -- ---- lines one after the other
 
-lines_then : (es fs : List Logged) (acts more : List Act) → AreLines es acts → AreLines fs more → AreLines (es ++ fs) (acts ++ more)
+pub lines_then : (es fs : List Logged) (acts more : List Act) → AreLines es acts → AreLines fs more → AreLines (es ++ fs) (acts ++ more)
 lines_then [] fs acts more a b = subst (AreLines fs) (sym (ap (λ t. t ++ more) a)) b
 lines_then (e ∷ es) fs acts more a b = (a.0, a.1 ++ more, a.2, lines_then es fs a.1 more a.3 b, ap (λ t. t ++ more) a.4 ∙ append_assoc (puts a.0) a.1 more)
 
@@ -253,7 +253,7 @@ ends_cut file r acts place old new f h = record {
 
 -- ---- files without a head
 
-no_head : (file : List ℕ) → kind_of file ≡ None → HasNoHead file
+pub no_head : (file : List ℕ) → kind_of file ≡ None → HasNoHead file
 no_head file e kind fl head x is same =
     let known = (heads_are_exact file kind fl).1 (head, x, is, same) in
     let never : None ≡ Some kind = sym e ∙ known.0 in

@@ -8,6 +8,7 @@ use Rattle.cts_outside.proofs.Putting.{appended-nil}
 use Rattle.cts_run.specs.Acts.{Act, Append, AreDone, EndsWith, Fails, Outside, Put, PutFails, Sync, after_acts, is_put}
 use Rattle.cts_run.specs.Command.{IsCaused, IsLater}
 use Rattle.cts_run.specs.Endings.{Ends, halt_status, refused_as}
+use Rattle.cts_run.specs.Lines.{usage_line}
 use Rattle.cts_run.specs.Phases.{FileCounts, HaltCounts, IsFound}
 use Rattle.cts_run.specs.Putting.{HaltFaults, HaltLogs, Printed, SinkCounts, VaultCounts}
 use Rattle.cts_run.specs.declared.halt.Halt.{Halt}
@@ -80,6 +81,7 @@ module _ (files files' : FilesSeen) (out mid out' : SinkSeen) (vault vault' : Va
   later_of (halt.ShelfEmpty kind needed stocked) f k p v = found_later f k p v
   later_of (halt.HistoryFull entries bytes) f k p v = found_later f k p v
   later_of (halt.LogRefused place) f k p v = found_later f k p v
+  later_of (halt.UnknownName name) f k p v = found_later f k p v
 
   refused : (kind : FileKind) → Later → Caused (refused_as kind)
   refused Configuration later = plain is.ConfigRefused (λ e. absurd (cc)) (λ e. absurd (cc)) (λ e. absurd (cc)) (λ e. absurd (cc)) (λ e. absurd (cc)) later
@@ -95,6 +97,7 @@ module _ (files files' : FilesSeen) (out mid out' : SinkSeen) (vault vault' : Va
   own (halt.ShelfEmpty kind needed stocked) f k p v later = plain is.ShelfEmpty (λ e. absurd (cc)) (λ e. absurd (cc)) (λ e. absurd (cc)) (λ e. absurd (cc)) (λ e. absurd (cc)) later
   own (halt.HistoryFull entries bytes) f k p v later = plain is.HistoryFull (λ e. absurd (cc)) (λ e. absurd (cc)) (λ e. absurd (cc)) (λ e. absurd (cc)) (λ e. absurd (cc)) later
   own (halt.LogRefused place) f k p v later = plain is.LogRefused (λ e. absurd (cc)) (λ e. absurd (cc)) (λ e. absurd (cc)) (λ e. absurd (cc)) (λ e. absurd (cc)) later
+  own (halt.UnknownName name) f k p v later = plain is.UnknownName (λ e. absurd (cc)) (λ e. absurd (cc)) (λ e. absurd (cc)) (λ e. absurd (cc)) (λ e. absurd (cc)) later
 
   pub caused : (answer : Result (Unit {0}) Halt) (status : Status) → FileCounts answer files files' → SinkCounts answer out mid → VaultCounts answer vault vault' → Ends answer status mid out' → Caused status
   caused (Ok done) status f k v h =
@@ -102,6 +105,12 @@ module _ (files files' : FilesSeen) (out mid out' : SinkSeen) (vault vault' : Va
       rw h.0 (record { read = λ r. absurd (cc); absent = λ r. absurd (cc); write = λ r. absurd (cc); log = λ r. absurd (cc); fine = λ r. (f.0, f.1, put, v); later = record { read = omega (arith, f.0); absent = omega (arith, f.1); put = omega (arith, put); kept = omega (arith, v) } })
   caused (Err why) status f k v (inl h) = rw h.0 (own why f k h.1.later v (later_of why f k h.1.later v))
   caused (Err why) status f k v (inr h) = rw h.1 (plain is.Memory (λ e. absurd (cc)) (λ e. absurd (cc)) (λ e. absurd (cc)) (λ e. absurd (cc)) (λ e. absurd (cc)) (later_of why f k h.2.later v))
+
+-- words that fit no command
+pub misused_caused : (files : FilesSeen) (out out' : SinkSeen) (vault : VaultSeen) (status : Status) → status ≡ is.Usage → Printed out out' usage_line → IsCaused status files files out out' vault vault
+misused_caused files out out' vault status e p =
+    let later : IsLater files files out out' vault vault = record { read = omega arith; absent = omega arith; put = p.later; kept = omega arith } in
+    rw e (plain files files out out out' vault vault is.Usage (λ e. absurd (cc)) (λ e. absurd (cc)) (λ e. absurd (cc)) (λ e. absurd (cc)) (λ e. absurd (cc)) later)
 
 -- no command that the words fit ends as one that they don't
 no_usage : (h : Halt) → halt_status h ≢ is.Usage
@@ -115,6 +124,7 @@ no_usage (halt.Refused name Script line cause) = λ e. absurd (cc)
 no_usage (halt.ShelfEmpty kind needed stocked) = λ e. absurd (cc)
 no_usage (halt.HistoryFull entries bytes) = λ e. absurd (cc)
 no_usage (halt.LogRefused place) = λ e. absurd (cc)
+no_usage (halt.UnknownName name) = λ e. absurd (cc)
 
 pub never_usage : (answer : Result (Unit {0}) Halt) (status : Status) (old new : SinkSeen) → Ends answer status old new → status ≢ is.Usage
 never_usage (Ok done) status old new h = λ e. absurd (cc (sym h.0 ∙ e))

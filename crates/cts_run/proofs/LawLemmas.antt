@@ -1,35 +1,31 @@
 -- A command has exactly one outcome, and which statuses come where.
-use Rattle.std.proofs.Common.{◌≡◌, ◌≢◌, ℕ, ◌<◌, Bool, true, false, nat_eq, List, [], ◌∷◌, ◌++◌, length, Option, Some, None, option_map, IfSome, MatchOption, Result, Ok, Err, refl, sym, ◌∙◌, ap, ap₂, subst, arith, ◌⊎◌, inl, inr}
-use Rattle.std.specs.Prelude.{nat_lt}
+use Rattle.std.proofs.Common.{◌≡◌, ◌≢◌, ℕ, ◌<◌, ◌≤◌, Bool, true, false, nat_eq, List, [], ◌∷◌, ◌++◌, length, Option, Some, None, option_map, MatchOption, Result, Ok, Err, refl, sym, ◌∙◌, ap, ap₂, subst, arith, ◌⊎◌, inl, inr}
+use Rattle.std.specs.Prelude.{◌↔◌, nat_lt}
 use Rattle.std.specs.Option.{option_or}
 use Rattle.std.proofs.lemmas.Bool.Decides.{nat_tests}
 use Rattle.cts_core_laws.proofs.OneRun.{has_one_run}
 use Rattle.cts_core_laws.proofs.SiteSound.{site_sound}
 use Rattle.cts_core.specs.Environments.{basis_of, site_environment}
-use Rattle.cts_core.specs.Runs.{Did, Ending, Finished, NotEnabled, HistoryFull}
+use Rattle.cts_core.specs.Runs.{Did, Ending}
 use Rattle.cts_core.specs.States.{opening}
 use Rattle.cts_def.specs.Sites.{SiteData}
 use Rattle.cts_def.specs.declared.proto_spec.Kind.{Kind}
 use Rattle.cts_entry.specs.declared.event.Event.{Event}
+use Rattle.cts_framing.specs.Patterns.{begins}
 use Rattle.cts_log.proofs.OneText.{entries_have_one_line}
 use Rattle.cts_log.proofs.ReadOnce.{logs_are_read_once, no_head_no_read}
 use Rattle.cts_log.specs.Logged.{Logged}
 use Rattle.cts_log.specs.Reading.{IsLogRead}
 use Rattle.cts_proto.specs.Meaning.{Meaning}
 use Rattle.cts_rehearsal.specs.Generated.{generated}
-use Rattle.cts_words.specs.declared.fault.WordFault.{WordFault}
-use Rattle.cts_words.specs.declared.fault.WordFault.TheVariants as words
-use Rattle.cts_words.specs.declared.statement.Statement.{Statement}
-use Rattle.cts_words.specs.Statements.{said}
-use Rattle.cts_run.specs.Acts.{Act, Outside, puts}
-use Rattle.cts_run.specs.Causes.{words_halt}
-use Rattle.cts_run.specs.Command.{Answers, Completes, IsDone, IsDueOf, IsOutcome, Outcome, misused, outcome_of, phases}
+use Rattle.cts_run.specs.Acts.{Act, puts}
+use Rattle.cts_run.specs.Command.{IsDone, IsDueOf, IsOutcome, Outcome, misused, outcome_of, phases}
 use Rattle.cts_run.specs.Demo.{definitions_name, demo_files, demo_site, site_name}
-use Rattle.cts_run.specs.Dump.{AreLines, IsDump, dump_answer, log_phase}
+use Rattle.cts_run.specs.Dump.{AreDumped, AreLines, GoesOn, IsDump, IsFileDump, dump_answer, head_after, log_phase, other_head}
 use Rattle.cts_run.specs.Endings.{halt_status}
-use Rattle.cts_run.specs.Laws.{HasOneOutcome, HasOutcome, IsBadLog, IsShort, IsShortOf, IsWholeLog, RefusedExactly, ShortExactly}
-use Rattle.cts_run.specs.Load.{bytes_of, definitions_asked, definitions_phase, definitions_read, digest_asked, events_asked, script_phase, script_read, site_asked, site_phase, site_phases, site_read}
-use Rattle.cts_run.specs.Load.Files.{file_limit, judge, judge_said, log_limit, verdict, within}
+use Rattle.cts_run.specs.Laws.{HasOneOutcome, HasOutcome, HasRefused, IsBadLog, IsGoodLog, IsRefusedLog, IsShortOf, IsWholeLog, ShortExactly}
+use Rattle.cts_run.specs.Load.{bytes_of, definitions_asked, definitions_phase, definitions_read, digest_asked, events_asked, script_phase, site_asked, site_phase, site_phases, site_read}
+use Rattle.cts_run.specs.Load.Files.{log_limit, within}
 use Rattle.cts_run.specs.Phases.{Phase, file_halt, first_halt}
 use Rattle.cts_run.specs.Rehearsal.{IsRehearsal, rehearsal_acts, rehearsal_answer}
 use Rattle.cts_run.specs.Replay.{IsReplay, replay_acts, replay_answer}
@@ -37,15 +33,15 @@ use Rattle.cts_run.specs.Start.{shelf_phase, short_halt, short_kind}
 use Rattle.cts_run.specs.Transcript.{events_of}
 use Rattle.cts_run.specs.declared.halt.Halt.{Halt}
 use Rattle.cts_run.specs.declared.halt.Halt.TheVariants as halt
-use Rattle.cts_run.specs.declared.halt.cause.Cause.{Cause}
-use Rattle.cts_run.specs.declared.halt.cause.Cause.TheVariants as cause
-use Rattle.cts_run.specs.declared.halt.file_kind.FileKind.{FileKind}
-use Rattle.cts_run.specs.declared.halt.file_kind.FileKind.TheVariants.{Configuration, Script}
+use Rattle.cts_run.specs.declared.halt.file_kind.FileKind.TheVariants.{Configuration}
 use Rattle.cts_run.specs.declared.halt.status.Status.{Status}
 use Rattle.cts_run.specs.declared.halt.status.Status.TheVariants as is
 use Rattle.cts_run.specs.declared.words.Command.{Command}
-use Rattle.cts_run.specs.declared.words.Command.TheVariants.{Check, Replay, Rehearse, Dump}
+use Rattle.cts_run.specs.declared.words.Command.TheVariants.{Check, Replay, Rehearse, Dump, Extract}
 use Rattle.cts_run.proofs.CommandLemmas.{some_outcome}
+use Rattle.cts_run.proofs.DumpedLemmas.{IsFileDue, another_head, same_head}
+use Rattle.cts_run.proofs.StatusLemmas.{Other, has_status, log_is_other, of_check, of_file, of_phases, of_rehearsal, of_replay, of_script, of_site, other_or, outcome_status, shelf_is_other, status_alone}
+use Rattle.cts_run.proofs.TableLawLemmas.{extract_other, one_table}
 use Rattle.cts_run.proofs.PhaseLemmas.{first_front, first_past, none_alone}
 
 -- ---- one outcome
@@ -67,6 +63,27 @@ one_dump file acts other due answer (inl a) (inr b) = absurd (no_head_no_read fi
 one_dump file acts other due answer (inr a) (inl b) = absurd (no_head_no_read file b.kind b.flagged b.entries b.place a.none b.read)
 one_dump file acts other due answer (inr a) (inr b) = (a.nothing ∙ sym b.nothing, a.refused ∙ sym b.refused)
 
+one_file : (file : List ℕ) (other : Option Halt) (acts more : List Act) (due answer : Result (Unit {0}) Halt) → IsFileDue file other acts due → IsFileDue file other more answer → Same acts more due answer
+one_file file None acts more due answer h k = one_dump file acts more due answer h k
+one_file file (Some x) acts more due answer h k = (h.0 ∙ sym k.0, h.1 ∙ sym k.1)
+
+one_going : (ended : Result (Unit {0}) Halt) (next : List Act → Result (Unit {0}) Halt → Type 0) (one : (a b : List Act) (d e : Result (Unit {0}) Halt) → next a d → next b e → Same a b d e)
+    (own acts other : List Act) (due answer : Result (Unit {0}) Halt) → GoesOn ended next own acts due → GoesOn ended next own other answer → Same acts other due answer
+one_going (Ok done) next one own acts other due answer h k =
+    let same = one h.0 k.0 due answer h.1 k.1 in
+    (h.2 ∙ (ap (λ (t : List Act). own ++ t) same.0 ∙ sym k.2), same.1)
+one_going (Err x) next one own acts other due answer h k = (h.0 ∙ sym k.0, h.1 ∙ sym k.1)
+
+-- files that are dumped one after the other
+one_dumped : (files : List ℕ → Option (List ℕ)) (head : List ℕ) (logs : List (List ℕ)) (acts other : List Act) (due answer : Result (Unit {0}) Halt) → AreDumped files head logs acts due → AreDumped files head logs other answer → Same acts other due answer
+one_dumped files head [] acts other due answer h k = (h.0 ∙ sym k.0, h.1 ∙ sym k.1)
+one_dumped files head (log ∷ logs) acts other due answer h k =
+    let after = head_after head (bytes_of (files log)) in
+    let next = AreDumped files after logs in
+    let same = one_file (bytes_of (files log)) (log_phase files head log).halts h.0 k.0 h.1 k.1 h.2 k.2 in
+    one_going h.1 next (λ a b d e. one_dumped files after logs a b d e) h.0 acts other due answer h.3
+    (subst (λ (own : List Act). GoesOn h.1 next own other answer) (sym same.0) (subst (λ (e : Result (Unit {0}) Halt). GoesOn e next k.0 other answer) (sym same.1) k.3))
+
 -- a script's events have one run
 one_replay : (digest : List ℕ) (site : SiteData) (script : List ℕ) (events : List (ℕ × Event)) (acts other : List Act) (due answer : Result (Unit {0}) Halt) → IsReplay digest site script events acts due → IsReplay digest site script events other answer → Same acts other due answer
 one_replay digest site script events acts other due answer h k =
@@ -87,7 +104,8 @@ one_done : (files : List ℕ → Option (List ℕ)) (command : Command) (acts ot
 one_done files (Check definitions site) acts other due answer h k = (h.0 ∙ sym k.0, h.1 ∙ sym k.1)
 one_done files (Replay definitions site script) acts other due answer h k = one_replay (digest_asked files definitions) (site_asked files definitions site) script (events_asked files (site_asked files definitions site) script) acts other due answer h k
 one_done files (Rehearse n) acts other due answer h k = one_rehearsal demo_site n acts other due answer h k
-one_done files (Dump log) acts other due answer h k = one_dump (bytes_of (files log)) acts other due answer h k
+one_done files (Dump logs) acts other due answer h k = one_dumped files [] logs acts other due answer h k
+one_done files (Extract definitions log w) acts other due answer h k = one_table (definitions_asked files definitions) w (bytes_of (files log)) acts other due answer h k
 
 one_by : (h : Option Halt) (files : List ℕ → Option (List ℕ)) (command : Command) (acts other : List Act) (due answer : Result (Unit {0}) Halt)
     → MatchOption h (IsDone files command acts due) (λ x. (acts ≡ []) × (due ≡ Err x)) → MatchOption h (IsDone files command other answer) (λ x. (other ≡ []) × (answer ≡ Err x)) → Same acts other due answer
@@ -105,129 +123,6 @@ has_outcome stock files None = (misused, refl)
 has_outcome stock files (Some command) =
     let o = some_outcome stock files command in
     (outcome_of o.0 o.1, record { acts = o.0; due = o.1; is = o.2; outcome = refl })
-
--- ---- statuses that neither a file of a site or script nor a replay has
-
-pub record IsOther (s : Status) : Type 0 where
-  pub ok : is.Ok ≢ s
-  pub memory : is.Memory ≢ s
-  pub absent : is.Absent ≢ s
-  pub usage : is.Usage ≢ s
-  pub config_refused : is.ConfigRefused ≢ s
-  pub script_refused : is.ScriptRefused ≢ s
-  pub history_full : is.HistoryFull ≢ s
-
-shelf_is_other : IsOther is.ShelfEmpty
-shelf_is_other = record {
-  ok = λ e. absurd (cc);
-  memory = λ e. absurd (cc);
-  absent = λ e. absurd (cc);
-  usage = λ e. absurd (cc);
-  config_refused = λ e. absurd (cc);
-  script_refused = λ e. absurd (cc);
-  history_full = λ e. absurd (cc);
-}
-
-log_is_other : IsOther is.LogRefused
-log_is_other = record {
-  ok = λ e. absurd (cc);
-  memory = λ e. absurd (cc);
-  absent = λ e. absurd (cc);
-  usage = λ e. absurd (cc);
-  config_refused = λ e. absurd (cc);
-  script_refused = λ e. absurd (cc);
-  history_full = λ e. absurd (cc);
-}
-
-module _ (s : Status) (other : IsOther s) where
-  -- a reason to halt that has another status, if there is one
-  abbrev Other : Option Halt → Type 0
-  Other None = Unit {0}
-  Other (Some h) = halt_status h ≢ s
-
-  other_or : (a b : Option Halt) → Other a → Other b → Other (option_or a b)
-  other_or None b h k = k
-  other_or (Some x) b h k = h
-
-  refused_other : (name : List ℕ) (kind : FileKind) (line : ℕ) (why : Cause) → Other (Some (halt.Refused name kind line why))
-  refused_other name Configuration line why = other.config_refused
-  refused_other name Script line why = other.script_refused
-
-  of_words : (kind : FileKind) (name : List ℕ) (fault : WordFault) → Other (Some (words_halt kind name fault))
-  of_words Configuration name (words.OpenQuote line) = other.config_refused
-  of_words Configuration name (words.DanglingJoin line) = other.config_refused
-  of_words Configuration name (words.NotText place) = other.config_refused
-  of_words Script name (words.OpenQuote line) = other.script_refused
-  of_words Script name (words.DanglingJoin line) = other.script_refused
-  of_words Script name (words.NotText place) = other.script_refused
-  of_words Configuration name words.Memory = other.memory
-  of_words Script name words.Memory = other.memory
-
-  of_verdict : {X : Type 0} (kind : FileKind) (name : List ℕ) (read : Result X (ℕ × Cause)) → Other (verdict kind name read)
-  of_verdict kind name (Ok x) = tt
-  of_verdict kind name (Err r) = refused_other name kind r.0 r.1
-
-  of_said : {X : Type 0} (kind : FileKind) (name : List ℕ) (reads : List Statement → Result X (ℕ × Cause)) (found : Result (List Statement) WordFault) → Other (judge_said kind name (λ statements. verdict kind name (reads statements)) found)
-  of_said kind name reads (Ok statements) = of_verdict kind name (reads statements)
-  of_said kind name reads (Err fault) = of_words kind name fault
-
-  of_bytes : {X : Type 0} (kind : FileKind) (name : List ℕ) (reads : List Statement → Result X (ℕ × Cause)) (bytes : List ℕ) (large : Bool) → nat_lt file_limit (length bytes) ≡ large
-      → Other (judge kind name (λ statements. verdict kind name (reads statements)) bytes)
-  of_bytes kind name reads bytes true e = rw e (refused_other name kind 0 cause.TooLarge)
-  of_bytes kind name reads bytes false e = rw e (of_said kind name reads (said bytes))
-
-  of_file : {X : Type 0} (kind : FileKind) (name : List ℕ) (reads : List Statement → Result X (ℕ × Cause)) (file : Option (List ℕ)) → Other (file_halt name (judge kind name (λ statements. verdict kind name (reads statements))) file)
-  of_file kind name reads None = other.absent
-  of_file kind name reads (Some bytes) = of_bytes kind name reads bytes (nat_lt file_limit (length bytes)) refl
-
-  module _ (files : List ℕ → Option (List ℕ)) (definitions site : List ℕ) where
-    of_site : Other (first_halt (site_phases files definitions site))
-    of_site =
-        other_or (definitions_phase files definitions).halts (first_halt (site_phase files (definitions_asked files definitions) site ∷ [])) (of_file Configuration definitions definitions_read (files definitions))
-        (other_or (site_phase files (definitions_asked files definitions) site).halts None (of_file Configuration site (site_read (definitions_asked files definitions)) (files site)) tt)
-
-    -- after the shelf
-    of_script : (x : SiteData) (script : List ℕ) → Other (first_halt (script_phase files x script ∷ []))
-    of_script x script = other_or (script_phase files x script).halts None (of_file Script script (script_read x) (files script)) tt
-
-  -- a command that ends so has this status
-  abbrev Has : Result (Unit {0}) Halt → Type 0
-  Has due = (outcome_of [] due).status ≡ s
-
-  status_alone : (acts : List Act) (due : Result (Unit {0}) Halt) → (outcome_of acts due).status ≡ (outcome_of [] due).status
-  status_alone acts (Ok done) = refl
-  status_alone acts (Err h) = refl
-
-  of_run : (script : List ℕ) (events : List (ℕ × Event)) (dids : List Did) (ending : Ending) → Has (replay_answer script events dids ending) → ⊥
-  of_run script events dids Finished h = other.ok h
-  of_run script events dids NotEnabled h = other.script_refused h
-  of_run script events dids HistoryFull h = other.history_full h
-
-  of_replay : (digest : List ℕ) (site : SiteData) (script : List ℕ) (events : List (ℕ × Event)) (acts : List Act) (due : Result (Unit {0}) Halt) → IsReplay digest site script events acts due → Has due → ⊥
-  of_replay digest site script events acts due r h = of_run script events r.dids r.ending (subst Has r.due_is h)
-
-  of_rehearsed : (dids : List Did) (ending : Ending) → Has (rehearsal_answer dids ending) → ⊥
-  of_rehearsed dids Finished h = other.ok h
-  of_rehearsed dids NotEnabled h = other.script_refused h
-  of_rehearsed dids HistoryFull h = other.history_full h
-
-  of_rehearsal : (site : SiteData) (n : ℕ) (acts : List Act) (due : Result (Unit {0}) Halt) → IsRehearsal site n acts due → Has due → ⊥
-  of_rehearsal site n acts due r h = of_rehearsed r.dids r.ending (subst Has r.due_is h)
-
-  -- phases whose reasons all have another status
-  of_phases : (first : Option Halt) (done : Type 0) (acts : List Act) (due : Result (Unit {0}) Halt) → Other first → (done → Has due → ⊥) → MatchOption first done (λ x. (acts ≡ []) × (due ≡ Err x)) → Has due → ⊥
-  of_phases None done acts due k d m h = d m h
-  of_phases (Some x) done acts due k d m h = k (subst Has m.1 h)
-
-  of_check : (files : List ℕ → Option (List ℕ)) (definitions site : List ℕ) (acts : List Act) (due : Result (Unit {0}) Halt) → IsDueOf (site_phases files definitions site) (IsDone files (Check definitions site)) acts due → Has due → ⊥
-  of_check files definitions site acts due m h =
-      of_phases (first_halt (site_phases files definitions site)) (IsDone files (Check definitions site) acts due) acts due (of_site files definitions site) (λ d k. other.ok (subst Has d.1 k)) m h
-
-has_status : (s : Status) (other : IsOther s) (acts : List Act) (due : Result (Unit {0}) Halt) (o : Outcome) → o ≡ outcome_of acts due → o.status ≡ s → (outcome_of [] due).status ≡ s
-has_status s other acts due o e h = sym (status_alone s other acts due) ∙ (sym (ap (λ (t : Outcome). t.status) e) ∙ h)
-
-outcome_status : (acts : List Act) (due : Result (Unit {0}) Halt) (h : Halt) (o : Outcome) → o ≡ outcome_of acts due → due ≡ Err h → o.status ≡ halt_status h
-outcome_status acts due h o e f = ap (λ (t : Outcome). t.status) e ∙ ap (λ (d : Result (Unit {0}) Halt). (outcome_of acts d).status) f
 
 -- ---- a shelf that is short
 
@@ -286,27 +181,120 @@ replay_never files definitions site script acts due m h =
 rehearsal_never : (files : List ℕ → Option (List ℕ)) (n : ℕ) (acts : List Act) (due : Result (Unit {0}) Halt) → IsDueOf [] (IsDone files (Rehearse n)) acts due → (outcome_of [] due).status ≡ is.ShelfEmpty → ⊥
 rehearsal_never files n acts due m h = of_rehearsal is.ShelfEmpty shelf_is_other demo_site n acts due m h
 
+-- ---- how the dump of a file ends
+
+-- a log is refused
+abbrev pub Refuses : Result (Unit {0}) Halt → Type 0
+Refuses due = (place : ℕ) × (due ≡ Err (halt.LogRefused place))
+
+whole_place : (place n : ℕ) → nat_eq place n ≡ true → place ≡ n
+whole_place place n e = grind (arith, nat_tests)
+
+cut_place : (place n : ℕ) → nat_eq place n ≡ false → place ≡ n → ⊥
+cut_place place n e f = grind (arith, nat_tests)
+
+answer_whole : (place n : ℕ) → nat_eq place n ≡ true → dump_answer place n ≡ Ok tt
+answer_whole place n e = rw e refl
+
+answer_cut : (place n : ℕ) → nat_eq place n ≡ false → dump_answer place n ≡ Err (halt.LogRefused place)
+answer_cut place n e = rw e refl
+
+abbrev pub DumpEnds : List ℕ → Result (Unit {0}) Halt → Type 0
+DumpEnds file due = (IsWholeLog file × (due ≡ Ok tt)) ⊎ ((IsWholeLog file → ⊥) × Refuses due)
+
+pub dump_ends : (file : List ℕ) (acts : List Act) (due : Result (Unit {0}) Halt) → IsDump file acts due → DumpEnds file due
+dump_ends file acts due (inl a) = by_place (nat_eq a.place (length file)) refl
+  where
+    by_place : (whole : Bool) → nat_eq a.place (length file) ≡ whole → DumpEnds file due
+    by_place true e =
+        inl ((a.kind, a.flagged, a.entries, subst (λ (p : ℕ). IsLogRead file a.kind a.flagged a.entries p) (whole_place a.place (length file) e) a.read), a.due_is ∙ answer_whole a.place (length file) e)
+    by_place false e =
+        inr (λ w. cut_place a.place (length file) e (logs_are_read_once file a.kind w.0 a.flagged w.1 a.entries w.2 a.place (length file) a.read w.3).3, (a.place, a.due_is ∙ answer_cut a.place (length file) e))
+dump_ends file acts due (inr a) = inr (λ w. no_head_no_read file w.0 w.1 w.2 (length file) a.none w.3, (0, a.refused))
+
+too_large : (head file : List ℕ) → nat_lt log_limit (length file) ≡ true → within log_limit (halt.LogRefused log_limit) (other_head head) file ≡ Some (halt.LogRefused log_limit)
+too_large head file e = rw e refl
+
+not_large : (head file : List ℕ) → nat_lt log_limit (length file) ≡ false → within log_limit (halt.LogRefused log_limit) (other_head head) file ≡ other_head head file
+not_large head file e = rw e refl
+
+is_large : (n : ℕ) → nat_lt log_limit n ≡ true → log_limit < n
+is_large n e = grind (arith, nat_tests)
+
+is_small : (n : ℕ) → nat_lt log_limit n ≡ false → n ≤ log_limit
+is_small n e = grind (arith, nat_tests)
+
+module _ (files : List ℕ → Option (List ℕ)) (head log : List ℕ) where
+  -- it is not there, it is refused, or it is dumped to its end
+  abbrev pub FileEnds : Result (Unit {0}) Halt → Type 0
+  FileEnds due =
+      ((files log ≡ None) × (due ≡ Err (halt.Absent log))) ⊎ ((IsRefusedLog files head log × Refuses due) ⊎ (IsGoodLog files head log × (due ≡ Ok tt)))
+
+  ends_begun : (file : List ℕ) (due : Result (Unit {0}) Halt) → files log ≡ Some file → length file ≤ log_limit → begins head file ≡ true → DumpEnds file due → FileEnds due
+  ends_begun file due e small b (inl w) = inr (inr ((file, e, small, b, w.0), w.1))
+  ends_begun file due e small b (inr n) = inr (inl ((file, e, inr (inr n.0)), n.1))
+
+  ends_small : (file : List ℕ) (acts : List Act) (due : Result (Unit {0}) Halt) (so : Bool) → begins head file ≡ so → files log ≡ Some file → length file ≤ log_limit → IsFileDue file (other_head head file) acts due → FileEnds due
+  ends_small file acts due true b e small m = ends_begun file due e small b (dump_ends file acts due (subst (λ (o : Option Halt). IsFileDue file o acts due) (same_head head file b) m))
+  ends_small file acts due false b e small m =
+      let k = subst (λ (o : Option Halt). IsFileDue file o acts due) (another_head head file b) m in
+      inr (inl ((file, e, inr (inl b)), (0, k.1)))
+
+  ends_sized : (file : List ℕ) (acts : List Act) (due : Result (Unit {0}) Halt) (large : Bool) → nat_lt log_limit (length file) ≡ large → files log ≡ Some file
+      → IsFileDue file (within log_limit (halt.LogRefused log_limit) (other_head head) file) acts due → FileEnds due
+  ends_sized file acts due true l e m =
+      let k = subst (λ (o : Option Halt). IsFileDue file o acts due) (too_large head file l) m in
+      inr (inl ((file, e, inl (is_large (length file) l)), (log_limit, k.1)))
+  ends_sized file acts due false l e m =
+      ends_small file acts due (begins head file) refl e (is_small (length file) l) (subst (λ (o : Option Halt). IsFileDue file o acts due) (not_large head file l) m)
+
+  ends_read : (file : Option (List ℕ)) (acts : List Act) (due : Result (Unit {0}) Halt) → files log ≡ file
+      → IsFileDue (bytes_of file) (file_halt log (within log_limit (halt.LogRefused log_limit) (other_head head)) file) acts due → FileEnds due
+  ends_read None acts due e m = inl (e, m.1)
+  ends_read (Some file) acts due e m = ends_sized file acts due (nat_lt log_limit (length file)) refl e m
+
+  pub file_ends : (acts : List Act) (due : Result (Unit {0}) Halt) → IsFileDump files head log acts due → FileEnds due
+  file_ends acts due m = ends_read (files log) acts due refl m
+
+  same_file : (a b : List ℕ) → files log ≡ Some a → files log ≡ Some b → a ≡ b
+  same_file a b e f = let same : Some a ≡ Some b = sym e ∙ f in cc same
+
+  never_both : IsRefusedLog files head log → IsGoodLog files head log → ⊥
+  never_both bad good = by_cause bad.2
+    where
+      same : bad.0 ≡ good.0
+      same = same_file bad.0 good.0 bad.1 good.1
+
+      not_both : true ≡ false → ⊥
+      not_both e = absurd (cc e)
+
+      by_cause : (log_limit < length bad.0) ⊎ ((begins head bad.0 ≡ false) ⊎ (IsWholeLog bad.0 → ⊥)) → ⊥
+      by_cause (inl large) = absurd (omega (arith, large, ap length same, good.2))
+      by_cause (inr (inl other)) = not_both (sym good.3 ∙ (ap (begins head) (sym same) ∙ other))
+      by_cause (inr (inr none)) = none (subst IsWholeLog (sym same) good.4)
+
+  never_there : {A : Type 0} (file : List ℕ) → files log ≡ None → files log ≡ Some file → A
+  never_there file e f = absurd (cc (sym e ∙ f))
+
+pub status_by : (s : Status) (due other : Result (Unit {0}) Halt) → due ≡ other → (outcome_of [] due).status ≡ s → (outcome_of [] other).status ≡ s
+status_by s due other e h = sym (ap (λ (d : Result (Unit {0}) Halt). (outcome_of [] d).status) e) ∙ h
+
 -- a dump asks no shelf
-dumped_status : (file : List ℕ) (acts : List Act) (due : Result (Unit {0}) Halt) → IsDump file acts due → (outcome_of [] due).status ≢ is.ShelfEmpty
-dumped_status file acts due (inl a) = λ e. by_place a.place (nat_eq a.place (length file)) refl (subst (λ (d : Result (Unit {0}) Halt). (outcome_of [] d).status ≡ is.ShelfEmpty) a.due_is e)
-  where
-    by_place : (place : ℕ) (whole : Bool) → nat_eq place (length file) ≡ whole → (outcome_of [] (dump_answer place (length file))).status ≡ is.ShelfEmpty → ⊥
-    by_place place true e = rw e (λ k. absurd (cc k))
-    by_place place false e = rw e (λ k. absurd (cc k))
-dumped_status file acts due (inr a) = λ e. absurd (cc (sym (ap (λ (d : Result (Unit {0}) Halt). (outcome_of [] d).status) a.refused) ∙ e))
+no_shelf_file : (files : List ℕ → Option (List ℕ)) (head log : List ℕ) (due : Result (Unit {0}) Halt) → FileEnds files head log due → (outcome_of [] due).status ≢ is.ShelfEmpty
+no_shelf_file files head log due (inl a) = λ e. absurd (cc (status_by is.ShelfEmpty due (Err (halt.Absent log)) a.1 e))
+no_shelf_file files head log due (inr (inl a)) = λ e. absurd (cc (status_by is.ShelfEmpty due (Err (halt.LogRefused a.1.0)) a.1.1 e))
+no_shelf_file files head log due (inr (inr a)) = λ e. absurd (cc (status_by is.ShelfEmpty due (Ok tt) a.1 e))
 
-pub no_shelf_dumped : (files : List ℕ → Option (List ℕ)) (log : List ℕ) (acts : List Act) (due : Result (Unit {0}) Halt) → IsDueOf (log_phase files log ∷ []) (IsDone files (Dump log)) acts due → (outcome_of [] due).status ≢ is.ShelfEmpty
-no_shelf_dumped files log acts due m =
-    of_phases is.ShelfEmpty shelf_is_other (first_halt (log_phase files log ∷ [])) (IsDone files (Dump log) acts due) acts due
-    (other_or is.ShelfEmpty shelf_is_other (log_phase files log).halts None (of_log (files log)) tt) (λ d e. dumped_status (bytes_of (files log)) acts due d e) m
-  where
-    by_size : (bytes : List ℕ) (large : Bool) → nat_lt log_limit (length bytes) ≡ large → Other is.ShelfEmpty shelf_is_other (within log_limit (halt.LogRefused log_limit) (λ b. None) bytes)
-    by_size bytes true e = rw e (λ k. absurd (cc k))
-    by_size bytes false e = rw e tt
+pub never_going : (s : Status) (ended : Result (Unit {0}) Halt) (next : List Act → Result (Unit {0}) Halt → Type 0) (own acts : List Act) (due : Result (Unit {0}) Halt)
+    → ((more : List Act) → next more due → ⊥) → (outcome_of [] ended).status ≢ s → GoesOn ended next own acts due → (outcome_of [] due).status ≡ s → ⊥
+never_going s (Ok done) next own acts due never other g h = never g.0 g.1
+never_going s (Err x) next own acts due never other g h = other (status_by s due (Err x) g.1 h)
 
-    of_log : (file : Option (List ℕ)) → Other is.ShelfEmpty shelf_is_other (file_halt log (within log_limit (halt.LogRefused log_limit) (λ b. None)) file)
-    of_log None = λ k. absurd (cc k)
-    of_log (Some bytes) = by_size bytes (nat_lt log_limit (length bytes)) refl
+no_shelf_dumped : (files : List ℕ → Option (List ℕ)) (head : List ℕ) (logs : List (List ℕ)) (acts : List Act) (due : Result (Unit {0}) Halt) → AreDumped files head logs acts due → (outcome_of [] due).status ≡ is.ShelfEmpty → ⊥
+no_shelf_dumped files head [] acts due m e = absurd (cc (status_by is.ShelfEmpty due (Ok tt) m.1 e))
+no_shelf_dumped files head (log ∷ logs) acts due m e =
+    let after = head_after head (bytes_of (files log)) in
+    never_going is.ShelfEmpty m.1 (AreDumped files after logs) m.0 acts due (λ more k. no_shelf_dumped files after logs more due k e) (no_shelf_file files head log m.1 (file_ends files head log m.0 m.1 m.2)) m.3 e
 
 pub short_exactly : ShortExactly
 short_exactly stock files None o h = (λ e. absurd (cc (sym (ap (λ (t : Outcome). t.status) h) ∙ e)), λ s. absurd s)
@@ -314,8 +302,12 @@ short_exactly stock files (Some (Check definitions site)) o h = (
   λ e. absurd (of_check is.ShelfEmpty shelf_is_other files definitions site h.acts h.due h.is (has_status is.ShelfEmpty shelf_is_other h.acts h.due o h.outcome e)),
   λ s. absurd s,
 )
-short_exactly stock files (Some (Dump log)) o h = (
-  λ e. absurd (no_shelf_dumped files log h.acts h.due h.is (has_status is.ShelfEmpty shelf_is_other h.acts h.due o h.outcome e)),
+short_exactly stock files (Some (Dump logs)) o h = (
+  λ e. absurd (no_shelf_dumped files [] logs h.acts h.due h.is (has_status is.ShelfEmpty shelf_is_other h.acts h.due o h.outcome e)),
+  λ s. absurd s,
+)
+short_exactly stock files (Some (Extract definitions log w)) o h = (
+  λ e. absurd (extract_other is.ShelfEmpty shelf_is_other (λ k. absurd (cc k)) (λ k. absurd (cc k)) files definitions log w h.acts h.due h.is (has_status is.ShelfEmpty shelf_is_other h.acts h.due o h.outcome e)),
   λ s. absurd s,
 )
 short_exactly stock files (Some (Replay definitions site script)) o h =
@@ -332,78 +324,51 @@ short_exactly stock files (Some (Rehearse n)) o h =
 
 -- ---- a log that is refused
 
-at_end : (place n : ℕ) → place ≡ n → (outcome_of [] (dump_answer place n)).status ≢ is.LogRefused
-at_end place n e = let same : nat_eq place n ≡ true = grind (arith, nat_tests) in rw same (λ k. absurd (cc k))
+module _ (files : List ℕ → Option (List ℕ)) (head log : List ℕ) (logs : List (List ℕ)) (ended : Result (Unit {0}) Halt) (own acts : List Act) (due : Result (Unit {0}) Halt) where
+  abbrev later : List ℕ
+  later = head_after head (bytes_of (files log))
 
-before_end : (place n : ℕ) → nat_eq place n ≡ false → (outcome_of [] (dump_answer place n)).status ≡ is.LogRefused
-before_end place n e = rw e refl
+  abbrev Goes : Result (Unit {0}) Halt → Type 0
+  Goes e = GoesOn e (AreDumped files later logs) own acts due
 
--- where it is refused it is no whole log
-never_whole : (file : List ℕ) (acts : List Act) (due : Result (Unit {0}) Halt) → IsDump file acts due → (outcome_of [] due).status ≡ is.LogRefused → IsWholeLog file → ⊥
-never_whole file acts due (inl a) e w =
-    let same = logs_are_read_once file a.kind w.0 a.flagged w.1 a.entries w.2 a.place (length file) a.read w.3 in
-    at_end a.place (length file) same.3 (subst (λ (d : Result (Unit {0}) Halt). (outcome_of [] d).status ≡ is.LogRefused) a.due_is e)
-never_whole file acts due (inr a) e w = no_head_no_read file w.0 w.1 w.2 (length file) a.none w.3
+  -- one of the files was refused, where the dump ends so
+  refused_going : FileEnds files head log ended → Goes ended → ((more : List Act) → AreDumped files later logs more due → HasRefused files later logs) → (outcome_of [] due).status ≡ is.LogRefused
+      → HasRefused files head (log ∷ logs)
+  refused_going (inl a) g tell h = let g' = subst Goes a.1 g in absurd (cc (status_by is.LogRefused due (Err (halt.Absent log)) g'.1 h))
+  refused_going (inr (inl a)) g tell h = inl a.0
+  refused_going (inr (inr a)) g tell h = let g' = subst Goes a.1 g in inr (a.0, tell g'.0 g'.1)
 
--- and where it is none it is refused
-by_place : (file : List ℕ) (place : ℕ) (whole : Bool) → nat_eq place (length file) ≡ whole → (place ≡ length file → ⊥) → (outcome_of [] (dump_answer place (length file))).status ≡ is.LogRefused
-by_place file place false e n = before_end place (length file) e
-by_place file place true e n = absurd (n (grind (arith, nat_tests)))
+  -- and it ends so, where one is
+  going_refused : FileEnds files head log ended → Goes ended → ((more : List Act) → AreDumped files later logs more due → HasRefused files later logs → (outcome_of [] due).status ≡ is.LogRefused)
+      → HasRefused files head (log ∷ logs) → (outcome_of [] due).status ≡ is.LogRefused
+  going_refused (inl a) g tell (inl b) = never_there files head log b.0 a.0 b.1
+  going_refused (inl a) g tell (inr b) = never_there files head log b.0.0 a.0 b.0.1
+  going_refused (inr (inl a)) g tell b = let g' = subst Goes a.1.1 g in ap (λ (d : Result (Unit {0}) Halt). (outcome_of [] d).status) g'.1
+  going_refused (inr (inr a)) g tell (inl b) = absurd (never_both files head log b a.0)
+  going_refused (inr (inr a)) g tell (inr b) = let g' = subst Goes a.1 g in tell g'.0 g'.1 b.1
 
-is_refused : (file : List ℕ) (acts : List Act) (due : Result (Unit {0}) Halt) → IsDump file acts due → (IsWholeLog file → ⊥) → (outcome_of [] due).status ≡ is.LogRefused
-is_refused file acts due (inl a) n =
-    subst (λ (d : Result (Unit {0}) Halt). (outcome_of [] d).status ≡ is.LogRefused) (sym a.due_is)
-    (by_place file a.place (nat_eq a.place (length file)) refl (λ e. n (a.kind, a.flagged, a.entries, subst (λ (p : ℕ). IsLogRead file a.kind a.flagged a.entries p) e a.read)))
-is_refused file acts due (inr a) n = ap (λ (d : Result (Unit {0}) Halt). (outcome_of [] d).status) a.refused
+dumped_refused : (files : List ℕ → Option (List ℕ)) (head : List ℕ) (logs : List (List ℕ)) (acts : List Act) (due : Result (Unit {0}) Halt) → AreDumped files head logs acts due → (outcome_of [] due).status ≡ is.LogRefused → HasRefused files head logs
+dumped_refused files head [] acts due m e = absurd (cc (status_by is.LogRefused due (Ok tt) m.1 e))
+dumped_refused files head (log ∷ logs) acts due m e =
+    refused_going files head log logs m.1 m.0 acts due (file_ends files head log m.0 m.1 m.2) m.3 (λ more k. dumped_refused files (head_after head (bytes_of (files log))) logs more due k e) e
 
-module _ (files : List ℕ → Option (List ℕ)) (log : List ℕ) (acts : List Act) (due : Result (Unit {0}) Halt) where
-  abbrev Log_due : Option (List ℕ) → Type 0
-  Log_due file = MatchOption (option_or (file_halt log (within log_limit (halt.LogRefused log_limit) (λ b. None)) file) None) (IsDump (bytes_of file) acts due) (λ x. (acts ≡ []) × (due ≡ Err x))
+refused_dumped : (files : List ℕ → Option (List ℕ)) (head : List ℕ) (logs : List (List ℕ)) (acts : List Act) (due : Result (Unit {0}) Halt) → AreDumped files head logs acts due → HasRefused files head logs → (outcome_of [] due).status ≡ is.LogRefused
+refused_dumped files head [] acts due m b = absurd b
+refused_dumped files head (log ∷ logs) acts due m b =
+    going_refused files head log logs m.1 m.0 acts due (file_ends files head log m.0 m.1 m.2) m.3 (λ more k r. refused_dumped files (head_after head (bytes_of (files log))) logs more due k r) b
 
-  bad_by_size : (file : List ℕ) (large : Bool) → nat_lt log_limit (length file) ≡ large → Log_due (Some file) → (outcome_of [] due).status ≡ is.LogRefused → (log_limit < length file) ⊎ (IsWholeLog file → ⊥)
-  bad_by_size file true e m told = inl (grind (arith, nat_tests))
-  bad_by_size file false e m told =
-      let m' : IsDump file acts due = subst (λ (b : Option Halt). MatchOption (option_or b None) (IsDump file acts due) (λ x. (acts ≡ []) × (due ≡ Err x))) (within_small file e) m in
-      inr (never_whole file acts due m' told)
-    where
-      within_small : (file : List ℕ) → nat_lt log_limit (length file) ≡ false → within log_limit (halt.LogRefused log_limit) (λ b. None) file ≡ None
-      within_small file e = rw e refl
+same_logs : (a b : List (List ℕ)) → Some (Dump a) ≡ Some (Dump b) → a ≡ b
+same_logs a b e = cc e
 
-  bad_log : (file : Option (List ℕ)) → files log ≡ file → Log_due file → (outcome_of [] due).status ≡ is.LogRefused → IsBadLog files (Some (Dump log))
-  bad_log None e m told = absurd (cc (sym (ap (λ (d : Result (Unit {0}) Halt). (outcome_of [] d).status) m.1) ∙ told))
-  bad_log (Some file) e m told = record { log = log; asked_is = refl; file = file; file_is = e; bad = bad_by_size file (nat_lt log_limit (length file)) refl m told }
+log_told : (stock : List Meaning) (files : List ℕ → Option (List ℕ)) (logs : List (List ℕ)) (o : Outcome) → IsOutcome stock files (Some (Dump logs)) o → IsBadLog files (Some (Dump logs)) → o.status ≡ is.LogRefused
+log_told stock files logs o h b =
+    let bad : HasRefused files [] logs = subst (HasRefused files []) (sym (same_logs logs b.logs b.asked_is)) b.bad in
+    ap (λ (t : Outcome). t.status) h.outcome ∙ (status_alone is.LogRefused log_is_other h.acts h.due ∙ refused_dumped files [] logs h.acts h.due h.is bad)
 
-  told_by_size : (file : List ℕ) (large : Bool) → nat_lt log_limit (length file) ≡ large → Log_due (Some file) → (log_limit < length file) ⊎ (IsWholeLog file → ⊥) → (outcome_of [] due).status ≡ is.LogRefused
-  told_by_size file true e m bad =
-      let m' = subst (λ (b : Option Halt). MatchOption (option_or b None) (IsDump file acts due) (λ x. (acts ≡ []) × (due ≡ Err x))) (within_large file e) m in
-      ap (λ (d : Result (Unit {0}) Halt). (outcome_of [] d).status) m'.1
-    where
-      within_large : (file : List ℕ) → nat_lt log_limit (length file) ≡ true → within log_limit (halt.LogRefused log_limit) (λ b. None) file ≡ Some (halt.LogRefused log_limit)
-      within_large file e = rw e refl
-  told_by_size file false e m (inl large) = absurd (not_large (length file) large e)
-    where
-      not_large : (n : ℕ) → log_limit < n → nat_lt log_limit n ≡ false → ⊥
-      not_large n l f = grind (arith, nat_tests)
-  told_by_size file false e m (inr none) =
-      let m' : IsDump file acts due = subst (λ (b : Option Halt). MatchOption (option_or b None) (IsDump file acts due) (λ x. (acts ≡ []) × (due ≡ Err x))) (within_small' file e) m in
-      is_refused file acts due m' none
-    where
-      within_small' : (file : List ℕ) → nat_lt log_limit (length file) ≡ false → within log_limit (halt.LogRefused log_limit) (λ b. None) file ≡ None
-      within_small' file e = rw e refl
-
-same_log : (a b : List ℕ) → Some (Dump a) ≡ Some (Dump b) → a ≡ b
-same_log a b e = cc e
-
-log_told : (stock : List Meaning) (files : List ℕ → Option (List ℕ)) (log : List ℕ) (o : Outcome) → IsOutcome stock files (Some (Dump log)) o → IsBadLog files (Some (Dump log)) → o.status ≡ is.LogRefused
-log_told stock files log o h b =
-    let there : files log ≡ Some b.file = ap files (same_log log b.log b.asked_is) ∙ b.file_is in
-    let m : Log_due files log h.acts h.due (Some b.file) = subst (Log_due files log h.acts h.due) there h.is in
-    ap (λ (t : Outcome). t.status) h.outcome ∙ (status_alone is.LogRefused log_is_other h.acts h.due ∙ told_by_size files log h.acts h.due b.file (nat_lt log_limit (length b.file)) refl m b.bad)
-
-no_log_checked : (a b c : List ℕ) → Some (Check a b) ≡ Some (Dump c) → ⊥
+no_log_checked : (a b : List ℕ) (c : List (List ℕ)) → Some (Check a b) ≡ Some (Dump c) → ⊥
 no_log_checked a b c same = absurd (cc same)
 
-no_log_replayed : (a b c d : List ℕ) → Some (Replay a b c) ≡ Some (Dump d) → ⊥
+no_log_replayed : (a b c : List ℕ) (d : List (List ℕ)) → Some (Replay a b c) ≡ Some (Dump d) → ⊥
 no_log_replayed a b c d same = absurd (cc same)
 
 no_log_short : (stock : List Meaning) (site : SiteData) (kind : Option Kind) → Other is.LogRefused log_is_other (option_map (short_halt stock site) kind)
@@ -422,7 +387,7 @@ replay_not_log stock files definitions site script acts due m =
     (other_or s other (shelf_phase stock y).halts _ (no_log_short stock y (short_kind stock y)) (of_script s other files definitions site y script))))
     (λ d e. of_replay s other (digest_asked files definitions) y script (events_asked files y script) acts due d e) m
 
-no_log_rehearsed : (n : ℕ) (d : List ℕ) → Some (Rehearse n) ≡ Some (Dump d) → ⊥
+no_log_rehearsed : (n : ℕ) (d : List (List ℕ)) → Some (Rehearse n) ≡ Some (Dump d) → ⊥
 no_log_rehearsed n d same = absurd (cc same)
 
 rehearsal_not_log : (stock : List Meaning) (files : List ℕ → Option (List ℕ)) (n : ℕ) (acts : List Act) (due : Result (Unit {0}) Halt)
@@ -436,59 +401,27 @@ rehearsal_not_log stock files n acts due m =
     (other_or s other (shelf_phase stock demo_site).halts _ (no_log_short stock demo_site (short_kind stock demo_site)) tt)))
     (λ d e. of_rehearsal s other demo_site n acts due d e) m
 
-pub refused_exactly : RefusedExactly
-refused_exactly stock files None o h = (λ e. absurd (cc (sym (ap (λ (t : Outcome). t.status) h) ∙ e)), λ b. absurd (cc (b.asked_is)))
-refused_exactly stock files (Some (Check definitions site)) o h = (
+-- Which outcomes have the status of a log that is refused, of commands that put no columns.
+abbrev pub RefusedSo : (List ℕ → Option (List ℕ)) → Option Command → Outcome → Type 0
+RefusedSo files (Some (Extract definitions log w)) o = Unit {0}
+RefusedSo files asked o = (o.status ≡ is.LogRefused) ↔ IsBadLog files asked
+
+pub dumps_refused : (stock : List Meaning) (files : List ℕ → Option (List ℕ)) (asked : Option Command) (o : Outcome) → IsOutcome stock files asked o → RefusedSo files asked o
+dumps_refused stock files None o h = (λ e. absurd (cc (sym (ap (λ (t : Outcome). t.status) h) ∙ e)), λ b. absurd (cc (b.asked_is)))
+dumps_refused stock files (Some (Check definitions site)) o h = (
   λ e. absurd (of_check is.LogRefused log_is_other files definitions site h.acts h.due h.is (has_status is.LogRefused log_is_other h.acts h.due o h.outcome e)),
-  λ b. absurd (no_log_checked definitions site b.log b.asked_is),
+  λ b. absurd (no_log_checked definitions site b.logs b.asked_is),
 )
-refused_exactly stock files (Some (Replay definitions site script)) o h = (
+dumps_refused stock files (Some (Replay definitions site script)) o h = (
   λ e. absurd (replay_not_log stock files definitions site script h.acts h.due h.is (has_status is.LogRefused log_is_other h.acts h.due o h.outcome e)),
-  λ b. absurd (no_log_replayed definitions site script b.log b.asked_is),
+  λ b. absurd (no_log_replayed definitions site script b.logs b.asked_is),
 )
-refused_exactly stock files (Some (Rehearse n)) o h = (
+dumps_refused stock files (Some (Rehearse n)) o h = (
   λ e. absurd (rehearsal_not_log stock files n h.acts h.due h.is (has_status is.LogRefused log_is_other h.acts h.due o h.outcome e)),
-  λ b. absurd (no_log_rehearsed n b.log b.asked_is),
+  λ b. absurd (no_log_rehearsed n b.logs b.asked_is),
 )
-refused_exactly stock files (Some (Dump log)) o h = (
-  λ e. bad_log files log h.acts h.due (files log) refl h.is (has_status is.LogRefused log_is_other h.acts h.due o h.outcome e),
-  λ b. log_told stock files log o h b,
+dumps_refused stock files (Some (Dump logs)) o h = (
+  λ e. record { logs = logs; asked_is = refl; bad = dumped_refused files [] logs h.acts h.due h.is (has_status is.LogRefused log_is_other h.acts h.due o h.outcome e) },
+  λ b. log_told stock files logs o h b,
 )
-
--- ---- the same of an answer
-
-short_in : (stock : List Meaning) (all : List ℕ → Option (List ℕ)) (asked : Option Command) (old new : Outside) → Answers stock all asked is.ShelfEmpty old new → IsShort stock all asked
-short_in stock all asked old new a = (short_exactly stock all asked a.outcome a.is).0 a.does.0
-
-pub short_answer : (stock : List Meaning) (told : Option (List ℕ → Option (List ℕ))) (asked : Option Command) (status : Status) (old new : Outside) → IfSome told (λ all. Answers stock all asked status old new)
-    → status ≡ is.ShelfEmpty → IfSome told (λ all. IsShort stock all asked)
-short_answer stock None asked status old new a e = tt
-short_answer stock (Some all) asked status old new a e = short_in stock all asked old new (subst (λ (st : Status). Answers stock all asked st old new) e a)
-
-short_then : (stock : List Meaning) (all : List ℕ → Option (List ℕ)) (asked : Option Command) (status : Status) (o : Outcome) → IsOutcome stock all asked o → IsShort stock all asked → (status ≡ o.status) ⊎ (status ≡ is.Memory)
-    → (status ≡ is.ShelfEmpty) ⊎ (status ≡ is.Memory)
-short_then stock all asked status o h s (inl e) = inl (e ∙ (short_exactly stock all asked o h).1 s)
-short_then stock all asked status o h s (inr e) = inr e
-
-pub short_answered : (stock : List Meaning) (told : Option (List ℕ → Option (List ℕ))) (asked : Option Command) (status : Status) → IfSome told (λ all. Completes stock all asked status)
-    → IfSome told (λ all. IsShort stock all asked → (status ≡ is.ShelfEmpty) ⊎ (status ≡ is.Memory))
-short_answered stock None asked status c = tt
-short_answered stock (Some all) asked status c = λ s. short_then stock all asked status c.outcome c.is s c.status_is
-
-refused_in : (stock : List Meaning) (all : List ℕ → Option (List ℕ)) (asked : Option Command) (old new : Outside) → Answers stock all asked is.LogRefused old new → IsBadLog all asked
-refused_in stock all asked old new a = (refused_exactly stock all asked a.outcome a.is).0 a.does.0
-
-pub refused_answer : (stock : List Meaning) (told : Option (List ℕ → Option (List ℕ))) (asked : Option Command) (status : Status) (old new : Outside) → IfSome told (λ all. Answers stock all asked status old new)
-    → status ≡ is.LogRefused → IfSome told (λ all. IsBadLog all asked)
-refused_answer stock None asked status old new a e = tt
-refused_answer stock (Some all) asked status old new a e = refused_in stock all asked old new (subst (λ (st : Status). Answers stock all asked st old new) e a)
-
-refused_then : (stock : List Meaning) (all : List ℕ → Option (List ℕ)) (asked : Option Command) (status : Status) (o : Outcome) → IsOutcome stock all asked o → IsBadLog all asked → (status ≡ o.status) ⊎ (status ≡ is.Memory)
-    → (status ≡ is.LogRefused) ⊎ (status ≡ is.Memory)
-refused_then stock all asked status o h b (inl e) = inl (e ∙ (refused_exactly stock all asked o h).1 b)
-refused_then stock all asked status o h b (inr e) = inr e
-
-pub refused_answered : (stock : List Meaning) (told : Option (List ℕ → Option (List ℕ))) (asked : Option Command) (status : Status) → IfSome told (λ all. Completes stock all asked status)
-    → IfSome told (λ all. IsBadLog all asked → (status ≡ is.LogRefused) ⊎ (status ≡ is.Memory))
-refused_answered stock None asked status c = tt
-refused_answered stock (Some all) asked status c = λ b. refused_then stock all asked status c.outcome c.is b c.status_is
+dumps_refused stock files (Some (Extract definitions log w)) o h = tt

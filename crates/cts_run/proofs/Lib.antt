@@ -8,5 +8,13 @@ pub mod RehearsalLemmas
 pub mod MomentLemmas
 pub mod LogLemmas
 pub mod DumpLemmas
+pub mod DumpedLemmas
+pub mod ExtractLemmas
 pub mod CommandLemmas
+pub mod ExtractingLemmas
+pub mod StatusLemmas
+pub mod TableLawLemmas
 pub mod LawLemmas
+pub mod RefusedLemmas
+pub mod DueLemmas
+pub mod PartLemmas

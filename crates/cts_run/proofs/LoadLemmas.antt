@@ -56,6 +56,7 @@ halts_at p reason (halt.Refused name kind line cause) e f k = e ∙ k
 halts_at p reason (halt.ShelfEmpty kind needed stocked) e f k = e ∙ k
 halts_at p reason (halt.HistoryFull entries bytes) e f k = absurd (cc f)
 halts_at p reason (halt.LogRefused place) e f k = e ∙ k
+halts_at p reason (halt.UnknownName name) e f k = e ∙ k
 
 -- a file that was read, and whose statements are refused
 pub said_fail : (told : Option (List ℕ → Option (List ℕ))) (kind : FileKind) (name bytes : List ℕ) (h : Halt)

@@ -173,6 +173,7 @@ halts site script events rest x w stopped acts p old mid new (halt.ReadFault nam
 halts site script events rest x w stopped acts p old mid new (halt.Absent name) m d = absurd d
 halts site script events rest x w stopped acts p old mid new (halt.ShelfEmpty kind needed stocked) m d = absurd d
 halts site script events rest x w stopped acts p old mid new (halt.LogRefused place) m d = absurd d
+halts site script events rest x w stopped acts p old mid new (halt.UnknownName name) m d = absurd d
 
 -- ---- all events were done
 

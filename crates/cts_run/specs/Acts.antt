@@ -75,7 +75,13 @@ outside out vault = record { out = out; vault = vault }
 -- what is told after an act that was done; no count rises
 abbrev pub after_act : Act → Outside → Outside
 after_act (Put text) o = record { out = record { told = appended o.out.told text; faults = o.out.faults }; vault = o.vault }
-after_act (Append kind bytes) o = record { out = o.out; vault = record { told = option_map (at_kind kind (with_bytes bytes)) o.vault.told; faults = o.vault.faults } }
+after_act (Append kind bytes) o = record {
+  out = o.out;
+  vault = record {
+    told = option_map (at_kind kind (with_bytes bytes)) o.vault.told;
+    faults = o.vault.faults;
+  };
+}
 after_act (Sync kind) o = record { out = o.out; vault = record { told = option_map (at_kind kind all_synced) o.vault.told; faults = o.vault.faults } }
 
 abbrev pub after_acts : List Act → Outside → Outside
@@ -90,7 +96,8 @@ AreDone acts old new = new ≡ after_acts acts old
 abbrev pub Fails : Act → Outside → Outside → Type 0
 Fails (Put text) old new = Rose old.out.faults new.out.faults × IsPartPut old.out.told new.out.told text × (new.vault ≡ old.vault)
 Fails (Append kind bytes) old new =
-    Rose old.vault.faults new.vault.faults × ((n : ℕ) × (n ≤ length bytes) × (new.vault.told ≡ option_map (at_kind kind (with_bytes (take n bytes))) old.vault.told)) × (new.out ≡ old.out)
+    Rose old.vault.faults new.vault.faults × ((n : ℕ) × (n ≤ length bytes)
+    × (new.vault.told ≡ option_map (at_kind kind (with_bytes (take n bytes))) old.vault.told)) × (new.out ≡ old.out)
 Fails (Sync kind) old new = Rose old.vault.faults new.vault.faults × (new.vault.told ≡ old.vault.told) × (new.out ≡ old.out)
 
 abbrev pub is_put : Act → Bool

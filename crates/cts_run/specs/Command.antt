@@ -7,11 +7,12 @@ use Rattle.cts_outside.specs.Seen.{FilesSeen, SinkSeen, VaultSeen}
 use Rattle.cts_def.specs.Sites.{SiteData}
 use Rattle.cts_proto.specs.Meaning.{Meaning}
 use Rattle.cts_run.specs.Demo.{definitions_name, demo_files, demo_site, site_name}
-use Rattle.cts_run.specs.Dump.{IsDump, log_phase}
+use Rattle.cts_run.specs.Dump.{AreDumped, IsFileDump, IsReadAfter}
 use Rattle.cts_run.specs.Endings.{halt_line, halt_status}
+use Rattle.cts_run.specs.Extract.{IsExtract, extract_phases}
 use Rattle.cts_run.specs.Acts.{Act, AreDone, DoesAll, EndsWith, LogFails, Outside, PutFails, puts}
 use Rattle.cts_run.specs.Lines.{log_fault_line, memory_line, read_fault_line, counts_line, usage_line}
-use Rattle.cts_run.specs.Load.{bytes_of, digest_asked, events_asked, script_phase, site_asked, site_phases}
+use Rattle.cts_run.specs.Load.{bytes_of, definitions_asked, digest_asked, events_asked, script_phase, site_asked, site_phases}
 use Rattle.cts_run.specs.Phases.{IsRead, Phase, first_halt}
 use Rattle.cts_run.specs.Rehearsal.{IsRehearsal}
 use Rattle.cts_run.specs.Replay.{IsReplay}
@@ -21,9 +22,11 @@ use Rattle.cts_run.specs.declared.halt.Halt.TheVariants as halt
 use Rattle.cts_run.specs.declared.halt.status.Status.{Status}
 use Rattle.cts_run.specs.declared.halt.status.Status.TheVariants.{Ok as Fine, Memory, Usage, ReadFault, Absent, WriteFault, LogFault}
 use Rattle.cts_run.specs.declared.words.Command.{Command}
-use Rattle.cts_run.specs.declared.words.Command.TheVariants.{Check, Replay, Rehearse, Dump}
+use Rattle.cts_run.specs.declared.words.Command.TheVariants.{Check, Replay, Rehearse, Dump, Extract}
 
 -- ---- the phases of each command, in order, and what is done where it halts at none of them
+
+-- A dump does something of each file before it reads the next one, so that it has none before it does anything.
 
 -- those up to the making of a world, in which its site is read and its boxes are taken
 abbrev pub first_phases : List Meaning → (List ℕ → Option (List ℕ)) → List ℕ → List ℕ → List Phase
@@ -32,17 +35,30 @@ first_phases stock files definitions site = site_phases files definitions site +
 abbrev pub phases : List Meaning → (List ℕ → Option (List ℕ)) → Command → List Phase
 phases stock files (Check definitions site) = site_phases files definitions site
 phases stock files (Replay definitions site script) =
-    site_phases files definitions site ++ shelf_phase stock (site_asked files definitions site) ∷ script_phase files (site_asked files definitions site) script ∷ []
+    site_phases files definitions site ++ shelf_phase stock (site_asked files definitions site) ∷ script_phase files
+    (site_asked files definitions site) script ∷ []
 phases stock files (Rehearse number) = first_phases stock demo_files definitions_name site_name
-phases stock files (Dump log) = log_phase files log ∷ []
+phases stock files (Dump logs) = []
+phases stock files (Extract definitions log wanted) = extract_phases files definitions log wanted
 
 -- what a command does outside before its last line, and how it ends
 abbrev pub IsDone : (List ℕ → Option (List ℕ)) → Command → List Act → Result (Unit {0}) Halt → Type 0
 IsDone files (Check definitions site) acts due = (acts ≡ puts (counts_line (site_asked files definitions site))) × (due ≡ Ok tt)
 IsDone files (Replay definitions site script) acts due =
-    IsReplay (digest_asked files definitions) (site_asked files definitions site) script (events_asked files (site_asked files definitions site) script) acts due
+    IsReplay (digest_asked files definitions) (site_asked files definitions site) script
+    (events_asked files (site_asked files definitions site) script) acts due
 IsDone files (Rehearse number) acts due = IsRehearsal demo_site number acts due
-IsDone files (Dump log) acts due = IsDump (bytes_of (files log)) acts due
+IsDone files (Dump logs) acts due = AreDumped files [] logs acts due
+IsDone files (Extract definitions log wanted) acts due = IsExtract (definitions_asked files definitions) wanted (bytes_of (files log)) acts due
+
+-- a file of this name is read at one of these phases, before anything is done
+abbrev pub IsReadFirst : List Phase → List Act → List ℕ → Type 0
+IsReadFirst phases before name = (before ≡ []) × IsRead name phases
+
+-- a file of this name is read after these acts
+abbrev pub IsReadIn : List Meaning → (List ℕ → Option (List ℕ)) → Command → List Act → List ℕ → Type 0
+IsReadIn stock files (Dump logs) before name = IsReadAfter files [] logs before name
+IsReadIn stock files command before name = IsReadFirst (phases stock files command) before name
 
 -- ---- what a command does
 
@@ -50,24 +66,39 @@ IsDone files (Dump log) acts due = IsDump (bytes_of (files log)) acts due
 abbrev pub IsDueOf : List Phase → (List Act → Result (Unit {0}) Halt → Type 0) → List Act → Result (Unit {0}) Halt → Type 0
 IsDueOf phases done acts due = MatchOption (first_halt phases) (done acts due) (λ halt. (acts ≡ []) × (due ≡ Err halt))
 
--- What is done where those are the acts and that is the end. A read may have failed in a phase.
-abbrev pub DoesOf : List Phase → List Act → Result (Unit {0}) Halt → Result (Unit {0}) Halt → Outside → Outside → Type 0
-DoesOf phases acts due (Err (halt.ReadFault name)) old new = IsRead name phases × (new ≡ old)
-DoesOf phases acts due answer old new = DoesAll acts due answer old new
+-- What is done where those are the acts and that is the end. A read may have failed of a file that is read after some of the acts.
+abbrev pub DoesOf : (List Act → List ℕ → Type 0) → List Act → Result (Unit {0}) Halt → Result (Unit {0}) Halt → Outside → Outside → Type 0
+DoesOf reads acts due (Err (halt.ReadFault name)) old new = (n : ℕ) × reads (take n acts) name × AreDone (take n acts) old new
+DoesOf reads acts due answer old new = DoesAll acts due answer old new
 
--- What was done after these phases, or that the command halted at one of them.
-pub record PerformsOf (phases : List Phase) (done : List Act → Result (Unit {0}) Halt → Type 0) (answer : Result (Unit {0}) Halt) (old new : Outside) : Type 0 where
+-- What was done, of acts and an end of which this holds, and with reads after such acts.
+pub record PerformsBy (done : List Act → Result (Unit {0}) Halt → Type 0) (reads : List Act → List ℕ → Type 0) (answer : Result (Unit {0}) Halt)
+    (old new : Outside) : Type 0 where
   pub acts : List Act
   pub due : Result (Unit {0}) Halt
-  pub is : IsDueOf phases done acts due
-  pub does : DoesOf phases acts due answer old new
+  pub is : done acts due
+  pub does : DoesOf reads acts due answer old new
+
+-- What was done after these phases, or that the command halted at one of them.
+abbrev pub PerformsOf : List Phase → (List Act → Result (Unit {0}) Halt → Type 0) → Result (Unit {0}) Halt → Outside → Outside → Type 0
+PerformsOf phases done answer old new = PerformsBy (IsDueOf phases done) (IsReadFirst phases) answer old new
+
+-- What was done of files that are dumped, each of which has to begin so.
+abbrev pub Dumps : (List ℕ → Option (List ℕ)) → List ℕ → List (List ℕ) → Result (Unit {0}) Halt → Outside → Outside → Type 0
+Dumps files head logs answer old new = PerformsBy (AreDumped files head logs) (IsReadAfter files head logs) answer old new
+
+-- The same of one file, which may be the first of several.
+abbrev pub DumpsFile : (List ℕ → Option (List ℕ)) → List ℕ → List ℕ → Result (Unit {0}) Halt → Outside → Outside → Type 0
+DumpsFile files head log answer old new = PerformsBy (IsFileDump files head log) (λ before name. (before ≡ []) × (log ≡ name)) answer old new
 
 -- A script was read and replayed in the world of a site, over definitions with this digest.
 abbrev pub PerformsScript : (List ℕ → Option (List ℕ)) → List ℕ → SiteData → List ℕ → Result (Unit {0}) Halt → Outside → Outside → Type 0
-PerformsScript files digest site script answer old new = PerformsOf (script_phase files site script ∷ []) (IsReplay digest site script (events_asked files site script)) answer old new
+PerformsScript files digest site script answer old new = PerformsOf (script_phase files site script ∷ [])
+    (IsReplay digest site script (events_asked files site script)) answer old new
 
 abbrev pub Performs : List Meaning → (List ℕ → Option (List ℕ)) → Command → Result (Unit {0}) Halt → Outside → Outside → Type 0
-Performs stock files command answer old new = PerformsOf (phases stock files command) (IsDone files command) answer old new
+Performs stock files command answer old new =
+    PerformsBy (IsDueOf (phases stock files command) (IsDone files command)) (IsReadIn stock files command) answer old new
 
 -- ---- its outcome
 
@@ -97,10 +128,10 @@ abbrev pub IsOutcome : List Meaning → (List ℕ → Option (List ℕ)) → Opt
 IsOutcome stock files None o = o ≡ misused
 IsOutcome stock files (Some command) o = IsOutcomeOf stock files command o
 
--- the file of this name is read, and the phases before have no reason to halt
-abbrev pub IsAskedFor : List Meaning → (List ℕ → Option (List ℕ)) → Option Command → List ℕ → Type 0
-IsAskedFor stock files None name = ⊥
-IsAskedFor stock files (Some command) name = IsRead name (phases stock files command)
+-- the file of this name is read after these acts
+abbrev pub IsAskedFor : List Meaning → (List ℕ → Option (List ℕ)) → Option Command → List Act → List ℕ → Type 0
+IsAskedFor stock files None before name = ⊥
+IsAskedFor stock files (Some command) before name = IsReadIn stock files command before name
 
 -- What was done where the outcome is this and the status that. Want of memory and faults may come in place of the outcome's own
 -- status: then some of its acts were done, in their order, and of the one that failed a prefix. A fault comes only within an act:
@@ -108,7 +139,8 @@ IsAskedFor stock files (Some command) name = IsRead name (phases stock files com
 abbrev pub DoesFor : List Meaning → (List ℕ → Option (List ℕ)) → Option Command → Outcome → Status → Outside → Outside → Type 0
 DoesFor stock files asked o Fine old new = (o.status ≡ Fine) × AreDone o.acts old new
 DoesFor stock files asked o Memory old new = (n : ℕ) × EndsWith (take n o.acts) memory_line old new
-DoesFor stock files asked o ReadFault old new = (name : List ℕ) × IsAskedFor stock files asked name × EndsWith [] (read_fault_line name) old new
+DoesFor stock files asked o ReadFault old new =
+    (n : ℕ) × (name : List ℕ) × IsAskedFor stock files asked (take n o.acts) name × EndsWith (take n o.acts) (read_fault_line name) old new
 DoesFor stock files asked o WriteFault old new = PutFails o.acts old new
 DoesFor stock files asked o LogFault old new = (mid : Outside) × LogFails o.acts old mid × EndsWith [] log_fault_line mid new
 DoesFor stock files asked o status old new = (o.status ≡ status) × EndsWith o.acts o.last old new
@@ -161,18 +193,22 @@ ShelfAt site None ReadFault old new = (new ≡ old) ⊎ Taken old (line_uses sit
 ShelfAt site None status old new = Taken old (line_uses site) new
 
 abbrev pub LeavesShelf : (List ℕ → Option (List ℕ)) → List ℕ → List ℕ → Result (Unit {0}) Halt → List Meaning → List Meaning → Type 0
-LeavesShelf files definitions site answer old new = ShelfBy (site_asked files definitions site) (first_halt (first_phases old files definitions site)) answer old new
+LeavesShelf files definitions site answer old new = ShelfBy (site_asked files definitions site) (first_halt (first_phases old files definitions site))
+    answer old new
 
 -- only a replay and a rehearsal take boxes
 abbrev pub CommandLeaves : (List ℕ → Option (List ℕ)) → Command → Result (Unit {0}) Halt → List Meaning → List Meaning → Type 0
 CommandLeaves files (Check definitions site) answer old new = new ≡ old
 CommandLeaves files (Replay definitions site script) answer old new = LeavesShelf files definitions site answer old new
 CommandLeaves files (Rehearse number) answer old new = LeavesShelf demo_files definitions_name site_name answer old new
-CommandLeaves files (Dump log) answer old new = new ≡ old
+CommandLeaves files (Dump logs) answer old new = new ≡ old
+CommandLeaves files (Extract definitions log wanted) answer old new = new ≡ old
 
 abbrev pub ShelfAfter : (List ℕ → Option (List ℕ)) → Option Command → Status → List Meaning → List Meaning → Type 0
-ShelfAfter files (Some (Replay definitions site script)) status old new = ShelfAt (site_asked files definitions site) (first_halt (first_phases old files definitions site)) status old new
-ShelfAfter files (Some (Rehearse number)) status old new = ShelfAt demo_site (first_halt (first_phases old demo_files definitions_name site_name)) status old new
+ShelfAfter files (Some (Replay definitions site script)) status old new = ShelfAt (site_asked files definitions site)
+    (first_halt (first_phases old files definitions site)) status old new
+ShelfAfter files (Some (Rehearse number)) status old new = ShelfAt demo_site (first_halt (first_phases old demo_files definitions_name site_name))
+    status old new
 ShelfAfter files asked status old new = new ≡ old
 
 -- a command makes a world

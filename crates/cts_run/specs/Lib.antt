@@ -1,3 +1,4 @@
+pub mod Wanted
 pub mod Words
 pub mod Lines
 pub mod Statuses
@@ -14,5 +15,8 @@ pub mod Demo
 pub mod Replay
 pub mod Rehearsal
 pub mod Dump
+pub mod Extract
 pub mod Command
+pub mod Extracting
 pub mod Laws
+pub mod Due

@@ -7,7 +7,7 @@ use Rattle.cts_def.specs.Packets.{items_in}
 use Rattle.cts_def.specs.Sites.{SiteData}
 
 abbrev pub usage_line : List ℕ
-usage_line = codes "usage: check DEFS SITE | replay DEFS SITE SCRIPT | rehearse N | dump LOG | serve DEFS SITE\n"
+usage_line = codes "usage: check DEFS SITE | replay DEFS SITE SCRIPT | rehearse N | dump LOG | serve DEFS SITE | extract DEFS LOG TARGET PACKET KIND ITEMS\n"
 
 abbrev pub memory_line : List ℕ
 memory_line = codes "out of memory\n"
@@ -43,6 +43,10 @@ full_line entries bytes = codes "history full: " ++ decimal entries ++ codes " e
 -- where a log is refused: at the first byte that is in no entry
 abbrev pub log_line : ℕ → List ℕ
 log_line place = codes "log refused at " ++ decimal place ++ 10 ∷ []
+
+-- a word that names nothing that is defined
+abbrev pub unknown_line : List ℕ → List ℕ
+unknown_line name = codes "unknown: " ++ name ++ 10 ∷ []
 
 -- how many entries the history has at the end
 abbrev pub end_line : ℕ → List ℕ

@@ -82,7 +82,8 @@ abbrev pub definitions_phase : (List ℕ → Option (List ℕ)) → List ℕ →
 definitions_phase files name = reading name (judge Configuration name (λ statements. verdict Configuration name (definitions_read statements))) (files name)
 
 abbrev pub site_phase : (List ℕ → Option (List ℕ)) → DefinitionsData → List ℕ → Phase
-site_phase files definitions name = reading name (judge Configuration name (λ statements. verdict Configuration name (site_read definitions statements))) (files name)
+site_phase files definitions name = reading name (judge Configuration name
+    (λ statements. verdict Configuration name (site_read definitions statements))) (files name)
 
 abbrev pub script_phase : (List ℕ → Option (List ℕ)) → SiteData → List ℕ → Phase
 script_phase files site name = reading name (judge Script name (λ statements. verdict Script name (script_read site statements))) (files name)

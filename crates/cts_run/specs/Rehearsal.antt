@@ -131,7 +131,8 @@ pub record IsFar (site : SiteData) (n : ℕ) (left : List Event) (refused : ℕ)
   pub prior : List Did
   pub goes : Stands site state story
   pub history : state.history ≡ history_of prior
-  pub runs : (dids : List Did) (ending : Ending) → Runs (site_environment site) state left dids ending → Runs (site_environment site) opening (generated n) (prior ++ dids) ending
+  pub runs : (dids : List Did) (ending : Ending) → Runs (site_environment site) state left dids ending → Runs (site_environment site) opening
+      (generated n) (prior ++ dids) ending
   pub refusals : refused ≡ refusals_in prior
   pub count : length prior + length left ≡ length (generated n)
   pub few : length (generated n) < 2 ^ 34
@@ -146,7 +147,8 @@ IsSummary site n text = (dids : List Did) × Runs (site_environment site) openin
 
 -- A rehearsal halts so: memory ran out, or an event is refused.
 abbrev pub Halts : SiteData → ℕ → Halt → Type 0
-Halts site n why = (why ≡ halt.Memory) ⊎ ((dids : List Did) × (ending : Ending) × Runs (site_environment site) opening (generated n) dids ending × (rehearsal_answer dids ending ≡ Err why))
+Halts site n why = (why ≡ halt.Memory) ⊎ ((dids : List Did) × (ending : Ending) × Runs (site_environment site) opening (generated n) dids ending
+    × (rehearsal_answer dids ending ≡ Err why))
 
 -- Events were done after which these are left, or it halts.
 abbrev pub GoesOn : SiteData → ℕ → List Event → Result ℕ Halt → StoryData → Type 0

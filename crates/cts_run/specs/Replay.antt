@@ -63,7 +63,8 @@ rest_acts site entries = appends (packets_log (site_environment site) entries) (
 -- What is done where the replay ends after events that did this: where all were done the logs get the rest of the history and are
 -- synced, and then the number of entries is put.
 abbrev pub last_acts : SiteData → List (ℕ × Event) → List Did → Ending → List Act
-last_acts site events dids Finished = rest_acts site (drop (drained_by (events_of events) dids) (history_of dids)) ++ (syncs ++ puts (end_line (length (history_of dids))))
+last_acts site events dids Finished = rest_acts site (drop (drained_by (events_of events) dids) (history_of dids))
+    ++ (syncs ++ puts (end_line (length (history_of dids))))
 last_acts site events dids NotEnabled = []
 last_acts site events dids HistoryFull = []
 
@@ -107,7 +108,8 @@ replay_answer script events dids HistoryFull = Err (halt.HistoryFull (entries_in
 -- Its acts and how it ends: those of a run of the script's events, over definitions with this digest. It puts the transcript, and the logs
 -- get what they have to have of the entries that were drained. Its history is legal; it says of each interface and slot what the events
 -- told of its connections; and each of its commands is refused exactly where something stands against it.
-pub record IsReplay (digest : List ℕ) (site : SiteData) (script : List ℕ) (events : List (ℕ × Event)) (acts : List Act) (due : Result (Unit {0}) Halt) : Type 0 where
+pub record IsReplay (digest : List ℕ) (site : SiteData) (script : List ℕ) (events : List (ℕ × Event)) (acts : List Act)
+    (due : Result (Unit {0}) Halt) : Type 0 where
   pub dids : List Did
   pub ending : Ending
   pub runs : Runs (site_environment site) opening (events_of events) dids ending
@@ -155,7 +157,8 @@ abbrev pub EndsAfter : SiteData → State → Result (Unit {0}) Halt → Outside
 EndsAfter site s answer old new = DoesAll (rest_acts site (log_ahead s) ++ (syncs ++ puts (end_line (length s.history)))) (Ok tt) answer old new
 
 -- The events of a script were replayed, over definitions with this digest.
-pub record Replays (digest : List ℕ) (site : SiteData) (script : List ℕ) (events : List (ℕ × Event)) (answer : Result (Unit {0}) Halt) (old new : Outside) : Type 0 where
+pub record Replays (digest : List ℕ) (site : SiteData) (script : List ℕ) (events : List (ℕ × Event)) (answer : Result (Unit {0}) Halt)
+    (old new : Outside) : Type 0 where
   pub dids : List Did
   pub ending : Ending
   pub runs : Runs (site_environment site) opening (events_of events) dids ending

@@ -1,7 +1,8 @@
 -- The exit status of each status.
 use Rattle.std.specs.Prelude.{ℕ}
 use Rattle.cts_run.specs.declared.halt.status.Status.{Status}
-use Rattle.cts_run.specs.declared.halt.status.Status.TheVariants.{Ok as Fine, Memory, Usage, ReadFault, Absent, WriteFault, ConfigRefused, ShelfEmpty, ScriptRefused, HistoryFull, LogFault, LogRefused, NoWorker, DoorFault}
+use Rattle.cts_run.specs.declared.halt.status.Status.TheVariants.{Ok as Fine, Memory, Usage, ReadFault, Absent, WriteFault, ConfigRefused, ShelfEmpty}
+use Rattle.cts_run.specs.declared.halt.status.Status.TheVariants.{ScriptRefused, HistoryFull, LogFault, LogRefused, NoWorker, DoorFault, UnknownName}
 
 abbrev pub exit_status : Status → ℕ
 exit_status Fine = 0
@@ -18,3 +19,4 @@ exit_status LogFault = 9
 exit_status LogRefused = 10
 exit_status NoWorker = 11
 exit_status DoorFault = 12
+exit_status UnknownName = 14

@@ -31,15 +31,18 @@ pub record Stands (site : SiteData) (s : State) (story : StoryData) : Type 0 whe
 abbrev pub Moves : SiteData → State → Event → Result Effect WorldFault → StoryData → Type 0
 Moves site s event (Ok effect) story = (did : Did) × Does (site_environment site) s event did × (effect ≡ did.effect) × Stands site (after s event did) story
 Moves site s event (Err RefusedEvent) story = Refuses (site_environment site) s event NotEnabled
-Moves site s event (Err (Full entries bytes)) story = Refuses (site_environment site) s event HistoryFull × (entries ≡ entries_in s.history) × (bytes ≡ bytes_in s.history)
+Moves site s event (Err (Full entries bytes)) story = Refuses (site_environment site) s event HistoryFull × (entries ≡ entries_in s.history)
+    × (bytes ≡ bytes_in s.history)
 Moves site s event (Err Memory) story = Unit {0}
 
 -- What a story tells of an event: the text of what it did, and what it gave besides. Where it is not enabled, or the history is full, nothing is done.
 abbrev pub Tells : SiteData → State → Event → Result (List ℕ × Effect) WorldFault → StoryData → Type 0
 Tells site s event (Ok told) story =
-    (did : Did) × Does (site_environment site) s event did × (told.0 ≡ event_text site s.history did) × (told.1 ≡ did.effect) × Stands site (after s event did) story
+    (did : Did) × Does (site_environment site) s event did × (told.0 ≡ event_text site s.history did) × (told.1 ≡ did.effect)
+    × Stands site (after s event did) story
 Tells site s event (Err RefusedEvent) story = Refuses (site_environment site) s event NotEnabled × Stands site s story
-Tells site s event (Err (Full entries bytes)) story = Refuses (site_environment site) s event HistoryFull × (entries ≡ entries_in s.history) × (bytes ≡ bytes_in s.history)
+Tells site s event (Err (Full entries bytes)) story = Refuses (site_environment site) s event HistoryFull × (entries ≡ entries_in s.history)
+    × (bytes ≡ bytes_in s.history)
 Tells site s event (Err Memory) story = Unit {0}
 
 -- The rest of the history was given to the logs, or memory was wanted.

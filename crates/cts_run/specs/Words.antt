@@ -1,9 +1,12 @@
 -- What the words of the command line ask for.
-use Rattle.std.specs.Prelude.{ℕ, nat_eq, nat_le, nat_lt, List, [], ◌∷◌, slice_index, Bool, codes, Option, Some, None, option_map, ℤ, pos, negsuc, if◌then◌else◌}
+use Rattle.std.specs.Prelude.{ℕ, nat_eq, nat_le, nat_lt, List, [], ◌∷◌, length, slice_index, Bool, ◌&&◌, codes}
+use Rattle.std.specs.Prelude.{Option, Some, None, option_map, ℤ, pos, negsuc, if◌then◌else◌}
 use Rattle.cts_base.specs.Wholes.{whole_of}
 use Rattle.std.specs.Cmp.Lexicographic.{pointwise}
 use Rattle.cts_run.specs.declared.words.Command.{Command}
-use Rattle.cts_run.specs.declared.words.Command.TheVariants.{Check, Replay, Rehearse, Dump}
+use Rattle.cts_run.specs.declared.words.Command.TheVariants.{Check, Replay, Rehearse, Dump, Extract}
+use Rattle.cts_extract.specs.Words.{kind_named}
+use Rattle.cts_run.specs.Wanted.{wanted_of}
 
 abbrev pub is_word : List ℕ → List ℕ → Bool
 is_word = pointwise nat_eq
@@ -24,11 +27,30 @@ rehearsal_number word =
     if nat_lt (slice_index word 0) 49 then None
     else if nat_lt 57 (slice_index word 0) then None else up_to_most (whole_of word)
 
+-- columns, where the words are as many and fit them
+abbrev pub extract_asked : List (List ℕ) → Option Command
+extract_asked (definitions ∷ log ∷ target ∷ packet ∷ kind ∷ items ∷ []) =
+    option_map (Extract definitions log) (wanted_of target packet items (kind_named kind))
+extract_asked words = None
+
+-- the greatest number of files of a dump
+abbrev pub most_logs : ℕ
+most_logs = 64
+
+-- a dump of these files
+abbrev pub dump_asked : List (List ℕ) → Option Command
+dump_asked logs = if nat_lt 0 (length logs) && nat_le (length logs) most_logs then Some (Dump logs) else None
+
+-- the command of this name that takes as many words, if they fit it
+abbrev pub asked_of : List ℕ → List (List ℕ) → Option Command
+asked_of command (number ∷ []) = if is_word command (codes "rehearse") then option_map Rehearse (rehearsal_number number) else None
+asked_of command (definitions ∷ site ∷ []) = if is_word command (codes "check") then Some (Check definitions site) else None
+asked_of command (definitions ∷ site ∷ script ∷ []) = if is_word command (codes "replay") then Some (Replay definitions site script) else None
+asked_of command words = None
+
 -- the command that the words ask for, if they fit one
 abbrev pub asked : List (List ℕ) → Option Command
-asked (command ∷ word ∷ []) =
-    if is_word command (codes "dump") then Some (Dump word)
-    else if is_word command (codes "rehearse") then option_map Rehearse (rehearsal_number word) else None
-asked (command ∷ definitions ∷ site ∷ []) = if is_word command (codes "check") then Some (Check definitions site) else None
-asked (command ∷ definitions ∷ site ∷ script ∷ []) = if is_word command (codes "replay") then Some (Replay definitions site script) else None
-asked words = None
+asked [] = None
+asked (command ∷ words) =
+    if is_word command (codes "dump") then dump_asked words
+    else if is_word command (codes "extract") then extract_asked words else asked_of command words

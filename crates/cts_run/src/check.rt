@@ -29,7 +29,8 @@ pub fn check<'a, F: Files, O: Sink>(
     ensures files { FileCounts result (F.seen files.old) (F.seen files.new) }
     ensures sink { SinkCounts result (O.seen out.old) (O.seen out.new) }
     ensures vault { (vault : VaultSeen) → VaultCounts result vault vault }
-    ensures performs { (stock : List Meaning) (vault : VaultSeen) → IfSome (F.seen files.old).told (λ all. Performs stock all (Check definitions.now site.now) result (outside (O.seen out.old) vault) (outside (O.seen out.new) vault)) }
+    ensures performs { (stock : List Meaning) (vault : VaultSeen) → IfSome (F.seen files.old).told
+        (λ all. Performs stock all (Check definitions.now site.now) result (outside (O.seen out.old) vault) (outside (O.seen out.new) vault)) }
 {
     match load_site(alloc, files, definitions, site) {
         Ok(plan) => {

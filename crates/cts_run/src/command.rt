@@ -1,9 +1,8 @@
 // The top call.
-ghost use Rattle.std.specs.Prelude.{◌≡◌, ◌≤◌, ◌↔◌, ◌⊎◌, false, map, IfSome, None, Some};
-ghost use Rattle.cts_outside.specs.Causes.{Rose, Steady};
+ghost use Rattle.std.specs.Prelude.{◌≡◌, ◌↔◌, false, map, IfSome, None, Some};
 ghost use Rattle.cts_run.specs.Acts.{outside};
-ghost use Rattle.cts_run.specs.Command.{Answers, CommandLeaves, Completes, Performs, ShelfAfter, keeps_logs, makes_world};
-ghost use Rattle.cts_run.specs.Laws.{IsBadLog, IsShort};
+ghost use Rattle.cts_run.specs.Command.{Answers, CommandLeaves, Completes, IsCaused, Performs, ShelfAfter, keeps_logs, makes_world};
+ghost use Rattle.cts_run.specs.Due.{AreDue, NoneRose};
 ghost use Rattle.cts_run.specs.Lines.{usage_line};
 ghost use Rattle.cts_run.specs.Phases.{FileCounts};
 ghost use Rattle.cts_run.specs.Putting.{Printed, SinkCounts, VaultCounts};
@@ -11,6 +10,7 @@ ghost use Rattle.cts_run.specs.Words.{asked};
 
 use crate::check::check;
 use crate::dump::dump;
+use crate::extract::extract;
 use crate::halt::Halt;
 use crate::halt::ending::{end, end_misused};
 use crate::halt::status::Status;
@@ -28,8 +28,10 @@ use std::alloc::Global;
 /// The words are those after the program's name: `check DEFS SITE` reads definitions and a site, and
 /// puts how much they have; `replay DEFS SITE SCRIPT` does the events of a script, and writes both packet logs to the vault;
 /// `rehearse N` does the events that are made from a number from 1 to 1,000,000 in the world of the demo's site, and puts eight lines
-/// of what they were; `dump LOG` puts the entries of a log file. Other words are `Usage`. The boxes of the protocols of all chains of a site whose world is made are taken from the shelf,
-/// before a script is read. The program's chains and shelf are `Chain` of `cts_chain` and `Shelf` of
+/// of what they were; `dump LOG LOG ..` puts the entries of 1 to 64 log files with one head, each before the next one is read;
+/// `extract DEFS LOG TARGET PACKET KIND ITEMS` puts columns of one. Other words are `Usage`. The boxes of the protocols of all chains of a
+/// site whose world is made are taken from the shelf, before a script is read. The program's chains and shelf are `Chain` of `cts_chain`
+/// and `Shelf` of
 /// `cts_proto`; it is written over any, since a function that is lent boxes may not make a world of them.
 pub fn run<C: Framer, B: Supplier<C>, F: Files, O: Sink, V: Vault>(
     alloc: Global,
@@ -41,41 +43,25 @@ pub fn run<C: Framer, B: Supplier<C>, F: Files, O: Sink, V: Vault>(
 ) -> Status
     // Exactly where the words fit no command.
     ensures usage { result ≡ Status.Usage ↔ (asked (map (λ w. w.now) words.now) ≡ None) }
-    // Only where a read failed in this call.
-    ensures read { result ≡ Status.ReadFault → Rose (F.seen files.old).faults (F.seen files.new).faults }
-    // Only where a file was not there in this call.
-    ensures absent { result ≡ Status.Absent → Rose (F.seen files.old).absences (F.seen files.new).absences }
-    // Only where a put failed in this call.
-    ensures write { result ≡ Status.WriteFault → Rose (O.seen out.old).faults (O.seen out.new).faults }
-    // Only where an append or a sync failed in this call.
-    ensures vault { result ≡ Status.LogFault → Rose (V.seen vault.old).faults (V.seen vault.new).faults }
-    // Only where nothing failed.
-    ensures fine { result ≡ Status.Ok → ((F.seen files.new).faults ≡ (F.seen files.old).faults) × ((F.seen files.new).absences ≡ (F.seen files.old).absences) × ((O.seen out.new).faults ≡ (O.seen out.old).faults) × ((V.seen vault.new).faults ≡ (V.seen vault.old).faults) }
-    // No count falls.
-    ensures later { ((F.seen files.old).faults ≤ (F.seen files.new).faults) × ((F.seen files.old).absences ≤ (F.seen files.new).absences) × ((O.seen out.old).faults ≤ (O.seen out.new).faults) × ((V.seen vault.old).faults ≤ (V.seen vault.new).faults) }
+    // A fault comes only where its count rose in this call, and all is done only where none did. No count falls.
+    ensures causes { IsCaused result (F.seen files.old) (F.seen files.new) (O.seen out.old) (O.seen out.new) (V.seen vault.old) (V.seen vault.new) }
     // The files stay.
     ensures stays { (F.seen files.new).told ≡ (F.seen files.old).told }
     // Where the words fit no command, the line that says which ones do, whatever the files are.
     ensures misused { asked (map (λ w. w.now) words.now) ≡ None → Printed (O.seen out.old) (O.seen out.new) usage_line }
-    // Only where all chains of the site need more boxes of a kind than the shelf holds.
-    ensures short { result ≡ Status.ShelfEmpty → IfSome (F.seen files.old).told (λ all. IsShort (B.stock shelf.old) all (asked (map (λ w. w.now) words.now))) }
-    // And there no other status comes, where no count rose, but want of memory.
-    ensures shelf { Steady (F.seen files.old).faults (F.seen files.new).faults → Steady (O.seen out.old).faults (O.seen out.new).faults → Steady (V.seen vault.old).faults (V.seen vault.new).faults
-        → IfSome (F.seen files.old).told (λ all. IsShort (B.stock shelf.old) all (asked (map (λ w. w.now) words.now)) → (result ≡ Status.ShelfEmpty) ⊎ (result ≡ Status.Memory)) }
+    // A shelf that is short, a log that is refused and a word that names nothing are answered exactly where they are.
+    ensures due { IfSome (F.seen files.old).told (λ all. AreDue (B.stock shelf.old) all (asked (map (λ w. w.now) words.now))
+        (NoneRose (F.seen files.old) (F.seen files.new) (O.seen out.old) (O.seen out.new) (V.seen vault.old) (V.seen vault.new)) result) }
     // A command that makes no world leaves the shelf, and one that keeps no logs the vault.
     ensures untouched { makes_world (asked (map (λ w. w.now) words.now)) ≡ false → B.stock shelf.new ≡ B.stock shelf.old }
     ensures idle { keeps_logs (asked (map (λ w. w.now) words.now)) ≡ false → V.seen vault.new ≡ V.seen vault.old }
     // A replay or rehearsal that halts before its world is made leaves it too; and else exactly the boxes of all chains of its site are gone.
     ensures boxes { IfSome (F.seen files.old).told (λ all. ShelfAfter all (asked (map (λ w. w.now) words.now)) result (B.stock shelf.old) (B.stock shelf.new)) }
-    // Only where a dump is asked for of a file that is too large, or is no head with whole entries alone after it.
-    ensures refused { result ≡ Status.LogRefused → IfSome (F.seen files.old).told (λ all. IsBadLog all (asked (map (λ w. w.now) words.now))) }
-    // And there no other status comes, where no count rose, but want of memory.
-    ensures log { Steady (F.seen files.old).faults (F.seen files.new).faults → Steady (O.seen out.old).faults (O.seen out.new).faults → Steady (V.seen vault.old).faults (V.seen vault.new).faults
-        → IfSome (F.seen files.old).told (λ all. IsBadLog all (asked (map (λ w. w.now) words.now)) → (result ≡ Status.LogRefused) ⊎ (result ≡ Status.Memory)) }
     // The outcome that the boxes on the shelf and the content of the files have, and what was put and appended for it.
-    ensures transcript { IfSome (F.seen files.old).told (λ all. Answers (B.stock shelf.old) all (asked (map (λ w. w.now) words.now)) result (outside (O.seen out.old) (V.seen vault.old)) (outside (O.seen out.new) (V.seen vault.new))) }
+    ensures transcript { IfSome (F.seen files.old).told (λ all. Answers (B.stock shelf.old) all (asked (map (λ w. w.now) words.now)) result
+        (outside (O.seen out.old) (V.seen vault.old)) (outside (O.seen out.new) (V.seen vault.new))) }
     // Where no count rose, the outcome's status comes, or want of memory.
-    ensures complete { Steady (F.seen files.old).faults (F.seen files.new).faults → Steady (O.seen out.old).faults (O.seen out.new).faults → Steady (V.seen vault.old).faults (V.seen vault.new).faults
+    ensures complete { NoneRose (F.seen files.old) (F.seen files.new) (O.seen out.old) (O.seen out.new) (V.seen vault.old) (V.seen vault.new)
         → IfSome (F.seen files.old).told (λ all. Completes (B.stock shelf.old) all (asked (map (λ w. w.now) words.now)) result) }
 {
     match read_words(words) {
@@ -100,7 +86,8 @@ fn perform<'a, C: Framer, B: Supplier<C>, F: Files, O: Sink, V: Vault>(
     ensures files { FileCounts result (F.seen files.old) (F.seen files.new) }
     ensures sink { SinkCounts result (O.seen out.old) (O.seen out.new) }
     ensures vault { VaultCounts result (V.seen vault.old) (V.seen vault.new) }
-    ensures performs { IfSome (F.seen files.old).told (λ all. Performs (B.stock shelf.old) all command.now result (outside (O.seen out.old) (V.seen vault.old)) (outside (O.seen out.new) (V.seen vault.new))) }
+    ensures performs { IfSome (F.seen files.old).told (λ all. Performs (B.stock shelf.old) all command.now result
+        (outside (O.seen out.old) (V.seen vault.old)) (outside (O.seen out.new) (V.seen vault.new))) }
     ensures untouched { makes_world (Some command.now) ≡ false → B.stock shelf.new ≡ B.stock shelf.old }
     ensures idle { keeps_logs (Some command.now) ≡ false → V.seen vault.new ≡ V.seen vault.old }
     ensures boxes { IfSome (F.seen files.old).told (λ all. CommandLeaves all command.now result (B.stock shelf.old) (B.stock shelf.new)) }
@@ -113,6 +100,11 @@ fn perform<'a, C: Framer, B: Supplier<C>, F: Files, O: Sink, V: Vault>(
             script,
         } => replay::<C, B, F, O, V>(alloc, definitions, site, script, shelf, files, out, vault),
         Command::Rehearse { number } => rehearse::<C, B, O>(alloc, *number, shelf, out),
-        Command::Dump { log } => dump(alloc, log, files, out),
+        Command::Dump { logs } => dump(alloc, logs, files, out),
+        Command::Extract {
+            definitions,
+            log,
+            wanted,
+        } => extract(alloc, definitions, log, wanted, files, out),
     }
 }

@@ -39,3 +39,35 @@ impl<'a> FileName<'a> {
         self.text
     }
 }
+
+/// The names of files, as words of the command line give them one after the other.
+#[derive(Drop)]
+pub struct FileNames<'a> {
+    words: &'a [&'a str],
+}
+
+impl<'a> Model for FileNames<'a> {
+    ghost use Rattle.std.specs.Prelude.{List, map, ℕ};
+
+    ghost Value = { List (List ℕ) };
+
+    ghost view = { λ n. map (λ w. w.now) n.words.now };
+}
+
+impl<'a> FileNames<'a> {
+    ghost use Rattle.std.specs.Prelude.{map};
+
+    /// The names that are these words.
+    pub fn of(words: &'a [&'a str]) -> FileNames<'a>
+        ensures { result ≡ map (λ w. w.now) words.now }
+    {
+        FileNames { words }
+    }
+
+    /// The words.
+    pub fn words(&self) -> &'a [&'a str]
+        ensures { map (λ w. w.now) result.now ≡ self.now }
+    {
+        self.words
+    }
+}

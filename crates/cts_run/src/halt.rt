@@ -12,7 +12,7 @@ pub mod status;
 use crate::file_name::FileName;
 use crate::putting::Undone;
 use cause::Cause;
-use cts_base::Memory;
+use cts_base::{Bytes, Memory};
 use cts_chain::ChainFault;
 use cts_def::Kind;
 use file_kind::FileKind;
@@ -55,6 +55,10 @@ pub enum Halt<'a> {
     /// From this place on a log has no whole entry, or it is too large.
     LogRefused {
         place: u64,
+    },
+    /// This word names nothing that is defined: a target, a packet or an item of it.
+    UnknownName {
+        name: Bytes,
     },
 }
 

@@ -1,15 +1,25 @@
 // Laws of the definitions. The functions do nothing: their contracts are the laws.
-ghost use Rattle.cts_run.specs.Laws.{AllIsSynced, BytesAreKept, HasOutcome, HasOneOutcome, NoCountRises, RefusedExactly, ShortExactly, TextsArePut};
+ghost use Rattle.cts_run.specs.Laws.{AllIsSynced, BytesAreKept, HasOutcome, HasOneOutcome, NoCountRises, RefusedExactly, ShortExactly};
+ghost use Rattle.cts_run.specs.Laws.{StopsAreDumped, TextsArePut, UnknownExactly};
 
 /// The words of a command, the boxes on the shelf and the content of the files decide one outcome: its status, and all that is
 /// put and appended. Its status is that of a shelf that is short exactly where all chains of the site need more boxes of a kind than the
-/// shelf holds, and nothing is refused before. It is that of a refused log exactly where a dump is asked for of a file that is too
-/// large, or is no head with whole entries alone after it.
+/// shelf holds, and nothing is refused before. It is that of a refused log exactly where a dump is asked for of files of which
+/// one, after whole logs with one head, is too large, has another head than the first, or is no head with whole entries alone after it; and
+/// where columns are asked for by definitions that are taken, of a file that is too large, or in which no word is unknown and that is no head
+/// with whole entries alone after it. It is that of an unknown name exactly where columns are asked for by a word that names nothing.
 pub fn outcomes()
     ensures some { HasOutcome }
     ensures one { HasOneOutcome }
     ensures short { ShortExactly }
     ensures refused { RefusedExactly }
+    ensures unknown { UnknownExactly }
+{}
+
+/// Of 1 to 64 parts that a stop leaves of a log a dump, in their order, puts the lines of a beginning of the log's entries, in which each entry that
+/// lay whole in what was synced stands once.
+pub fn left_parts()
+    ensures dumped { StopsAreDumped }
 {}
 
 /// What acts leave that were done, one after another: the sink has all their texts, each log all bytes that they append to it, and no

@@ -26,7 +26,8 @@ pub fn load_site<'a, F: Files>(
     site: &FileName<'a>,
 ) -> Result<(Site, Digest), Halt<'a>>
     ensures stays { (F.seen files.new).told ≡ (F.seen files.old).told }
-    ensures content { IfSome (F.seen files.old).told (λ all. Takes (site_phases all definitions.now site.now) (site_asked all definitions.now site.now, digest_asked all definitions.now) result) }
+    ensures content { IfSome (F.seen files.old).told (λ all. Takes (site_phases all definitions.now site.now)
+        (site_asked all definitions.now site.now, digest_asked all definitions.now) result) }
     ensures counts { LoadCounts result (F.seen files.old) (F.seen files.new) }
 {
     match load_definitions(alloc, files, definitions) {

@@ -42,7 +42,8 @@ pub fn rehearse<'a, C: Framer, B: Supplier<C>, O: Sink>(
     ensures files { (files : FilesSeen) → FileCounts result files files }
     ensures sink { SinkCounts result (O.seen out.old) (O.seen out.new) }
     ensures vault { (vault : VaultSeen) → VaultCounts result vault vault }
-    ensures performs { (files : List ℕ → Option (List ℕ)) (vault : VaultSeen) → Performs (B.stock shelf.old) files (Rehearse number) result (outside (O.seen out.old) vault) (outside (O.seen out.new) vault) }
+    ensures performs { (files : List ℕ → Option (List ℕ)) (vault : VaultSeen) → Performs (B.stock shelf.old) files (Rehearse number) result
+        (outside (O.seen out.old) vault) (outside (O.seen out.new) vault) }
     ensures boxes { LeavesShelf demo_files definitions_name site_name result (B.stock shelf.old) (B.stock shelf.new) }
 {
     let mut files = DemoFiles;
@@ -127,7 +128,8 @@ fn end_rehearsal<'a, C: Framer, O: Sink>(
     out: &mut O,
 ) -> Result<(), Halt<'a>>
     requires { (site : SiteData) × (n : ℕ) × IsFar site n [] refused story.old }
-    ensures { (site : SiteData) (n : ℕ) (vault : VaultSeen) → IsFar site n [] refused story.old → Rehearses site n result (outside (O.seen out.old) vault) (outside (O.seen out.new) vault) }
+    ensures { (site : SiteData) (n : ℕ) (vault : VaultSeen) → IsFar site n [] refused story.old → Rehearses site n result
+        (outside (O.seen out.old) vault) (outside (O.seen out.new) vault) }
 {
     match told_summary(alloc, refused, story) {
         Ok(text) => {

@@ -49,7 +49,8 @@ pub fn replay<'a, C: Framer, B: Supplier<C>, F: Files, O: Sink, V: Vault>(
     ensures files { FileCounts result (F.seen files.old) (F.seen files.new) }
     ensures sink { SinkCounts result (O.seen out.old) (O.seen out.new) }
     ensures vault { VaultCounts result (V.seen vault.old) (V.seen vault.new) }
-    ensures performs { IfSome (F.seen files.old).told (λ all. Performs (B.stock shelf.old) all (Replay definitions.now site.now script.now) result (outside (O.seen out.old) (V.seen vault.old)) (outside (O.seen out.new) (V.seen vault.new))) }
+    ensures performs { IfSome (F.seen files.old).told (λ all. Performs (B.stock shelf.old) all (Replay definitions.now site.now script.now) result
+        (outside (O.seen out.old) (V.seen vault.old)) (outside (O.seen out.new) (V.seen vault.new))) }
     ensures boxes { IfSome (F.seen files.old).told (λ all. LeavesShelf all definitions.now site.now result (B.stock shelf.old) (B.stock shelf.new)) }
 {
     match load_site(alloc, files, definitions, site) {
@@ -96,7 +97,8 @@ fn replay_script<'a, C: Framer, F: Files, O: Sink, V: Vault>(
     ensures files { FileCounts result (F.seen files.old) (F.seen files.new) }
     ensures sink { SinkCounts result (O.seen out.old) (O.seen out.new) }
     ensures vault { VaultCounts result (V.seen vault.old) (V.seen vault.new) }
-    ensures performs { IfSome (F.seen files.old).told (λ all. PerformsScript all digest.now (site_told story.old) script.now result (outside (O.seen out.old) (V.seen vault.old)) (outside (O.seen out.new) (V.seen vault.new))) }
+    ensures performs { IfSome (F.seen files.old).told (λ all. PerformsScript all digest.now (site_told story.old) script.now result
+        (outside (O.seen out.old) (V.seen vault.old)) (outside (O.seen out.new) (V.seen vault.new))) }
 {
     match load_script(alloc, files, script, story.site()) {
         Ok(events) => {
@@ -119,7 +121,8 @@ fn do_script<'a, C: Framer, O: Sink, V: Vault>(
     vault: &mut V,
 ) -> Result<(), Halt<'a>>
     requires { Stands (site_told story.old) opening story.old }
-    ensures { Replays digest.now (site_told story.old) script.now events.now result (outside (O.seen out.old) (V.seen vault.old)) (outside (O.seen out.new) (V.seen vault.new)) }
+    ensures { Replays digest.now (site_told story.old) script.now events.now result (outside (O.seen out.old) (V.seen vault.old))
+        (outside (O.seen out.new) (V.seen vault.new)) }
 {
     match begin_logs(alloc, story.site(), digest, vault) {
         Ok(()) => do_events(alloc, script, events, story, out, vault),
@@ -137,7 +140,8 @@ fn do_events<'a, C: Framer, O: Sink, V: Vault>(
     vault: &mut V,
 ) -> Result<(), Halt<'a>>
     requires { Stands (site_told story.old) opening story.old }
-    ensures { DoesEvents (site_told story.old) script.now events.now result (outside (O.seen out.old) (V.seen vault.old)) (outside (O.seen out.new) (V.seen vault.new)) }
+    ensures { DoesEvents (site_told story.old) script.now events.now result (outside (O.seen out.old) (V.seen vault.old))
+        (outside (O.seen out.new) (V.seen vault.new)) }
 {
     let mut left = events;
     'events: while let Some((next, after)) = left.split_first() {
@@ -160,7 +164,8 @@ fn do_event<'a, C: Framer, O: Sink, V: Vault>(
     vault: &mut V,
 ) -> Result<(), Halt<'a>>
     requires { (site : SiteData) × (s : State) × Stands site s story.old }
-    ensures { (site : SiteData) (s : State) → Stands site s story.old → DoesEvent site s script.now line event.now result story.new (outside (O.seen out.old) (V.seen vault.old)) (outside (O.seen out.new) (V.seen vault.new)) }
+    ensures { (site : SiteData) (s : State) → Stands site s story.old → DoesEvent site s script.now line event.now result story.new
+        (outside (O.seen out.old) (V.seen vault.old)) (outside (O.seen out.new) (V.seen vault.new)) }
 {
     match story.tell(alloc, event) {
         Ok((text, effect)) => {
@@ -180,7 +185,8 @@ fn do_told<O: Sink, V: Vault>(
     out: &mut O,
     vault: &mut V,
 ) -> Result<(), Undone>
-    ensures done { DoesActs (log_acts effect.now ++ puts text.now) result (outside (O.seen out.old) (V.seen vault.old)) (outside (O.seen out.new) (V.seen vault.new)) }
+    ensures done { DoesActs (log_acts effect.now ++ puts text.now) result (outside (O.seen out.old) (V.seen vault.old))
+        (outside (O.seen out.new) (V.seen vault.new)) }
     ensures memory { TakesNoMemory result }
 {
     match keep(vault, effect) {
@@ -213,7 +219,8 @@ fn end_replay<'a, C: Framer, O: Sink, V: Vault>(
     vault: &mut V,
 ) -> Result<(), Halt<'a>>
     requires { (site : SiteData) × (s : State) × Stands site s story.old }
-    ensures { (site : SiteData) (s : State) → Stands site s story.old → EndsAfter site s result (outside (O.seen out.old) (V.seen vault.old)) (outside (O.seen out.new) (V.seen vault.new)) }
+    ensures { (site : SiteData) (s : State) → Stands site s story.old → EndsAfter site s result (outside (O.seen out.old) (V.seen vault.old))
+        (outside (O.seen out.new) (V.seen vault.new)) }
 {
     let entries = story.count();
     match story.drain() {
@@ -234,7 +241,8 @@ fn end_logs<O: Sink, V: Vault>(
     out: &mut O,
     vault: &mut V,
 ) -> Result<(), Undone>
-    ensures { DoesActs (log_acts rest.now ++ (syncs ++ puts (end_line entries))) result (outside (O.seen out.old) (V.seen vault.old)) (outside (O.seen out.new) (V.seen vault.new)) }
+    ensures { DoesActs (log_acts rest.now ++ (syncs ++ puts (end_line entries))) result (outside (O.seen out.old) (V.seen vault.old))
+        (outside (O.seen out.new) (V.seen vault.new)) }
 {
     match keep(vault, rest) {
         Ok(()) => match sync_both(vault) {

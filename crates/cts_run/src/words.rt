@@ -1,9 +1,14 @@
 // What the words of the command line ask for.
-ghost use Rattle.std.specs.Prelude.{◌≡◌, ◌∷◌, [], map};
-ghost use Rattle.cts_run.specs.Words.{asked, rehearsal_number};
+ghost use Rattle.std.specs.Prelude.{◌≡◌, map, option_map};
+ghost use Rattle.cts_extract.specs.Words.{kind_named};
+ghost use Rattle.cts_run.specs.Wanted.{wanted_of};
+ghost use Rattle.cts_run.specs.Words.{asked, asked_of, dump_asked, extract_asked, rehearsal_number};
+ghost use Rattle.cts_run.specs.declared.words.Command.TheVariants.{Rehearse};
 
-use crate::file_name::FileName;
+use crate::file_name::{FileName, FileNames};
+use crate::wanted::Wanted;
 use cts_base::read_whole;
+use cts_extract::{has_few_texts, kind_named};
 
 /// A command with the files that it needs, by their names.
 #[derive(Drop)]
@@ -23,23 +28,48 @@ pub enum Command<'a> {
     Rehearse {
         number: u32,
     },
-    /// Puts the entries of a log.
+    /// Puts the entries of logs, file after file.
     Dump {
+        logs: FileNames<'a>,
+    },
+    /// Puts columns of a log.
+    Extract {
+        definitions: FileName<'a>,
         log: FileName<'a>,
+        wanted: Wanted<'a>,
     },
 }
 
+// How many files a dump takes at most.
+const MOST_LOGS: usize = 64;
+
 /// The command that the words ask for, if they fit one.
-pub fn read_words<'a>(words: &[&'a str]) -> Option<Command<'a>>
+pub fn read_words<'a>(words: &'a [&'a str]) -> Option<Command<'a>>
     ensures { result ≡ asked (map (λ w. w.now) words.now) }
 {
+    let Some((command, words)) = words.split_first() else {
+        return None;
+    };
+    if *command == "dump" {
+        return read_dump(words);
+    }
+    if *command == "extract" {
+        return read_extract(words);
+    }
+    read_named(*command, words)
+}
+
+// The command of this name that takes as many words, if they fit it.
+fn read_named<'a>(command: &str, words: &'a [&'a str]) -> Option<Command<'a>>
+    ensures { result ≡ asked_of command.now (map (λ w. w.now) words.now) }
+{
     match words {
-        [command, word] => of_one_word(*command, *word),
-        [command, definitions, site] if *command == "check" => Some(Command::Check {
+        [number] if command == "rehearse" => read_rehearse(*number),
+        [definitions, site] if command == "check" => Some(Command::Check {
             definitions: FileName::of(*definitions),
             site: FileName::of(*site),
         }),
-        [command, definitions, site, script] if *command == "replay" => Some(Command::Replay {
+        [definitions, site, script] if command == "replay" => Some(Command::Replay {
             definitions: FileName::of(*definitions),
             site: FileName::of(*site),
             script: FileName::of(*script),
@@ -48,21 +78,50 @@ pub fn read_words<'a>(words: &[&'a str]) -> Option<Command<'a>>
     }
 }
 
-// The command of this name that takes one word, if the word fits it.
-fn of_one_word<'a>(command: &str, word: &'a str) -> Option<Command<'a>>
-    ensures { result ≡ asked (command.now ∷ word.now ∷ []) }
+// Columns, where the words are as many and fit them.
+fn read_extract<'a>(words: &[&'a str]) -> Option<Command<'a>>
+    ensures { result ≡ extract_asked (map (λ w. w.now) words.now) }
 {
-    if command == "dump" {
-        return Some(Command::Dump {
-            log: FileName::of(word),
-        });
+    match words {
+        [definitions, log, target, packet, kind, items] => Some(Command::Extract {
+            definitions: FileName::of(*definitions),
+            log: FileName::of(*log),
+            wanted: wanted_of(*target, *packet, *kind, *items)?,
+        }),
+        _ => None,
     }
-    if command == "rehearse" {
-        return Some(Command::Rehearse {
-            number: rehearsal_number(word)?,
-        });
+}
+
+// The columns that these words ask for, if the one names a kind of values and the other at most 64 items.
+fn wanted_of<'a>(target: &'a str, packet: &'a str, kind: &str, items: &'a str) -> Option<Wanted<'a>>
+    ensures { result ≡ wanted_of target.now packet.now items.now (kind_named kind.now) }
+{
+    let kind = kind_named(kind)?;
+    if !has_few_texts(items.as_bytes()) {
+        return None;
     }
-    None
+    Some(Wanted::of(target, packet, kind, items))
+}
+
+// A dump of these files, where there are 1 to 64.
+fn read_dump<'a>(logs: &'a [&'a str]) -> Option<Command<'a>>
+    ensures { result ≡ dump_asked (map (λ w. w.now) logs.now) }
+{
+    if logs.is_empty() || MOST_LOGS < logs.len() {
+        return None;
+    }
+    Some(Command::Dump {
+        logs: FileNames::of(logs),
+    })
+}
+
+// A rehearsal, where the word is a number of it.
+fn read_rehearse<'a>(word: &'a str) -> Option<Command<'a>>
+    ensures { result ≡ option_map Rehearse (rehearsal_number word.now) }
+{
+    Some(Command::Rehearse {
+        number: rehearsal_number(word)?,
+    })
 }
 
 // The number that a word writes: 1 to 1,000,000, in decimal digits without a leading zero.

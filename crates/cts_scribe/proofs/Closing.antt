@@ -1,6 +1,6 @@
 -- Who has ended gives nothing to the logs any more.
-use Rattle.std.proofs.Common.{◌≡◌, ◌≢◌, ◌∷◌, [], ◌++◌, ℕ, ◌==◌, ◌≤◌, Bool, true, false, ◌&&◌, ◌||◌, List, length, refl, sym, ◌∙◌, ap, subst, arith, inl, inr, append-nil, append_assoc}
-use Rattle.std.specs.Prelude.{◌⊎◌}
+use Rattle.std.proofs.Common.{◌≡◌, ◌≢◌, ◌∷◌, [], ◌++◌, ℕ, ◌==◌, ◌≤◌, Bool, true, false, ◌&&◌, ◌||◌, List, length, refl, sym, ◌∙◌, ap, subst, arith, inl, inr, append-nil, append_assoc, Option}
+use Rattle.std.specs.Prelude.{◌⊎◌, map}
 use Rattle.std.specs.List.{filter, flat_map}
 use Rattle.std.proofs.lemmas.Grind.{common_steps}
 use Rattle.std.proofs.lemmas.List.Folds.{list_any-append}
@@ -13,14 +13,18 @@ use Rattle.cts_entry.specs.Legal.{AllAllowed, Allows, IsAllowed, IsOn, Rules, ha
 use Rattle.cts_entry.specs.Workers.{is_desk, is_interface, is_slot, is_worker}
 use Rattle.cts_framing.specs.Layouts.{has_flags}
 use Rattle.cts_log.specs.Logged.{entry_bytes}
+use Rattle.cts_log_parts.specs.Parts.{log_parts}
+use Rattle.cts_log_parts.specs.Told.{AreWholeParts}
+use Rattle.cts_outside.specs.Vaults.{Logs}
 use Rattle.cts_outside.specs.declared.vault.LogKind.{LogKind}
 use Rattle.cts_outside.specs.declared.vault.LogKind.TheVariants.{Tlm, Cmd}
 use Rattle.cts_table.specs.Keeping.{rules_of}
 use Rattle.cts_table.specs.declared.basis.Basis.{Basis}
 use Rattle.cts_worker.specs.Followed.{HaveEnded}
 use Rattle.cts_scribe.specs.Laws.{ClosedLogsAreWhole}
-use Rattle.cts_scribe.specs.Logs.{entries_log, is_in_log, log, logged_as}
-use Rattle.cts_scribe.proofs.Logging.{log_laid, log_more}
+use Rattle.cts_scribe.specs.Logs.{entries_log, file_kind, is_in_log, log, logged, logged_as, parts}
+use Rattle.cts_scribe.specs.Vaults.{AreWhole, LogsSo}
+use Rattle.cts_scribe.proofs.Logging.{log_laid, log_more, logged_more}
 
 abbrev entry : ℕ → Time → What → Entry
 entry by time what = record { by = by; time = time; what = what }
@@ -103,4 +107,13 @@ pub closed : ClosedLogsAreWhole
 closed b stood more sound kept have kind digest =
     let none = nothing_more kind b stood more sound have (allowed_after (rules_of b) [] stood more kept.legal.each) in
     let gives : entries_log kind b.site more ≡ [] = log_laid kind b.site more ∙ ap (λ (l : List Entry). flat_map (λ e. entry_bytes (has_flags b.site.log_layout) (logged_as b.site e)) l) none in
-    log_more kind b.site digest stood more ∙ ap (λ l. log kind b.site digest stood ++ l) gives ∙ append-nil (log kind b.site digest stood)
+    let same : logged kind b.site (stood ++ more) ≡ logged kind b.site stood =
+    logged_more kind b.site stood more ∙ ap (λ (l : List Entry). logged kind b.site stood ++ map (logged_as b.site) l) none ∙ append-nil (logged kind b.site stood) in (
+      ap (log_parts (file_kind kind) (has_flags b.site.log_layout) digest b.site.log_cycle) same,
+      log_more kind b.site digest stood more ∙ ap (λ l. log kind b.site digest stood ++ l) gives ∙ append-nil (log kind b.site digest stood),
+    )
+
+-- logs that are whole for some entries are so for others that give them the same parts
+pub whole_as : (site : SiteData) (digest : List ℕ) (xs ys : List Entry) (told : Option Logs) → ((kind : LogKind) → parts kind site digest xs ≡ parts kind site digest ys) → AreWhole site digest xs told → AreWhole site digest ys told
+whole_as site digest xs ys told same whole =
+    subst (λ (t : List (List ℕ)). LogsSo AreWholeParts t (parts Cmd site digest ys) told) (same Tlm) (subst (λ (c : List (List ℕ)). LogsSo AreWholeParts (parts Tlm site digest xs) c told) (same Cmd) whole)

@@ -14,6 +14,7 @@ use Rattle.cts_turn.specs.declared.rule.View.{View}
 use Rattle.cts_worker.specs.Holds.{EndedHold, Held}
 use Rattle.cts_worker.specs.Lasts.{entry_of, first_moment, last_entries, stop_if}
 use Rattle.cts_worker.proofs.Lasting.{ended_seen, last_own}
+use Rattle.cts_scribe.specs.declared.cycles.Cycles.{Cycles}
 use Rattle.cts_scribe.specs.declared.ending.ScribeWhy.{ScribeWhy}
 use Rattle.cts_scribe.specs.declared.ending.ScribeWhy.TheVariants.{Drained, VaultFailed, NoMemory, Cancelled}
 use Rattle.cts_worker.specs.declared.progress.Progress.{Progress}
@@ -78,8 +79,8 @@ ends_stopped site by why seen cursor ends stops =
     ap is_stopped ends.seen_is ∙ stopped-append stood (last_entries (stops_all why) by first_moment stood)
     ∙ ap (λ x. is_stopped stood || is_stopped (last_entries x by first_moment stood)) stops ∙ always (is_stopped stood) by
 
-pub looked_drained : {G : Type 0} (site : SiteData) (base : Basis) (by : ℕ) (old new : View Entry G) (p q : Progress) → Following by old p → Looked site base by old new p (Ok DrainedSight) q → Ends site by Drained new.seen q.place
-looked_drained site base by old new p q f (s, t, b, held, sees) =
+pub looked_drained : {G : Type 0} (site : SiteData) (base : Basis) (by : ℕ) (old new : View Entry G) (p q : Progress) (d : Cycles) → Following by old p → Looked site base by old new p (Ok DrainedSight) q d → Ends site by Drained new.seen q.place
+looked_drained site base by old new p q d f (s, t, b, held, sees) =
     subst (λ (x : Progress). Ends site by Drained new.seen x.place) (sym sees.1) (drained_ends site by old new s t p held sees.0 sees.2 f)
 
 -- what was followed before it gave up is what was followed

@@ -1,6 +1,8 @@
 pub mod Logging
-pub mod Vaulting
 pub mod NextEntries
+pub mod Parting
+pub mod Giving
+pub mod Vaulting
 pub mod Sighting
 pub mod Lasting
 pub mod Stopping

@@ -1,17 +1,14 @@
 -- The next entry of a history, and what it gives to the logs.
-use Rattle.std.proofs.Common.{◌≡◌, ◌∷◌, [], ◌++◌, ℕ, zero, suc, ◌+◌, ◌<◌, List, take, sym, ◌∙◌, ap, subst, arith, append_assoc, Some}
+use Rattle.std.proofs.Common.{◌≡◌, ◌∷◌, [], ◌++◌, ℕ, zero, suc, ◌+◌, ◌<◌, List, take, sym, ◌∙◌, ap, subst, arith, Some}
 use Rattle.std.specs.Prelude.{slice_get}
 use Rattle.std.proofs.lemmas.List.Sums.{sum_by-cons}
 use Rattle.std.proofs.lemmas.Option.{slice_get_within}
 use Rattle.cts_def.specs.Sites.{SiteData}
 use Rattle.cts_entry.specs.declared.entry.Entry.{Entry}
 use Rattle.cts_entry.specs.Histories.{bytes_for, bytes_in}
-use Rattle.cts_outside.specs.declared.vault.LogKind.{LogKind}
 use Rattle.cts_table.specs.Keeping.{AllOfSite, IsOfSite}
 use Rattle.cts_worker.specs.declared.progress.Progress.{Progress}
 use Rattle.cts_worker.specs.Followed.{EndedTell, Follows}
-use Rattle.cts_scribe.specs.Logs.{entries_log}
-use Rattle.cts_scribe.proofs.Logging.{entries_more}
 
 take_suc : (xs : List Entry) (n : ℕ) (e : Entry) → slice_get xs n ≡ Some e → take (suc n) xs ≡ take n xs ++ e ∷ []
 take_suc [] zero e h = absurd cc
@@ -35,15 +32,6 @@ small_get (x ∷ xs) zero e most h small =
     let s : x ≡ e = cc in
     subst (λ y. bytes_in (y ∷ []) < most) s (omega (arith, small, sum_by-cons (λ (y : Entry). bytes_for y.what) x xs, sum_by-cons (λ (y : Entry). bytes_for y.what) x []))
 small_get (x ∷ xs) (suc n) e most h small = small_get xs n e most h (omega (arith, small, sum_by-cons (λ (y : Entry). bytes_for y.what) x xs))
-
--- what an entry gives comes after what those before it gave
-pub lays_next : (kind : LogKind) (site : SiteData) (xs : List Entry) (p n : ℕ) (e : Entry) (sofar new : List ℕ) → slice_get xs n ≡ Some e
-    → entries_log kind site (take p xs) ++ sofar ≡ entries_log kind site (take n xs) → new ≡ sofar ++ entries_log kind site (e ∷ [])
-    → entries_log kind site (take p xs) ++ new ≡ entries_log kind site (take (n + 1) xs)
-lays_next kind site xs p n e sofar new there before more =
-    let first = entries_log kind site (take p xs) in
-    let one = entries_log kind site (e ∷ []) in
-    ap (λ l. first ++ l) more ∙ sym (append_assoc first sofar one) ∙ ap (λ l. l ++ one) before ∙ sym (entries_more kind site (take n xs) (e ∷ [])) ∙ ap (entries_log kind site) (sym (take_next xs n e there))
 
 -- the next entry is followed
 pub follows_next : (p q : Progress) (xs : List Entry) (e : Entry) → slice_get xs p.place ≡ Some e → q.place ≡ p.place + 1 → EndedTell q.ended (take p.place xs ++ e ∷ []) → Follows q xs

@@ -5,8 +5,8 @@ use Rattle.cts_def.specs.Sites.{SiteData}
 use Rattle.cts_entry.specs.declared.entry.Entry.{Entry}
 use Rattle.cts_entry.specs.Legal.{has_ended}
 use Rattle.cts_entry.specs.Workers.{is_desk, is_interface, is_slot, is_worker}
-use Rattle.cts_framing.specs.Layouts.{has_flags}
-use Rattle.cts_log.specs.Files.{log_head}
+use Rattle.cts_log_parts.specs.Grouping.{joined}
+use Rattle.cts_log_parts.specs.Growths.{CutsData, cut_growth}
 use Rattle.cts_outside.specs.Vaults.{Logs}
 use Rattle.cts_outside.specs.declared.sink.PutFailed.{PutFailed}
 use Rattle.cts_outside.specs.declared.vault.LogKind.{LogKind}
@@ -21,14 +21,17 @@ use Rattle.cts_turn.specs.Lists.{StartsWith, has}
 use Rattle.cts_worker.proofs.Lasting.{last_by}
 use Rattle.cts_worker.specs.Holds.{Adds, Held, InHold, Onward}
 use Rattle.cts_worker.specs.Lasts.{MayEnd, first_moment, last_entries}
-use Rattle.cts_log_batch.specs.declared.batch.Batch.{Batch}
 use Rattle.cts_worker.specs.declared.progress.Progress.{Progress}
+use Rattle.cts_scribe.specs.declared.cycles.Cycles.{Cycles}
+use Rattle.cts_scribe.specs.declared.growth.Growth.{Growth}
+use Rattle.cts_scribe.specs.declared.heads.Heads.{Heads}
 use Rattle.cts_scribe.specs.declared.sight.Sight.{Sight}
 use Rattle.cts_scribe.specs.declared.sight.Sight.TheVariants.{More, Still, Drained}
 use Rattle.cts_scribe.specs.Following.{Following, IsDrained, Lays, Sees}
 use Rattle.cts_worker.specs.Followed.{EndedTell, Follows, HaveEnded}
-use Rattle.cts_scribe.specs.Logs.{entries_log, file_kind, log}
-use Rattle.cts_scribe.specs.Vaults.{AreWhole, IsLeft, IsWhole, LogsSo, PutsBoth}
+use Rattle.cts_scribe.specs.Growing.{AreHeads, Count, Gives}
+use Rattle.cts_scribe.specs.Logs.{head_of, parts}
+use Rattle.cts_scribe.specs.Vaults.{AreWhole, IsLeft, LogsSo, PutsBoth}
 
 -- ---- what was seen grows
 
@@ -104,64 +107,65 @@ drained_others site by p entries d = subst (HaveEnded site by) (sym (take_all p.
 
 -- ---- the logs
 
-log_next : (kind : LogKind) (site : SiteData) (digest : List ℕ) (xs ys : List Entry) (bytes : List ℕ) → entries_log kind site xs ++ bytes ≡ entries_log kind site ys → log kind site digest xs ++ bytes ≡ log kind site digest ys
-log_next kind site digest xs ys bytes e =
-    let head = log_head (file_kind kind) (has_flags site.log_layout) digest in
-    append_assoc head (entries_log kind site xs) bytes ∙ ap (λ l. head ++ l) e
+given_is : (kind : LogKind) (site : SiteData) (digest : List ℕ) (entries : List Entry) (from to : ℕ) (bytes head : List ℕ) (cuts : CutsData) → head ≡ head_of kind site digest → Gives kind site entries from to bytes cuts
+    → joined (parts kind site digest (take from entries)) (cut_growth head cuts.places bytes) ≡ parts kind site digest (take to entries)
+given_is kind site digest entries from to bytes head cuts is g = ap (λ (h : List ℕ). joined (parts kind site digest (take from entries)) (cut_growth h cuts.places bytes)) is ∙ g.grown digest
 
--- what was laid out is put after logs that were whole
-pub logs_put : (site : SiteData) (digest : List ℕ) (entries : List Entry) (p q : Progress) (tlm cmd : List ℕ) (old new : Option Logs) (result : Result (Unit {0}) PutFailed)
-    → Lays site entries p q tlm cmd → PutsBoth old new tlm cmd result → AreWhole site digest (take p.place entries) old
-    → LogsSo (IsLeft result) (log Tlm site digest (take q.place entries)) (log Cmd site digest (take q.place entries)) new
-logs_put site digest entries p q tlm cmd old new result lays puts whole =
+-- what a look gave is put to logs that were whole
+abbrev pub PutsGrowths : Heads → Growth → Option Logs → Option Logs → Result (Unit {0}) PutFailed → Type 0
+PutsGrowths heads growth old new result =
+    PutsBoth old new (cut_growth heads.tlm growth.tlm.places growth.batch.tlm.items) (cut_growth heads.cmd growth.cmd.places growth.batch.cmd.items) result
+
+pub logs_put : (site : SiteData) (digest : List ℕ) (entries : List Entry) (p q : Progress) (heads : Heads) (growth : Growth) (old new : Option Logs) (result : Result (Unit {0}) PutFailed)
+    → AreHeads site digest heads → Lays site entries p q growth → PutsGrowths heads growth old new result → AreWhole site digest (take p.place entries) old
+    → LogsSo (IsLeft result) (parts Tlm site digest (take q.place entries)) (parts Cmd site digest (take q.place entries)) new
+logs_put site digest entries p q heads growth old new result are lays puts whole =
     let before = take p.place entries in
-    let after = take q.place entries in
-    subst (λ t. LogsSo (IsLeft result) t (log Cmd site digest after) new) (log_next Tlm site digest before after tlm lays.tlm_is)
-    (subst (λ c. LogsSo (IsLeft result) (log Tlm site digest before ++ tlm) c new) (log_next Cmd site digest before after cmd lays.cmd_is)
-    (puts (log Tlm site digest before) (log Cmd site digest before) whole))
-
--- the log of no entries is its head
-pub log_none : (kind : LogKind) (site : SiteData) (digest : List ℕ) → log kind site digest [] ≡ log_head (file_kind kind) (has_flags site.log_layout) digest
-log_none Tlm site digest = append-nil (log_head (file_kind Tlm) (has_flags site.log_layout) digest)
-log_none Cmd site digest = append-nil (log_head (file_kind Cmd) (has_flags site.log_layout) digest)
-
--- the heads are put first
-pub heads_put : (site : SiteData) (digest : List ℕ) (old new : Option Logs) (result : Result (Unit {0}) PutFailed)
-    → PutsBoth old new (log_head (file_kind Tlm) (has_flags site.log_layout) digest) (log_head (file_kind Cmd) (has_flags site.log_layout) digest) result → LogsSo IsWhole [] [] old
-    → LogsSo (IsLeft result) (log Tlm site digest []) (log Cmd site digest []) new
-heads_put site digest old new result puts blank =
-    subst (λ t. LogsSo (IsLeft result) t (log Cmd site digest []) new) (sym (log_none Tlm site digest))
-    (subst (λ c. LogsSo (IsLeft result) (log_head (file_kind Tlm) (has_flags site.log_layout) digest) c new) (sym (log_none Cmd site digest)) (puts [] [] blank))
+    let tlm = cut_growth heads.tlm growth.tlm.places growth.batch.tlm.items in
+    subst (λ t. LogsSo (IsLeft result) t (parts Cmd site digest (take q.place entries)) new) (given_is Tlm site digest entries p.place q.place growth.batch.tlm.items heads.tlm growth.tlm are.tlm lays.gives.tlm)
+    (subst (λ c. LogsSo (IsLeft result) (joined (parts Tlm site digest before) tlm) c new) (given_is Cmd site digest entries p.place q.place growth.batch.cmd.items heads.cmd growth.cmd are.cmd lays.gives.cmd)
+    (puts (parts Tlm site digest before) (parts Cmd site digest before) whole))
 
 -- ---- a look at the hall, in a hold
 
 -- a look adds entries of the scribe alone
-pub sees_adds : (site : SiteData) (by : ℕ) (s t : Shown) (p q : Progress) (sight : Result Sight Memory) → t.basis ≡ s.basis → Sees site by s.entries p sight t.entries q → Adds by s t
-sees_adds site by s t p q (Ok (More batch)) base sees = (base, ([], sees.0 ∙ sym (append-nil s.entries), tt))
-sees_adds site by s t p q (Ok Still) base sees = (base, ([], sees.0 ∙ sym (append-nil s.entries), tt))
-sees_adds site by s t p q (Ok Drained) base sees = (base, (last_entries false by first_moment s.entries, sees.0, last_by by first_moment false s.entries))
-sees_adds site by s t p q (Err m) base sees = (base, ([], sees.0 ∙ sym (append-nil s.entries), tt))
+pub sees_adds : (site : SiteData) (by : ℕ) (s t : Shown) (p q : Progress) (d : Cycles) (sight : Result Sight Memory) → t.basis ≡ s.basis → Sees site by s.entries p sight t.entries q d → Adds by s t
+sees_adds site by s t p q d (Ok (More growth)) base sees = (base, ([], sees.0 ∙ sym (append-nil s.entries), tt))
+sees_adds site by s t p q d (Ok Still) base sees = (base, ([], sees.0 ∙ sym (append-nil s.entries), tt))
+sees_adds site by s t p q d (Ok Drained) base sees = (base, (last_entries false by first_moment s.entries, sees.0, last_by by first_moment false s.entries))
+sees_adds site by s t p q d (Err m) base sees = (base, ([], sees.0 ∙ sym (append-nil s.entries), tt))
 
 -- what a look leaves in the view of a pass
-abbrev pub Looked : {G : Type 0} → SiteData → Basis → ℕ → View Entry G → View Entry G → Progress → Result Sight Memory → Progress → Type 0
-Looked site base by old new p sight q = InHold base by old new (λ s t. Sees site by s.entries p sight t.entries q)
+abbrev pub Looked : {G : Type 0} → SiteData → Basis → ℕ → View Entry G → View Entry G → Progress → Result Sight Memory → Progress → Cycles → Type 0
+Looked site base by old new p sight q d = InHold base by old new (λ s t. Sees site by s.entries p sight t.entries q d)
 
-module _ {G : Type 0} (site : SiteData) (base : Basis) (by : ℕ) (old new : View Entry G) (p q : Progress) where
-  pub looked_onward : (sight : Result Sight Memory) → Looked site base by old new p sight q → Onward old new
+module _ {G : Type 0} (site : SiteData) (base : Basis) (by : ℕ) (old new : View Entry G) (p q : Progress) (d : Cycles) where
+  pub looked_onward : (sight : Result Sight Memory) → Looked site base by old new p sight q d → Onward old new
   looked_onward sight (s, t, b, held, sees) =
-      let adds = sees_adds site by (record s { basis = base }) (record t { basis = base }) p q sight refl sees in
+      let adds = sees_adds site by (record s { basis = base }) (record t { basis = base }) p q d sight refl sees in
       held_onward by old new s t held (adds.1.0, adds.1.1)
 
-  pub looked_more : (batch : Batch) → Following by old p → Looked site base by old new p (Ok (More batch)) q → Following by new q
-  looked_more batch f (s, t, b, held, sees) = looked by old new s t held p q sees.0 f sees.1.follows
+  pub looked_more : (growth : Growth) → Following by old p → Looked site base by old new p (Ok (More growth)) q d → Following by new q
+  looked_more growth f (s, t, b, held, sees) = looked by old new s t held p q sees.0 f sees.1.follows
+
+  -- the cycles have counted what was followed
+  pub counted_more : (growth : Growth) → Looked site base by old new p (Ok (More growth)) q d → Count site (take q.place new.seen) d
+  counted_more growth (s, t, b, held, sees) = subst (λ (l : List Entry). Count site (take q.place l) d) (sym (held.seen ∙ sees.0)) sees.2
+
+  pub counted_still : Looked site base by old new p (Ok Still) q d → Count site (take q.place new.seen) d
+  counted_still (s, t, b, held, sees) = subst (λ (l : List Entry). Count site (take q.place l) d) (sym (held.seen ∙ sees.0)) sees.3
+
+  -- and what is given is as long as its cuts say
+  pub ends_more : (growth : Growth) → Looked site base by old new p (Ok (More growth)) q d → (growth.tlm.end ≤ length growth.batch.tlm.items) × (growth.cmd.end ≤ length growth.batch.cmd.items)
+  ends_more growth (s, t, b, held, sees) = (omega (arith, sees.1.gives.tlm.end), omega (arith, sees.1.gives.cmd.end))
 
   unmoved : (s t : Shown) → Held by old new s t → t.entries ≡ s.entries → q ≡ p → Following by old p → Following by new q
   unmoved s t held same stays f = looked by old new s t held p q same f (subst (λ (x : Progress). Follows x s.entries) (sym stays) (follows_more p old.seen s.entries (held_starts by old new s t held) f.follows))
 
-  pub looked_still : Following by old p → Looked site base by old new p (Ok Still) q → Following by new q
+  pub looked_still : Following by old p → Looked site base by old new p (Ok Still) q d → Following by new q
   looked_still f (s, t, b, held, sees) = unmoved s t held sees.0 sees.1 f
 
-  pub looked_wanting : (m : Memory) → Following by old p → Looked site base by old new p (Err m) q → Following by new q
+  pub looked_wanting : (m : Memory) → Following by old p → Looked site base by old new p (Err m) q d → Following by new q
   looked_wanting m f (s, t, b, held, sees) = unmoved s t held sees.0 sees.1 f
 
   -- the logs after it, where nothing was laid out
@@ -170,14 +174,14 @@ module _ {G : Type 0} (site : SiteData) (base : Basis) (by : ℕ) (old new : Vie
       subst (λ l. AreWhole site digest l told) (sym (ap (λ (x : Progress). take x.place new.seen) stays ∙ take_kept old.seen new.seen p.place f.follows.within on.seen)) whole
 
   -- and where that was put
-  pub put_after : (digest : List ℕ) (batch : Batch) (before after : Option Logs) (result : Result (Unit {0}) PutFailed) → Looked site base by old new p (Ok (More batch)) q → Following by old p
-      → PutsBoth before after batch.tlm.items batch.cmd.items result → AreWhole site digest (take p.place old.seen) before
-      → LogsSo (IsLeft result) (log Tlm site digest (take q.place new.seen)) (log Cmd site digest (take q.place new.seen)) after
-  put_after digest batch before after result (s, t, b, held, sees) f puts whole =
+  pub put_after : (digest : List ℕ) (heads : Heads) (growth : Growth) (before after : Option Logs) (result : Result (Unit {0}) PutFailed) → AreHeads site digest heads → Looked site base by old new p (Ok (More growth)) q d → Following by old p
+      → PutsGrowths heads growth before after result → AreWhole site digest (take p.place old.seen) before
+      → LogsSo (IsLeft result) (parts Tlm site digest (take q.place new.seen)) (parts Cmd site digest (take q.place new.seen)) after
+  put_after digest heads growth before after result are (s, t, b, held, sees) f puts whole =
       let kept : take p.place s.entries ≡ take p.place old.seen = take_kept old.seen s.entries p.place f.follows.within (held_starts by old new s t held) in
       let start = subst (λ l. AreWhole site digest l before) (sym kept) whole in
-      subst (λ l. LogsSo (IsLeft result) (log Tlm site digest (take q.place l)) (log Cmd site digest (take q.place l)) after) (sym (held.seen ∙ sees.0))
-      (logs_put site digest s.entries p q batch.tlm.items batch.cmd.items before after result sees.1 puts start)
+      subst (λ l. LogsSo (IsLeft result) (parts Tlm site digest (take q.place l)) (parts Cmd site digest (take q.place l)) after) (sym (held.seen ∙ sees.0))
+      (logs_put site digest s.entries p q heads growth before after result are sees.1 puts start)
 
-  pub wanting_whole : (m : Memory) (digest : List ℕ) (told : Option Logs) → Looked site base by old new p (Err m) q → Following by old p → AreWhole site digest (take p.place old.seen) told → AreWhole site digest (take q.place new.seen) told
+  pub wanting_whole : (m : Memory) (digest : List ℕ) (told : Option Logs) → Looked site base by old new p (Err m) q d → Following by old p → AreWhole site digest (take p.place old.seen) told → AreWhole site digest (take q.place new.seen) told
   wanting_whole m digest told (s, t, b, held, sees) f whole = whole_after digest told sees.1 (looked_onward (Err m) (s, t, b, held, sees)) f whole

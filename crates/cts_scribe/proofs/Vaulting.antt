@@ -1,81 +1,109 @@
--- What appends and syncs make of logs.
-use Rattle.std.proofs.Common.{◌≡◌, ℕ, ◌+◌, ◌≤◌, List, [], ◌++◌, length, take, sym, refl, ap, ◌∙◌, subst, arith, length-append, append-nil, Option, Some, None, Result, Ok, Err, option_map}
-use Rattle.std.proofs.Math.Seq.{take-append-add, take-append_seam, take-length}
-use Rattle.cts_outside.specs.Vaults.{Log, Logs, Syncs, all_synced, at_kind, with_bytes}
+-- What the puts into both logs make of their parts.
+use Rattle.std.proofs.Common.{◌≡◌, ℕ, List, [], ◌∷◌, ◌++◌, sym, refl, ap, ◌∙◌, subst, append-nil, Option, Some, None, Result, Ok, Err}
+use Rattle.cts_def.specs.Sites.{SiteData}
+use Rattle.cts_log_parts.specs.Grouping.{BeginsParts, joined}
+use Rattle.cts_log_parts.specs.Growths.{cut_growth}
+use Rattle.cts_log_parts.specs.Told.{AreBegunParts, AreWholeParts, Grows, PutsGrowth, bytes_of, told_of}
+use Rattle.cts_log_parts.proofs.Joining.{begins_grown, begins_same}
+use Rattle.cts_outside.specs.Vaults.{IsSynced, Log, Logs}
 use Rattle.cts_outside.specs.declared.sink.PutFailed.{PutFailed}
 use Rattle.cts_outside.specs.declared.vault.LogKind.{LogKind}
 use Rattle.cts_outside.specs.declared.vault.LogKind.TheVariants.{Tlm, Cmd}
-use Rattle.cts_scribe.specs.Vaults.{IsLeft, IsPart, IsWhole, LogsSo, PutsBoth, PutsLog}
+use Rattle.cts_scribe.specs.declared.heads.Heads.{Heads}
+use Rattle.cts_scribe.specs.Growing.{AreHeads}
+use Rattle.cts_scribe.specs.Logs.{head_of, parts}
+use Rattle.cts_scribe.specs.Vaults.{AreBlank, AreSynced, IsBlank, IsLeft, LogsSo, PutsBoth}
 
--- a log of which all is there is a beginning of what is to come
-pub whole_part : (l : Log) (bytes more : List ℕ) → IsWhole l bytes → IsPart l (bytes ++ more)
-whole_part l bytes more w =
-    let all : bytes ≡ take (length bytes) (bytes ++ more) = sym (take-append_seam bytes more) in
-    (length bytes, length bytes, (let e = length-append bytes more in omega arith), omega arith, w.0 ∙ all, w.1 ∙ all, w.2)
+-- ---- what is synced
 
--- and so it is where a part of that was appended
-pub whole_cut : (l : Log) (bytes more : List ℕ) (n : ℕ) → n ≤ length more → IsWhole l bytes → IsPart (with_bytes (take n more) l) (bytes ++ more)
-whole_cut l bytes more n le w =
-    let all : bytes ≡ take (length bytes) (bytes ++ more) = sym (take-append_seam bytes more) in
-    (length bytes + n, length bytes, (let e = length-append bytes more in omega arith), omega arith, ap (λ b. b ++ take n more) w.0 ∙ sym (take-append-add bytes more n), w.1 ∙ all, w.2)
+-- logs to which nothing was appended are
+pub blank_synced : (told : Option Logs) → AreBlank told → AreSynced told
+blank_synced None b = (tt, tt)
+blank_synced (Some logs) b = (b.0.1 ∙ sym b.0.0, b.1.1 ∙ sym b.1.0)
 
--- or all of it
-pub whole_late : (l : Log) (bytes more : List ℕ) → IsWhole l bytes → IsPart (with_bytes more l) (bytes ++ more)
-whole_late l bytes more w =
-    let all : bytes ≡ take (length bytes) (bytes ++ more) = sym (take-append_seam bytes more) in
-    (length (bytes ++ more), length bytes, omega arith, (let e = length-append bytes more in omega arith), ap (λ b. b ++ more) w.0 ∙ sym (take-length (bytes ++ more)), w.1 ∙ all, w.2)
-
--- then it is synced
-pub whole_next : (l : Log) (bytes more : List ℕ) → IsWhole l bytes → IsWhole (all_synced (with_bytes more l)) (bytes ++ more)
-whole_next l bytes more w = (ap (λ b. b ++ more) w.0, ap (λ b. b ++ more) w.0, w.2)
-
--- a whole log is a beginning of itself
-pub full_part : (l : Log) (bytes : List ℕ) → IsWhole l bytes → IsPart l bytes
-full_part l bytes w = (length bytes, length bytes, omega arith, omega arith, w.0 ∙ sym (take-length bytes), w.1 ∙ sym (take-length bytes), w.2)
+-- and so is a log that is as one was that is
+pub same_synced : (kind : LogKind) (old new : Option Logs) → told_of kind new ≡ told_of kind old → IsSynced kind old → IsSynced kind new
+same_synced kind old None e s = tt
+same_synced Tlm None (Some n) e s = absurd cc
+same_synced Cmd None (Some n) e s = absurd cc
+same_synced Tlm (Some o) (Some n) e s = let same : n.tlm ≡ o.tlm = cc in ap (λ (l : Log). l.synced) same ∙ s ∙ sym (ap (λ (l : Log). l.bytes) same)
+same_synced Cmd (Some o) (Some n) e s = let same : n.cmd ≡ o.cmd = cc in ap (λ (l : Log). l.synced) same ∙ s ∙ sym (ap (λ (l : Log). l.bytes) same)
 
 -- ---- one log
 
-same_kind : (kind : LogKind) (old : Option Logs) → old ≡ option_map (at_kind kind (λ l. l)) old
-same_kind kind None = refl
-same_kind Tlm (Some logs) = refl
-same_kind Cmd (Some logs) = refl
+-- parts that are whole are a beginning of themselves, and of more
+whole_begun : (l : Log) (ps h : List (List ℕ)) → AreWholeParts l ps → AreBegunParts l (joined ps h)
+whole_begun l ps h w = (
+  begins_grown ps (bytes_of l) h (subst (λ x. BeginsParts x (bytes_of l)) w.0 (begins_same (bytes_of l))),
+  ([], sym w.1 ∙ sym (append-nil l.synced)),
+)
 
-kind_twice : (kind : LogKind) (f g : Log → Log) (old : Option Logs) → option_map (at_kind kind g) (option_map (at_kind kind f) old) ≡ option_map (at_kind kind (λ l. g (f l))) old
-kind_twice kind f g None = refl
-kind_twice Tlm f g (Some logs) = refl
-kind_twice Cmd f g (Some logs) = refl
+pub full_begun : (l : Log) (ps : List (List ℕ)) → AreWholeParts l ps → AreBegunParts l ps
+full_begun l ps w = (subst (λ x. BeginsParts x (bytes_of l)) w.0 (begins_same (bytes_of l)), ([], sym w.1 ∙ sym (append-nil l.synced)))
 
--- no bytes are not appended
-pub puts_none : (kind : LogKind) (old : Option Logs) (bytes : List ℕ) (result : Result (Unit {0}) PutFailed) → bytes ≡ [] → result ≡ Ok tt → PutsLog kind old old bytes result
-puts_none kind old bytes result none ok = subst (PutsLog kind old old bytes) (sym ok)
-    ((λ l. l), (λ l before w. subst (IsWhole l) (sym (ap (λ b. before ++ b) none ∙ append-nil before)) w), same_kind kind old)
-
--- an append fails
-pub puts_cut : (kind : LogKind) (old new : Option Logs) (bytes : List ℕ) (fault : PutFailed) → (n : ℕ) × (n ≤ length bytes) × (new ≡ option_map (at_kind kind (with_bytes (take n bytes))) old) → PutsLog kind old new bytes (Err fault)
-puts_cut kind old new bytes fault cut = (with_bytes (take cut.0 bytes), (λ l before w. whole_cut l before bytes cut.0 cut.1 w), cut.2)
-
--- an append, and then a sync, which may fail
-pub puts_synced : (kind : LogKind) (old mid new : Option Logs) (bytes : List ℕ) (result : Result (Unit {0}) PutFailed)
-    → mid ≡ option_map (at_kind kind (with_bytes bytes)) old → Syncs kind mid new result → PutsLog kind old new bytes result
-puts_synced kind old mid new bytes (Ok u) appended synced =
-    ((λ l. all_synced (with_bytes bytes l)), (λ l before w. whole_next l before bytes w), synced ∙ ap (option_map (at_kind kind all_synced)) appended ∙ kind_twice kind (with_bytes bytes) all_synced old)
-puts_synced kind old mid new bytes (Err e) appended synced = (with_bytes bytes, (λ l before w. whole_late l before bytes w), synced ∙ appended)
+left_begun : (result : Result (Unit {0}) PutFailed) (l : Log) (ps : List (List ℕ)) → AreWholeParts l ps → IsLeft result l ps
+left_begun (Ok u) l ps w = w
+left_begun (Err e) l ps w = full_begun l ps w
 
 -- ---- both logs
 
 -- the first fails
-pub both_first : (old new : Option Logs) (tlm cmd : List ℕ) (fault : PutFailed) → PutsLog Tlm old new tlm (Err fault) → PutsBoth old new tlm cmd (Err fault)
-both_first None new tlm cmd fault puts t c w = subst (λ n. LogsSo (IsLeft (Err fault)) (t ++ tlm) (c ++ cmd) n) (sym puts.2) (let u : Unit {0} = tt in u)
-both_first (Some logs) new tlm cmd fault puts t c w = subst (λ n. LogsSo (IsLeft (Err fault)) (t ++ tlm) (c ++ cmd) n) (sym puts.2) (puts.1 logs.tlm t w.0, whole_part logs.cmd c cmd w.1)
+pub both_first : (old new : Option Logs) (tlm cmd : List (List ℕ)) (fault : PutFailed) → PutsGrowth {T = Unit {0}} Tlm old new tlm (Err fault) → PutsBoth old new tlm cmd (Err fault)
+both_first old None tlm cmd fault puts t c w = tt
+both_first None (Some n) tlm cmd fault puts t c w = absurd (let e = puts.1 in cc)
+both_first (Some o) (Some n) tlm cmd fault puts t c w =
+    let e = puts.1 in
+    let same : n.cmd ≡ o.cmd = cc in
+    (puts.0 t w.0, subst (λ (l : Log). AreBegunParts l (joined c cmd)) (sym same) (whole_begun o.cmd c cmd w.1))
 
-left_part : (result : Result (Unit {0}) PutFailed) (l : Log) (bytes : List ℕ) → IsWhole l bytes → IsLeft result l bytes
-left_part (Ok u) l bytes w = w
-left_part (Err e) l bytes w = full_part l bytes w
+left_grown : (result : Result (Unit {0}) PutFailed) (o n : Log) (ps growth : List (List ℕ)) → Grows (Some o) (Some n) growth result → AreWholeParts o ps → IsLeft result n (joined ps growth)
+left_grown (Ok u) o n ps growth g w = g ps w
+left_grown (Err e) o n ps growth g w = g ps w
 
 -- the first succeeds
-pub both_second : (old mid new : Option Logs) (tlm cmd : List ℕ) (result : Result (Unit {0}) PutFailed) → PutsLog Tlm old mid tlm (Ok tt) → PutsLog Cmd mid new cmd result → PutsBoth old new tlm cmd result
-both_second None mid new tlm cmd result first second t c w =
-    subst (λ n. LogsSo (IsLeft result) (t ++ tlm) (c ++ cmd) n) (sym (second.2 ∙ ap (option_map (at_kind Cmd second.0)) first.2)) (let u : Unit {0} = tt in u)
-both_second (Some logs) mid new tlm cmd result first second t c w =
-    subst (λ n. LogsSo (IsLeft result) (t ++ tlm) (c ++ cmd) n) (sym (second.2 ∙ ap (option_map (at_kind Cmd second.0)) first.2))
-    (left_part result (first.0 logs.tlm) (t ++ tlm) (first.1 logs.tlm t w.0), second.1 logs.cmd c w.1)
+pub both_second : (old mid new : Option Logs) (tlm cmd : List (List ℕ)) (u : Unit {0}) (result : Result (Unit {0}) PutFailed) → PutsGrowth {E = PutFailed} Tlm old mid tlm (Ok u) → PutsGrowth Cmd mid new cmd result
+    → PutsBoth old new tlm cmd result
+both_second old mid None tlm cmd u result first second t c w = tt
+both_second old None (Some n) tlm cmd u result first second t c w = absurd (let e = second.1 in cc)
+both_second None (Some m) (Some n) tlm cmd u result first second t c w = absurd (let e = first.1 in cc)
+both_second (Some o) (Some m) (Some n) tlm cmd u result first second t c w =
+    let e = first.1 in
+    let f = second.1 in
+    let same : m.cmd ≡ o.cmd = cc in
+    let kept : n.tlm ≡ m.tlm = cc in (
+      subst (λ (l : Log). IsLeft result l (joined t tlm)) (sym kept) (left_begun result m.tlm (joined t tlm) (first.0 t w.0)),
+      left_grown result m.cmd n.cmd c cmd second.0 (subst (λ (l : Log). AreWholeParts l c) (sym same) w.1),
+    )
+
+-- ---- the heads
+
+-- what a head gives where nothing is cut
+pub head_growth : (head places : List ℕ) → places ≡ [] → cut_growth head places head ≡ head ∷ []
+head_growth head places none = ap (λ (l : List ℕ). cut_growth head l head) none
+
+one_blank : (l : Log) → IsBlank l → AreWholeParts l ([] ∷ [])
+one_blank l b = (ap (λ (p : List (List ℕ)). p ++ l.bytes ∷ []) b.2 ∙ ap (λ (x : List ℕ). x ∷ []) b.0, b.1 ∙ sym b.0)
+
+both_blank : (told : Option Logs) → AreBlank told → LogsSo AreWholeParts ([] ∷ []) ([] ∷ []) told
+both_blank None b = tt
+both_blank (Some logs) b = (one_blank logs.tlm b.0, one_blank logs.cmd b.1)
+
+-- the parts of no entries are a head
+none_parts : (kind : LogKind) (site : SiteData) (digest : List ℕ) → parts kind site digest [] ≡ head_of kind site digest ∷ []
+none_parts Tlm site digest = ap (λ (l : List ℕ). l ∷ []) (append-nil (head_of Tlm site digest))
+none_parts Cmd site digest = ap (λ (l : List ℕ). l ∷ []) (append-nil (head_of Cmd site digest))
+
+-- the heads are put first
+pub heads_put : (site : SiteData) (digest : List ℕ) (heads : Heads) (old new : Option Logs) (result : Result (Unit {0}) PutFailed) → AreHeads site digest heads → PutsBoth old new (heads.tlm ∷ []) (heads.cmd ∷ []) result → AreBlank old
+    → LogsSo (IsLeft result) (parts Tlm site digest []) (parts Cmd site digest []) new
+heads_put site digest heads old new result are puts blank =
+    subst (λ t. LogsSo (IsLeft result) t (parts Cmd site digest []) new) (ap (λ (l : List ℕ). l ∷ []) are.tlm ∙ sym (none_parts Tlm site digest))
+    (subst (λ c. LogsSo (IsLeft result) (heads.tlm ∷ []) c new) (ap (λ (l : List ℕ). l ∷ []) are.cmd ∙ sym (none_parts Cmd site digest)) (puts ([] ∷ []) ([] ∷ []) (both_blank old blank)))
+
+-- logs to which nothing was appended are a beginning of the parts of no entries
+pub blank_begun : (kind : LogKind) (site : SiteData) (digest : List ℕ) (l : Log) → IsBlank l → AreBegunParts l (parts kind site digest [])
+blank_begun kind site digest l b = (
+  subst (λ ps. BeginsParts ps (bytes_of l)) (sym (none_parts kind site digest))
+      (subst (λ ps. BeginsParts (head_of kind site digest ∷ []) ps) (sym (one_blank l b).0) (head_of kind site digest, refl)),
+  ([], b.0 ∙ sym (append-nil l.synced ∙ b.1)),
+)

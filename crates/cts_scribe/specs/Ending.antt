@@ -4,7 +4,7 @@ use Rattle.cts_def.specs.Sites.{SiteData}
 use Rattle.cts_entry.specs.declared.entry.Entry.{Entry}
 use Rattle.cts_outside.specs.Causes.{Rose}
 use Rattle.cts_outside.specs.Vaults.{Logs}
-use Rattle.cts_scribe.specs.Vaults.{AreBlank, AreParts, AreWhole}
+use Rattle.cts_scribe.specs.Vaults.{AreBegun, AreBlank, AreWhole}
 use Rattle.cts_scribe.specs.declared.ending.ScribeWhy.{ScribeWhy}
 use Rattle.cts_scribe.specs.declared.ending.ScribeWhy.TheVariants.{Drained, VaultFailed, NoMemory, Cancelled}
 
@@ -27,11 +27,11 @@ abbrev pub CausesEndIf : ℕ → ℕ → Option ScribeWhy → Type 0
 CausesEndIf before now None = now ≡ before
 CausesEndIf before now (Some why) = CausesEnd before now why
 
--- What the logs of the vault are at the end, beside those of the entries that were followed: whole and synced where the history is drained; after a
--- fault beginnings of them; and for want of memory whole and synced, or not begun.
+-- What the parts of the logs of the vault are at the end, beside those of the entries that were followed: whole and synced where the history is
+-- drained; after a fault a beginning of them; and for want of memory whole and synced, or not begun.
 abbrev pub LogsEnd : SiteData → List ℕ → List Entry → ScribeWhy → Option Logs → Type 0
 LogsEnd site digest followed Drained told = AreWhole site digest followed told
-LogsEnd site digest followed VaultFailed told = AreParts site digest followed told
+LogsEnd site digest followed VaultFailed told = AreBegun site digest followed told
 LogsEnd site digest followed NoMemory told = AreWhole site digest followed told ⊎ AreBlank told
 LogsEnd site digest followed Cancelled told = ⊥
 

@@ -3,45 +3,57 @@ use Rattle.std.specs.Prelude.{◌≡◌, ℕ, ◌<◌, ◌≤◌, true, false, L
 use Rattle.cts_base.specs.declared.memory.Memory.{Memory}
 use Rattle.cts_def.specs.Sites.{SiteData}
 use Rattle.cts_entry.specs.declared.entry.Entry.{Entry}
-use Rattle.cts_outside.specs.declared.vault.LogKind.TheVariants.{Tlm, Cmd}
+use Rattle.cts_outside.specs.Vaults.{Logs}
 use Rattle.cts_trace.specs.Makers.{of_maker}
 use Rattle.cts_turn.specs.Lists.{has}
 use Rattle.cts_turn.specs.declared.rule.View.{View}
 use Rattle.cts_worker.specs.declared.progress.Progress.{Progress}
 use Rattle.cts_worker.specs.Followed.{Follows, HaveEnded}
 use Rattle.cts_worker.specs.Lasts.{first_moment, last_entries}
+use Rattle.cts_scribe.specs.declared.cycles.Cycles.{Cycles}
 use Rattle.cts_scribe.specs.declared.ending.ScribeWhy.{ScribeWhy}
 use Rattle.cts_scribe.specs.declared.ending.ScribeWhy.TheVariants.{Drained as IsDrainedWhy, VaultFailed, NoMemory, Cancelled}
+use Rattle.cts_scribe.specs.declared.growth.Growth.{Growth}
 use Rattle.cts_scribe.specs.declared.sight.Sight.{Sight}
 use Rattle.cts_scribe.specs.declared.sight.Sight.TheVariants.{More, Still, Drained}
 use Rattle.cts_scribe.specs.Ending.{stops_all}
-use Rattle.cts_scribe.specs.Logs.{entries_log}
+use Rattle.cts_scribe.specs.Growing.{Count, GivesBoth}
+use Rattle.cts_scribe.specs.Vaults.{AreSynced}
 
--- The next entries were followed, at least one, and this is what they give to the logs: each log of all that were followed is what it was of
--- those before, and then this.
-pub record Lays (site : SiteData) (history : List Entry) (p q : Progress) (tlm cmd : List ℕ) : Type 0 where
+-- The next entries were followed, at least one, and this is what they give to the logs: the parts of each log of all that were followed are what
+-- they were of those before, grown by this.
+pub record Lays (site : SiteData) (history : List Entry) (p q : Progress) (growth : Growth) : Type 0 where
   pub further : p.place < q.place
   pub follows : Follows q history
-  pub tlm_is : entries_log Tlm site (take p.place history) ++ tlm ≡ entries_log Tlm site (take q.place history)
-  pub cmd_is : entries_log Cmd site (take p.place history) ++ cmd ≡ entries_log Cmd site (take q.place history)
+  pub gives : GivesBoth site history p.place q.place growth
 
 -- All entries were followed up to this place, and every other worker has ended.
 pub record IsDrained (site : SiteData) (by place : ℕ) (history : List Entry) : Type 0 where
   pub last : place ≡ length history
   pub others : HaveEnded site by history
 
--- What a look gives of the entries of a hall, and what they are after it. The scribe's Ended came to them exactly where they are drained.
-abbrev pub Sees : SiteData → ℕ → List Entry → Progress → Result Sight Memory → List Entry → Progress → Type 0
-Sees site by old p (Ok (More batch)) new q = (new ≡ old) × Lays site old p q batch.tlm.items batch.cmd.items
-Sees site by old p (Ok Still) new q = (new ≡ old) × (q ≡ p) × (IsDrained site by p.place old → ⊥)
-Sees site by old p (Ok Drained) new q = (new ≡ old ++ last_entries false by first_moment old) × (q ≡ p) × IsDrained site by p.place old
-Sees site by old p (Err m) new q = (new ≡ old) × (q ≡ p)
+-- What a look gives of the entries of a hall, and what they are after it, and how far the cycles have counted then. The scribe's Ended came to
+-- the entries exactly where they are drained.
+abbrev pub Sees : SiteData → ℕ → List Entry → Progress → Result Sight Memory → List Entry → Progress → Cycles → Type 0
+Sees site by old p (Ok (More growth)) new q c = (new ≡ old) × Lays site old p q growth × Count site (take q.place old) c
+Sees site by old p (Ok Still) new q c = (new ≡ old) × (q ≡ p) × (IsDrained site by p.place old → ⊥) × Count site (take q.place old) c
+Sees site by old p (Ok Drained) new q c = (new ≡ old ++ last_entries false by first_moment old) × (q ≡ p) × IsDrained site by p.place old
+Sees site by old p (Err m) new q c = (new ≡ old) × (q ≡ p)
 
 -- A scribe between two looks: it has followed some of what its pass has seen, in which no entry is its own.
 pub record Following {G : Type 0} (by : ℕ) (v : View Entry G) (p : Progress) : Type 0 where
   pub makers : has by v.makers ≡ true
   pub silent : of_maker by v.seen ≡ []
   pub follows : Follows p v.seen
+
+-- between two looks the cycles have counted what was followed, and the logs are synced; of an end nothing is said
+abbrev pub CountIf : SiteData → List Entry → Cycles → Option ScribeWhy → Type 0
+CountIf site followed c None = Count site followed c
+CountIf site followed c (Some why) = Unit {0}
+
+abbrev pub SyncedIf : Option Logs → Option ScribeWhy → Type 0
+SyncedIf told None = AreSynced told
+SyncedIf told (Some why) = Unit {0}
 
 -- at this end the history is drained
 abbrev pub DrainsAt : SiteData → ℕ → ScribeWhy → ℕ → List Entry → Type 0

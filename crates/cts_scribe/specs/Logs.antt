@@ -1,5 +1,5 @@
 -- The packet logs of a site's history: what stands in each of them after some of its entries.
-use Rattle.std.specs.Prelude.{ℕ, Bool, ◌&&◌, List, ◌++◌, map}
+use Rattle.std.specs.Prelude.{◌≡◌, ℕ, Bool, ◌&&◌, List, [], ◌∷◌, ◌++◌, map, None}
 use Rattle.std.specs.List.{filter}
 use Rattle.cts_connection.specs.Routings.{is_logged}
 use Rattle.cts_def.specs.Sites.{SiteData}
@@ -7,10 +7,13 @@ use Rattle.cts_entry.specs.declared.entry.Entry.{Entry}
 use Rattle.cts_entry.specs.Histories.{bytes_of, commands_to, packets_from, stored_of}
 use Rattle.cts_framing.specs.Layouts.{has_flags}
 use Rattle.cts_log_batch.specs.Laying.{commands_log, names, packets_log}
-use Rattle.cts_log.specs.Files.{log_head}
+use Rattle.cts_log.specs.Cycling.{CycleData}
+use Rattle.cts_log.specs.Files.{log_head, log_head_len}
 use Rattle.cts_log.specs.Logged.{Logged}
 use Rattle.cts_log.specs.declared.kind.LogKind.{LogKind as FileKind}
 use Rattle.cts_log.specs.declared.kind.LogKind.TheVariants.{Tlm as TlmFile, Cmd as CmdFile}
+use Rattle.cts_log_parts.specs.Grouping.{size_after}
+use Rattle.cts_log_parts.specs.Parts.{counted, entry_len, groups_of, log_parts}
 use Rattle.cts_outside.specs.declared.vault.LogKind.{LogKind}
 use Rattle.cts_outside.specs.declared.vault.LogKind.TheVariants.{Tlm, Cmd}
 use Rattle.cts_trace.specs.Routing.{heading_of}
@@ -25,9 +28,13 @@ abbrev pub entries_log : LogKind → SiteData → List Entry → List ℕ
 entries_log Tlm site entries = packets_log site entries
 entries_log Cmd site entries = commands_log site entries
 
--- a log after some entries, in the site's layout and with the digest of the definitions in its head
+-- the head of a log, in the site's layout and with the digest of the definitions
+abbrev pub head_of : LogKind → SiteData → List ℕ → List ℕ
+head_of kind site digest = log_head (file_kind kind) (has_flags site.log_layout) digest
+
+-- a log after some entries, in one part
 abbrev pub log : LogKind → SiteData → List ℕ → List Entry → List ℕ
-log kind site digest entries = log_head (file_kind kind) (has_flags site.log_layout) digest ++ entries_log kind site entries
+log kind site digest entries = head_of kind site digest ++ entries_log kind site entries
 
 -- ---- as a reader of the log sees it
 
@@ -43,3 +50,26 @@ logged_as site e = record { heading = heading_of (names site e.what) (has_flags 
 -- the entries of a log
 abbrev pub logged : LogKind → SiteData → List Entry → List Logged
 logged kind site entries = map (logged_as site) (filter (is_in_log kind site) entries)
+
+-- ---- in parts
+
+-- the parts of a log after some entries: each has its head and the longest beginning of the entries that are left with which it is no longer
+-- than the site's cycle, but at least one; without a cycle, or without entries, there is one part
+abbrev pub parts : LogKind → SiteData → List ℕ → List Entry → List (List ℕ)
+parts kind site digest entries = log_parts (file_kind kind) (has_flags site.log_layout) digest site.log_cycle (logged kind site entries)
+
+-- the entries of each part
+abbrev pub groups : LogKind → SiteData → List Entry → List (List Logged)
+groups kind site entries = groups_of (has_flags site.log_layout) site.log_cycle (logged kind site entries)
+
+-- what a cycle of the site counts after these entries: how long the last part is
+abbrev pub counted_after : LogKind → SiteData → List Entry → CycleData
+counted_after kind site entries = record {
+  limit = site.log_cycle;
+  size = counted site.log_cycle (size_after (entry_len (has_flags site.log_layout)) site.log_cycle log_head_len (logged kind site entries));
+}
+
+-- Without a cycle a log is one part.
+abbrev pub OnePartWithoutCycle : Type 0
+OnePartWithoutCycle = (kind : LogKind) (site : SiteData) (digest : List ℕ) (entries : List Entry) → site.log_cycle ≡ None
+    → parts kind site digest entries ≡ log kind site digest entries ∷ []

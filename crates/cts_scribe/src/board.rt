@@ -1,13 +1,15 @@
 // What a scribe does to the hall in one hold.
-ghost use Rattle.std.specs.Prelude.{◌≡◌, ◌<◌, ◌++◌, IfOk, false, length};
+ghost use Rattle.std.specs.Prelude.{◌≡◌, ◌<◌, ◌++◌, IfOk, false, length, take};
 ghost use Rattle.cts_scribe.specs.Following.{Lays, Sees};
+ghost use Rattle.cts_scribe.specs.Growing.{Count};
 ghost use Rattle.cts_worker.specs.Followed.{Follows};
 ghost use Rattle.cts_worker.specs.Lasts.{MayEnd, first_moment, last_entries};
 
+use crate::cycles::Cycles;
+use crate::growth::Growth;
 use crate::sight::Sight;
 use cts_base::Memory;
 use cts_def::{Site, Time};
-use cts_log_batch::Batch;
 use cts_table::Hall;
 use cts_trace::lend;
 use cts_worker::Progress;
@@ -33,18 +35,20 @@ pub(crate) fn see(
     hall: &mut Hall,
     by: u32,
     progress: &mut Progress,
+    cycles: &mut Cycles,
 ) -> Result<Sight, Memory>
     requires site { site.now ≡ hall.old.basis.site }
     requires may { MayEnd hall.old.basis.site by hall.old.entries }
     requires follows { Follows progress.old hall.old.entries }
-    ensures sees { Sees site.now by hall.old.entries progress.old result hall.new.entries progress.new }
+    requires count { Count site.now (take progress.old.place hall.old.entries) cycles.old }
+    ensures sees { Sees site.now by hall.old.entries progress.old result hall.new.entries progress.new cycles.new }
     ensures basis { hall.new.basis ≡ hall.old.basis }
 {
     hall.is_kept();
     if progress.place < hall.count() {
-        let (next, batch) = lay_out(alloc, site, hall, *progress)?;
+        let (next, growth) = lay_out(alloc, site, hall, *progress, cycles)?;
         *progress = next;
-        return Ok(Sight::More(batch));
+        return Ok(Sight::More(growth));
     }
     if !progress.have_ended(site, by) {
         return Ok(Sight::Still);
@@ -59,22 +63,25 @@ fn lay_out(
     site: &Site,
     hall: &Hall,
     from: Progress,
-) -> Result<(Progress, Batch), Memory>
+    cycles: &mut Cycles,
+) -> Result<(Progress, Growth), Memory>
     requires site { site.now ≡ hall.now.basis.site }
     requires ahead { from.place < length hall.now.entries }
     requires follows { Follows from hall.now.entries }
-    ensures { IfOk result (λ r. Lays site.now hall.now.entries from r.0 r.1.tlm.items r.1.cmd.items) }
+    requires count { Count site.now (take from.place hall.now.entries) cycles.old }
+    ensures lays { IfOk result (λ r. Lays site.now hall.now.entries from r.0 r.1) }
+    ensures count { IfOk result (λ r. Count site.now (take r.0.place hall.now.entries) cycles.new) }
 {
     hall.is_kept();
     let end = hall.count().min(from.place.saturating_add(MOST_LAID));
     let mut progress = from;
-    let mut batch = Batch::empty(alloc);
+    let mut growth = Growth::none(alloc);
     'entries: while progress.place < end {
         let entry = lend(hall, progress.place);
-        batch.add(alloc, site, entry)?;
+        growth.add(alloc, site, entry, cycles)?;
         progress.follow(entry);
     }
-    Ok((progress, batch))
+    Ok((progress, growth))
 }
 
 // Says that the scribe has ended.

@@ -30,8 +30,8 @@ fn recall_time(time: Time)
     let _micros = time.micros;
 }
 
-// What an entry of a site says fits into a log.
-fn recall_entry(site: &Site, entry: &Entry)
+/// What an entry of a site says fits into a log. It does nothing.
+pub(crate) fn recall_entry(site: &Site, entry: &Entry)
     requires of_site { (before : List EntryData) × IsOfSite site.now before entry.now }
     requires small { bytes_in (entry.now ∷ []) < 2 ^ 32 }
     ensures { FitsLogged (has_flags site.now.log_layout) (logged_as site.now entry.now) }

@@ -2,23 +2,20 @@
 ghost use Rattle.std.specs.Prelude.{◌≡◌, List, ℕ, take, true, IfErr, IfOk};
 ghost use Rattle.cts_def.specs.Makers.{scribe};
 ghost use Rattle.cts_scribe.specs.Ending.{CausesEnd, CausesEndIf, CausesHeads, HeadsPut, LogsEnd, LogsEndIf, stops_all};
-ghost use Rattle.cts_scribe.specs.Following.{Ends, Following, GoesOrEnds};
-ghost use Rattle.cts_scribe.specs.Vaults.{AreBlank, AreWhole};
+ghost use Rattle.cts_scribe.specs.Following.{CountIf, Ends, Following, GoesOrEnds, SyncedIf};
+ghost use Rattle.cts_scribe.specs.Growing.{AreHeads, Count};
+ghost use Rattle.cts_scribe.specs.Vaults.{AreBlank, AreSynced, AreWhole};
 ghost use Rattle.cts_turn.specs.Passes.{IsPassOf, view};
 ghost use Rattle.cts_worker.specs.Grounds.{ground};
 ghost use Rattle.cts_worker.specs.Holds.{Onward};
-ghost use Rattle.cts_framing.specs.Layouts.{has_flags};
-ghost use Rattle.cts_log.specs.Files.{log_head};
-ghost use Rattle.cts_log.specs.declared.kind.LogKind.TheVariants.{Cmd, Tlm};
 
 use crate::ending::ScribeWhy;
 use crate::follower::Follower;
+use crate::heads::Heads;
 use crate::holds::{give_up, look};
-use crate::putting::put_both;
+use crate::putting::{put_both, put_heads};
 use crate::sight::Sight;
-use cts_base::{Bytes, Memory};
 use cts_def::Site;
-use cts_log::{LogKind, head};
 use cts_outside::Vault;
 use cts_table::Hall;
 use cts_turn::Turn;
@@ -26,16 +23,7 @@ use cts_worker::nap;
 use std::alloc::Global;
 use std::sync::Wait;
 
-// The heads of both logs, in this layout.
-fn heads(alloc: Global, layout: u32, digest: &[u8; 16]) -> Result<(Bytes, Bytes), Memory>
-    ensures { IfOk result (λ r. (r.0 ≡ log_head Tlm (has_flags layout) digest.now) × (r.1 ≡ log_head Cmd (has_flags layout) digest.now)) }
-{
-    let tlm = head(alloc, LogKind::Tlm, layout, digest)?;
-    let cmd = head(alloc, LogKind::Cmd, layout, digest)?;
-    Ok((tlm, cmd))
-}
-
-/// Puts the heads of both logs, which are in the site's layout and have the digest of the definitions.
+/// Puts the heads of both logs, which are in the site's layout and have the digest of the definitions, and returns them for the parts to come.
 ///
 /// # Errors
 ///
@@ -45,14 +33,17 @@ pub(crate) fn begin_logs<V: Vault>(
     site: &Site,
     digest: &[u8; 16],
     vault: &mut V,
-) -> Result<(), ScribeWhy>
-    ensures puts { AreBlank (V.seen vault.old).told → HeadsPut site.now digest.now (V.seen vault.new).told result }
+) -> Result<Heads, ScribeWhy>
+    requires blank { AreBlank (V.seen vault.old).told }
+    ensures heads { IfOk result (λ heads. AreHeads site.now digest.now heads) }
+    ensures synced { IfOk result (λ heads. AreSynced (V.seen vault.new).told) }
+    ensures puts { HeadsPut site.now digest.now (V.seen vault.new).told result }
     ensures stops { IfErr result (λ why. stops_all why ≡ true) }
     ensures cause { CausesHeads (V.seen vault.old).faults (V.seen vault.new).faults result }
 {
-    match heads(alloc, site.log_layout, digest) {
-        Ok((tlm, cmd)) => match put_both(vault, tlm.as_slice(), cmd.as_slice()) {
-            Ok(()) => Ok(()),
+    match Heads::of(alloc, site, digest) {
+        Ok(heads) => match put_heads(alloc, vault, &heads) {
+            Ok(()) => Ok(heads),
             Err(_) => Err(ScribeWhy::VaultFailed),
         },
         Err(_) => Err(ScribeWhy::NoMemory),
@@ -67,30 +58,34 @@ fn attempt<R: Wait, V: Vault>(
     by: u32,
     turn: &Turn<Hall>,
     follower: Follower,
+    heads: &Heads,
     vault: &mut V,
 ) -> (Follower, Option<ScribeWhy>)
     requires pass { IsPassOf turn.now follower.pass }
     requires site { site.now ≡ (ground turn.now).site }
     requires scribe { by ≡ scribe }
     requires following { Following by (view follower.pass) follower.progress }
+    requires count { Count site.now (take follower.progress.place (view follower.pass).seen) follower.cycles }
+    requires synced { AreSynced (V.seen vault.old).told }
     ensures pass { IsPassOf turn.now result.0.pass }
     ensures onward { Onward (view follower.pass) (view result.0.pass) }
     ensures goes { GoesOrEnds site.now by result.1 (view result.0.pass) result.0.progress }
-    ensures logs { (digest : List ℕ) → AreWhole site.now digest (take follower.progress.place (view follower.pass).seen) (V.seen vault.old).told
+    ensures count { CountIf site.now (take result.0.progress.place (view result.0.pass).seen) result.0.cycles result.1 }
+    ensures synced { SyncedIf (V.seen vault.new).told result.1 }
+    ensures logs { (digest : List ℕ) → AreHeads site.now digest heads.now
+        → AreWhole site.now digest (take follower.progress.place (view follower.pass).seen) (V.seen vault.old).told
         → LogsEndIf site.now digest (take result.0.progress.place (view result.0.pass).seen) result.1 (V.seen vault.new).told }
     ensures cause { CausesEndIf (V.seen vault.old).faults (V.seen vault.new).faults result.1 }
 {
     let (follower, sight) = look(rt, alloc, site, by, turn, follower);
     match sight {
-        Ok(Sight::More(batch)) => {
-            match put_both(vault, batch.tlm.as_slice(), batch.cmd.as_slice()) {
-                Ok(()) => (follower, None),
-                Err(_) => {
-                    let follower = give_up(rt, by, turn, follower);
-                    (follower, Some(ScribeWhy::VaultFailed))
-                }
+        Ok(Sight::More(growth)) => match put_both(vault, heads, &growth) {
+            Ok(()) => (follower, None),
+            Err(_) => {
+                let follower = give_up(rt, by, turn, follower);
+                (follower, Some(ScribeWhy::VaultFailed))
             }
-        }
+        },
         Ok(Sight::Still) => {
             nap(rt);
             (follower, None)
@@ -111,21 +106,25 @@ pub(crate) fn follow<R: Wait, V: Vault>(
     by: u32,
     turn: &Turn<Hall>,
     mut follower: Follower,
+    heads: &Heads,
     vault: &mut V,
 ) -> (Follower, ScribeWhy)
     requires pass { IsPassOf turn.now follower.pass }
     requires site { site.now ≡ (ground turn.now).site }
     requires scribe { by ≡ scribe }
     requires following { Following by (view follower.pass) follower.progress }
+    requires count { Count site.now (take follower.progress.place (view follower.pass).seen) follower.cycles }
+    requires synced { AreSynced (V.seen vault.old).told }
     ensures pass { IsPassOf turn.now result.0.pass }
     ensures onward { Onward (view follower.pass) (view result.0.pass) }
     ensures ends { Ends site.now by result.1 (view result.0.pass).seen result.0.progress.place }
-    ensures logs { (digest : List ℕ) → AreWhole site.now digest (take follower.progress.place (view follower.pass).seen) (V.seen vault.old).told
+    ensures logs { (digest : List ℕ) → AreHeads site.now digest heads.now
+        → AreWhole site.now digest (take follower.progress.place (view follower.pass).seen) (V.seen vault.old).told
         → LogsEnd site.now digest (take result.0.progress.place (view result.0.pass).seen) result.1 (V.seen vault.new).told }
     ensures cause { CausesEnd (V.seen vault.old).faults (V.seen vault.new).faults result.1 }
 {
     'looks: for _ in rt.forever() {
-        let (next, end) = attempt(rt, alloc, site, by, turn, follower, vault);
+        let (next, end) = attempt(rt, alloc, site, by, turn, follower, heads, vault);
         follower = next;
         if let Some(why) = end {
             return (follower, why);

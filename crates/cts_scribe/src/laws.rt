@@ -1,6 +1,7 @@
 //! Laws of the logs that a scribe keeps.
 
 ghost use Rattle.cts_scribe.specs.Laws.{ClosedLogsAreWhole, LogsGrow, StopsLeaveLogs, StopsLeaveLogsOf};
+ghost use Rattle.cts_scribe.specs.Logs.{OnePartWithoutCycle};
 
 use crate::bounds::recall_entries;
 use cts_table::Hall;
@@ -10,8 +11,14 @@ pub fn logs_grow()
     ensures { LogsGrow }
 {}
 
-/// What any stop of the program or of the system leaves of a log that a scribe has appended to is a beginning of the log of the history, with all that was
-/// synced; and the reader of logs reads all entries that lie whole in it.
+/// At a site without a cycle a log is one part.
+pub fn one_part_without_cycle()
+    ensures { OnePartWithoutCycle }
+{}
+
+/// What any stop of the program or of the system leaves of the parts of a log that a scribe has appended to is a beginning of the parts of the log of the
+/// history, in which each part but the last is whole; and the reader of logs reads, file by file, a beginning of the log's entries, in which each entry that
+/// was synced stands once.
 pub fn stops_leave_logs()
     ensures { StopsLeaveLogs }
 {}
@@ -25,7 +32,8 @@ pub fn stops_leave_logs_of_halls(hall: &Hall, digest: &[u8; 16])
     let _digest = digest.len();
 }
 
-/// Where every worker but the scribe has ended, nothing comes to the logs any more: the logs of the closed history are those of what stood then.
+/// Where every worker but the scribe has ended, nothing comes to the logs any more: the logs of the closed history, and their parts, are those of what stood
+/// then.
 pub fn closed_logs_are_whole()
     ensures { ClosedLogsAreWhole }
 {}

@@ -6,6 +6,7 @@ ghost use Rattle.cts_entry.specs.Histories.{is_stopped};
 ghost use Rattle.cts_scribe.specs.declared.ending.ScribeWhy.TheVariants.{Cancelled};
 ghost use Rattle.cts_scribe.specs.Ending.{CausesEnd, LogsEnd, stops_all};
 ghost use Rattle.cts_scribe.specs.Following.{Ends, Following};
+ghost use Rattle.cts_scribe.specs.Growing.{Count};
 ghost use Rattle.cts_scribe.specs.Vaults.{AreBlank};
 ghost use Rattle.cts_trace.specs.Makers.{LastEnded, of_maker};
 ghost use Rattle.cts_turn.specs.Lists.{StartsWith, has};
@@ -14,6 +15,7 @@ ghost use Rattle.cts_worker.specs.Grounds.{ground};
 ghost use Rattle.cts_worker.specs.Holds.{Onward};
 ghost use Rattle.cts_worker.specs.Lasts.{first_moment, last_entries};
 
+use crate::cycles::Cycles;
 use crate::ending::{ScribeEnd, ScribeWhy};
 use crate::follower::Follower;
 use crate::following::{begin_logs, follow};
@@ -31,11 +33,12 @@ use std::sync::Wait;
 pub struct Scribe;
 
 impl Scribe {
-    /// Puts the heads of both logs, in the site's layout and with the digest of the definitions, and then follows the history: each packet of an interface that is logged, and
-    /// each command for one, is appended to its log once and in order, and synced, until every other worker has ended and nothing stands that was not
-    /// followed. It looks at the history in holds of the turn, and appends outside of them. Where an append or a sync fails or no memory is found, it stops
-    /// the server. Its last entry is Ended; its entries have the first moment. It waits for the turn, a few
-    /// milliseconds where nothing is new, and in the vault's calls.
+    /// Puts the heads of both logs, in the site's layout and with the digest of the definitions, and then follows the history: each packet
+    /// of an interface that is logged, and each command for one, is appended to its log once and in order, and synced, until every other worker has ended
+    /// and nothing stands that was not followed. Where the site has a cycle, an entry with which the last part of its log would be longer than that begins a
+    /// new part, unless that part has no entry yet; the last part is synced before. It looks at the history in holds of the turn, and appends outside of
+    /// them. Where an append, a sync or the beginning of a part fails or no memory is found, it stops the server. Its last entry is Ended; its entries
+    /// have the first moment. It waits for the turn, a few milliseconds where nothing is new, and in the vault's calls.
     pub fn run<R: Wait, V: Vault>(
         rt: &R,
         alloc: Global,
@@ -63,9 +66,10 @@ impl Scribe {
         let follower = Follower {
             pass,
             progress: Progress::begin(),
+            cycles: Cycles::begin(site),
         };
         let (follower, why) = work(rt, alloc, site, by, turn, follower, digest, vault);
-        let Follower { pass, progress } = follower;
+        let Follower { pass, progress, .. } = follower;
         ScribeEnd {
             pass,
             cursor: progress.place,
@@ -81,7 +85,8 @@ impl Scribe {
         requires scribe { by ≡ scribe }
         ensures pass { IsPassOf turn.now result.pass }
         ensures onward { Onward (view pass) (view result.pass) }
-        ensures own { (stood : List Entry) × StartsWith stood (view pass).seen × StartsWith (view result.pass).seen stood × (of_maker by (view result.pass).seen ≡ last_entries true by first_moment stood) }
+        ensures own { (stood : List Entry) × StartsWith stood (view pass).seen × StartsWith (view result.pass).seen stood
+            × (of_maker by (view result.pass).seen ≡ last_entries true by first_moment stood) }
         ensures stops { is_stopped (view result.pass).seen ≡ true }
         ensures cursor { result.cursor ≡ 0 }
         ensures why { result.why ≡ Cancelled }
@@ -111,6 +116,7 @@ fn work<R: Wait, V: Vault>(
     requires scribe { by ≡ scribe }
     requires following { Following by (view follower.pass) follower.progress }
     requires first { follower.progress.place ≡ 0 }
+    requires count { Count site.now [] follower.cycles }
     requires blank { AreBlank (V.seen vault.old).told }
     ensures pass { IsPassOf turn.now result.0.pass }
     ensures onward { Onward (view follower.pass) (view result.0.pass) }
@@ -119,7 +125,7 @@ fn work<R: Wait, V: Vault>(
     ensures cause { CausesEnd (V.seen vault.old).faults (V.seen vault.new).faults result.1 }
 {
     match begin_logs(alloc, site, digest, vault) {
-        Ok(()) => follow(rt, alloc, site, by, turn, follower, vault),
+        Ok(heads) => follow(rt, alloc, site, by, turn, follower, &heads, vault),
         Err(why) => (give_up(rt, by, turn, follower), why),
     }
 }

@@ -2,7 +2,8 @@
 use Rattle.std.specs.Prelude.{◌∷◌, [], ◌++◌, ℕ, List, codes}
 use Rattle.std.specs.List.{flat_map}
 use Rattle.cts_def.specs.declared.color.Color.{Color}
-use Rattle.cts_def.specs.declared.color.Color.TheVariants.{RedLow, YellowLow, Green, GreenLow, Blue, GreenHigh, YellowHigh, RedHigh, Stale, StateRed, StateYellow, StateGreen}
+use Rattle.cts_def.specs.declared.color.Color.TheVariants.{RedLow, YellowLow, Green, GreenLow, Blue, GreenHigh, YellowHigh, RedHigh, Stale, StateRed}
+use Rattle.cts_def.specs.declared.color.Color.TheVariants.{StateYellow, StateGreen}
 use Rattle.cts_def.specs.Sites.{SiteData}
 use Rattle.cts_script.specs.declared.limits_event.LimitsEvent.{LimitsEvent}
 use Rattle.cts_def.specs.Names.{packet_names, item_name}

@@ -28,7 +28,8 @@ IsOfStatement site s e = (e.0 ≡ s.line) × Says site s.words e.1
 
 -- The events are one of each statement, in order, with its line: the one that its words say.
 abbrev pub EventsAreOfTheirStatements : Type 0
-EventsAreOfTheirStatements = (site : SiteData) (all : List Statement) (events : List (ℕ × Event)) → events_of site all ≡ Ok events → AllZip (IsOfStatement site) all events
+EventsAreOfTheirStatements = (site : SiteData) (all : List Statement) (events : List (ℕ × Event)) → events_of site all ≡ Ok events
+    → AllZip (IsOfStatement site) all events
 
 -- ---- words
 

@@ -1,5 +1,6 @@
 -- What a word of a script says by itself.
-use Rattle.std.specs.Prelude.{ℕ, ◌%◌, ℤ, Bool, ◌==◌, ◌&&◌, ◌||◌, nat_lt, nat_le, unsigned_abs, List, length, codes, Option, Some, None, option_and_then, unwrap_or, if◌then◌else◌}
+use Rattle.std.specs.Prelude.{ℕ, ◌%◌, ℤ, Bool, ◌==◌, ◌&&◌, ◌||◌, nat_lt, nat_le, unsigned_abs, List, length, codes, Option, Some, None}
+use Rattle.std.specs.Prelude.{option_and_then, unwrap_or, if◌then◌else◌}
 use Rattle.std.specs.Int.{is_negative}
 use Rattle.std.specs.List.{list_all}
 use Rattle.std.specs.Result.{result_ok}

@@ -1,6 +1,7 @@
 //! What holds of all scripts.
 
-ghost use Rattle.cts_scriptread.specs.Laws.{CountsAreWritten, EventsAreOfTheirStatements, InterfacesAreNamed, LinesAreRefused, MakersAreNamed, NumbersAreWritten, RefusesTheFirst, SlotsAreNamed, TakesTheOthers};
+ghost use Rattle.cts_scriptread.specs.Laws.{CountsAreWritten, EventsAreOfTheirStatements, InterfacesAreNamed, LinesAreRefused, MakersAreNamed};
+ghost use Rattle.cts_scriptread.specs.Laws.{NumbersAreWritten, RefusesTheFirst, SlotsAreNamed, TakesTheOthers};
 
 /// A line has a cause exactly where its words say no event of the site. The line that is refused is the first one with a cause,
 /// and where none has a cause each line says one event.

@@ -83,6 +83,7 @@ module _ (stock : List Meaning) (definitions site : List ℕ) where
       early ps (halt.ShelfEmpty kind needed stocked) k = (k, refl)
       early ps (halt.HistoryFull entries bytes) k = (k, refl)
       early ps (halt.LogRefused place) k = (k, refl)
+      early ps (halt.UnknownName name) k = (k, refl)
 
 pub plan_counts : {T : Type 0} (result : Result T Halt) (ps : List Phase) (holds : T → Type 0) (files mid : FilesSeen) → Gives ps holds result
     → IsFound files mid → LoadCounts result files mid
@@ -118,6 +119,7 @@ work_counts (halt.Refused name kind line cause) old new files files' u f = f
 work_counts (halt.ShelfEmpty kind needed stocked) old new files files' u f = f
 work_counts (halt.HistoryFull entries bytes) old new files files' u f = f
 work_counts (halt.LogRefused place) old new files files' u f = f
+work_counts (halt.UnknownName name) old new files files' u f = f
 
 pub halts_late : (ps : List Phase) (h : Halt) (old new : SinkSeen) → first_halt ps ≡ None → UnstartedBy [] h old new → UnstartedBy ps h old new
 halts_late ps halt.Memory old new e u = u
@@ -129,6 +131,7 @@ halts_late ps (halt.Refused name kind line cause) old new e u = none_some (halt.
 halts_late ps (halt.ShelfEmpty kind needed stocked) old new e u = none_some (halt.ShelfEmpty kind needed stocked) u.0
 halts_late ps (halt.HistoryFull entries bytes) old new e u = none_some (halt.HistoryFull entries bytes) u.0
 halts_late ps (halt.LogRefused place) old new e u = none_some (halt.LogRefused place) u.0
+halts_late ps (halt.UnknownName name) old new e u = none_some (halt.UnknownName name) u.0
 
 pub halts_late_told : (stock : List Meaning) (definitions site : List ℕ) (told : Option (List ℕ → Option (List ℕ))) (h : Halt) (old new : SinkSeen)
     → IfSome told (λ all. first_halt (first_phases stock all definitions site) ≡ None) → UnstartedBy [] h old new
@@ -168,6 +171,7 @@ load_unserved (halt.Refused name Script line cause) files files' k = refl
 load_unserved (halt.ShelfEmpty kind needed stocked) files files' k = refl
 load_unserved (halt.HistoryFull entries bytes) files files' k = absurd k
 load_unserved (halt.LogRefused place) files files' k = refl
+load_unserved (halt.UnknownName name) files files' k = refl
 
 -- no vault failed
 pub unserved_logs : (h : Halt) → serves_on (halt_status h) ≡ false → HaltLogs h no_vault no_vault
@@ -180,6 +184,7 @@ unserved_logs (halt.Refused name kind line cause) e = refl
 unserved_logs (halt.ShelfEmpty kind needed stocked) e = refl
 unserved_logs (halt.HistoryFull entries bytes) e = refl
 unserved_logs (halt.LogRefused place) e = refl
+unserved_logs (halt.UnknownName name) e = refl
 
 pub unserved_status : (h : Halt) (status : Status) (old new : SinkSeen) → serves_on (halt_status h) ≡ false → EndsHalted h status old new
     → serves_on status ≡ false

@@ -17,6 +17,7 @@ use Rattle.cts_entry.specs.Legal.{most_entries}
 use Rattle.cts_entry.specs.declared.entry.Entry.{Entry}
 use Rattle.cts_line.specs.declared.ending.LineWhy.{LineWhy}
 use Rattle.cts_outside.specs.Causes.{Rose, raised}
+use Rattle.cts_outside.proofs.Putting.{appended-nil}
 use Rattle.cts_outside.specs.Seen.{CrewSeen, FilesSeen, LineSeen, SinkSeen, VaultSeen}
 use Rattle.cts_scribe.specs.declared.ending.ScribeWhy.{ScribeWhy}
 use Rattle.cts_server.specs.Aims.{desk_aims, line_aims, slot_aims}
@@ -27,7 +28,7 @@ use Rattle.cts_server.specs.declared.worked.Worked.{Worked}
 use Rattle.cts_run.specs.Lines.{end_line}
 use Rattle.cts_run.specs.Phases.{IsFound}
 use Rattle.cts_run.specs.Putting.{FailsWithin, IsPut, Printed}
-use Rattle.cts_serve.specs.Served.{DialFailedIn, EndsServing, IsFine, VaultRose, left, trouble_line, trouble_status}
+use Rattle.cts_serve.specs.Served.{DialFailedIn, EndsServing, IsFine, PutsWhole, VaultRose, left, trouble_line, trouble_status}
 use Rattle.cts_server.specs.Serving.{HasServed}
 use Rattle.cts_run.specs.declared.halt.status.Status.{Status}
 use Rattle.cts_run.specs.declared.halt.status.Status.TheVariants as is
@@ -51,34 +52,74 @@ module _ (lines : List LineWhy) (desks : List DeskNote) (scribe : ScribeWhy) (hi
       → IsPut text old mid → Printed mid new (trouble_line t history) → (t ≡ None → new ≡ mid)
       → EndsServing [] lines desks scribe history status old new
   told_end t status old mid new e s p q quiet = record {
+    ready = old;
+    mid = mid;
     written = true;
-    lost = λ f. absurd (cc f);
+    is_ready = (refl, sym (appended-nil old.told));
+    counted = p;
     status_is = s ∙ ap trouble_status e;
-    printed = subst (λ (u : Option Trouble). Printed old new (text ++ trouble_line u history)) e (printed_after text (trouble_line t history) old mid new p q);
-    steady = λ none. ap (λ (o : SinkSeen). o.faults) (quiet (e ∙ none)) ∙ p.0;
+    last = λ same. subst (λ (u : Option Trouble). Printed mid new (trouble_line u history)) e q;
+    quiet = λ same none. quiet (e ∙ none);
+    none = λ f. absurd (cc f);
   }
 
   -- it was not
   pub untold_end : (t : Option Trouble) (status : Status) (old new : SinkSeen) → t ≡ trouble_of (At false) → status ≡ trouble_status t
       → FailsWithin text old new → EndsServing [] lines desks scribe history status old new
   untold_end t status old new e s f = record {
+    ready = old;
+    mid = new;
     written = false;
-    lost = λ same. f.0;
+    is_ready = (refl, sym (appended-nil old.told));
+    counted = f;
     status_is = s ∙ ap trouble_status e;
-    printed = printed_part text (trouble_line (trouble_of (At false)) history) old new f;
-    steady = λ none. absurd (cc (sym ((plain_where_none (At false) none).written)));
+    last = λ same. absurd (cc same);
+    quiet = λ same. absurd (cc same);
+    none = λ same. refl;
   }
 
   -- after it was said that the server is ready
   pub ready_end : (status : Status) (old mid new : SinkSeen) → IsPut ready_line old mid → EndsServing [] lines desks scribe history status mid new
       → EndsServing ready_line lines desks scribe history status old new
   ready_end status old mid new p e = record {
+    ready = e.ready;
+    mid = e.mid;
     written = e.written;
-    lost = λ f. subst (λ (n : ℕ). Rose n new.faults) p.0 (e.lost f);
+    is_ready = (e.is_ready.0 ∙ p.0, e.is_ready.1 ∙ appended-nil mid.told ∙ p.1);
+    counted = e.counted;
     status_is = e.status_is;
-    printed = printed_after ready_line (text ++ trouble_line (trouble_of (At e.written)) history) old mid new p e.printed;
-    steady = λ none. e.steady none ∙ p.0;
+    last = e.last;
+    quiet = e.quiet;
+    none = e.none;
   }
+
+  module _ (status : Status) (old new : SinkSeen) (e : EndsServing ready_line lines desks scribe history status old new) where
+    -- the number of entries could not be put only where the count rose
+    pub ends_lost : e.written ≡ false → Rose old.faults new.faults
+    ends_lost f =
+        let counted : FailsWithin text e.ready e.mid = subst (λ (b : Bool). PutsWhole text b e.ready e.mid) f e.counted in
+        subst (λ (n : ℕ). Rose n new.faults) e.is_ready.0 (subst (λ (o : SinkSeen). Rose e.ready.faults o.faults) (sym (e.none f)) counted.0)
+
+    -- where no trouble shows, no put failed
+    pub ends_steady : trouble_of (At e.written) ≡ None → new.faults ≡ old.faults
+    ends_steady none =
+        let put : e.written ≡ true = (plain_where_none (At e.written) none).written in
+        let counted : IsPut text e.ready e.mid = subst (λ (b : Bool). PutsWhole text b e.ready e.mid) put e.counted in
+        ap (λ (o : SinkSeen). o.faults) (e.quiet put none) ∙ counted.0 ∙ e.is_ready.0
+
+    -- and what was put is a beginning of all that was to be
+    pub ends_printed : Printed old new (ready_line ++ (text ++ trouble_line (trouble_of (At e.written)) history))
+    ends_printed = by_written e.written refl
+      where
+        by_written : (b : Bool) → e.written ≡ b → Printed old new (ready_line ++ (text ++ trouble_line (trouble_of (At e.written)) history))
+        by_written true w =
+            printed_after ready_line (text ++ trouble_line (trouble_of (At e.written)) history) old e.ready new e.is_ready
+            (printed_after text (trouble_line (trouble_of (At e.written)) history) e.ready e.mid new
+            (subst (λ (b : Bool). PutsWhole text b e.ready e.mid) w e.counted) (e.last w))
+        by_written false w =
+            printed_after ready_line (text ++ trouble_line (trouble_of (At e.written)) history) old e.ready new e.is_ready
+            (printed_part text (trouble_line (trouble_of (At e.written)) history) e.ready new
+            (subst (λ (o : SinkSeen). FailsWithin text e.ready o) (sym (e.none w)) (subst (λ (b : Bool). PutsWhole text b e.ready e.mid) w e.counted)))
 
 -- ---- the trouble of a status
 
@@ -197,7 +238,8 @@ module _ {D Q V : Type 0} (line_seen : D → LineSeen) (door_seen : Q → LineSe
       (take (length site.interfaces) w.lines) (drop (length site.interfaces) w.lines)
 
   pub served_write : status ≡ is.WriteFault → Rose old.faults new.faults
-  served_write e = ends.lost (not_true ends.written (shown trouble.WriteFault (trouble_write (trouble_of told) (sym ends.status_is ∙ e))))
+  served_write e = ends_lost w.lines w.desks w.scribe w.history status old new ends (not_true ends.written (shown trouble.WriteFault (trouble_write
+      (trouble_of told) (sym ends.status_is ∙ e))))
 
   pub served_log : status ≡ is.LogFault → VaultRose vault_seen vault vault'
   served_log e = vault_failed vault_seen site digest w.history vault vault' w.scribe
@@ -258,7 +300,7 @@ module _ {D Q V : Type 0} (line_seen : D → LineSeen) (door_seen : Q → LineSe
       record {
         read = found.0;
         absent = found.1;
-        put = ends.steady none;
+        put = ends_steady w.lines w.desks w.scribe w.history status old new ends none;
         kept = vault_still vault_seen site digest w.history vault vault' w.scribe plain.scribe served.scribe;
         jobs = raised_never (count_by is_set (cancellations w)) crew.faults crew'.faults (none_cancelled w plain.lines plain.desks plain.scribe)
             (ap (λ (c : CrewSeen). c.faults) served.jobs);

@@ -2,3 +2,4 @@ pub mod Words
 pub mod Lines
 pub mod Served
 pub mod Serving
+pub mod Clauses

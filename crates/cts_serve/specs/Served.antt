@@ -1,5 +1,5 @@
 -- How a server ends whose workers have worked: its status, and what it puts last.
-use Rattle.std.specs.Prelude.{◌≡◌, ◌≤◌, ◌⊎◌, ℕ, Bool, true, false, List, [], ◌∷◌, ◌++◌, length, Option, Some, None}
+use Rattle.std.specs.Prelude.{◌≡◌, ◌≤◌, ◌⊎◌, ℕ, Bool, true, false, List, [], ◌∷◌, length, Option, Some, None}
 use Rattle.std.specs.List.{AllByRecursion}
 use Rattle.cts_server.specs.TroubleLaws.{is_plain_desk, is_plain_line}
 use Rattle.cts_server.specs.Troubles.{Left, has_closed, trouble_of}
@@ -50,15 +50,20 @@ abbrev pub PutsWhole : List ℕ → Bool → SinkSeen → SinkSeen → Type 0
 PutsWhole text true old new = IsPut text old new
 PutsWhole text false old new = FailsWithin text old new
 
--- After a text the number of entries was put, and the last line of the first trouble that shows, or a prefix of all that where a put
--- failed. The number of entries could not be put only where the count rose.
+-- After a text the number of entries was put, and then the last line of the first trouble that shows, or a beginning of it where its put
+-- failed. Where the number could not be put, the count rose, a beginning of it stands, and nothing more was put; that is then a trouble
+-- itself, and shows before those that have greater numbers.
 pub record EndsServing (text : List ℕ) (lines : List LineWhy) (desks : List DeskNote) (scribe : ScribeWhy) (history : List Entry) (status : Status)
     (old new : SinkSeen) : Type 0 where
+  pub ready : SinkSeen
+  pub mid : SinkSeen
   pub written : Bool
-  pub lost : written ≡ false → Rose old.faults new.faults
+  pub is_ready : IsPut text old ready
+  pub counted : PutsWhole (end_line (length history)) written ready mid
   pub status_is : status ≡ trouble_status (trouble_of (left written lines desks scribe history))
-  pub printed : Printed old new (text ++ (end_line (length history) ++ trouble_line (trouble_of (left written lines desks scribe history)) history))
-  pub steady : trouble_of (left written lines desks scribe history) ≡ None → new.faults ≡ old.faults
+  pub last : written ≡ true → Printed mid new (trouble_line (trouble_of (left written lines desks scribe history)) history)
+  pub quiet : written ≡ true → trouble_of (left written lines desks scribe history) ≡ None → new ≡ mid
+  pub none : written ≡ false → new ≡ mid
 
 -- a server that was not started left nothing
 pub record LeftNothing (e : Ended) : Type 0 where

@@ -1,25 +1,23 @@
 // The server: its words, its workers and its end.
-ghost use Rattle.std.specs.Prelude.{◌≡◌, ◌≤◌, ◌<◌, ◌↔◌, ◌⊎◌, [], drop, false, map, true, IfSome, IsSome, IsSomeAnd, None, Some};
-ghost use Rattle.std.specs.List.{AllByRecursion};
-ghost use Rattle.cts_def.specs.Most.{most_interfaces, most_slots};
+ghost use Rattle.std.specs.Prelude.{◌≡◌, ◌≤◌, ◌<◌, ◌↔◌, ◌⊎◌, [], false, map, true, IfSome, IsSome, IsSomeAnd, None, Some};
+ghost use Rattle.cts_def.specs.Most.{most_interfaces};
 ghost use Rattle.cts_def.specs.Sites.{SiteData};
 ghost use Rattle.cts_server.specs.Troubles.{has_closed};
 ghost use Rattle.cts_server.specs.declared.outcome.trouble.Trouble.TheVariants.{HistoryFull as FullHistory};
 ghost use Rattle.cts_entry.specs.Histories.{entries_in};
 ghost use Rattle.cts_entry.specs.Legal.{most_entries};
-ghost use Rattle.cts_outside.specs.Causes.{Rose, Steady, raised};
+ghost use Rattle.cts_outside.specs.Causes.{Steady};
 ghost use Rattle.cts_scribe.specs.Vaults.{AreBlank};
-ghost use Rattle.cts_server.specs.Places.{AreThere, IsStill, most_doors};
+ghost use Rattle.cts_server.specs.Headline.{Headline};
+ghost use Rattle.cts_server.specs.Places.{AreThere, most_doors};
 ghost use Rattle.cts_server.specs.Ready.{ready_line};
 ghost use Rattle.cts_server.specs.Serving.{HasIdled, HasServed};
 ghost use Rattle.cts_run.specs.Command.{ShelfAt, first_phases};
-ghost use Rattle.cts_run.specs.Laws.{IsShortOf};
-ghost use Rattle.cts_run.specs.Lines.{usage_line};
 ghost use Rattle.cts_run.specs.Load.{site_asked};
 ghost use Rattle.cts_run.specs.Phases.{first_halt};
-ghost use Rattle.cts_run.specs.Putting.{Printed};
-ghost use Rattle.cts_serve.specs.Served.{DialFailedIn, EndsServing, IsFine, LeftNothing, VaultIsSteady, VaultRose, serves_on};
-ghost use Rattle.cts_serve.specs.Serving.{HaltsServing, IsPlanned, worked_of};
+ghost use Rattle.cts_serve.specs.Clauses.{Starts, TellsFaults, TellsFull, TellsShelf, TellsUsage};
+ghost use Rattle.cts_serve.specs.Served.{DialFailedIn, EndsServing, IsFine, VaultIsSteady};
+ghost use Rattle.cts_serve.specs.Serving.{IsPlanned, worked_of};
 ghost use Rattle.cts_serve.specs.Words.{asked_to_serve};
 
 pub mod ended;
@@ -73,26 +71,18 @@ pub fn serve<
 ) -> Ended
     requires lines { AreThere most_interfaces lines.old.items }
     requires doors { AreThere most_doors doors.old.items }
-    // No client of a desk's door is connected.
-    requires still { AllByRecursion (IsStill Q.seen) (drop most_slots doors.old.items) }
     requires vault { IsSomeAnd vault.old (λ v. AreBlank (V.seen v).told) }
-    // ---- whether it was started
-    // It was, wherever the status is one of these.
-    ensures started { serves_on result.status ≡ true → IsSome result.scribe }
-    // Where it was not, it left nothing.
-    ensures nothing { result.scribe ≡ None → LeftNothing result }
-    // The phases of the words have no reason to halt where it was; and the reason why it was not is one of them, or came with `READY`.
-    ensures planned { IsSome result.scribe → IfSome (F.seen files.old).told
-        (λ all. IsSomeAnd (asked_to_serve (map (λ w. w.now) words.now)) (λ n. first_halt (first_phases (B.stock shelf.old) all n.0 n.1) ≡ None)) }
-    ensures halted { result.scribe ≡ None → IfSome (F.seen files.old).told
-        (λ all. IfSome (asked_to_serve (map (λ w. w.now) words.now))
-        (λ n. HaltsServing (first_phases (B.stock shelf.old) all n.0 n.1) result.status (O.seen out.old) (O.seen out.new))) }
-    // ---- what it did
-    // Where it was started: the history is legal, each worker owes what its kind owes, and all were the jobs of one `all` of the crew.
+    // Whether it was started: wherever its status is one that only such a server has, and only where no phase has a reason to halt.
+    ensures starts { Starts (F.seen files.old).told (asked_to_serve (map (λ w. w.now) words.now)) (B.stock shelf.old) result
+        (O.seen out.old) (O.seen out.new) }
+    // Where it was: the history is legal, each worker owes what its kind owes, and all were the jobs of one `all` of the crew. So it holds
+    // what the headline says.
     ensures served { IfSome result.scribe (λ scribe. (site : SiteData) × (digest : _) × IsPlanned (F.seen files.old).told
         (asked_to_serve (map (λ w. w.now) words.now)) site digest
         × HasServed D.seen Q.seen V.seen site digest (worked_of result scribe) lines.old.items lines.new.items doors.old.items doors.new.items
-        vault.old vault.new (W.seen crew.old) (W.seen crew.new)) }
+        vault.old vault.new (W.seen crew.old) (W.seen crew.new)
+        × Headline D.seen Q.seen V.seen site digest (worked_of result scribe) lines.old.items lines.new.items doors.old.items doors.new.items
+        vault.new) }
     // And there `READY` was put, the number of entries, and the last line of the first trouble that shows; its status is told.
     ensures ends { IfSome result.scribe (λ scribe. EndsServing ready_line result.lines result.desks scribe result.history result.status
         (O.seen out.old) (O.seen out.new)) }
@@ -106,31 +96,19 @@ pub fn serve<
     // The files stay.
     ensures stays { (F.seen files.new).told ≡ (F.seen files.old).told }
     // ---- its statuses
-    // Only where nothing failed and each worker ended for a plain reason.
+    // Fine only where nothing failed and each worker ended for a plain reason.
     ensures fine { result.status ≡ Status.Ok → IsFine V.seen (F.seen files.old) (F.seen files.new) (O.seen out.old)
         (O.seen out.new) vault.old vault.new (W.seen crew.old) (W.seen crew.new) result }
-    // Exactly where the words ask for no server; then the line that says which ones fit is put.
-    ensures usage { result.status ≡ Status.Usage ↔ (asked_to_serve (map (λ w. w.now) words.now) ≡ None) }
-    ensures misused { asked_to_serve (map (λ w. w.now) words.now) ≡ None → Printed (O.seen out.old) (O.seen out.new) usage_line }
-    // Only where a count rose in this call.
-    ensures read { result.status ≡ Status.ReadFault → Rose (F.seen files.old).faults (F.seen files.new).faults }
-    ensures absent { result.status ≡ Status.Absent → Rose (F.seen files.old).absences (F.seen files.new).absences }
-    ensures write { result.status ≡ Status.WriteFault → Rose (O.seen out.old).faults (O.seen out.new).faults }
-    ensures log { result.status ≡ Status.LogFault → VaultRose V.seen vault.old vault.new }
-    ensures worker { result.status ≡ Status.NoWorker → raised (W.seen crew.old).faults ≤ (W.seen crew.new).faults }
-    ensures door { result.status ≡ Status.DoorFault → DialFailedIn Q.seen doors.old.items doors.new.items }
-    // Only where a connection was closed since the history was full, or as many entries count in it as may; and where one was, no status
-    // with a greater number comes.
-    ensures full { result.status ≡ Status.HistoryFull → (has_closed FullHistory result.history ≡ true) ⊎ (entries_in result.history ≡ most_entries) }
-    ensures full_told { has_closed FullHistory result.history ≡ true → (result.status ≡ Status.Memory)
-        ⊎ ((result.status ≡ Status.WriteFault) ⊎ (result.status ≡ Status.HistoryFull)) }
-    // Only where all chains of the site need more boxes of a kind than the shelf holds; and there no other status comes, where no count
-    // rose, but want of memory.
-    ensures short { result.status ≡ Status.ShelfEmpty → IfSome (F.seen files.old).told
-        (λ all. IsSomeAnd (asked_to_serve (map (λ w. w.now) words.now)) (λ n. IsShortOf (B.stock shelf.old) all n.0 n.1)) }
-    ensures shelf { Steady (F.seen files.old).faults (F.seen files.new).faults → IfSome (F.seen files.old).told
-        (λ all. IfSome (asked_to_serve (map (λ w. w.now) words.now))
-        (λ n. IsShortOf (B.stock shelf.old) all n.0 n.1 → (result.status ≡ Status.ShelfEmpty) ⊎ (result.status ≡ Status.Memory))) }
+    // That of usage exactly where the words ask for no server; then the line that says which ones fit is put.
+    ensures usage { TellsUsage (asked_to_serve (map (λ w. w.now) words.now)) result.status (O.seen out.old) (O.seen out.new) }
+    // Those of faults only where a count rose in this call.
+    ensures faults { TellsFaults Q.seen V.seen result.status (F.seen files.old) (F.seen files.new) (O.seen out.old) (O.seen out.new)
+        doors.old.items doors.new.items vault.old vault.new (W.seen crew.old) (W.seen crew.new) }
+    // That of a full history by what was closed and by how much counts.
+    ensures full { TellsFull result.status result.history }
+    // That of a short shelf exactly where it is short, but for want of memory and faults.
+    ensures shelf { TellsShelf (F.seen files.old).told (asked_to_serve (map (λ w. w.now) words.now)) (B.stock shelf.old) result.status
+        (F.seen files.old) (F.seen files.new) }
     // Where the phases of the words have no reason to halt, no count rose and the limits of the history were not reached, all is fine, or memory ran out.
     ensures complete { Steady (F.seen files.old).faults (F.seen files.new).faults → Steady (F.seen files.old).absences (F.seen files.new).absences
         → Steady (O.seen out.old).faults (O.seen out.new).faults

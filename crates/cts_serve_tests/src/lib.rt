@@ -19,6 +19,10 @@ mod devices;
 #[cfg(test)]
 mod dumps;
 #[cfg(test)]
+mod each_call;
+#[cfg(test)]
+mod extracts;
+#[cfg(test)]
 mod failing;
 #[cfg(test)]
 mod faults;
@@ -27,11 +31,15 @@ mod gates;
 #[cfg(test)]
 mod instrument;
 #[cfg(test)]
+mod laid_out;
+#[cfg(test)]
 mod layouts;
 #[cfg(test)]
 mod limits;
 #[cfg(test)]
 mod logs;
+#[cfg(test)]
+mod parts;
 #[cfg(test)]
 mod refusals;
 #[cfg(test)]

@@ -5,7 +5,7 @@ use cts_rows::same;
 use std::test::Fail;
 
 const MISUSED: &str =
-    "$||INTERFACE I tcpip_client_interface.rb h 8080 8080 10.0 nil LENGTH 0 16 0 1||Usage usage: check DEFS SITE | replay DEFS SITE SCRIPT | rehearse N | dump LOG | serve DEFS SITE;";
+    "$||INTERFACE I tcpip_client_interface.rb h 8080 8080 10.0 nil LENGTH 0 16 0 1||Usage usage: check DEFS SITE | replay DEFS SITE SCRIPT | rehearse N | dump LOG | serve DEFS SITE | extract DEFS LOG TARGET PACKET KIND ITEMS;";
 
 const OTHER_WORDS: &str = "\
 no words|
@@ -21,8 +21,13 @@ a rehearsal with a leading zero|rehearse 01
 a rehearsal with a sign|rehearse +5
 a rehearsal with a word more|rehearse 5 5
 a dump without a log|dump
-a dump with a word more|dump x y
+a dump of 65 files|dump x x x x x x x x x x x x x x x x x x x x x x x x x x x x x x x x x x x x x x x x x x x x x x x x x x x x x x x x x x x x x x x x x
 a dump in capital letters|DUMP x
+columns without items|extract d s T P RAW
+columns with a word more|extract d s T P RAW I I
+columns by a kind in lower case|extract d s T P raw I
+columns by another kind|extract d s T P ALL I
+65 items|extract d s T P RAW ,,,,,,,,,,,,,,,,,,,,,,,,,,,,,,,,,,,,,,,,,,,,,,,,,,,,,,,,,,,,,,,,
 the server|serve d s";
 
 #[test]

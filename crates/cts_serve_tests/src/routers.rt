@@ -4,7 +4,7 @@ use crate::table::replays_go_so;
 use std::test::Fail;
 
 /// The interfaces of the instrument, and a router for the packets of the first.
-const ROUTED_SITE: &str = "\
+pub const ROUTED_SITE: &str = "\
 TITLE \"Demo\";\
 INTERFACE INST_INT tcpip_client_interface.rb localhost 8080 8080 10.0 nil LENGTH 0 16 0 1 BIG_ENDIAN 2 nil nil true;\
   TARGET INST;\
@@ -14,7 +14,7 @@ ROUTER OUT tcpip_server_interface.rb 2950 2950 10.0 nil PREIDENTIFIED;\
   ROUTE INST_INT";
 
 // Packets of both interfaces, limits, look-ups, a command, and what the router's client is given.
-const DEMO: &str = r#"
+pub const DEMO: &str = r#"
 @ the demo
 TIME 100 250000
 OPEN INST_INT

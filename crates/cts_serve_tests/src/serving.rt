@@ -1,12 +1,11 @@
 // A server over devices in memory.
-ghost use Rattle.std.specs.Prelude.{drop, IsSomeAnd};
-ghost use Rattle.std.specs.List.{AllByRecursion};
+ghost use Rattle.std.specs.Prelude.{IsSomeAnd};
 ghost use Rattle.cts_scribe.specs.Vaults.{AreBlank};
-ghost use Rattle.cts_server.specs.Places.{AreThere, IsStill};
+ghost use Rattle.cts_server.specs.Places.{AreThere};
 
 use crate::devices::{Devices, Gives, devices_of, failing, files, shelf};
 use cts_chain::Chain;
-use cts_outside::{Crew, FixedClock, Gate, Link, MemDialer, MemFiles, MemSink, Vault};
+use cts_outside::{Crew, FixedClock, Gate, MemDialer, MemFiles, MemSink, Vault};
 use cts_proto::Shelf;
 use cts_rows::in_one_line;
 use cts_serve::{Ended, serve};
@@ -59,7 +58,6 @@ fn serve_over<R: Threads + Wait + Sync, V: Vault + Send, W: Crew, G: Gate + Sync
 ) -> Ended
     requires lines { AreThere 16 devices.old.lines.items }
     requires doors { AreThere 12 devices.old.doors.items }
-    requires still { AllByRecursion (IsStill ⟦<MemDialer as Link>⟧.seen) (drop 8 devices.old.doors.items) }
     requires vault { IsSomeAnd devices.old.vault (λ v. AreBlank (V.seen v).told) }
 {
     let clock = FixedClock::new(100, 250_000);

@@ -60,27 +60,29 @@ const RESPONSES: &str = r#"
 44;X-Cts-Front: 14;;{"id":3,"jsonrpc":"2.0","result":"12.435 C"}
 84;X-Cts-Front: 14;;{"error":{"code":-32002,"message":"Not connected: INST_INT"},"id":4,"jsonrpc":"2.0"}"#;
 
+/// A server of this site over a crew that takes turns, with devices that give this.
+pub fn turned<R: Threads + Wait + Sync>(
+    rt: &R,
+    alloc: Global,
+    words: &str,
+    site: &str,
+    gives: Gives<'_>,
+) -> Result<Served<MemVault>, Fail> {
+    let mut crew = TurnCrew::new(failing(alloc, gives.failing, "c")?);
+    let vault = MemVault::new(alloc, failing(alloc, gives.failing, "v")?);
+    let gate = OpenGate::new();
+    serve_demo(rt, alloc, words, site, gives, vault, &mut crew, &gate)
+}
+
 /// A server of the demo over a crew that takes turns, where these calls fail.
-fn in_turn<R: Threads + Wait + Sync>(
+pub fn in_turn<R: Threads + Wait + Sync>(
     rt: &R,
     alloc: Global,
     words: &str,
     failing_words: &str,
 ) -> Result<Served<MemVault>, Fail> {
     let site = format!(in alloc; "{INTERFACES}{ROUTER}")?;
-    let mut crew = TurnCrew::new(failing(alloc, failing_words, "c")?);
-    let vault = MemVault::new(alloc, failing(alloc, failing_words, "v")?);
-    let gate = OpenGate::new();
-    serve_demo(
-        rt,
-        alloc,
-        words,
-        &site,
-        demo(failing_words),
-        vault,
-        &mut crew,
-        &gate,
-    )
+    turned(rt, alloc, words, &site, demo(failing_words))
 }
 
 /// How a server has ended: its status, what it printed, why each worker ended, what the logs have, and whether the devices are in their places.
@@ -127,7 +129,7 @@ fn responses(alloc: Global, left: &Served<MemVault>) -> Result<String, Fail> {
 }
 
 /// The entries of the history that a server left, by the demo's site.
-fn entries(alloc: Global, left: &Served<MemVault>) -> Result<String, Fail> {
+pub fn entries(alloc: Global, left: &Served<MemVault>) -> Result<String, Fail> {
     let text = format!(in alloc; "{INTERFACES}{ROUTER}")?;
     let site = site_of(alloc, DEFINITIONS, &text)?;
     transcript(alloc, &site, &left.ended.history)
@@ -157,7 +159,7 @@ fn the_demo_is_served(rt: HostRuntime) -> Result<(), Fail> {
 /// The words, the calls that fail, and how the server ends. Calls are `f` of the files, `o` of the output, `v` of the vault, `c` of the crew, `l0` of the first
 /// dialer and `d0` of the first door, each with its number; where the shelf is to be so, `empty`.
 const STATUSES: &str = "\
-serve d||Usage usage: check DEFS SITE | replay DEFS SITE SCRIPT | rehearse N | dump LOG | serve DEFS SITE; [] None 0/0 0/0 idle
+serve d||Usage usage: check DEFS SITE | replay DEFS SITE SCRIPT | rehearse N | dump LOG | serve DEFS SITE | extract DEFS LOG TARGET PACKET KIND ITEMS; [] None 0/0 0/0 idle
 serve x s||Absent absent: x; [] None 0/0 0/0 idle
 serve d x||Absent absent: x; [] None 0/0 0/0 idle
 serve s s||ConfigRefused refused: s line 1: UnknownKeyword; [] None 0/0 0/0 idle

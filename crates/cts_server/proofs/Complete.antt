@@ -23,24 +23,26 @@ use Rattle.cts_http.specs.Requests.{Closed as LastClosed, Waiting, Refused as Re
 use Rattle.cts_line.specs.Talks.{room_of}
 use Rattle.cts_line.specs.Telling.{made_by, since}
 use Rattle.cts_line.specs.declared.ending.LineWhy.{LineWhy}
-use Rattle.cts_outside.specs.Lines.{Connection, Line, aimed, told_after}
+use Rattle.cts_outside.specs.Lines.{Connection, Line, aimed, hung_up, told_after}
 use Rattle.cts_outside.specs.Seen.{LineSeen, VaultSeen}
 use Rattle.cts_outside.specs.declared.link.Aim.{Aim}
 use Rattle.cts_table.specs.Keeping.{IsKept, rules_of}
 use Rattle.cts_table.specs.declared.basis.Basis.{Basis}
 use Rattle.cts_entry.specs.Room.{Capacity}
 use Rattle.cts_trace.specs.Lines.{Causes, Looked}
-use Rattle.cts_trace.specs.Makers.{closes_for, of_maker}
+use Rattle.cts_trace.specs.Makers.{closes_for}
 use Rattle.cts_trace.specs.Routing.{Routing}
 use Rattle.cts_trace.specs.Told.{Said, ToldBy, Unopened}
 use Rattle.cts_trace.proofs.Connecting.{bad_frame_is_of_chain}
 use Rattle.cts_server.specs.Aims.{aimed_at, desk_aims, line_aims, slot_aims}
 use Rattle.cts_server.specs.Complete.{AnswersAll, AreServed, DeskAnswers, HasRunOut, IsComplete, IsServed, LineRunsOut, RunOut, RunsOut, Unstopped}
 use Rattle.cts_server.specs.Complete.{cut_before, is_stopped_why}
+use Rattle.cts_server.specs.Desks.{is_cancelled}
 use Rattle.cts_server.specs.Owed.{DeskOwes, LineOwes, ScribeOwes, server_basis}
 use Rattle.cts_server.specs.Places.{CameBack}
 use Rattle.cts_server.specs.declared.worked.DeskNote.{DeskNote}
 use Rattle.cts_server.specs.declared.worked.Worked.{Worked}
+use Rattle.cts_server.proofs.Closed.{whole_logs}
 use Rattle.cts_server.proofs.Once.{ends_once}
 
 -- ---- the connections of a desk
@@ -91,26 +93,12 @@ told_answers b by fronts found history last was (Some line) t =
           (is_stopped history) [] s.1 t.exchanges s.3;
     }
 
--- a door that is as it was tells no connection besides
-idle_answers : (b : Basis) (by : ℕ) (fronts : List ℕ) (history : List Entry) (told : Option Line) → fronts ≡ []
-    → IfSome told (λ (line : Line). AnswersAll b by history fronts (past_of told) line)
-idle_answers b by fronts history None none = tt
-idle_answers b by fronts history (Some line) none = record {
-  gone = [];
-  past = sym (append-nil line.past);
-  exchanges = [];
-  fronts_are = none;
-  last =
-      of_maker by history;
-  stand = refl;
-  served = refl;
-}
-
-past_aimed : (aim : Aim) (told : Option Line) → past_of (told_after (aimed aim) told) ≡ past_of told
+-- an aim makes and hangs up no connection
+past_aimed : (aim : Aim) (told : Option Line) → past_of (told_after hung_up (told_after (aimed aim) told)) ≡ past_of (told_after hung_up told)
 past_aimed aim None = refl
 past_aimed aim (Some line) = refl
 
-made_aimed : (aim : Aim) (told : Option Line) → made_by (told_after (aimed aim) told) ≡ made_by told
+pub made_aimed : (aim : Aim) (told : Option Line) → made_by (told_after (aimed aim) told) ≡ made_by told
 made_aimed aim None = refl
 made_aimed aim (Some line) = refl
 
@@ -119,13 +107,12 @@ pub desk_answers : {X : Type 0} (seen : X → LineSeen) (site : SiteData) (histo
 desk_answers seen site history by aim before now note owes =
     let b = server_basis site in
     let old = aimed_at aim (seen before) in
-    subst (λ (was : List Connection). IfSome (seen now).told (λ (line : Line). AnswersAll b by history note.fronts was line))
-    (past_aimed aim (seen before).told)
-    (elim owes.1 [
-      | inl r ↦ told_answers b by note.fronts owes.0 history _ (past_of old.told) (seen now).told r.stands
-      | inr u ↦ subst (λ (s : LineSeen). IfSome s.told (λ (line : Line). AnswersAll b by history note.fronts (past_of old.told) line)) (sym u.same)
-          (idle_answers b by note.fronts history old.told u.none)
-    ])
+    elim owes.1 [
+      | inl r ↦ inr (subst (λ (was : List Connection). IfSome (seen now).told (λ (line : Line). AnswersAll b by history note.fronts was line))
+          (past_aimed aim (seen before).told)
+          (told_answers b by note.fronts owes.0 history _ (past_of (told_after hung_up old.told)) (seen now).told r.stands))
+      | inr u ↦ inl (ap is_cancelled u.cancelled, u.none, u.same)
+    ]
 
 -- ---- the connections of a line
 
@@ -248,7 +235,7 @@ none_cut r before (e ∷ es) calm all =
 -- ---- those of a site
 
 module _ {X N : Type 0} (Owes Says : ℕ → Aim → X → X → N → Type 0) (tells : (n : ℕ) (a : Aim) (x y : X) (w : N) → Owes n a x y w → Says n a x y w) where
-  came_all : (by : ℕ) (aims : List Aim) (old new : List (Option X)) (notes : List N) → CameBack Owes by aims old new notes → CameBack Says by aims old new notes
+  pub came_all : (by : ℕ) (aims : List Aim) (old new : List (Option X)) (notes : List N) → CameBack Owes by aims old new notes → CameBack Says by aims old new notes
   came_all by [] old new [] b = b
   came_all by [] old new (w ∷ notes) b = absurd b
   came_all by (a ∷ aims) [] new notes b = absurd b
@@ -275,7 +262,7 @@ module _ {D Q V : Type 0} (line_seen : D → LineSeen) (door_seen : Q → LineSe
           (drop (length site.interfaces) w.lines) slots;
     }
 
-    pub completes : IsComplete line_seen door_seen site w dialers dialers' doors doors'
+    pub completes : IsComplete line_seen door_seen vault_seen site digest w dialers dialers' doors doors' vault'
     completes = record {
       once = ends_once line_seen door_seen vault_seen site digest w.history dialers dialers' (take 8 doors) (take 8 doors') (drop 8 doors)
           (drop 8 doors') vault vault' (take (length site.interfaces) w.lines) (drop (length site.interfaces) w.lines) w.desks w.scribe kept
@@ -283,4 +270,5 @@ module _ {D Q V : Type 0} (line_seen : D → LineSeen) (door_seen : Q → LineSe
       answered = came_all (DeskOwes door_seen site w.history) (DeskAnswers door_seen site w.history)
           (desk_answers door_seen site w.history) first_desk (desk_aims site) (drop 8 doors) (drop 8 doors') w.desks desks;
       unstopped = unstopped;
+      logs = λ sound is. whole_logs vault_seen site digest w.history vault vault' w.scribe sound kept scribe is;
     }

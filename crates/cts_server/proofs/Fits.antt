@@ -1,7 +1,7 @@
 -- The chains and doors of a site fit its workers.
-use Rattle.std.proofs.Common.{◌≡◌, ℕ, zero, suc, ◌+◌, ◌-◌, ◌*◌, ◌/◌, ◌<◌, ◌≤◌, true, false, List, [], ◌∷◌, length, map, drop, take, get_or, Option}
+use Rattle.std.proofs.Common.{◌≡◌, ℕ, zero, suc, ◌+◌, ◌-◌, ◌*◌, ◌/◌, ◌<◌, ◌≤◌, true, false, List, [], ◌∷◌, length, map, drop, get_or, Option}
 use Rattle.std.proofs.Common.{refl, sym, ◌∙◌, ap, subst, arith, length-drop}
-use Rattle.std.specs.List.{AllByRecursion, flat_map}
+use Rattle.std.specs.List.{flat_map}
 use Rattle.std.proofs.lemmas.List.{get_or-drop, length-map, length-replicate}
 use Rattle.std.proofs.lemmas.Bool.{and_from, le-leb, lt-ltb, le-ltb}
 use Rattle.cts_chain.specs.Builds.{AreFresh, IsFresh}
@@ -14,9 +14,7 @@ use Rattle.cts_def.specs.Protocols.{UseData}
 use Rattle.cts_def.specs.Sites.{IsSoundSite, RouterData, SiteData}
 use Rattle.cts_entry.specs.Workers.{is_desk, is_interface, is_slot}
 use Rattle.cts_framing.specs.Chains.{uses_at}
-use Rattle.cts_outside.specs.Seen.{LineSeen}
 use Rattle.cts_server.specs.Aims.{desk_aims, door_aim, interface_aim, line_aims, router_aims, slot_aims}
-use Rattle.cts_server.specs.Places.{IsStill}
 use Rattle.cts_server.specs.Making.{AreFit, FitsDesk, FitsLine}
 
 -- ---- how many aims there are
@@ -66,7 +64,7 @@ module _ {C : Type 0} (shape : C → ChainData) where
   fresh_drop (suc n) (u ∷ us) (c ∷ cs) fresh = fresh_drop n us cs fresh.1
 
 module _ (site : SiteData) where
-  interface_tells : (j : ℕ) → j < length site.interfaces → is_interface site j ≡ true
+  pub interface_tells : (j : ℕ) → j < length site.interfaces → is_interface site j ≡ true
   interface_tells j lt = lt-ltb j (length site.interfaces) lt
 
   slot_tells : (j : ℕ) → j < 2 * length site.routers → is_slot site (first_slot + j) ≡ true
@@ -74,7 +72,7 @@ module _ (site : SiteData) where
       let half : router_of (first_slot + j) ≡ j / 2 = ap (λ (n : ℕ). n / 2) (omega arith) in
       and_from _ _ (le-leb first_slot (first_slot + j) (omega arith)) (lt-ltb (router_of (first_slot + j)) (length site.routers) (omega (arith, lt, half)))
 
-  no_interface : (j : ℕ) → length site.interfaces ≤ 16 → is_interface site (first_slot + j) ≡ false
+  pub no_interface : (j : ℕ) → length site.interfaces ≤ 16 → is_interface site (first_slot + j) ≡ false
   no_interface j few = le-ltb (first_slot + j) (length site.interfaces) (omega (arith, few))
 
   pub desk_tells : (j : ℕ) → j < site.desks → is_desk site (first_desk + j) ≡ true
@@ -120,21 +118,19 @@ module _ {C : Type 0} (shape : C → ChainData) (site : SiteData) (cs : List C) 
 
 -- ---- doors
 
-doors_run : {A Q : Type 0} (seen : Q → LineSeen) (site : SiteData) (by : ℕ) (aims : List A) (doors : List (Option Q))
-    → ((j : ℕ) → j < length aims → is_desk site (by + j) ≡ true) → length aims ≤ length doors
-    → AllByRecursion (IsStill seen) (take (length aims) doors) → AreFit (FitsDesk seen site) by aims doors
-doors_run seen site by [] doors desks few still = tt
-doors_run seen site by (a ∷ aims) [] desks few still = absurd (omega (arith, few))
-doors_run seen site by (a ∷ aims) (d ∷ doors) desks few still =
+doors_run : {A Q : Type 0} (site : SiteData) (by : ℕ) (aims : List A) (doors : List (Option Q))
+    → ((j : ℕ) → j < length aims → is_desk site (by + j) ≡ true) → length aims ≤ length doors → AreFit (FitsDesk site) by aims doors
+doors_run site by [] doors desks few = tt
+doors_run site by (a ∷ aims) [] desks few = absurd (omega (arith, few))
+doors_run site by (a ∷ aims) (d ∷ doors) desks few =
     let here : is_desk site by ≡ true = subst (λ (n : ℕ). is_desk site n ≡ true) (omega arith) (desks 0 (omega arith)) in (
-      (here, still.0),
-      doors_run seen site (by + 1) aims doors (λ j lt. subst (λ (n : ℕ). is_desk site n ≡ true) (omega arith) (desks (suc j) (omega (arith, lt))))
-          (omega (arith, few)) still.1,
+      here,
+      doors_run site (by + 1) aims doors (λ j lt. subst (λ (n : ℕ). is_desk site n ≡ true) (omega arith) (desks (suc j) (omega (arith, lt))))
+          (omega (arith, few)),
     )
 
-pub desks_fit : {Q : Type 0} (seen : Q → LineSeen) (site : SiteData) (doors : List (Option Q)) → IsSoundSite site → length doors ≡ 4
-    → AllByRecursion (IsStill seen) (take site.desks doors) → AreFit (FitsDesk seen site) first_desk (desk_aims site) doors
-desks_fit seen site doors sound four still =
+pub desks_fit : {Q : Type 0} (site : SiteData) (doors : List (Option Q)) → IsSoundSite site → length doors ≡ 4
+    → AreFit (FitsDesk site) first_desk (desk_aims site) doors
+desks_fit site doors sound four =
     let n = desk_aims_count site in
-    doors_run seen site first_desk (desk_aims site) doors (λ j lt. desk_tells site j (omega (arith, lt, n))) (omega (arith, n, four, sound.few_desks))
-    (subst (λ (k : ℕ). AllByRecursion (IsStill seen) (take k doors)) (sym n) still)
+    doors_run site first_desk (desk_aims site) doors (λ j lt. desk_tells site j (omega (arith, lt, n))) (omega (arith, n, four, sound.few_desks))

@@ -15,5 +15,8 @@ mod Owing
 mod Site
 mod Once
 mod Complete
+mod Causing
+mod Leaving
+pub mod Headlines
 pub mod Lists
 pub mod Telling

@@ -6,13 +6,14 @@ use Rattle.std.specs.List.{AllByRecursion, AllZip, filter_map}
 use Rattle.std.specs.Option.{unwrap_or}
 use Rattle.std.proofs.lemmas.List.{append-nil, drop_at, length-map, map-append, map-id, take_at}
 use Rattle.cts_chain.specs.Shapes.{ChainData}
-use Rattle.cts_def.specs.Makers.{first_desk, first_slot, scribe}
+use Rattle.cts_def.specs.Makers.{first_desk, first_slot, scribe, server}
 use Rattle.cts_def.specs.Sites.{IsSoundSite, SiteData}
 use Rattle.cts_entry.specs.declared.entry.Entry.{Entry}
 use Rattle.cts_line.specs.declared.ending.LineWhy.{LineWhy}
 use Rattle.cts_outside.specs.Crews.{CancelledFrom, with_cancelled, with_jobs}
 use Rattle.cts_outside.specs.Seen.{CrewSeen, LineSeen, VaultSeen}
 use Rattle.cts_outside.specs.declared.link.Aim.{Aim}
+use Rattle.cts_scribe.specs.Laws.{StopsLeaveLogsOf}
 use Rattle.cts_scribe.specs.declared.ending.ScribeWhy.{ScribeWhy}
 use Rattle.cts_table.specs.Keeping.{IsKept}
 use Rattle.cts_table.specs.declared.basis.Basis.{Basis}
@@ -149,7 +150,7 @@ module _ (o : Outfit) (site : SiteData) (digest : List ℕ) where
   desk_can n a x t at of =
       let m = desk_made desk_of n a x t.work of in
       subst (λ (w : SiteWork). MayWork o.line_seen o.door_seen o.vault_seen o.shape site w t.by (server_basis site)) (sym m.1)
-      (subst (λ (i : ℕ). MayRunDesk (server_basis site) i (o.door_seen m.0)) (sym at) m.2.can)
+      (subst (λ (i : ℕ). MayRunDesk (server_basis site) i) (sym at) m.2.can)
 
   scribe_can : (place : Option o.V) (t : Task SiteWork) → t.by ≡ scribe → IsScribe (scribe_of place) t.work → site_can (server_basis site) t
   scribe_can place t at of =
@@ -475,7 +476,8 @@ module _ (o : Outfit) (site : SiteData) (digest : List ℕ) where
 
       -- the workers did what they owed
       pub served : (w : Worked) (lines : List (Option o.D)) (slots desks : List (Option o.Q)) (left now : Option o.V) (crew crew' : CrewSeen)
-          → w.history ≡ history → IsKept (server_basis site) history
+          → w.history ≡ history → IsSoundSite site → IsKept (server_basis site) history → of_maker server history ≡ []
+          → StopsLeaveLogsOf site history digest
           → CameHome the_interface (λ n. n.device) notes lq lines → CameHome the_slot (λ n. n.device) notes sq slots
           → CameHome the_desk (λ n. n.door) notes dq desks
           → now ≡ last_of left (map (λ n. n.vault) (filter_map the_scribe notes)) → w.lines ≡ filter_map line_why notes → w.desks ≡ filter_map desk_note notes
@@ -483,11 +485,14 @@ module _ (o : Outfit) (site : SiteData) (digest : List ℕ) where
           → crew' ≡ with_cancelled (with_jobs crew (length tasks)) (count_by (was_cancelled {D = o.D} {Q = o.Q} {V = o.V}) notes)
           → (crew.in_turn ≡ true → CancelledFrom (was_cancelled {D = o.D} {Q = o.Q} {V = o.V}) crew.refused 0 notes)
           → ServedParts o.line_seen o.door_seen o.vault_seen site digest w lp lines sp slots dp desks place now crew crew'
-      served w lines slots desks left now crew crew' eh legal hl hs hd hv el ew ec ea es ed jobs_are exact_are =
+      served w lines slots desks left now crew crew' eh sound legal quiet readable hl hs hd hv el ew ec ea es ed jobs_are exact_are =
           let p : SiteLeft → Bool = was_cancelled in
           let f : map p notes ≡ cancellations w = flags w el ew ec in
           record {
+            sound = sound;
             legal = subst (λ (h : List Entry). IsKept (server_basis site) h) (sym eh) legal;
+            silent = ap (of_maker server) eh ∙ quiet;
+            readable = subst (λ (h : List Entry). StopsLeaveLogsOf site h digest) (sym eh) readable;
             interfaces = subst (λ (h : List Entry). CameBack (LineOwes o.line_seen site h) 0 (line_aims site) lp lines
                 (take (length site.interfaces) w.lines)) (sym eh) (served_lines lines w.lines hl el ea);
             slots = subst (λ (h : List Entry). CameBack (LineOwes o.door_seen site h) first_slot (slot_aims site) sp slots

@@ -3,6 +3,7 @@ use Rattle.std.proofs.Common.{◌≡◌, ℕ, ◌+◌, ◌<◌, ◌||◌, true, 
 use Rattle.std.proofs.Common.{append_assoc, ⊎_elim, ◌⊎◌, inl, inr, ◌≢◌, eq-eqb, length, count_by, cond}
 use Rattle.std.specs.List.{AllZip, AllByRecursion, flat_map, fold}
 use Rattle.std.proofs.lemmas.List.{append-nil}
+use Rattle.cts_def.specs.Makers.{server}
 use Rattle.cts_entry.specs.declared.entry.Entry.{Entry}
 use Rattle.cts_outside.specs.Crews.{CancelledFrom}
 use Rattle.cts_outside.proofs.InOrder.{joined_more}
@@ -13,7 +14,7 @@ use Rattle.cts_trace.specs.Makers.{of_maker}
 use Rattle.cts_turn.specs.Lists.{has, StartsWith, makers_from}
 use Rattle.cts_turn.specs.Passes.{HasAll}
 use Rattle.cts_turn.proofs.Makers.{has_left_part, has_right_part, has_from, has_append}
-use Rattle.std.proofs.lemmas.Bool.Decides.{eqb_tells, leb_tells}
+use Rattle.std.proofs.lemmas.Bool.Decides.{eqb_tells, leb_tells, nat_tests}
 
 pub all_more : {X : Type 0} (P : X → Type 0) (xs : List X) (x : X) → AllByRecursion P xs → P x → AllByRecursion P (xs ++ x ∷ [])
 all_more P [] x all p = (p, tt)
@@ -237,3 +238,21 @@ pub all_home : {D E : Type 0} (makers_of : E → List ℕ) (ts : List (Task D)) 
 all_home makers_of ts ends mine idle home last all home_is last_is z m below =
     subst (λ (l : List ℕ). has m l ≡ true) (sym (last_is ∙ ap (λ (l : List ℕ). l ++ flat_map makers_of ends) home_is ∙ append_assoc mine idle
     (flat_map makers_of ends) ∙ ap (λ (l : List ℕ). mine ++ (idle ++ l)) (made_by makers_of ts ends z))) (all m below)
+
+-- a maker without a task is one of those whose passes stayed idle
+pub idle_home : (m : ℕ) (mine idle numbers home : List ℕ) → has m (mine ++ (idle ++ numbers)) ≡ true → has m numbers ≡ false → home ≡ mine ++ idle
+    → has m home ≡ true
+idle_home m mine idle numbers home all none is =
+    subst (λ (l : List ℕ). has m l ≡ true) (sym is) (⊎_elim
+    (λ h. has_left_part m mine idle h)
+    (λ t. ⊎_elim (λ h. has_right_part m mine idle h) (λ h. absurd (let f : true ≡ false = sym h ∙ none in cc)) (has_append m idle numbers t))
+    (has_append m mine (idle ++ numbers) all))
+
+apart : (a b : ℕ) → a < b → (a == b) ≡ false
+apart a b lt = grind (arith, nat_tests)
+
+-- no task is that of the server itself
+pub none_is_server : {D : Type 0} (from : ℕ) (ts : List (Task D)) → Rising from ts → has server (map (λ t. t.by) ts) ≡ false
+none_is_server from [] r = refl
+none_is_server from (t ∷ ts) r =
+    ap (λ (b : Bool). b || has server (map (λ t. t.by) ts)) (apart t.by server r.1) ∙ none_is_server (t.by + 1) ts r.2

@@ -1,5 +1,5 @@
 -- One device after another leaves its place and goes with its task.
-use Rattle.std.proofs.Common.{◌≡◌, ℕ, Bool, ◌+◌, List, [], ◌∷◌, ◌++◌, length, map, drop, Option, Some, None, refl, sym, ◌∙◌, ap, subst, arith}
+use Rattle.std.proofs.Common.{◌≡◌, ℕ, true, Bool, ◌+◌, List, [], ◌∷◌, ◌++◌, length, map, drop, Option, Some, refl, sym, ◌∙◌, ap, subst, arith}
 use Rattle.std.proofs.Common.{append_assoc, length-append}
 use Rattle.std.specs.List.{AllByRecursion}
 use Rattle.std.proofs.lemmas.Grind.{drop_more_same}
@@ -8,12 +8,12 @@ use Rattle.cts_server.specs.Places.{IsThere}
 use Rattle.cts_server.specs.declared.running.Task.{Task}
 use Rattle.cts_chain.specs.Shapes.{ChainData}
 use Rattle.cts_def.specs.Sites.{SiteData}
-use Rattle.cts_desk.specs.Told.{IsIdle}
+use Rattle.cts_entry.specs.Workers.{is_desk}
 use Rattle.cts_outside.specs.Lines.{Line, aimed, told_after}
 use Rattle.cts_outside.specs.Seen.{LineSeen}
 use Rattle.cts_outside.specs.declared.link.Aim.{Aim}
 use Rattle.cts_server.specs.Aims.{aimed_at}
-use Rattle.cts_server.specs.Making.{AreFit, AreTasks, FitsDesk, FitsLine, ReadyDesk, ReadyLine, Taken}
+use Rattle.cts_server.specs.Making.{AreFit, AreTasks, FitsLine, ReadyDesk, ReadyLine, Taken}
 
 -- a number of devices have left their places
 pub record Taking {A X D : Type 0} (Of : ℕ → A → X → D → Type 0) (first : ℕ) (all left : List A) (old new : List (Option X))
@@ -123,18 +123,9 @@ pub line_ready : (site : SiteData) (by : ℕ) (aim : Aim) (before now : LineSeen
     ≡ aimed_at aim before → ReadyLine site by aim before now chain
 line_ready site by aim before now chain fit is = record { aimed = is; can = record { same = refl; line = fit.0; fresh = fit.1 } }
 
-idle_aimed : (aim : Aim) (before now : Option Line) → now ≡ told_after (aimed aim) before → IsIdle before → IsIdle now
-idle_aimed aim None now told idle = subst IsIdle (sym told) tt
-idle_aimed aim (Some line) now told idle = subst IsIdle (sym told) idle
-
-pub desk_ready : {D : Type 0} (seen : D → LineSeen) (site : SiteData) (by : ℕ) (aim : Aim) (before now : D) → FitsDesk seen site by (Some before)
-    → (seen now).told ≡ told_after (aimed aim) (seen before).told → (seen now).linked ≡ (seen before).linked → (seen now).faults ≡
-    (seen before).faults → (seen now).failed_dials ≡ (seen before).failed_dials
-    → ReadyDesk site by aim (seen before) (seen now)
-desk_ready seen site by aim before now fit told linked faults dials = record {
-  aimed = aim_shows aim (seen before) (seen now) told linked faults dials;
-  can = record { desk = fit.0; idle = linked ∙ fit.1.0; still = idle_aimed aim (seen before).told (seen now).told told fit.1.1 };
-}
+pub desk_ready : (site : SiteData) (by : ℕ) (aim : Aim) (before now : LineSeen) → is_desk site by ≡ true → now.told ≡ told_after (aimed aim) before.told
+    → now.linked ≡ before.linked → now.faults ≡ before.faults → now.failed_dials ≡ before.failed_dials → ReadyDesk site by aim before now
+desk_ready site by aim before now is told linked faults dials = record { aimed = aim_shows aim before now told linked faults dials; can = is }
 
 pub door_more : {A X : Type 0} (Fits : ℕ → Option X → Type 0) (by place : ℕ) (left rest : List A) (new newer : List (Option X)) (a : A) (x : X)
     → AreFit Fits by left (drop place new) → left ≡ a ∷ rest → drop place new ≡ Some x ∷ drop (place + 1) new → drop (place + 1) newer ≡ drop (place + 1) new

@@ -1,10 +1,10 @@
 -- What a server promises besides: each worker ends once, desks answer all that they are asked, and lines take each connection to its end
 -- where nobody stops the server.
-use Rattle.std.specs.Prelude.{◌≡◌, ◌⊎◌, ℕ, Bool, true, false, List, [], ◌∷◌, ◌++◌, length, take, drop, Option, Some, None, IfSome}
+use Rattle.std.specs.Prelude.{◌≡◌, ◌⊎◌, ℕ, Bool, true, false, List, [], ◌∷◌, ◌++◌, length, take, drop, Option, Some, None, IfSome, IsSomeAnd}
 use Rattle.std.specs.List.{concat, list_any}
 use Rattle.cts_connection.specs.Routings.{site_routing}
 use Rattle.cts_def.specs.Makers.{first_desk, first_slot}
-use Rattle.cts_def.specs.Sites.{SiteData}
+use Rattle.cts_def.specs.Sites.{IsSoundSite, SiteData}
 use Rattle.cts_desk.specs.Exchanges.{Exchange, Exchanges, bodies_of, fronts_of, out_of_memory}
 use Rattle.cts_desk.specs.Streams.{IsUnasked, IsUnfed, responses}
 use Rattle.cts_desk.specs.Told.{past_of}
@@ -19,16 +19,19 @@ use Rattle.cts_http.specs.Streams.{ending_text, response_with}
 use Rattle.cts_line.specs.Talks.{room_of}
 use Rattle.cts_line.specs.Telling.{made_by, since}
 use Rattle.cts_line.specs.declared.ending.LineWhy.{LineWhy}
-use Rattle.cts_outside.specs.Lines.{Connection, Line}
+use Rattle.cts_outside.specs.Lines.{Connection, Line, hung_up, told_after}
 use Rattle.cts_outside.specs.Seen.{LineSeen, VaultSeen}
 use Rattle.cts_outside.specs.declared.link.Aim.{Aim}
+use Rattle.cts_scribe.specs.Vaults.{AreWhole}
+use Rattle.cts_scribe.specs.declared.ending.ScribeWhy.TheVariants.{Drained}
 use Rattle.cts_table.specs.Keeping.{IsKept}
 use Rattle.cts_table.specs.declared.basis.Basis.{Basis}
 use Rattle.cts_entry.specs.Room.{Capacity}
 use Rattle.cts_trace.specs.Lines.{Looked}
 use Rattle.cts_trace.specs.Makers.{closes_for}
 use Rattle.cts_trace.specs.Routing.{Routing}
-use Rattle.cts_server.specs.Aims.{desk_aims, line_aims, slot_aims}
+use Rattle.cts_server.specs.Aims.{aimed_at, desk_aims, line_aims, slot_aims}
+use Rattle.cts_server.specs.Desks.{is_cancelled}
 use Rattle.cts_server.specs.Once.{EndsOnce}
 use Rattle.cts_server.specs.Owed.{DeskOwes, LineOwes, ScribeOwes, server_basis}
 use Rattle.cts_server.specs.Places.{CameBack}
@@ -116,11 +119,15 @@ RunOut g room m found history line = (line.now ≡ None) × Stays m (RunsOut g r
 
 -- ---- those of a site
 
+-- a desk that was not started: its door was aimed and nothing else, and it has no fronts
+abbrev pub WasUnstarted : {X : Type 0} → (X → LineSeen) → Aim → X → X → DeskNote → Type 0
+WasUnstarted seen aim before now note = (is_cancelled note.why ≡ true) × (note.fronts ≡ []) × (seen now ≡ aimed_at aim (seen before))
+
 module _ {X : Type 0} (seen : X → LineSeen) (site : SiteData) (history : List Entry) where
-  -- a desk: those of its door, where it tells
+  -- a desk: those of its door, where it tells, after one that stood before and was hung up; or it was not started, and its door is as it was
   abbrev pub DeskAnswers : ℕ → Aim → X → X → DeskNote → Type 0
-  DeskAnswers by aim before now note = IfSome (seen now).told
-      (λ (line : Line). AnswersAll (server_basis site) by history note.fronts (past_of (seen before).told) line)
+  DeskAnswers by aim before now note = WasUnstarted seen aim before now note ⊎ IfSome (seen now).told
+      (λ (line : Line). AnswersAll (server_basis site) by history note.fronts (past_of (told_after hung_up (seen before).told)) line)
 
   -- a line: those that its dialer made for it, where it tells
   abbrev pub LineRunsOut : ℕ → Aim → X → X → LineWhy → Type 0
@@ -134,12 +141,14 @@ pub record Unstopped {D Q : Type 0} (line_seen : D → LineSeen) (door_seen : Q 
   pub interfaces : CameBack (LineRunsOut line_seen site w.history) 0 (line_aims site) dialers dialers' (take (length site.interfaces) w.lines)
   pub slots : CameBack (LineRunsOut door_seen site w.history) first_slot (slot_aims site) (take 8 doors) (take 8 doors') (drop (length site.interfaces) w.lines)
 
--- Each worker has one Ended; each desk has answered all that it was asked; and where no Stop stands, lines took each connection to its end.
-pub record IsComplete {D Q : Type 0} (line_seen : D → LineSeen) (door_seen : Q → LineSeen) (site : SiteData) (w : Worked)
-    (dialers dialers' : List (Option D)) (doors doors' : List (Option Q)) : Type 0 where
+-- Each worker has one Ended; each desk has answered all that it was asked; where no Stop stands, lines took each connection to its end; and
+-- where the scribe is drained, the logs in its vault are those of the whole history, whole and synced.
+pub record IsComplete {D Q V : Type 0} (line_seen : D → LineSeen) (door_seen : Q → LineSeen) (vault_seen : V → VaultSeen) (site : SiteData)
+    (digest : List ℕ) (w : Worked) (dialers dialers' : List (Option D)) (doors doors' : List (Option Q)) (vault' : Option V) : Type 0 where
   pub once : EndsOnce site w.history
   pub answered : CameBack (DeskAnswers door_seen site w.history) first_desk (desk_aims site) (drop 8 doors) (drop 8 doors') w.desks
   pub unstopped : is_stopped w.history ≡ false → Unstopped line_seen door_seen site w dialers dialers' doors doors'
+  pub logs : IsSoundSite site → w.scribe ≡ Drained → IsSomeAnd vault' (λ v. AreWhole site digest w.history (vault_seen v).told)
 
 module _ {D Q V : Type 0} (line_seen : D → LineSeen) (door_seen : Q → LineSeen) (vault_seen : V → VaultSeen) where
   -- Where what each worker of a site owes holds of one legal history, all this holds of it.
@@ -149,4 +158,5 @@ module _ {D Q V : Type 0} (line_seen : D → LineSeen) (door_seen : Q → LineSe
       → CameBack (LineOwes line_seen site w.history) 0 (line_aims site) dialers dialers' (take (length site.interfaces) w.lines)
       → CameBack (LineOwes door_seen site w.history) first_slot (slot_aims site) (take 8 doors) (take 8 doors') (drop (length site.interfaces) w.lines)
       → CameBack (DeskOwes door_seen site w.history) first_desk (desk_aims site) (drop 8 doors) (drop 8 doors') w.desks
-      → ScribeOwes vault_seen site digest w.history vault vault' w.scribe → IsComplete line_seen door_seen site w dialers dialers' doors doors'
+      → ScribeOwes vault_seen site digest w.history vault vault' w.scribe → IsComplete line_seen door_seen vault_seen site digest w
+      dialers dialers' doors doors' vault'

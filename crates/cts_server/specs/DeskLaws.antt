@@ -7,7 +7,7 @@ use Rattle.cts_desk.specs.Told.{MayEnd, Serves, Settled, Told, past_of}
 use Rattle.cts_desk.specs.declared.ending.DeskWhy.{DeskWhy}
 use Rattle.cts_entry.specs.declared.entry.Entry.{Entry}
 use Rattle.cts_entry.specs.Histories.{is_stopped}
-use Rattle.cts_outside.specs.Lines.{Connection, Line}
+use Rattle.cts_outside.specs.Lines.{Connection, Line, hung_up, told_after}
 use Rattle.cts_outside.specs.Seen.{LineSeen}
 use Rattle.cts_server.specs.Lasting.{Lasts}
 use Rattle.cts_table.specs.declared.basis.Basis.{Basis}
@@ -77,9 +77,10 @@ module _ (basis : Basis) (by : ℕ) (found : List ℕ) (old new : LineSeen) (fro
     seen = r.seen;
     look = look_more by r.seen seen more own r.look;
     ends = r.ends;
-    stands = told_more seen more (last_entries (stops_all why) by r.ends.time r.ends.before) (past_of old.told) new.told own r.stands;
+    stands = told_more seen more (last_entries (stops_all why) by r.ends.time r.ends.before) (past_of (told_after hung_up old.told)) new.told own r.stands;
     ended = last_more by seen more own r.ended;
     cause = r.cause;
+    failed = r.failed;
     stops = r.stops;
     faults = r.faults;
     aim = r.aim;

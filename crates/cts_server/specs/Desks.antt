@@ -3,24 +3,22 @@ use Rattle.std.specs.Prelude.{◌≡◌, ℕ, ◌⊎◌, Bool, true, false, List
 use Rattle.cts_def.specs.declared.time.Time.{Time}
 use Rattle.cts_desk.specs.Ending.{CausesEnd, stops_all}
 use Rattle.cts_desk.specs.Faults.{FaultsRise}
-use Rattle.cts_desk.specs.Told.{IsIdle, Told, aim_of, past_of}
+use Rattle.cts_desk.specs.Told.{Told, aim_of, past_of}
 use Rattle.cts_desk.specs.declared.ending.DeskWhy.{DeskWhy}
 use Rattle.cts_desk.specs.declared.ending.DeskWhy.TheVariants.{Stopped, Finished, DoorFailed, Cancelled}
 use Rattle.cts_entry.specs.declared.entry.Entry.{Entry}
 use Rattle.cts_entry.specs.Histories.{is_stopped}
 use Rattle.cts_entry.specs.Workers.{is_desk}
-use Rattle.cts_outside.specs.Lines.{Connection, Line}
+use Rattle.cts_outside.specs.Lines.{Connection, Line, hung_up, told_after}
 use Rattle.cts_outside.specs.Seen.{LineSeen}
 use Rattle.cts_table.specs.declared.basis.Basis.{Basis}
 use Rattle.cts_trace.specs.Makers.{LastEnded}
 use Rattle.cts_worker.specs.Lasts.{last_entries}
 use Rattle.cts_server.specs.Workers.{IsUnstarted, LastLook}
 
--- The worker is a desk of the site, and no connection of its door stands.
-pub record MayRunDesk (basis : Basis) (by : ℕ) (door : LineSeen) : Type 0 where
-  pub desk : is_desk basis.site by ≡ true
-  pub idle : door.linked ≡ false
-  pub still : IsIdle door.told
+-- The worker is a desk of the site.
+abbrev pub MayRunDesk : Basis → ℕ → Type 0
+MayRunDesk basis by = is_desk basis.site by ≡ true
 
 abbrev pub is_cancelled : DeskWhy → Bool
 is_cancelled Stopped = false
@@ -36,15 +34,18 @@ pub record EndedDesk (basis : Basis) (by : ℕ) (stops : Bool) (fronts found : L
   pub seen_is : seen ≡ before ++ last_entries stops by time before
   pub told_so : Told basis by fronts found seen (last_entries stops by time before) was told
 
--- What a desk that ran leaves, by what its door showed before and shows now. Whether a Stop stands is said of what it saw at its last look,
--- since others may stop the server later. Its exchanges stand in the whole history too. Its door has the same aim.
+-- What a desk that ran leaves, by what its door showed before and shows now. A connection that stood before is hung up, and is none of its
+-- own. Whether a Stop stands is said of what it saw at its last look, since others may stop the server later. Its exchanges stand in the
+-- whole history too. Its door has the same aim.
 pub record RanDesk (basis : Basis) (by : ℕ) (found : List ℕ) (history : List Entry) (old new : LineSeen) (fronts : List ℕ) (why : DeskWhy) : Type 0 where
   pub seen : List Entry
   pub look : LastLook by seen history
-  pub ends : EndedDesk basis by (stops_all why) fronts found seen (past_of old.told) new.told
-  pub stands : Told basis by fronts found history (last_entries (stops_all why) by ends.time ends.before) (past_of old.told) new.told
+  pub ends : EndedDesk basis by (stops_all why) fronts found seen (past_of (told_after hung_up old.told)) new.told
+  pub stands : Told basis by fronts found history (last_entries (stops_all why) by ends.time ends.before) (past_of (told_after hung_up old.told))
+      new.told
   pub ended : LastEnded by history
   pub cause : CausesEnd seen new.told old.failed_dials new.failed_dials why
+  pub failed : (why ≡ DoorFailed → ⊥) → new.failed_dials ≡ old.failed_dials
   pub stops : stops_all why ≡ true → is_stopped seen ≡ true
   pub faults : FaultsRise old new
   pub aim : aim_of new.told ≡ aim_of old.told

@@ -23,3 +23,7 @@ pub mod Once
 pub mod Complete
 pub mod Troubles
 pub mod TroubleLaws
+pub mod Stops
+pub mod ServedLogs
+pub mod Headline
+pub mod Begun

@@ -2,6 +2,7 @@
 use Rattle.std.proofs.Common.{◌≡◌, ℕ, List, ◌++◌, ◌∙◌, sym, subst, inl, inr}
 use Rattle.cts_entry.specs.declared.entry.Entry.{Entry}
 use Rattle.cts_entry.specs.Histories.{is_opened, is_stop}
+use Rattle.cts_line.specs.Ending.{is_full, is_no_memory}
 use Rattle.cts_line.specs.declared.ending.LineWhy.{LineWhy}
 use Rattle.cts_outside.specs.Seen.{LineSeen}
 use Rattle.cts_server.specs.Lasting.{Lasts}
@@ -29,6 +30,9 @@ module _ (basis : Basis) (by : ℕ) (found : List ℕ) (old new : LineSeen) (con
     own_stop = λ h. r.own_stop (sym (any_of by is_stop (seen ++ more) seen own) ∙ h);
     faults = subst (λ (n : ℕ). RoseBy n old.faults new.faults) (sym (counted_of by (closes_for is_fault) (seen ++ more) seen own)) r.faults;
     dials = r.dials;
+    failed = r.failed;
+    full = λ h. r.full (sym (any_of by (closes_for is_full) (seen ++ more) seen own) ∙ h);
+    memory = λ h. r.memory (sym (any_of by (closes_for is_no_memory) (seen ++ more) seen own) ∙ h);
     idle = r.idle;
   }
 

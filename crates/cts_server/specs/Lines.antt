@@ -1,5 +1,5 @@
 -- What the worker of a line needs, and what it owes.
-use Rattle.std.specs.Prelude.{◌≡◌, ℕ, ◌≤◌, ◌⊎◌, Bool, true, false, List}
+use Rattle.std.specs.Prelude.{◌≡◌, ℕ, ◌≤◌, ◌⊎◌, Bool, true, false, List, Some}
 use Rattle.cts_chain.specs.Builds.{IsFresh}
 use Rattle.cts_chain.specs.Shapes.{ChainData}
 use Rattle.cts_connection.specs.LinePlaces.{is_line}
@@ -8,7 +8,7 @@ use Rattle.cts_def.specs.Sites.{SiteData}
 use Rattle.cts_entry.specs.declared.entry.Entry.{Entry}
 use Rattle.cts_entry.specs.Histories.{is_stopped}
 use Rattle.cts_framing.specs.Chains.{uses_at}
-use Rattle.cts_line.specs.Ending.{CausesEnd, has_stop, opened_in, reconnects, stops_all}
+use Rattle.cts_line.specs.Ending.{CausesEnd, after_failed, has_closed, has_stop, is_full, is_no_memory, opened_in, reconnects, stops_all}
 use Rattle.cts_line.specs.Talks.{room_of}
 use Rattle.cts_line.specs.Telling.{Retells, made_by, since}
 use Rattle.cts_line.specs.declared.ending.LineWhy.{LineWhy}
@@ -53,6 +53,9 @@ pub record RanLine (basis : Basis) (by : ℕ) (found : List ℕ) (history : List
   pub own_stop : has_stop by history ≡ true → stops_all why ≡ true
   pub faults : RoseBy (faults_of by history) old.faults new.faults
   pub dials : old.failed_dials ≤ new.failed_dials
+  pub failed : (for_it : LineWhy) → after_failed basis.site by ≡ Some for_it → (why ≡ for_it → ⊥) → new.failed_dials ≡ old.failed_dials
+  pub full : has_closed by is_full history ≡ true → why ≡ Full
+  pub memory : has_closed by is_no_memory history ≡ true → why ≡ NoMemory
   pub idle : new.linked ≡ false
 
 -- A line that was not started: its dialer is as it was.

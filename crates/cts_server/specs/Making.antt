@@ -15,7 +15,7 @@ use Rattle.cts_outside.specs.declared.link.Aim.{Aim}
 use Rattle.cts_server.specs.declared.running.Task.{Task}
 use Rattle.cts_server.specs.Aims.{aimed_at}
 use Rattle.cts_server.specs.Owed.{server_basis}
-use Rattle.cts_server.specs.Places.{IsStill, filled}
+use Rattle.cts_server.specs.Places.{filled}
 
 module _ {A X D : Type 0} (Of : ℕ → A → X → D → Type 0) where
   -- from this number on a task for each device, made of it and its aim
@@ -50,9 +50,9 @@ AreFit Fits by (a ∷ aims) (c ∷ cs) = Fits by c × AreFit Fits (by + 1) aims 
 abbrev pub FitsLine : SiteData → ℕ → ChainData → Type 0
 FitsLine site by chain = (is_line site by ≡ true) × IsFresh (uses_at site by) chain
 
--- the door of a desk
-abbrev pub FitsDesk : {X : Type 0} → (X → LineSeen) → SiteData → ℕ → Option X → Type 0
-FitsDesk seen site by door = (is_desk site by ≡ true) × IsStill seen door
+-- the place of a desk's door
+abbrev pub FitsDesk : {X : Type 0} → SiteData → ℕ → Option X → Type 0
+FitsDesk site by place = is_desk site by ≡ true
 
 -- a line that is ready: its dialer was aimed
 pub record ReadyLine (site : SiteData) (by : ℕ) (aim : Aim) (before now : LineSeen) (chain : ChainData) : Type 0 where
@@ -62,7 +62,7 @@ pub record ReadyLine (site : SiteData) (by : ℕ) (aim : Aim) (before now : Line
 -- a desk that is ready: its door was aimed
 pub record ReadyDesk (site : SiteData) (by : ℕ) (aim : Aim) (before now : LineSeen) : Type 0 where
   pub aimed : now ≡ aimed_at aim before
-  pub can : MayRunDesk (server_basis site) by now
+  pub can : MayRunDesk (server_basis site) by
 
 -- a scribe that is ready, with the vault that stood in its place
 pub record ReadyScribe {V : Type 0} (seen : V → VaultSeen) (site : SiteData) (place : Option V) (vault : V) : Type 0 where

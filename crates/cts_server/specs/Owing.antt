@@ -21,7 +21,7 @@ module _ {D Q V C : Type 0} (line : D → LineSeen) (door : Q → LineSeen) (vau
   abbrev pub MayWork : ByKind (Line D C) (Line Q C) Q V → ℕ → Basis → Type 0
   MayWork (Interface l) by basis = MayRunLine basis by site (shape l.chain)
   MayWork (Slot l) by basis = MayRunLine basis by site (shape l.chain)
-  MayWork (Desk d) by basis = MayRunDesk basis by (door d)
+  MayWork (Desk d) by basis = MayRunDesk basis by
   MayWork (Scribe v) by basis = MayRunScribe basis by site (vault v)
 
 module _ {D Q V C : Type 0} (line : D → LineSeen) (door : Q → LineSeen) (vault : V → VaultSeen) (digest : List ℕ) where

@@ -1,8 +1,7 @@
 -- The places of devices: what stands in them when a server starts, and what stands there when it has ended.
-use Rattle.std.specs.Prelude.{◌≡◌, ◌⊎◌, ℕ, ◌+◌, false, List, [], ◌∷◌, ◌++◌, drop, length, map, Option, Some, None}
+use Rattle.std.specs.Prelude.{◌≡◌, ◌⊎◌, ℕ, ◌+◌, List, [], ◌∷◌, ◌++◌, drop, length, map, Option, Some, None}
 use Rattle.std.specs.List.{AllByRecursion}
 use Rattle.cts_def.specs.Most.{most_desks, most_slots}
-use Rattle.cts_desk.specs.Told.{IsIdle}
 use Rattle.cts_outside.specs.Seen.{LineSeen}
 use Rattle.cts_outside.specs.declared.link.Aim.{Aim}
 use Rattle.cts_server.specs.Aims.{aimed_at}
@@ -20,11 +19,6 @@ module _ {X : Type 0} where
   -- a number of places, and a device in each of them
   abbrev pub AreThere : ℕ → List (Option X) → Type 0
   AreThere n places = (length places ≡ n) × AllByRecursion IsThere places
-
-  -- the device in the place has no connection that stands
-  abbrev pub IsStill : (X → LineSeen) → Option X → Type 0
-  IsStill seen (Some x) = ((seen x).linked ≡ false) × IsIdle (seen x).told
-  IsStill seen None = Unit {0}
 
   -- the first places with these devices in them, and the places after them as they were
   abbrev pub filled : List X → List (Option X) → List (Option X)

@@ -3,6 +3,7 @@ use Rattle.std.specs.Prelude.{◌≡◌, ℕ, ◌+◌, ◌<◌, ◌≤◌, true,
 use Rattle.cts_def.specs.Makers.{server}
 use Rattle.cts_entry.specs.declared.entry.Entry.{Entry}
 use Rattle.cts_server.specs.declared.running.Task.{Task}
+use Rattle.cts_trace.specs.Makers.{of_maker}
 use Rattle.cts_turn.specs.Lists.{has}
 
 -- the numbers rise, from one on, and all are below that of the server itself
@@ -31,3 +32,7 @@ pub record Leaves {D N B : Type 0} (does : D → ℕ → B → List ℕ → List
     (seen : List Entry) (note : N) : Type 0 where
   pub makers_are : makers ≡ t.by ∷ []
   pub did : does t.work t.by basis found seen note
+
+-- A maker that is none of these has no entry.
+abbrev pub AreSilent : List ℕ → List Entry → Type 0
+AreSilent numbers history = (m : ℕ) → m < 32 → has m numbers ≡ false → of_maker m history ≡ []

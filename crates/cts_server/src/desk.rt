@@ -23,7 +23,7 @@ pub(crate) fn run_desk<'a, R: Wait, Q: Dialer, K: Clock, G: Gate>(
     requires pass { IsPassOf context.now.turn.now pass }
     requires makers { (view pass).makers ≡ by ∷ [] }
     requires new { of_maker by (view pass).seen ≡ [] }
-    requires can { MayRunDesk (ground context.now.turn.now) by (Q.seen door) }
+    requires can { MayRunDesk (ground context.now.turn.now) by }
     ensures pass { IsPassOf context.now.turn.now result.0 }
     ensures onward { Onward (view pass) (view result.0) }
     ensures owes { OwesDesk (ground context.now.turn.now) by (view result.0).found (view result.0).seen (Q.seen door)
@@ -55,7 +55,7 @@ pub(crate) fn cancel_desk<'a, R: Wait, Q: Dialer, K, G>(
     requires pass { IsPassOf context.now.turn.now pass }
     requires makers { (view pass).makers ≡ by ∷ [] }
     requires new { of_maker by (view pass).seen ≡ [] }
-    requires can { MayRunDesk (ground context.now.turn.now) by (Q.seen door) }
+    requires can { MayRunDesk (ground context.now.turn.now) by }
     ensures pass { IsPassOf context.now.turn.now result.0 }
     ensures onward { Onward (view pass) (view result.0) }
     ensures owes { OwesDesk (ground context.now.turn.now) by (view result.0).found (view result.0).seen (Q.seen door)

@@ -23,7 +23,10 @@ mod worked;
 
 pub use context::WorkerContext;
 pub use kinds::{ByKind, DeskLeft, Left, Line, LineLeft, ScribeLeft, Work};
-pub use laws::{drained_logs_are_whole, last_ended_is_only, sites_are_complete};
+pub use laws::{
+    drained_logs_are_whole, headline_holds, last_ended_is_only, plain_ends_are_caused,
+    served_stops_leave_logs, sites_are_complete, stops_are_caused,
+};
 pub use outcome::{
     Counted, Trouble, count_history, first_trouble, first_trouble_is_told, plain_where_none_is_told,
 };

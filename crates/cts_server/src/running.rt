@@ -1,12 +1,13 @@
 // The workers of a site at work.
-ghost use Rattle.std.specs.Prelude.{◌≡◌, ◌<◌, ◌≤◌, ◌+◌, ◌++◌, List, [], true, IfOk, IfErr, OnErr, count_by, length, map, vec_len, vec_capacity};
+ghost use Rattle.std.specs.Prelude.{◌≡◌, ℕ, ◌<◌, ◌≤◌, ◌+◌, ◌++◌, List, [], true, IfOk, IfErr, OnErr, count_by, length, map, vec_len, vec_capacity};
 ghost use Rattle.std.specs.List.{AllByRecursion, AllZip, flat_map};
 ghost use Rattle.cts_outside.specs.Crews.{CancelledFrom, with_cancelled, with_jobs};
 ghost use Rattle.cts_server.specs.Owing.{MayWork, WorkOwes, was_cancelled};
-ghost use Rattle.cts_server.specs.Tasks.{Holds, Leaves, Rising, is_next};
+ghost use Rattle.cts_server.specs.Tasks.{AreSilent, Holds, Leaves, Rising, is_next};
 ghost use Rattle.cts_server.specs.declared.kinds.ByKind.{ByKind};
 ghost use Rattle.cts_server.specs.declared.kinds.Line.{Line};
-ghost use Rattle.cts_turn.specs.Lists.{makers_from};
+ghost use Rattle.cts_trace.specs.Makers.{of_maker};
+ghost use Rattle.cts_turn.specs.Lists.{has, makers_from};
 ghost use Rattle.cts_turn.specs.Passes.{HasAll, IsPassOf, view};
 ghost use Rattle.cts_worker.specs.Grounds.{ground};
 
@@ -30,8 +31,8 @@ pub struct Task<W> {
 }
 
 /// Each worker works as a job of one `all` of the crew, with a pass of its own number alone; then all passes are joined. `Ok` has the pass
-/// of all makers, and what each worker left in the order of their tasks. It waits for the last worker. `Err` is want of memory: no worker
-/// has begun, and all tasks come back.
+/// of all makers, which saw no entry of a maker without a task, and what each worker left in the order of their tasks. It waits for the last
+/// worker. `Err` is want of memory: no worker has begun, and all tasks come back.
 pub fn run_workers<
     'a,
     R: Threads + Wait + Sync,
@@ -57,6 +58,7 @@ pub fn run_workers<
     ensures all { IfOk result (λ r. HasAll (view r.0).makers) }
     ensures holds { IfOk result (λ r. AllZip (Holds (WorkOwes D.seen Q.seen V.seen context.now.digest.now) (ground context.now.turn.now)
         (view r.0).makers (view r.0).seen) tasks.items r.1.items) }
+    ensures silent { IfOk result (λ r. AreSilent (map (λ t. t.by) tasks.items) (view r.0).seen) }
     ensures crew { IfOk result (λ r. W.seen crew.new ≡ with_cancelled (with_jobs (W.seen crew.old) (length tasks.items)) (count_by was_cancelled r.1.items)) }
     ensures exact { (W.seen crew.old).in_turn ≡ true → IfOk result (λ r. CancelledFrom was_cancelled (W.seen crew.old).refused 0 r.1.items) }
     ensures back { IfErr result (λ back. back.items ≡ tasks.items) }
@@ -111,9 +113,10 @@ fn assign<
     requires empty { (jobs.old.items ≡ []) × (idle.old.items ≡ []) }
     requires room { (vec_len tasks.old ≤ vec_capacity jobs.old) × (31 ≤ vec_capacity idle.old) }
     ensures pass { IsPassOf context.now.turn.now pass.new }
+    ensures seen { (view pass.new).seen ≡ [] }
     ensures jobs { AllZip (λ t j. (j.by ≡ t.by) × (j.work ≡ t.work) × (j.context.now ≡ context.now)) tasks.old.items jobs.new.items }
     ensures ready { AllByRecursion (⟦<WorkerJob<'a, R, K, G, D, Q, V, C> as Job>⟧.is_ready) jobs.new.items }
-    ensures idle { AllByRecursion (λ p. IsPassOf context.now.turn.now p) idle.new.items }
+    ensures idle { AllByRecursion (λ p. IsPassOf context.now.turn.now p × ((view p).seen ≡ [])) idle.new.items }
     ensures cover { HasAll ((view pass.new).makers ++ (flat_map (λ p. (view p).makers) idle.new.items ++ map (λ t. t.by) tasks.old.items)) }
     ensures none { tasks.new.items ≡ [] }
     ensures room { vec_len tasks.old ≤ vec_capacity tasks.new }
@@ -143,11 +146,13 @@ fn is_next<D>(tasks: &[Task<D>], by: u32) -> bool
     }
 }
 
-// The idle passes are joined.
+// The idle passes are joined. They have seen nothing.
 fn rest(turn: &Turn<Hall>, pass: &mut Pass<Hall>, mut idle: Vec<Pass<Hall>>)
     requires pass { IsPassOf turn.now pass.old }
-    requires idle { AllByRecursion (λ p. IsPassOf turn.now p) idle.items }
+    requires seen { (view pass.old).seen ≡ [] }
+    requires idle { AllByRecursion (λ p. IsPassOf turn.now p × ((view p).seen ≡ [])) idle.items }
     ensures pass { IsPassOf turn.now pass.new }
+    ensures seen { (view pass.new).seen ≡ [] }
     ensures makers { (view pass.new).makers ≡ (view pass.old).makers ++ flat_map (λ p. (view p).makers) idle.items }
 {
     'idle: while !idle.is_empty() {
@@ -177,6 +182,7 @@ fn gather<
     requires empty { lefts.old.items ≡ [] }
     requires room { vec_len ends ≤ vec_capacity lefts.old }
     ensures pass { IsPassOf context.now.turn.now pass.new }
+    ensures own { (m : ℕ) → has m (view pass.old).makers ≡ true → of_maker m (view pass.new).seen ≡ of_maker m (view pass.old).seen }
     ensures lefts { lefts.new.items ≡ map (λ e. e.left) ends.items }
     ensures makers { (view pass.new).makers ≡ (view pass.old).makers ++ flat_map (λ e. (view e.pass).makers) ends.items }
     ensures holds { (ts : List (Task (ByKind (Line D C) (Line Q C) Q V)))

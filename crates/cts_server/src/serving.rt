@@ -1,15 +1,16 @@
 // The workers of a site at work.
-ghost use Rattle.std.specs.Prelude.{◌≡◌, ◌≤◌, ℕ, [], false, true, IfOk, IsSome, IsSomeAnd, OnErr, drop, map, take, vec_capacity};
+ghost use Rattle.std.specs.Prelude.{◌≡◌, ◌≤◌, ℕ, [], false, true, IfOk, IsSome, IsSomeAnd, OnErr, map, vec_capacity};
 ghost use Rattle.std.specs.Arc.{arc_value};
-ghost use Rattle.std.specs.List.{AllByRecursion};
 ghost use Rattle.cts_chain.specs.Builds.{AreFresh};
 ghost use Rattle.cts_connection.specs.LineChains.{line_chains};
 ghost use Rattle.cts_def.specs.Most.{most_desks, most_interfaces, most_lines, most_slots};
 ghost use Rattle.cts_def.specs.Sites.{IsSoundSite};
+ghost use Rattle.cts_scribe.specs.Laws.{StopsLeaveLogsOf};
 ghost use Rattle.cts_scribe.specs.Vaults.{AreBlank};
 ghost use Rattle.cts_server.specs.Aims.{desk_aims, line_aims, slot_aims};
+ghost use Rattle.cts_server.specs.Begun.{IsBegun};
 ghost use Rattle.cts_server.specs.Owed.{server_basis};
-ghost use Rattle.cts_server.specs.Places.{AreThere, IsStill, most_doors};
+ghost use Rattle.cts_server.specs.Places.{AreThere, most_doors};
 ghost use Rattle.cts_server.specs.Ready.{PutsReady, ReadyFailed, ReadyPut};
 ghost use Rattle.cts_server.specs.Serving.{HasIdled, HasServed, IdledParts, ServedParts};
 ghost use Rattle.cts_table.specs.Keeping.{IsKept};
@@ -30,7 +31,7 @@ use cts_chain::Framer;
 use cts_def::{MOST_DESKS, MOST_LINES, MOST_SLOTS, Site};
 use cts_line::LineWhy;
 use cts_outside::{Clock, Crew, Dialer, Gate, Sink, Vault};
-use cts_scribe::ScribeWhy;
+use cts_scribe::{ScribeWhy, stops_leave_logs_of_halls};
 use cts_table::{Hall, History};
 use cts_turn::{Pass, Turn};
 use std::alloc::Global;
@@ -87,7 +88,6 @@ pub fn serve_site<
     requires chains { AreFresh (line_chains (arc_value site)) (map C.shape chains.items) }
     requires lines { AreThere most_interfaces lines.old.items }
     requires doors { AreThere most_doors doors.old.items }
-    requires still { AllByRecursion (IsStill Q.seen) (take (arc_value site).desks (drop most_slots doors.old.items)) }
     requires vault { IsSomeAnd vault.old (λ v. AreBlank (V.seen v).told) }
     // What the workers did whose site was served.
     ensures served { IfOk result (λ w. HasServed D.seen Q.seen V.seen (arc_value site) shared.now.digest.now w
@@ -182,16 +182,10 @@ fn run_site<
     vault: &mut Option<V>,
     crew: &mut W,
 ) -> Result<Worked, NotStarted>
-    requires pass { IsPassOf begun.turn begun.pass × ((view begun.pass).makers ≡ makers_from 0) × ((view begun.pass).seen ≡ []) }
-    requires ground { (ground begun.turn ≡ server_basis site.now) × IsSoundSite site.now }
-    requires aims { (begun.aims.lines.items ≡ line_aims site.now) × (begun.aims.slots.items ≡ slot_aims site.now)
-        × (begun.aims.desks.items ≡ desk_aims site.now) }
-    requires whys { (begun.whys.items ≡ []) × (most_lines ≤ vec_capacity begun.whys) }
-    requires left { (begun.left.items ≡ []) × (most_desks ≤ vec_capacity begun.left) }
+    requires begun { IsBegun site.now begun }
     requires chains { AreFresh (line_chains site.now) (map C.shape chains.items) }
     requires there { AreThere most_interfaces lines.old × AreThere most_slots slots.old × AreThere most_desks desks.old × IsSomeAnd vault.old
         (λ v. AreBlank (V.seen v).told) }
-    requires still { AllByRecursion (IsStill Q.seen) (take site.now.desks desks.old) }
     ensures served { IfOk result (λ w. ServedParts D.seen Q.seen V.seen site.now shared.now.digest.now w
         lines.old lines.new slots.old slots.new desks.old desks.new vault.old vault.new (W.seen crew.old) (W.seen crew.new)) }
     ensures idle { OnErr result (IdledParts D.seen Q.seen V.seen site.now
@@ -225,7 +219,7 @@ fn run_site<
     };
     match run_workers(&context, pass, tasks, crew) {
         Ok((pass, notes)) => {
-            let history = close(turn, pass);
+            let history = close(turn, pass, shared.digest);
             let scribe = notes_back(notes, lines, slots, desks, vault, &mut whys, &mut left);
             Ok(worked(history, whys, left, scribe))
         }
@@ -236,16 +230,18 @@ fn run_site<
     }
 }
 
-// The history that stood in the turn, to which all passes came back.
-fn close(turn: Turn<Hall>, pass: Pass<Hall>) -> History
+// The history that stood in the turn, to which all passes came back. What a stop leaves of its logs with this digest is readable.
+fn close(turn: Turn<Hall>, pass: Pass<Hall>, digest: &[u8; 16]) -> History
     requires pass { IsPassOf turn pass }
     requires all { HasAll (view pass).makers }
     ensures legal { IsKept (ground turn) result }
+    ensures readable { StopsLeaveLogsOf (ground turn).site result digest.now }
     ensures seen { StartsWith result (view pass).seen }
     ensures own { (m : ℕ) → has m (view pass).makers ≡ true → of_maker m result ≡ of_maker m (view pass).seen }
 {
     let hall = turn.close(pass);
     hall.is_kept();
+    stops_leave_logs_of_halls(&hall, digest);
     hall.into_history()
 }
 

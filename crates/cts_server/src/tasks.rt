@@ -32,7 +32,7 @@ pub(crate) fn tasks_of<D: Dialer, Q: Dialer, V: Vault, C: Framer>(
     requires many { (vec_len aims.lines ≤ most_interfaces) × (vec_len aims.slots ≤ most_slots) × (vec_len aims.desks ≤ most_desks) }
     requires lines { AreFit (λ by c. FitsLine site.now by (C.shape c)) 0 aims.lines.items chains.items }
     requires slots { AreFit (λ by c. FitsLine site.now by (C.shape c)) first_slot aims.slots.items (drop (length aims.lines.items) chains.items) }
-    requires desks { AreFit (FitsDesk Q.seen site.now) first_desk aims.desks.items desks.old }
+    requires desks { AreFit (FitsDesk site.now) first_desk aims.desks.items desks.old }
     requires vault { IsSomeAnd vault.old (λ v. AreBlank (V.seen v).told) }
     requires empty { tasks.old.items ≡ [] }
     requires room { vec_len aims.lines + vec_len aims.slots + vec_len aims.desks + 1 ≤ vec_capacity tasks.old }
@@ -159,7 +159,7 @@ fn desk_tasks<Q: Dialer, I: Drop, S: Drop, V: Drop>(
     requires there { AllByRecursion IsThere places.old }
     requires many { vec_len aims ≤ length places.old }
     requires few { length places.old ≤ most_interfaces }
-    requires fit { AreFit (FitsDesk Q.seen site.now) first_desk aims.items places.old }
+    requires fit { AreFit (FitsDesk site.now) first_desk aims.items places.old }
     requires room { vec_len tasks.old + vec_len aims ≤ vec_capacity tasks.old }
     ensures taken { Taken (IsDesk (λ by aim d k. ReadyDesk site.now by aim (Q.seen d) (Q.seen k))) first_desk aims.items places.old places.new
         tasks.old.items tasks.new.items }

@@ -20,7 +20,8 @@ IsShown h body (Err e) = Unit {0}
 
 -- The text is that of the reply over the list, whoever asks and when, and that reply appends nothing.
 abbrev pub TextOver : Basis → List Entry → List ℕ → Option (List ℕ) → Type 0
-TextOver b list body text = (by : ℕ) (time : Time) → (r : replies.Reply) × replies.IsReply (point_of b list) by time body r × (text ≡ replies.text_of r) × (r.entries ≡ [])
+TextOver b list body text = (by : ℕ) (time : Time) → (r : replies.Reply) × replies.IsReply (point_of b list) by time body r
+    × (text ≡ replies.text_of r) × (r.entries ≡ [])
 
 -- An answer over the list that the reader has then. Away comes only where the count of refusals rose.
 abbrev pub IsRead : Basis → List Entry → List Entry → ℕ → ℕ → List ℕ → SnapAnswer → Type 0

@@ -39,7 +39,8 @@ impl Snap {
         ensures basis { P.basis reader.new ≡ P.basis reader.old }
         ensures list { IsPrefix (P.list reader.old) (P.list reader.new) }
         ensures refused { P.refused reader.old ≤ P.refused reader.new }
-        ensures read { IfOk result (λ a. IsRead (P.basis reader.new) (P.list reader.old) (P.list reader.new) (P.refused reader.old) (P.refused reader.new) body.now a) }
+        ensures read { IfOk result (λ a. IsRead (P.basis reader.new) (P.list reader.old) (P.list reader.new) (P.refused reader.old)
+            (P.refused reader.new) body.now a) }
     {
         let shown = reader.show(
             |hall: &Hall| -> Result<(u64, Look), Memory>

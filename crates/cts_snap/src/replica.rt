@@ -20,7 +20,19 @@ pub trait Grounds: Naming {
 impl Grounds for Brand {
     ghost use Rattle.std.specs.Prelude.{[], None};
 
-    ghost basis = { record { site = record { definitions = record { telemetry = []; commands = []; set_names = [] }; interfaces = []; routers = []; api_port = 0; desks = 0; log_layout = 2; log_cycle = None }; entries = 0; bytes = 0 } };
+    ghost basis = { record {
+      site = record {
+        definitions = record { telemetry = []; commands = []; set_names = [] };
+        interfaces = [];
+        routers = [];
+        api_port = 0;
+        desks = 0;
+        log_layout = 2;
+        log_cycle = None;
+      };
+      entries = 0;
+      bytes = 0;
+    } };
 }
 
 /// One of the two copies: a hall, and the front that it stands for. It is seen as its entries.

@@ -41,9 +41,14 @@ impl<J: Grounds, T: Replicates<J>, R: Wait + Drop> Model for SnapWriter<J, T, R>
 
     ghost Value = { Writes };
 
-    ghost view = { λ w. record { published = T.state (published w.handle); waiting = fold T.applied (T.state (published w.handle)) (pending w.handle); list = w.mine } };
+    ghost view = { λ w. record {
+      published = T.state (published w.handle);
+      waiting = fold T.applied (T.state (published w.handle)) (pending w.handle);
+      list = w.mine;
+    } };
 
-    ghost invariant = { λ w. (w.listed ≡ length (fold T.applied (T.state (published w.handle)) (pending w.handle))) × IsWriting J.basis (record { published = T.state (published w.handle); waiting = fold T.applied (T.state (published w.handle)) (pending w.handle); list = w.mine }) };
+    ghost invariant = { λ w. (w.listed ≡ length (fold T.applied (T.state (published w.handle)) (pending w.handle))) × IsWriting J.basis
+        (record { published = T.state (published w.handle); waiting = fold T.applied (T.state (published w.handle)) (pending w.handle); list = w.mine }) };
 }
 
 /// A writer over two halls.

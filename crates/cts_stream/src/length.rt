@@ -80,7 +80,8 @@ fn find_length(
     bytes: &[u8],
 ) -> Found
     requires { Agree sync.now bytes.now }
-    ensures { (fill : Bool) → Finds (framing_of (Length (length_data (place_data place.now) value_offset.now per_count discard sync.now max fill))) bytes.now result }
+    ensures { (fill : Bool) → Finds (framing_of (Length (length_data (place_data place.now) value_offset.now per_count discard sync.now max fill)))
+        bytes.now result }
 {
     let reach = place.reach() as usize;
     if bytes.is_empty() || bytes.len() < sync.len() || bytes.len() < reach {

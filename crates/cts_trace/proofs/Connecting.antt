@@ -97,8 +97,8 @@ bad_frame_is_of_chain g m before pieces bytes entries s stage cause is = blamed 
 
 none_left : (g : Routing) (m : ℕ) (why : Why) (fed : List (List ℕ)) (posted left : List Output) → Left g m why fed posted left → why ≢ Full → why ≢ NoMemory → left ≡ []
 none_left g m why fed posted left (inl none) full memory = none
-none_left g m why fed posted left (inr (inl is, some)) full memory = absurd (full is)
-none_left g m why fed posted left (inr (inr is, some)) full memory = absurd (memory is)
+none_left g m why fed posted left (inr (earlier, last, cuts, given, more, fed_is, packets, posted_is, inl is)) full memory = absurd (full is.0)
+none_left g m why fed posted left (inr (earlier, last, cuts, given, more, fed_is, packets, posted_is, inr is)) full memory = absurd (memory is)
 
 pub all_is_posted : AllIsPosted
 all_is_posted g m before pieces bytes entries s full memory = none_left g m s.why s.fed s.carries.posted s.left s.left_is full memory

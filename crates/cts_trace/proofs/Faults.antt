@@ -1,5 +1,5 @@
 -- Connections that were closed for a fault.
-use Rattle.std.proofs.Common.{◌≡◌, ℕ, ◌+◌, ◌≤◌, ◌==◌, Bool, true, false, cond, ◌&&◌, ◌||◌, List, [], ◌∷◌, ◌++◌, length, None, refl, ◌∙◌, ap, arith, length-append, filter, eq-eqb}
+use Rattle.std.proofs.Common.{◌≡◌, ℕ, ◌+◌, ◌==◌, Bool, true, false, cond, ◌&&◌, ◌||◌, List, [], ◌∷◌, ◌++◌, length, None, refl, sym, ◌∙◌, ap, arith, length-append, filter, eq-eqb}
 use Rattle.std.specs.Prelude.{if◌then◌else◌}
 use Rattle.std.specs.List.{list_any}
 use Rattle.std.proofs.lemmas.List.Elements.{filter-append}
@@ -12,7 +12,7 @@ use Rattle.cts_entry.specs.Histories.{connects, is_of_connection, is_own, has_ow
 use Rattle.cts_entry.specs.Places.{Stays}
 use Rattle.cts_outside.specs.Lines.{Connection}
 use Rattle.cts_entry.specs.Room.{Capacity}
-use Rattle.cts_trace.specs.Lines.{Looked, Causes, Seen}
+use Rattle.cts_trace.specs.Lines.{Looked, TellsWhy}
 use Rattle.cts_trace.specs.Makers.{closes_for, is_fault, faults_of}
 use Rattle.cts_trace.specs.Routing.{Routing}
 use Rattle.cts_trace.specs.ToldLaws.{FaultsAreTold}
@@ -88,21 +88,21 @@ faults_append m xs ys = ap length (filter-append (is_faulty m) xs ys) ∙ length
 no_faults : (m : ℕ) (entries : List Entry) → list_any (is_faulty m) entries ≡ false → faults_of m entries ≡ 0
 no_faults m entries none = ap length (filter_none (is_faulty m) entries none)
 
-or_true : (a : Bool) → (a || true) ≡ true
-or_true true = refl
-or_true false = refl
+-- where neither failed none is told
+none_failed : (c : Connection) → c.take_failed ≡ false → c.put_failed ≡ false → failed c ≡ false
+none_failed c take put = ap (λ (b : Bool). b || c.put_failed) take ∙ put
 
--- such a reason has its fault
-is_told : (room : Capacity) (why : Why) (s : Seen) → Causes room why s → one_if (is_fault why) ≤ one_if (failed s.connection)
-is_told room PeerEnded s c = omega arith
-is_told room ReadFault s c = let f : failed s.connection ≡ true = ap (λ (b : Bool). b || s.connection.put_failed) c.0 in let n = ap one_if f in omega arith
-is_told room WriteFault s c = let f : failed s.connection ≡ true = ap (λ (b : Bool). s.connection.take_failed || b) c ∙ or_true s.connection.take_failed in let n = ap one_if f in omega arith
-is_told room (BadFrame stage cause) s c = omega arith
-is_told room Stopped s c = omega arith
-is_told room NoMemory s c = omega arith
-is_told room Full s c = omega arith
+-- a reason is a fault exactly where one is told
+is_told : (why : Why) (c : Connection) → TellsWhy why c → is_fault why ≡ failed c
+is_told PeerEnded c t = sym (none_failed c t.1 t.2)
+is_told ReadFault c t = sym (ap (λ (b : Bool). b || c.put_failed) t.1)
+is_told WriteFault c t = sym (ap (λ (b : Bool). b || c.put_failed) t.1 ∙ t.2)
+is_told (BadFrame stage cause) c t = sym (none_failed c t.1 t.2)
+is_told Stopped c t = sym (none_failed c t.1 t.2)
+is_told NoMemory c t = sym (none_failed c t.1 t.2)
+is_told Full c t = sym (none_failed c t.1 t.2)
 
-one_connection : (g : Routing) (room : Capacity) (m : ℕ) (found : List ℕ) (before : List Entry) (c : Connection) (entries : List Entry) → Looked g room m found before c entries → faults_of m entries ≤ one_if (failed c)
+one_connection : (g : Routing) (room : Capacity) (m : ℕ) (found : List ℕ) (before : List Entry) (c : Connection) (entries : List Entry) → Looked g room m found before c entries → faults_of m entries ≡ one_if (failed c)
 one_connection g room m found before c entries l =
     let s = l.stay in
     let whole = ap (faults_of m) s.entries_are in
@@ -112,7 +112,7 @@ one_connection g room m found before c entries l =
     let quiet = no_faults m s.between (posts_quiet g m (is_faulty m) (λ e none. quiet_if (e.by == m) e.what none) (before ++ s.opened ∷ []) s.between s.carries.posted s.carries.posts) in
     let last = counted m s.closed [] in
     let closing = ap one_if (ap (λ (b : Bool). b && closes_for is_fault s.closed.what) (eq-eqb s.closed.by m s.closes.maker) ∙ ap (closes_for is_fault) s.closes.what_is) in
-    let told = is_told room s.why _ l.cause in
+    let told = ap one_if (is_told s.why c l.tells) in
     omega (arith, whole, first, opening, inner, quiet, last, closing, told)
   where
     and_not : (b c : Bool) → c ≡ false → (b && c) ≡ false
@@ -129,7 +129,7 @@ failures c cs = by_test (failed c) (filter failed cs)
     by_test false rest = omega arith
 
 faults_after : (g : Routing) (room : Capacity) (m : ℕ) (found : List ℕ) (before : List Entry) (past : List Connection) (entries : List Entry) → Stays m (Looked g room m found) before past entries
-    → faults_of m entries ≤ length (filter failed past)
+    → faults_of m entries ≡ length (filter failed past)
 faults_after g room m found before [] entries s = let none = no_faults m entries (none_faulty m entries s) in omega (arith, none)
 faults_after g room m found before (c ∷ cs) entries s =
     let gap = no_faults m s.0 (none_faulty m s.0 s.4) in

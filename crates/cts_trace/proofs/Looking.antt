@@ -1,6 +1,6 @@
 -- What a running line tells: its looks, and what more holds and entries leave of it.
-use Rattle.std.proofs.Common.{◌≡◌, ℕ, suc, ◌+◌, ◌<◌, ◌≤◌, Bool, true, false, ◌||◌, ◌&&◌, List, [], ◌∷◌, ◌++◌, length, Option, Some, None, refl, sym, ◌∙◌, ap, subst, arith, append_assoc, append-nil, length-append, filter, le-leb, inl, inr}
-use Rattle.std.specs.Prelude.{nat_le, ◌⊎◌, ◌≢◌, sum_by}
+use Rattle.std.proofs.Common.{◌≡◌, ℕ, suc, ◌+◌, ◌<◌, ◌≤◌, Bool, true, false, ◌||◌, ◌&&◌, List, [], ◌∷◌, ◌++◌, length, Option, Some, None, refl, sym, ◌∙◌, ap, subst, arith, append_assoc, append-nil, length-append, filter, cond, le-leb, ltb-true, inl, inr}
+use Rattle.std.specs.Prelude.{nat_le, nat_lt, ◌⊎◌, ◌≢◌, sum_by}
 use Rattle.std.specs.List.{list_any}
 use Rattle.std.proofs.lemmas.List.{append_cancel_left}
 use Rattle.std.proofs.lemmas.List.Elements.{filter-append, All-append, All-cons, All-nil}
@@ -90,6 +90,45 @@ looks_append xs ys above most = ap length (filter-append (is_within above most) 
 pub looks_more : (found : List ℕ) (n above most : ℕ) → looks found above most ≤ looks (found ++ n ∷ []) above most
 looks_more found n above most = let e = looks_append found (n ∷ []) above most in omega arith
 
+-- no more than all of them count
+pub few_looks : (found : List ℕ) (above most : ℕ) → looks found above most ≤ length found
+few_looks [] above most = omega arith
+few_looks (n ∷ ns) above most = by_test (is_within above most n) (few_looks ns above most)
+  where
+    by_test : (b : Bool) → looks ns above most ≤ length ns → length (cond b (n ∷ filter (is_within above most) ns) (filter (is_within above most) ns)) ≤ length (n ∷ ns)
+    by_test true few = omega (arith, few)
+    by_test false few = omega (arith, few)
+
+-- a place that is not within does not count
+looks_off : (n above most : ℕ) (ns : List ℕ) → is_within above most n ≡ false → looks (n ∷ ns) above most ≡ looks ns above most
+looks_off n above most ns off = ap (λ (b : Bool). length (cond b (n ∷ filter (is_within above most) ns) (filter (is_within above most) ns))) off
+
+false_of : (b : Bool) → (b ≡ true → ⊥) → b ≡ false
+false_of true f = absurd (f refl)
+false_of false f = refl
+
+and_of : (a b : Bool) → (a && b) ≡ true → (a ≡ true) × (b ≡ true)
+and_of true true h = (refl, refl)
+and_of true false h = absurd (cc h)
+and_of false b h = absurd (cc h)
+
+pub looks_below : (n above most : ℕ) (ns : List ℕ) → n ≤ above → looks (n ∷ ns) above most ≡ looks ns above most
+looks_below n above most ns le = looks_off n above most ns (false_of (is_within above most n) (λ h. let two = and_of (nat_lt above n) (nat_le n most) h in let lt = ltb-true above n two.0 in omega (arith, lt)))
+
+-- one that is within or off counts the same up to two ends
+pub looks_same : (n above most end : ℕ) (ns ms : List ℕ) → n ≤ most → n ≤ end → looks ns above most ≡ looks ms above end → looks (n ∷ ns) above most ≡ looks (n ∷ ms) above end
+looks_same n above most end ns ms le lt same =
+    counted (is_within above most n) ns above most
+    ∙ (ap (λ (k : ℕ). cond (is_within above most n) 1 0 + k) same
+    ∙ (ap (λ (b : Bool). cond (nat_lt above n && b) 1 0 + looks ms above end) (le-leb n most le ∙ sym (le-leb n end lt)) ∙ sym (counted (is_within above end n) ms above end)))
+  where
+    counted : (b : Bool) (xs : List ℕ) (a e : ℕ) → length (cond b (n ∷ filter (is_within a e) xs) (filter (is_within a e) xs)) ≡ cond b 1 0 + looks xs a e
+    counted true xs a e = omega arith
+    counted false xs a e = omega arith
+
+pub looks_beyond : (n above most : ℕ) → most < n → looks (n ∷ []) above most ≡ 0
+looks_beyond n above most lt = looks_off n above most [] (false_of (is_within above most n) (λ h. let two = and_of (nat_lt above n) (nat_le n most) h in let le = enough_of n most two.1 in omega (arith, le)))
+
 pub last_two_more : (found : List ℕ) (n look close end : ℕ) → LastTwo found look close end → end < n → LastTwo (found ++ n ∷ []) look close end
 last_two_more found n look close end two lt = record {
   earlier = two.earlier;
@@ -132,6 +171,7 @@ looked_found g room m found n before c entries le saw =
       between_is = saw.between_is;
       look_is = look_or_none found n look (o + 1 + w) saw.looked saw.look_is;
       cause = saw.cause;
+      tells = saw.tells;
       waits = saw.waits;
       saw = saw.saw;
       tail_is = saw.tail_is;
@@ -140,6 +180,11 @@ looked_found g room m found n before c entries le saw =
       often = (let more = looks_more found n o (o + 1 + w) in let was = saw.often in omega arith);
       last = puts_all_map s.why ((close : ℕ) × LastTwo found look close (o + 1 + w)) ((close : ℕ) × LastTwo (found ++ n ∷ []) look close (o + 1 + w))
           (λ p. (p.0, last_two_more found n look p.0 (o + 1 + w) p.1 above)) saw.last;
+      soon = λ earlier later are stop.
+          (let was = saw.soon earlier later are stop in
+          let both = looks_append found (n ∷ []) (o + length earlier) (o + 1 + w) in
+          let none = looks_beyond n (o + length earlier) (o + 1 + w) above in
+          omega (arith, was, both, none));
     }
 
 pub said_found : (g : Routing) (room : Capacity) (m : ℕ) (found : List ℕ) (n : ℕ) (past : List Connection) (history : List Entry) → length history ≤ n → Said g room m found past history → Said g room m (found ++ n ∷ []) past history
@@ -201,6 +246,15 @@ both_parts x y xs ys same =
 
 cons_is : (x y : Entry) (xs ys : List Entry) → x ≡ y → xs ≡ ys → x ∷ xs ≡ y ∷ ys
 cons_is x y xs ys head tail = ap (λ (z : Entry). z ∷ xs) head ∙ ap (λ (l : List Entry). y ∷ l) tail
+
+-- what is no longer than the first part begins it
+pub begins_first : (xs ys ls rs : List Entry) → xs ++ ys ≡ ls ++ rs → length ls ≤ length xs → (more : List Entry) × (xs ≡ ls ++ more)
+begins_first xs ys [] rs same le = (xs, refl)
+begins_first [] ys (a ∷ ls) rs same le = absurd (omega arith)
+begins_first (x ∷ xs) ys (a ∷ ls) rs same le =
+    let parts = both_parts x a (xs ++ ys) (ls ++ rs) same in
+    let more = begins_first xs ys ls rs parts.1 (omega arith) in
+    (more.0, cons_is x a xs (ls ++ more.0) parts.0 more.1)
 
 -- an element that passes a test stands in the first part, where none of the second one passes it
 stands_first : (test : Entry → Bool) (xs ys ls rs : List Entry) (e : Entry) → list_any test ys ≡ false → test e ≡ true → xs ++ ys ≡ ls ++ e ∷ rs → (more : List Entry) × (xs ≡ ls ++ more)

@@ -1,5 +1,5 @@
 -- The worked examples.
-use Rattle.std.proofs.Common.{◌≡◌, ℕ, ◌+◌, ◌<◌, true, false, List, [], ◌∷◌, ◌++◌, length, Some, None, refl, sym, ◌∙◌, ap, subst, arith, length-append, inl, inr}
+use Rattle.std.proofs.Common.{◌≡◌, ℕ, ◌+◌, ◌<◌, ◌≤◌, ◌||◌, Bool, true, false, List, [], ◌∷◌, ◌++◌, length, Some, None, refl, sym, ◌∙◌, ap, subst, arith, append-nil, length-append, inl, inr}
 use Rattle.std.specs.Prelude.{sum_by}
 use Rattle.std.proofs.lemmas.List.{nil_from_length}
 use Rattle.std.proofs.lemmas.List.Elements.{All-nil}
@@ -13,7 +13,9 @@ use Rattle.cts_entry.specs.declared.what.What.TheVariants.{Closed, Command, Unro
 use Rattle.cts_entry.specs.declared.what.NotSent.TheVariants.{NotConnected}
 use Rattle.cts_entry.specs.declared.why.Why.{Why}
 use Rattle.cts_entry.specs.declared.why.Why.TheVariants.{PeerEnded, WriteFault, Stopped, NoMemory, Full}
+use Rattle.cts_entry.specs.Histories.{is_stop, is_stopped}
 use Rattle.cts_entry.specs.Places.{Posts}
+use Rattle.cts_entry.proofs.Appending.{stopped-append}
 use Rattle.cts_framing.specs.Cuts.{Ends, IsCut, Pieces}
 use Rattle.cts_framing.specs.Framing.{Framing, Output, plain}
 use Rattle.cts_framing.specs.Packets.{IsPackets}
@@ -25,10 +27,12 @@ use Rattle.cts_framing.proofs.LengthSteady.{length_steady}
 use Rattle.cts_framing.proofs.Sound.{is_sound}
 use Rattle.cts_framing.proofs.Stagings.{has_one_packets}
 use Rattle.cts_outside.specs.Lines.{Connection, fresh, no_connections}
-use Rattle.cts_trace.specs.Connections.{Carries, Fed, Says, Shows, Stay, Talks}
+use Rattle.cts_trace.specs.Connections.{Carries, Fed, NoneLate, Says, Shows, Stay, Talks}
 use Rattle.cts_entry.specs.Room.{has_room}
-use Rattle.cts_trace.specs.Lines.{Causes, Looked, looks}
+use Rattle.cts_trace.specs.Lines.{Causes, Looked, TellsWhy, looks}
 use Rattle.cts_trace.specs.Told.{ToldBy, Said, Unopened}
+use Rattle.cts_trace.proofs.Lateness.{late_blank, late_more}
+use Rattle.cts_trace.proofs.Looking.{few_looks, looks_below}
 use Rattle.cts_trace.specs.Worked.{WorkedTold, example, entry, opened, packet, command, closed, stop, most, ended_after}
 
 -- ---- what the frames are
@@ -67,6 +71,21 @@ held_cut = record {
   ends = five_ends;
 }
 
+short_ends : Ends framing (3 ∷ 17 ∷ []) None
+unfolding field_at bits_of
+short_ends = part_ends [] (length_states lengths) framing.output (length_steady lengths) (3 ∷ 17 ∷ []) 3 tt refl (omega arith)
+
+short_cut : IsCut framing (3 ∷ 17 ∷ []) (cut_so [] (3 ∷ 17 ∷ []))
+short_cut = record { taken = taken_none framing (3 ∷ 17 ∷ []); ends = short_ends }
+
+-- ---- no piece comes late
+
+late_one : (chain : List Framing) → chain ≡ framing ∷ [] → NoneLate chain ((2 ∷ 1 ∷ []) ∷ [])
+late_one chain is = subst (λ (fs : List Framing). NoneLate fs ((2 ∷ 1 ∷ []) ∷ [])) (sym is) (late_more (framing ∷ []) [] (2 ∷ 1 ∷ []) (cut_so [] [] ∷ []) [] (is_sound (Length lengths), tt) (no_cut, refl) refl)
+
+late_held : NoneLate (example.chain 0) ((3 ∷ 17 ∷ []) ∷ (34 ∷ 5 ∷ []) ∷ [])
+late_held = late_more (framing ∷ []) ((3 ∷ 17 ∷ []) ∷ []) (34 ∷ 5 ∷ []) (cut_so [] (3 ∷ 17 ∷ []) ∷ []) [] (is_sound (Length lengths), tt) (short_cut, refl) refl
+
 -- ---- what entries say
 
 says : (by : ℕ) (what : What) → Says by (entry by what) what
@@ -93,6 +112,7 @@ unsent = record {
     queue_is = refl;
   };
   blames = refl;
+  late = late_blank (example.chain 0);
   fed_is = inl refl;
   left_is = inl refl;
   put = refl;
@@ -121,6 +141,7 @@ refused = record {
     queue_is = refl;
   };
   blames = refl;
+  late = late_blank (example.chain 0);
   fed_is = inl refl;
   left_is = inl refl;
   put = refl;
@@ -155,6 +176,7 @@ held = record {
   tail = [];
   carries = held_carries;
   blames = refl;
+  late = late_held;
   fed_is = inl refl;
   left_is = inl refl;
   put = refl;
@@ -196,6 +218,7 @@ routed = record {
     queue_is = refl;
   };
   blames = refl;
+  late = late_one (example.chain 8) refl;
   fed_is = inl refl;
   left_is = inl refl;
   put = refl;
@@ -224,6 +247,7 @@ unrouted = record {
     queue_is = refl;
   };
   blames = refl;
+  late = late_one (example.chain 8) refl;
   fed_is = inl refl;
   left_is = inl refl;
   put = refl;
@@ -232,6 +256,10 @@ unrouted = record {
 }
 
 -- ---- what a line tells
+
+-- holds at a history without entries are before any look
+few_after : (found : List ℕ) (limit above most : ℕ) → length found ≤ limit → looks (0 ∷ found) above most ≤ limit
+few_after found limit above most few = let rest = looks_below 0 above most found (omega arith) in let all = few_looks found above most in omega (arith, few, rest, all)
 
 line_looked : Looked example (most 9) 0 (0 ∷ 2 ∷ 2 ∷ []) [] (ended_after [] (0 ∷ 7 ∷ [])) (opened 0 ∷ command (7 ∷ []) ∷ closed 0 PeerEnded 0 0 0 ∷ [])
 line_looked = record {
@@ -249,6 +277,7 @@ line_looked = record {
     tail = [];
     carries = record { cuts = cut_so [] [] ∷ []; posted = []; packets = (no_cut, refl); posts = (λ h. absurd (cc h), λ h. refl); queue_is = refl };
     blames = refl;
+    late = late_blank (example.chain 0);
     fed_is = inl refl;
     left_is = inl refl;
     put = refl;
@@ -260,6 +289,7 @@ line_looked = record {
   between_is = refl;
   look_is = inr (record { earlier = 0 ∷ []; between = []; close = 2; later = []; found_are = refl; close_within = omega arith });
   cause = (refl, refl);
+  tells = (refl, refl, refl);
   waits = [];
   saw = refl;
   tail_is = inl refl;
@@ -267,6 +297,7 @@ line_looked = record {
   posted_none = refl;
   often = omega arith;
   last = (2, record { earlier = 0 ∷ []; later = []; found_are = refl; close_within = omega arith; later_beyond = All-nil (λ (n : ℕ). 2 < n) });
+  soon = λ earlier later are stop. few_after (2 ∷ 2 ∷ []) 3 (0 + length earlier) 2 (omega arith);
 }
 
 write_fault : Looked example (most 9) 0 (0 ∷ 2 ∷ 2 ∷ []) [] (record { pieces = []; put = 0 ∷ []; takes = 0; ended = false; take_failed = false; put_failed = true })
@@ -286,6 +317,7 @@ write_fault = record {
     tail = 0 ∷ [];
     carries = record { cuts = cut_so [] [] ∷ []; posted = []; packets = (no_cut, refl); posts = (λ h. absurd (cc h), λ h. refl); queue_is = refl };
     blames = refl;
+    late = late_blank (example.chain 0);
     fed_is = inl refl;
     left_is = inl refl;
     put = refl;
@@ -297,6 +329,7 @@ write_fault = record {
   between_is = refl;
   look_is = inr (record { earlier = 0 ∷ []; between = []; close = 2; later = []; found_are = refl; close_within = omega arith });
   cause = refl;
+  tells = (refl, refl, refl);
   waits = command (7 ∷ []) ∷ [];
   saw = refl;
   tail_is = inr (refl, (command (7 ∷ []), [], 7 ∷ [], refl, refl));
@@ -304,6 +337,7 @@ write_fault = record {
   posted_none = tt;
   often = omega arith;
   last = tt;
+  soon = λ earlier later are stop. few_after (2 ∷ 2 ∷ []) 3 (0 + length earlier) 2 (omega arith);
 }
 
 stopped : Looked example (most 9) 0 (0 ∷ 1 ∷ 2 ∷ 3 ∷ []) [] (record { pieces = []; put = []; takes = 1; ended = false; take_failed = false; put_failed = false })
@@ -323,6 +357,7 @@ stopped = record {
     tail = [];
     carries = record { cuts = cut_so [] [] ∷ []; posted = []; packets = (no_cut, refl); posts = (λ h. absurd (cc h), λ h. (λ k. absurd (cc k), λ k. refl)); queue_is = refl };
     blames = refl;
+    late = late_blank (example.chain 0);
     fed_is = inl refl;
     left_is = inl refl;
     put = refl;
@@ -334,6 +369,7 @@ stopped = record {
   between_is = refl;
   look_is = inr (record { earlier = 0 ∷ 1 ∷ []; between = []; close = 3; later = []; found_are = refl; close_within = omega arith });
   cause = refl;
+  tells = (refl, refl, refl);
   waits = [];
   saw = refl;
   tail_is = inl refl;
@@ -341,6 +377,7 @@ stopped = record {
   posted_none = refl;
   often = omega arith;
   last = (3, record { earlier = 0 ∷ 1 ∷ []; later = []; found_are = refl; close_within = omega arith; later_beyond = All-nil (λ (n : ℕ). 3 < n) });
+  soon = λ earlier later are stop. few_after (1 ∷ 2 ∷ 3 ∷ []) 3 (0 + length earlier) 3 (omega arith);
 }
 
 full : Looked example (most 1) 0 (0 ∷ 1 ∷ 1 ∷ 1 ∷ []) [] (record { pieces = (2 ∷ 1 ∷ []) ∷ []; put = []; takes = 1; ended = false; take_failed = false; put_failed = false })
@@ -360,8 +397,9 @@ full = record {
     tail = [];
     carries = record { cuts = cut_so ((2 ∷ 1 ∷ []) ∷ []) [] ∷ []; posted = []; packets = (two_cut, refl); posts = refl; queue_is = refl };
     blames = refl;
+    late = late_one (example.chain 0) refl;
     fed_is = inl refl;
-    left_is = inr (inl refl, ([], 2 ∷ 1 ∷ [], cut_so [] [] ∷ [], [], [], refl, (no_cut, refl), refl));
+    left_is = inr ([], 2 ∷ 1 ∷ [], cut_so [] [] ∷ [], [], [], refl, (no_cut, refl), refl, inl (refl, refl));
     put = refl;
     tail_is = inl refl;
     closes = says 0 _;
@@ -371,6 +409,7 @@ full = record {
   between_is = refl;
   look_is = inl refl;
   cause = ((λ h. absurd (cc h)), refl);
+  tells = (refl, refl, refl);
   waits = [];
   saw = refl;
   tail_is = inl refl;
@@ -378,6 +417,7 @@ full = record {
   posted_none = tt;
   often = omega arith;
   last = tt;
+  soon = λ earlier later are stop. few_after (1 ∷ 1 ∷ 1 ∷ []) 3 (0 + length earlier) 1 (omega arith);
 }
 
 -- ---- what may not be told
@@ -424,6 +464,44 @@ all_fed : (why : Why) (fed : List (List ℕ)) → why ≡ Full → Fed why ((2 �
 all_fed why fed is (inl all) = all
 all_fed why fed is (inr (memory, some)) = absurd (let f : Full ≡ NoMemory = sym is ∙ memory in cc)
 
+-- the reason that such entries state
+why_stated : (c : Connection) (found : List ℕ) (w : Why) (held unposted unsent : ℕ) → (l : Looked example (most 9) 0 found [] c (opened 0 ∷ closed 0 w held unposted unsent ∷ [])) → l.stay.why ≡ w
+why_stated c found w held unposted unsent l =
+    let s = l.stay in
+    let whole = ap length s.entries_are in
+    let inner = length-append s.between (s.closed ∷ []) in
+    let few : length s.between ≡ 0 = omega (arith, whole, inner) in
+    let none : s.between ≡ [] = nil_from_length s.between few in
+    let ends : opened 0 ∷ closed 0 w held unposted unsent ∷ [] ≡ s.opened ∷ s.closed ∷ [] = s.entries_are ∙ ap (λ (b : List Entry). s.opened ∷ (b ++ s.closed ∷ [])) none in
+    let parts = two_parts (opened 0) (closed 0 w held unposted unsent) s.opened s.closed ends in
+    why_of _ _ _ _ _ _ _ _ (sym s.closes.what_is ∙ ap (λ (e : Entry). e.what) (sym parts.1))
+
+not_passed_over : Looked example (most 9) 0 (0 ∷ 1 ∷ 1 ∷ 1 ∷ []) [] (record { pieces = []; put = []; takes = 2; ended = true; take_failed = true; put_failed = false })
+    (opened 0 ∷ closed 0 PeerEnded 0 0 0 ∷ []) → ⊥
+not_passed_over l =
+    let c : Connection = record { pieces = []; put = []; takes = 2; ended = true; take_failed = true; put_failed = false } in
+    let tells : TellsWhy PeerEnded c = subst (λ (w : Why). TellsWhy w c) (why_stated c (0 ∷ 1 ∷ 1 ∷ 1 ∷ []) PeerEnded 0 0 0 l) l.tells in
+    let f : true ≡ false = tells.1 in cc
+
+stopped_front : (a b : Bool) → (a || b) ≡ true → b ≡ false → a ≡ true
+stopped_front true b h k = refl
+stopped_front false b h k = absurd (cc h)
+
+not_soon : Looked example (most 9) 0 (0 ∷ 2 ∷ 2 ∷ 2 ∷ 2 ∷ []) [] (record { pieces = []; put = []; takes = 2; ended = false; take_failed = false; put_failed = false })
+    (opened 0 ∷ stop ∷ closed 0 Stopped 0 0 0 ∷ []) → ⊥
+not_soon l =
+    let s = l.stay in
+    let found : List ℕ = 0 ∷ 2 ∷ 2 ∷ 2 ∷ 2 ∷ [] in
+    let whole = ap length s.entries_are in
+    let inner = length-append s.between (s.closed ∷ []) in
+    let one : length s.between ≡ 1 = omega (arith, whole, inner) in
+    let last : is_stopped (s.closed ∷ []) ≡ false = ap (λ (w : What). is_stop w || false) s.closes.what_is in
+    let all : (is_stopped (s.opened ∷ s.between) || is_stopped (s.closed ∷ [])) ≡ true = sym (stopped-append (s.opened ∷ s.between) (s.closed ∷ [])) ∙ ap is_stopped (sym s.entries_are) in
+    let stops = stopped_front (is_stopped (s.opened ∷ s.between)) (is_stopped (s.closed ∷ [])) all last in
+    let few : looks found (0 + length s.between) (0 + 1 + length s.between) ≤ 3 = l.soon s.between [] (sym (append-nil s.between)) stops in
+    let four : looks found 1 2 ≤ 3 = subst (λ (n : ℕ). looks found (0 + n) (0 + 1 + n) ≤ 3) one few in
+    omega (arith, four)
+
 not_full : Looked example (most 2) 0 (0 ∷ 1 ∷ 1 ∷ 1 ∷ []) [] (record { pieces = (2 ∷ 1 ∷ []) ∷ []; put = []; takes = 1; ended = false; take_failed = false; put_failed = false })
     (opened 0 ∷ closed 0 Full 0 1 0 ∷ []) → ⊥
 not_full l =
@@ -460,5 +538,7 @@ worked_told = record {
   unopened = ([], fresh ∷ [], refl, refl, refl, (refl, refl));
   not_unopened = not_unopened;
   not_looked = not_looked;
+  not_passed_over = not_passed_over;
+  not_soon = not_soon;
   not_full = not_full;
 }

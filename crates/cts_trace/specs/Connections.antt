@@ -8,7 +8,7 @@ use Rattle.cts_entry.specs.declared.why.Why.{Why}
 use Rattle.cts_entry.specs.declared.why.Why.TheVariants.{PeerEnded, ReadFault, WriteFault, BadFrame, Stopped, NoMemory, Full}
 use Rattle.cts_entry.specs.Places.{Posts}
 use Rattle.cts_entry.specs.Queues.{spelled, unsent_of}
-use Rattle.cts_framing.specs.Framing.{Heading, Output}
+use Rattle.cts_framing.specs.Framing.{Framing, Heading, Output}
 use Rattle.cts_framing.specs.Cuts.{Pieces}
 use Rattle.cts_framing.specs.Packets.{IsPackets, Fault, fault_of, capped, loss_of}
 use Rattle.cts_trace.specs.Routing.{Routing, spell, queue, said_of}
@@ -53,11 +53,12 @@ pub record Talks (g : Routing) (m : ℕ) (before : List Entry) (pieces : List (L
 abbrev pub Fed : Why → List (List ℕ) → List (List ℕ) → Type 0
 Fed why pieces fed = (fed ≡ pieces) ⊎ ((why ≡ NoMemory) × ((last : List ℕ) × (pieces ≡ fed ++ last ∷ [])))
 
--- all packets are posted; where room or memory wants perhaps not the last ones of the last piece
+-- all packets are posted; or, where room wants, none of the last piece, and where memory wants perhaps not its last ones
 abbrev pub Left : Routing → ℕ → Why → List (List ℕ) → List Output → List Output → Type 0
 Left g m why fed posted left =
-    (left ≡ []) ⊎ (((why ≡ Full) ⊎ (why ≡ NoMemory)) × ((earlier : List (List ℕ)) × (last : List ℕ) × (cuts : List Pieces) × (given more : List Output)
-    × (fed ≡ earlier ++ last ∷ []) × IsPackets (g.chain m) earlier cuts given × (posted ≡ given ++ more)))
+    (left ≡ []) ⊎ ((earlier : List (List ℕ)) × (last : List ℕ) × (cuts : List Pieces) × (given more : List Output)
+    × (fed ≡ earlier ++ last ∷ []) × IsPackets (g.chain m) earlier cuts given × (posted ≡ given ++ more)
+    × (((why ≡ Full) × (more ≡ [])) ⊎ (why ≡ NoMemory)))
 
 -- spellings are put whole; at a write fault perhaps a beginning of the next one follows
 abbrev pub Tail : (Entry → Option (List ℕ)) → Why → List Entry → List ℕ → Type 0
@@ -78,6 +79,11 @@ abbrev pub Blames : Option Fault → Why → Type 0
 Blames (Some fault) why = (why ≡ BadFrame fault.stage fault.cause) ⊎ ((why ≡ Full) ⊎ (why ≡ NoMemory))
 Blames None why = is_bad_frame why ≡ false
 
+-- no piece came to a chain once a stage of it had failed: before the last piece none had
+abbrev pub NoneLate : List Framing → List (List ℕ) → Type 0
+NoneLate chain pieces = (earlier : List (List ℕ)) (last : List ℕ) (cuts : List Pieces) (given : List Output) → pieces ≡ earlier ++ last ∷ []
+    → IsPackets chain earlier cuts given → fault_of cuts ≡ None
+
 -- A connection that ended: its Closed says what its chain gave to no packet, how many packets were not posted, and how many
 -- entries of its queue were not put whole.
 pub record Stay (g : Routing) (m : ℕ) (before : List Entry) (pieces : List (List ℕ)) (bytes : List ℕ) (entries : List Entry) : Type 0 where
@@ -94,6 +100,7 @@ pub record Stay (g : Routing) (m : ℕ) (before : List Entry) (pieces : List (Li
   pub tail : List ℕ
   pub carries : Carries g m (before ++ opened ∷ []) fed left done rest between
   pub blames : Blames (fault_of carries.cuts) why
+  pub late : NoneLate (g.chain m) pieces
   pub fed_is : Fed why pieces fed
   pub left_is : Left g m why fed carries.posted left
   pub put : bytes ≡ spelled (spell g m) done ++ tail

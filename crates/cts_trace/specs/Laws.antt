@@ -13,25 +13,30 @@ use Rattle.cts_trace.specs.Makers.{of_maker, LastEnded}
 
 -- An unsent entry of the queue is one that was not put whole.
 abbrev pub UnsentIsRest : Type 0
-UnsentIsRest = (g : Routing) (m : ℕ) (between done rest : List Entry) → queue g m between ≡ done ++ rest → unsent_of (spell g m) done rest + put_whole (spell g m) done ≡ length (queue g m between)
+UnsentIsRest = (g : Routing) (m : ℕ) (between done rest : List Entry) → queue g m between ≡ done ++ rest → unsent_of (spell g m) done rest + put_whole
+    (spell g m) done ≡ length (queue g m between)
 
 -- From its Opened to its Closed, and only there, the maker is connected.
 abbrev pub ConnectedWithin : Type 0
-ConnectedWithin = (g : Routing) (m : ℕ) (before : List Entry) (pieces : List (List ℕ)) (bytes : List ℕ) (entries : List Entry) → (s : Stay g m before pieces bytes entries)
+ConnectedWithin = (g : Routing) (m : ℕ) (before : List Entry) (pieces : List (List ℕ)) (bytes : List ℕ) (entries : List Entry)
+    → (s : Stay g m before pieces bytes entries)
     → (is_connected m (before ++ s.opened ∷ s.between) ≡ true) × (is_connected m (before ++ entries) ≡ false)
 
 -- A connection that stands is open.
 abbrev pub ConnectedMeanwhile : Type 0
-ConnectedMeanwhile = (g : Routing) (m : ℕ) (before : List Entry) (pieces : List (List ℕ)) (bytes : List ℕ) (entries : List Entry) → Talks g m before pieces bytes entries → is_connected m (before ++ entries) ≡ true
+ConnectedMeanwhile = (g : Routing) (m : ℕ) (before : List Entry) (pieces : List (List ℕ)) (bytes : List ℕ) (entries : List Entry)
+    → Talks g m before pieces bytes entries → is_connected m (before ++ entries) ≡ true
 
 -- A connection is closed for a bad frame only where that is the error of its chain.
 abbrev pub BadFrameIsOfChain : Type 0
-BadFrameIsOfChain = (g : Routing) (m : ℕ) (before : List Entry) (pieces : List (List ℕ)) (bytes : List ℕ) (entries : List Entry) → (s : Stay g m before pieces bytes entries)
+BadFrameIsOfChain = (g : Routing) (m : ℕ) (before : List Entry) (pieces : List (List ℕ)) (bytes : List ℕ) (entries : List Entry)
+    → (s : Stay g m before pieces bytes entries)
     → (stage : ℕ) (cause : BadCause) → s.why ≡ BadFrame stage cause → fault_of s.carries.cuts ≡ Some (record { stage = stage; cause = cause })
 
 -- All packets are posted, unless room or memory wants.
 abbrev pub AllIsPosted : Type 0
-AllIsPosted = (g : Routing) (m : ℕ) (before : List Entry) (pieces : List (List ℕ)) (bytes : List ℕ) (entries : List Entry) → (s : Stay g m before pieces bytes entries)
+AllIsPosted = (g : Routing) (m : ℕ) (before : List Entry) (pieces : List (List ℕ)) (bytes : List ℕ) (entries : List Entry)
+    → (s : Stay g m before pieces bytes entries)
     → s.why ≢ Full → s.why ≢ NoMemory → s.left ≡ []
 
 -- ---- what a maker's own entries say

@@ -63,6 +63,20 @@ Causes room Stopped s = is_stopped s.looked ≡ true
 Causes room NoMemory s = Unit {0}
 Causes room Full s = LacksRoom room s.whole s.left
 
+-- whether a take answered End, whether one failed, and whether a put failed
+abbrev pub Flags : Connection → Bool → Bool → Bool → Type 0
+Flags c ended take_failed put_failed = (c.ended ≡ ended) × (c.take_failed ≡ take_failed) × (c.put_failed ≡ put_failed)
+
+-- A line closes at once: each of these is told exactly where the connection was closed for it.
+abbrev pub TellsWhy : Why → Connection → Type 0
+TellsWhy PeerEnded c = Flags c true false false
+TellsWhy ReadFault c = Flags c false true false
+TellsWhy WriteFault c = Flags c false false true
+TellsWhy (BadFrame stage cause) c = Flags c false false false
+TellsWhy Stopped c = Flags c false false false
+TellsWhy NoMemory c = Flags c false false false
+TellsWhy Full c = Flags c false false false
+
 -- for these reasons a line has put, before it closes, all that its last look saw
 abbrev pub PutsAll : Why → Type 0 → Type 0
 PutsAll PeerEnded A = A
@@ -94,7 +108,13 @@ pub record Looked (g : Routing) (room : Capacity) (m : ℕ) (found : List ℕ) (
   pub since : List Entry
   pub between_is : stay.between ≡ looked ++ since
   pub look_is : (looked ≡ []) ⊎ IsLook found (length before + 1 + length looked) (length before + 1 + length stay.between)
-  pub cause : Causes room stay.why (record { connection = c; looked = before ++ stay.opened ∷ looked; whole = before ++ stay.opened ∷ stay.between; left = stay.left })
+  pub cause : Causes room stay.why (record {
+    connection = c;
+    looked = before ++ stay.opened ∷ looked;
+    whole = before ++ stay.opened ∷ stay.between;
+    left = stay.left;
+  })
+  pub tells : TellsWhy stay.why c
   -- of the queue that it saw this much is done, and this waits; nothing but a beginning of the first that waits was put besides
   pub waits : List Entry
   pub saw : queue g m looked ≡ stay.done ++ waits
@@ -104,3 +124,6 @@ pub record Looked (g : Routing) (room : Capacity) (m : ℕ) (found : List ℕ) (
   -- a line makes more holds than takes, up to the Closed
   pub often : c.takes < looks found (length before) (length before + 1 + length stay.between)
   pub last : PutsAll stay.why ((close : ℕ) × LastTwo found (length before + 1 + length looked) close (length before + 1 + length stay.between))
+  -- once a Stop stands that it could see, no more than three of its holds begin: one that was about to, one that sees the Stop, and the Closed's
+  pub soon : (earlier later : List Entry) → stay.between ≡ earlier ++ later → is_stopped (before ++ stay.opened ∷ earlier) ≡ true
+      → looks found (length before + length earlier) (length before + 1 + length stay.between) ≤ 3

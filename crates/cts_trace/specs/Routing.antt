@@ -6,7 +6,8 @@ use Rattle.cts_def.specs.declared.ident.Ident.{Ident}
 use Rattle.cts_def.specs.declared.ident.Ident.TheVariants.{Known, Unknown}
 use Rattle.cts_entry.specs.declared.entry.Entry.{Entry}
 use Rattle.cts_entry.specs.declared.what.What.{What}
-use Rattle.cts_entry.specs.declared.what.What.TheVariants.{Opened, Packet, Closed, Command, SetLimits, Enable, LimitsSetIs, Injected, Unrouted, Stop as StopEntry, Ended}
+use Rattle.cts_entry.specs.declared.what.What.TheVariants.{Opened, Packet, Closed, Command, SetLimits, Enable, LimitsSetIs, Injected, Unrouted}
+use Rattle.cts_entry.specs.declared.what.What.TheVariants.{Stop as StopEntry, Ended}
 use Rattle.cts_entry.specs.declared.what.NotSent.TheVariants.{Unknown as UnknownCommand, NotConnected as NoConnection}
 use Rattle.cts_entry.specs.Histories.{is_connected, bytes_of, packets_from, commands_to, stored_of}
 use Rattle.cts_framing.specs.Framing.{Framing, Heading, Output, is_stored}

@@ -22,7 +22,8 @@ Past g m past history = Stays m (IsStay g m) [] past history
 -- and of the one that stands after them, if one does
 abbrev pub Tells : Routing → ℕ → List Entry → List Connection → Option Connection → Type 0
 Tells g m history past None = Past g m past history
-Tells g m history past (Some c) = (before : List Entry) × (entries : List Entry) × (history ≡ before ++ entries) × Past g m past before × Talks g m before c.pieces c.put entries
+Tells g m history past (Some c) = (before : List Entry) × (entries : List Entry) × (history ≡ before ++ entries) × Past g m past before
+    × Talks g m before c.pieces c.put entries
 
 -- ---- by a running line
 

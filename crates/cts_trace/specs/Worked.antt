@@ -79,13 +79,16 @@ pub record WorkedTold : Type 0 where
   -- a line looks before each take, and puts what it saw: its holds began at the places 0, 2 and 2
   pub looked : Looked example (most 9) 0 (0 ∷ 2 ∷ 2 ∷ []) [] (ended_after [] (0 ∷ 7 ∷ [])) (opened 0 ∷ command (7 ∷ []) ∷ closed 0 PeerEnded 0 0 0 ∷ [])
   -- a put that failed after one byte of a spelling: the command counts as unsent
-  pub write_fault : Looked example (most 9) 0 (0 ∷ 2 ∷ 2 ∷ []) [] (record { pieces = []; put = 0 ∷ []; takes = 0; ended = false; take_failed = false; put_failed = true })
+  pub write_fault : Looked example (most 9) 0 (0 ∷ 2 ∷ 2 ∷ []) []
+      (record { pieces = []; put = 0 ∷ []; takes = 0; ended = false; take_failed = false; put_failed = true })
       (opened 0 ∷ command (7 ∷ []) ∷ closed 0 WriteFault 0 0 1 ∷ [])
   -- it looked before the Stop, and once more; the command after the Stop is unsent
-  pub stopped : Looked example (most 9) 0 (0 ∷ 1 ∷ 2 ∷ 3 ∷ []) [] (record { pieces = []; put = []; takes = 1; ended = false; take_failed = false; put_failed = false })
+  pub stopped : Looked example (most 9) 0 (0 ∷ 1 ∷ 2 ∷ 3 ∷ []) []
+      (record { pieces = []; put = []; takes = 1; ended = false; take_failed = false; put_failed = false })
       (opened 0 ∷ stop ∷ command (7 ∷ []) ∷ closed 0 Stopped 0 0 1 ∷ [])
   -- the packet finds no room after the one entry that the history may hold
-  pub full : Looked example (most 1) 0 (0 ∷ 1 ∷ 1 ∷ 1 ∷ []) [] (record { pieces = (2 ∷ 1 ∷ []) ∷ []; put = []; takes = 1; ended = false; take_failed = false; put_failed = false })
+  pub full : Looked example (most 1) 0 (0 ∷ 1 ∷ 1 ∷ 1 ∷ []) []
+      (record { pieces = (2 ∷ 1 ∷ []) ∷ []; put = []; takes = 1; ended = false; take_failed = false; put_failed = false })
       (opened 0 ∷ closed 0 Full 0 1 0 ∷ [])
   -- a connection that was made when a Stop stood has no entry
   pub unopened : ToldBy example (most 9) 0 (0 ∷ []) (stop ∷ []) (Some (record no_connections { past = fresh ∷ [] }))
@@ -93,6 +96,15 @@ pub record WorkedTold : Type 0 where
   pub not_unopened : ToldBy example (most 9) 0 (0 ∷ []) [] (Some (record no_connections { past = fresh ∷ [] })) → ⊥
   -- a line that takes without a look tells nothing that may be
   pub not_looked : Looked example (most 9) 0 (0 ∷ 1 ∷ []) [] (ended_after [] []) (opened 0 ∷ closed 0 PeerEnded 0 0 0 ∷ []) → ⊥
+  -- nor one that goes on after a take that failed
+  pub not_passed_over : Looked example (most 9) 0 (0 ∷ 1 ∷ 1 ∷ 1 ∷ []) []
+      (record { pieces = []; put = []; takes = 2; ended = true; take_failed = true; put_failed = false })
+      (opened 0 ∷ closed 0 PeerEnded 0 0 0 ∷ []) → ⊥
+  -- nor one that looks four times once a Stop stands
+  pub not_soon : Looked example (most 9) 0 (0 ∷ 2 ∷ 2 ∷ 2 ∷ 2 ∷ []) []
+      (record { pieces = []; put = []; takes = 2; ended = false; take_failed = false; put_failed = false })
+      (opened 0 ∷ stop ∷ closed 0 Stopped 0 0 0 ∷ []) → ⊥
   -- nor one that leaves a packet for want of room that there was
-  pub not_full : Looked example (most 2) 0 (0 ∷ 1 ∷ 1 ∷ 1 ∷ []) [] (record { pieces = (2 ∷ 1 ∷ []) ∷ []; put = []; takes = 1; ended = false; take_failed = false; put_failed = false })
+  pub not_full : Looked example (most 2) 0 (0 ∷ 1 ∷ 1 ∷ 1 ∷ []) []
+      (record { pieces = (2 ∷ 1 ∷ []) ∷ []; put = []; takes = 1; ended = false; take_failed = false; put_failed = false })
       (opened 0 ∷ closed 0 Full 0 1 0 ∷ []) → ⊥

@@ -1,7 +1,8 @@
 // Laws of the definitions. Each function does nothing: its contract is the law.
 ghost use Rattle.cts_trace.specs.Laws.{UnsentIsRest, ConnectedWithin, ConnectedMeanwhile, BadFrameIsOfChain, AllIsPosted, OwnEntriesTell, LastEndedHasEnded};
 ghost use Rattle.cts_trace.specs.Worked.{WorkedTold};
-ghost use Rattle.cts_trace.specs.ToldLaws.{ConnectedWhereOneStands, OneOpenedEach, OneTelling, SaidIsPast, PutBeforeItsEntries, PutBeforeTheStop, PutsWhatItSaw, FullLeavesSome, FaultsAreTold, HoldsMayFollow, EntriesOfOthersMayFollow};
+ghost use Rattle.cts_trace.specs.ToldLaws.{ConnectedWhereOneStands, OneOpenedEach, OneTelling, SaidIsPast, PutBeforeItsEntries, PutBeforeTheStop};
+ghost use Rattle.cts_trace.specs.ToldLaws.{PutsWhatItSaw, FullLeavesSome, FaultsAreTold, HoldsMayFollow, EntriesOfOthersMayFollow};
 
 /// An unsent entry is one of the queue that was not put whole; and a maker is connected from the
 /// Opened of a connection to its Closed. A connection is closed for a bad frame only where its chain

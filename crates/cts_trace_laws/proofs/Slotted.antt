@@ -15,7 +15,7 @@ use Rattle.cts_trace_laws.specs.Slots.{PutBeginsRouted, PutIsRouted, PutIsRouted
 
 -- the first ones that pass a test are those among some of the first ones
 module _ {X : Type 0} (test : X → Bool) where
-  abbrev Front : List X → List X → List X → Type 0
+  abbrev pub Front : List X → List X → List X → Type 0
   Front xs done rest = (n : ℕ) × (n ≤ length xs) × (filter test (take n xs) ≡ done) × ((rest ≡ []) → n ≡ length xs)
 
   take_all : (xs : List X) → take (length xs) xs ≡ xs
@@ -32,7 +32,7 @@ module _ {X : Type 0} (test : X → Bool) where
   step_false x xs done n h e = rw h e
 
   -- none is left, so it is all of them; and else it is as many as are needed
-  fronts : (xs done rest : List X) → filter test xs ≡ done ++ rest → Front xs done rest
+  pub fronts : (xs done rest : List X) → filter test xs ≡ done ++ rest → Front xs done rest
   fronts xs done [] e = (length xs, omega arith, ap (filter test) (take_all xs) ∙ (e ∙ append-nil done), λ h. refl)
   fronts xs [] (y ∷ rest) e = (0, omega arith, refl, λ h. absurd (some_left y rest h))
   fronts [] (d ∷ done) (y ∷ rest) e = cc
@@ -51,7 +51,7 @@ module _ {X : Type 0} (test : X → Bool) where
           (suc more.0, omega (arith, more.1), step_false x xs (d ∷ done) more.0 h more.2, λ k. absurd (some_left y rest k))
 
 -- the entries of a connection after its Opened, where it stands in a history
-stretch : (before between closing later : List Entry) (opened : Entry) (n : ℕ) → n ≤ length between
+pub stretch : (before between closing later : List Entry) (opened : Entry) (n : ℕ) → n ≤ length between
     → slice_range (before ++ ((opened ∷ (between ++ closing)) ++ later)) (length before + 1) (length before + 1 + n) ≡ take n between
 stretch before between closing later opened n l =
     let is : before ++ ((opened ∷ (between ++ closing)) ++ later) ≡ (before ++ opened ∷ []) ++ (between ++ (closing ++ later)) =

@@ -1,6 +1,7 @@
 // Laws of the definitions. Each function does nothing: its contract is the law.
 ghost use Rattle.cts_trace_laws.specs.Laws.{PacketsAreReadBack, StreamsAreCut, StreamsAreHeard, StreamsHoldAll, StreamsHoldOnlyAll, StreamsSplit};
 ghost use Rattle.cts_trace_laws.specs.Slots.{PutBeginsRouted, PutIsRouted, PutIsRoutedSoFar};
+ghost use Rattle.cts_trace_laws.specs.Stretches.{EndedLinesPutStretches, InterfacesAreSentCommands, LinesPutStretches, SlotsAreSentRouted};
 
 /// Wherever the first bytes of a stream of spellings end, they hold the spellings of its first elements whole, and then a part of the next
 /// one, which is shorter than it. All of the stream holds all of them and no rest. An element that is refused is passed over.
@@ -29,4 +30,14 @@ pub fn slots_put_what_is_routed()
     ensures ended { PutIsRouted }
     ensures standing { PutIsRoutedSoFar }
     ensures begins { PutBeginsRouted }
+{}
+
+/// What a running line has put in each of its connections is what goes to its peer out of a stretch of the history, which begins directly
+/// after the Opened of the connection, and at most a beginning of one spelling more, where a put failed. To a slot the packets go that are
+/// routed to it, and to an interface's device the commands to it.
+pub fn lines_put_stretches()
+    ensures lines { LinesPutStretches }
+    ensures ended { EndedLinesPutStretches }
+    ensures slots { SlotsAreSentRouted }
+    ensures interfaces { InterfacesAreSentCommands }
 {}

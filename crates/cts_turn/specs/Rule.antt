@@ -37,7 +37,8 @@ module _ {S E G : Type 0} (maker : E → ℕ) (list : S → List E) (basis : S �
     pub busy : ℕ
     pub words : s.words ≡ busy ∷ length whole ∷ []
     pub fits : (i : ℕ) (v : View E G) → get_elem? s.views i ≡ some v → Fits g whole busy v
-    pub apart : (i j m : ℕ) (v w : View E G) → get_elem? s.views i ≡ some v → get_elem? s.views j ≡ some w → has m v.makers ≡ true → has m w.makers ≡ true → i ≡ j
+    pub apart : (i j m : ℕ) (v w : View E G) → get_elem? s.views i ≡ some v → get_elem? s.views j ≡ some w → has m v.makers ≡ true
+        → has m w.makers ≡ true → i ≡ j
     pub one : (i j : ℕ) (v w : View E G) → get_elem? s.views i ≡ some v → get_elem? s.views j ≡ some w → v.holds ≡ true → w.holds ≡ true → i ≡ j
     pub free : busy ≡ 0 → AtHome g whole s.homes
     pub taken : busy ≢ 0 → HasTurn s.views
@@ -93,7 +94,13 @@ module _ {E G : Type 0} where
   least_of v = record v { makers = least v.makers ∷ []; found = []; holds = false; aside = []; aside_makers = [] }
 
   abbrev pub both_of : View E G → View E G → View E G
-  both_of v w = record v { makers = v.makers ++ w.makers; seen = longer v.seen w.seen; known = max v.known w.known; aside = shorter v.seen w.seen; aside_makers = shorter_makers v.seen w.seen v.makers w.makers }
+  both_of v w = record v {
+    makers = v.makers ++ w.makers;
+    seen = longer v.seen w.seen;
+    known = max v.known w.known;
+    aside = shorter v.seen w.seen;
+    aside_makers = shorter_makers v.seen w.seen v.makers w.makers;
+  }
 
   abbrev pub spent : View E G
   spent = record { basis = None; makers = []; seen = []; known = 0; found = []; holds = false; aside = []; aside_makers = [] }

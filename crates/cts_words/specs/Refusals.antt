@@ -11,7 +11,8 @@ or_else (Some r) rest = Some r
 or_else None rest = rest
 
 -- The first refusal: of a statement after those before it, or at the end of all.
-abbrev pub first_refusal : {C : Type 0} → (List Statement → Statement → Option (Refusal C)) → (List Statement → Option (Refusal C)) → List Statement → List Statement → Option (Refusal C)
+abbrev pub first_refusal : {C : Type 0} → (List Statement → Statement → Option (Refusal C)) → (List Statement → Option (Refusal C)) → List Statement
+    → List Statement → Option (Refusal C)
 first_refusal at end before [] = end before
 first_refusal at end before (s ∷ rest) = or_else (at before s) (first_refusal at end (before ++ s ∷ []) rest)
 
@@ -31,10 +32,12 @@ pub record IsRefusedFirst {C : Type 0} (at : List Statement → Statement → Op
   pub refused : at front here ≡ Some r
 
 -- Where no statement is refused, the end decides.
-abbrev pub IsFirstRefusal : {C : Type 0} → (List Statement → Statement → Option (Refusal C)) → (List Statement → Option (Refusal C)) → List Statement → Option (Refusal C) → Type 0
+abbrev pub IsFirstRefusal : {C : Type 0} → (List Statement → Statement → Option (Refusal C)) → (List Statement → Option (Refusal C)) → List Statement
+    → Option (Refusal C) → Type 0
 IsFirstRefusal at end all None = NoneRefused at all × (end all ≡ None)
 IsFirstRefusal at end all (Some r) = IsRefusedFirst at all r ⊎ (NoneRefused at all × (end all ≡ Some r))
 
 abbrev pub FirstOneIsRefused : Type 0 → Type 0
-FirstOneIsRefused C = (at : List Statement → Statement → Option (Refusal C)) (end : List Statement → Option (Refusal C)) (all : List Statement) (refusal : Option (Refusal C))
+FirstOneIsRefused C = (at : List Statement → Statement → Option (Refusal C)) (end : List Statement → Option (Refusal C)) (all : List Statement)
+    (refusal : Option (Refusal C))
     → (first_refusal at end [] all ≡ refusal) ↔ IsFirstRefusal at end all refusal

@@ -102,4 +102,5 @@ JoinedLinesAreStatements = (n : ℕ) (front : List (List Word)) (last : List Wor
 
 -- The words of a line are its own words, and the join word where it joins.
 abbrev pub JoinWordEndsTheLine : Type 0
-JoinWordEndsTheLine = (ws : List Word) (w : Word) → (joins (ws ++ w ∷ []) ≡ is_join w) × (own (ws ++ w ∷ []) ≡ map text (if is_join w then ws else ws ++ w ∷ []))
+JoinWordEndsTheLine = (ws : List Word) (w : Word) → (joins (ws ++ w ∷ []) ≡ is_join w)
+    × (own (ws ++ w ∷ []) ≡ map text (if is_join w then ws else ws ++ w ∷ []))

@@ -1,6 +1,7 @@
 //! Laws of the definitions: what they give byte by byte and line by line, said of the whole.
 
-ghost use Rattle.cts_words.specs.Spelling.{LinesEndAtFeeds, LastLineEndsTheText, WordsAreSpelled, OpenQuotesAreLeft, JoinedLinesAreStatements, JoinWordEndsTheLine};
+ghost use Rattle.cts_words.specs.Spelling.{LinesEndAtFeeds, LastLineEndsTheText, WordsAreSpelled, OpenQuotesAreLeft, JoinedLinesAreStatements};
+ghost use Rattle.cts_words.specs.Spelling.{JoinWordEndsTheLine};
 ghost use Rattle.cts_words.specs.FaultPlaces.{FirstOpenQuoteIsTold, ClosedQuotesAreNotTold, JoinToNothingIsTold};
 ghost use Rattle.cts_words.specs.Refusals.{FirstOneIsRefused};
 ghost use Rattle.cts_words.specs.Blocks.{BlocksAreOfTheHeads, BlocksHaveTheirLines};

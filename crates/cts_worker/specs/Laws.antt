@@ -14,4 +14,5 @@ EndedIsOff = (b : Basis) (history : List Entry) (by : ℕ) → IsKept b history 
 
 -- A desk and the scribe are not connected.
 abbrev pub DeskIsOff : Type 0
-DeskIsOff = (b : Basis) (history : List Entry) (by : ℕ) → IsKept b history → IsSoundSite b.site → never_connects b.site by ≡ true → is_connected by history ≡ false
+DeskIsOff = (b : Basis) (history : List Entry) (by : ℕ) → IsKept b history → IsSoundSite b.site → never_connects b.site by ≡ true
+    → is_connected by history ≡ false

@@ -65,7 +65,8 @@ pub fn cancel<R: Wait>(rt: &R, by: u32, turn: &Turn<Hall>, pass: Pass<Hall>) -> 
     requires worker { is_worker (ground turn.now).site by ≡ true }
     ensures pass { IsPassOf turn.now result }
     ensures onward { Onward (view pass) (view result) }
-    ensures own { (stood : List Entry) × StartsWith stood (view pass).seen × StartsWith (view result).seen stood × (of_maker by (view result).seen ≡ last_entries true by first_moment stood) }
+    ensures own { (stood : List Entry) × StartsWith stood (view pass).seen × StartsWith (view result).seen stood
+        × (of_maker by (view result).seen ≡ last_entries true by first_moment stood) }
     ensures stops { is_stopped (view result).seen ≡ true }
 {
     let time = Time {

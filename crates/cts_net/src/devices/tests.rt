@@ -1,4 +1,5 @@
 // The devices of a server over the machine's loopback.
+use crate::bells::Bells;
 use crate::devices::Listeners;
 use crate::dialer::TcpDialer;
 use crate::dialer::tests::{HOST, aim_of, dials, ends_so};
@@ -55,14 +56,15 @@ fn row_holds<'a, R: Net<Listener = TcpListener, Stream = TcpStream> + Clock + Pr
     rt: &'a R,
     alloc: Global,
     listeners: &'a Listeners,
+    bells: &'a Bells,
     row: &str,
 ) -> Result<(), Fail> {
     let (places, wanted) = row.split_once('|').unwrap_or((row, ""));
     let (first, second) = places.split_once(' ').unwrap_or((places, ""));
     let first = first.parse::<usize>().unwrap_or(99);
     let second = second.parse::<usize>().unwrap_or(99);
-    let mut lines = listeners.lines(rt, alloc)?;
-    let mut doors = listeners.doors(rt, alloc)?;
+    let mut lines = listeners.lines(rt, alloc, bells)?;
+    let mut doors = listeners.doors(rt, alloc, bells)?;
     at(&mut doors, first)?.aim(aim_of(alloc, 'x', 0)?);
     match port_of(listeners, first) {
         Some(port) => {
@@ -79,7 +81,8 @@ fn row_over<R: Net<Listener = TcpListener, Stream = TcpStream> + Clock + Print>(
     row: &str,
 ) -> Result<(), Fail> {
     let listeners = Listeners::new(alloc, HOST, HOST)?;
-    row_holds(rt, alloc, &listeners, row)
+    let bells = Bells::new(alloc)?;
+    row_holds(rt, alloc, &listeners, &bells, row)
 }
 
 #[test]

@@ -2,6 +2,7 @@
 // listener until a door accepts it.
 use crate::dialer::TcpDialer;
 use crate::listener::SharedListener;
+use crate::patience::Patience;
 use cts_base::{Bytes, Decimal, Memory};
 use cts_outside::{Aim, Dialed, Dialer, Link, Taken};
 use std::alloc::Global;
@@ -11,9 +12,10 @@ use std::time::Clock;
 
 pub(crate) const HOST: &str = "127.0.0.1";
 
-/// The dialers of a row: three doors of one port, the last of which is patient for two takes; two lines that dial it; a line to a port
-/// where nobody listens, with a delay; one without an aim; and a door of another listener, whose port is taken.
-const NAMES: &str = "xyzabnut";
+/// The dialers of a row: three doors of one port, the last of which is patient for two takes in a row; two lines that dial it; a line
+/// to a port where nobody listens, with a delay; one without an aim; a door of another listener, whose port is taken; and one more of
+/// the first listener, which is patient for three takes in all.
+const NAMES: &str = "xyzabnutw";
 
 /// What a call of a dialer answers, after the dialer's name: `d` dials until it is not Later, and `l` once; `t` takes until it is not
 /// Nothing, and `n` once; `pab` puts `ab`, and `f` puts until a put fails; `h` hangs up; `r` closes the socket without a word; `c` gives
@@ -25,6 +27,7 @@ ad xd ap123456 xt xt xn ah ad xt xh xd yl|Linked;Linked;Ok;Got(4) [49, 50, 51, 5
 ad xd af ac xc|Linked;Linked;PutFailed;(1, 0);(0, 0);
 ad xd xpabc ar xt xc|Linked;Linked;Ok;;Failed [45, 45, 45, 45];(1, 0);
 ad zd zn zn zn zc|Linked;Linked;Nothing;Nothing;Failed [45, 45, 45, 45];(1, 0);
+ad wd wn wn apab wt wn wn wc|Linked;Linked;Nothing;Nothing;Ok;Got(2) [97, 98, 45, 45];Nothing;Failed [45, 45, 45, 45];(1, 0);
 ul uc tl to tl tc nl nl nl nl nl nc|Failed;(0, 1);Failed;(0, 1);Later;(0, 1);Failed;Later;Later;Failed;Later;(0, 2);";
 
 pub(crate) fn aim_of(alloc: Global, name: char, port: u16) -> Result<Aim, Memory> {
@@ -60,10 +63,15 @@ fn push_all<'a, R: Net<Listener = TcpListener, Stream = TcpStream> + Clock>(
     dialers: &mut Vec<TcpDialer<'a, R>>,
 ) -> Result<(), Memory> {
     for name in NAMES.chars() {
-        let most_silent = if name == 'z' { 2 } else { 2000 };
+        let patience = Patience {
+            take: 10,
+            in_row: if name == 'z' { 2 } else { 2000 },
+            in_all: if name == 'w' { 3 } else { 2000 },
+            rest: 0,
+        };
         let mut dialer = match name {
-            't' => TcpDialer::new(rt, other, most_silent),
-            _ => TcpDialer::new(rt, listener, most_silent),
+            't' => TcpDialer::new(rt, alloc, other, patience, None)?,
+            _ => TcpDialer::new(rt, alloc, listener, patience, None)?,
         };
         let port = match name {
             't' => taken,

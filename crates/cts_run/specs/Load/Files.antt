@@ -87,7 +87,8 @@ IsReason reason halt = reason ≡ Some halt
 -- the statements of a text, or why a command halts at it, whatever is asked of the statements
 abbrev pub Says : FileKind → List ℕ → List ℕ → Result (List Statement) Halt → Type 0
 Says kind name text (Ok statements) = said text ≡ Ok statements
-Says kind name text (Err halt) = (is_fault halt ≡ false) × ((verdicts : List Statement → Option Halt) → IsReason (judge_said kind name verdicts (said text)) halt)
+Says kind name text (Err halt) = (is_fault halt ≡ false) × ((verdicts : List Statement → Option Halt)
+    → IsReason (judge_said kind name verdicts (said text)) halt)
 
 -- what is read of statements, or why a command halts at them
 abbrev pub ReadsAs : {X : Type 0} → FileKind → List ℕ → Result X (ℕ × Cause) → Result X Halt → Type 0

@@ -59,6 +59,7 @@ fn status_of(halt: &Halt<'_>) -> Status
         Halt::HistoryFull { .. } => Status::HistoryFull,
         Halt::LogFault => Status::LogFault,
         Halt::LogRefused { .. } => Status::LogRefused,
+        Halt::UnknownName { .. } => Status::UnknownName,
     }
 }
 
@@ -118,6 +119,9 @@ fn last_line(alloc: Global, halt: &Halt<'_>) -> Result<LastLine, Memory>
             Ok(LastLine::Made(lines::history_full(alloc, *entries, *bytes)?))
         }
         Halt::LogRefused { place } => Ok(LastLine::Made(lines::log_refused(alloc, *place)?)),
+        Halt::UnknownName { name } => {
+            Ok(LastLine::Made(lines::unknown_name(alloc, name.as_slice())?))
+        }
     }
 }
 

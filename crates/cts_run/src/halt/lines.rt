@@ -1,6 +1,7 @@
 // The lines that a command prints for itself.
 ghost use Rattle.std.specs.Prelude.{◌≡◌, ◌≤◌, ◌++◌, ◌∷◌, [], IfOk};
-ghost use Rattle.cts_run.specs.Lines.{usage_line, memory_line, read_fault_line, absent_line, log_fault_line, refused_line, kind_name, shelf_line, full_line, log_line, end_line, numbers_line, counts_line};
+ghost use Rattle.cts_run.specs.Lines.{usage_line, memory_line, read_fault_line, absent_line, log_fault_line, refused_line, kind_name, shelf_line};
+ghost use Rattle.cts_run.specs.Lines.{full_line, log_line, unknown_line, end_line, numbers_line, counts_line};
 ghost use Rattle.cts_def.specs.Packets.{items_in};
 
 use cts_base::Memory;
@@ -11,7 +12,7 @@ use std::alloc::Global;
 pub(crate) fn usage_text() -> &'static [u8]
     ensures { result.now ≡ usage_line }
 {
-    b"usage: check DEFS SITE | replay DEFS SITE SCRIPT | rehearse N | dump LOG | serve DEFS SITE\n"
+    b"usage: check DEFS SITE | replay DEFS SITE SCRIPT | rehearse N | dump LOG | serve DEFS SITE | extract DEFS LOG TARGET PACKET KIND ITEMS\n"
 }
 
 /// The line for want of memory. It takes none.
@@ -96,6 +97,16 @@ pub(crate) fn log_refused(alloc: Global, place: u64) -> Result<Vec<u8>, Memory>
 {
     let line = format!(in alloc; "log refused at {place}\n")?;
     Ok(line.as_bytes().to_vec(alloc)?)
+}
+
+/// The line for a word that names nothing that is defined.
+pub(crate) fn unknown_name(alloc: Global, name: &[u8]) -> Result<Vec<u8>, Memory>
+    ensures { IfOk result (λ line. line.items ≡ unknown_line name.now) }
+{
+    let mut line = b"unknown: ".to_vec(alloc)?;
+    line.extend_from_slice(name)?;
+    line.extend_from_slice(b"\n")?;
+    Ok(line)
 }
 
 /// The line after all that was done.

@@ -32,6 +32,8 @@ pub enum Status {
     NoWorker,
     /// A door of the server failed.
     DoorFault,
+    /// A target, a packet or an item that is asked for is not defined.
+    UnknownName,
 }
 
 impl Status {
@@ -56,6 +58,7 @@ impl Status {
             Status::LogRefused => 10,
             Status::NoWorker => 11,
             Status::DoorFault => 12,
+            Status::UnknownName => 14,
         }
     }
 }

@@ -25,7 +25,8 @@ pub(crate) fn load_definitions<'a, F: Files>(
     name: &FileName<'a>,
 ) -> Result<(Definitions, Digest), Halt<'a>>
     ensures stays { (F.seen files.new).told ≡ (F.seen files.old).told }
-    ensures content { IfSome (F.seen files.old).told (λ all. TakesAt (definitions_phase all name.now) (definitions_asked all name.now, digest_asked all name.now) result) }
+    ensures content { IfSome (F.seen files.old).told (λ all. TakesAt (definitions_phase all name.now)
+        (definitions_asked all name.now, digest_asked all name.now) result) }
     ensures counts { LoadCounts result (F.seen files.old) (F.seen files.new) }
 {
     match read_digested(alloc, files, name, FileKind::Configuration) {

@@ -22,7 +22,8 @@ pub(crate) fn load_script<'a, F: Files>(
     site: &Site,
 ) -> Result<Vec<(u32, Event)>, Halt<'a>>
     ensures stays { (F.seen files.new).told ≡ (F.seen files.old).told }
-    ensures content { IfSome (F.seen files.old).told (λ all. TakesAt (script_phase all site.now name.now) (events_asked all site.now name.now) (answer_seen (λ v. v.items) result)) }
+    ensures content { IfSome (F.seen files.old).told (λ all. TakesAt (script_phase all site.now name.now) (events_asked all site.now name.now)
+        (answer_seen (λ v. v.items) result)) }
     ensures counts { LoadCounts result (F.seen files.old) (F.seen files.new) }
 {
     let found = read_statements(alloc, files, name, FileKind::Script)?;

@@ -21,7 +21,8 @@ pub(crate) fn event_text(
     from: u64,
     effect: &Effect,
 ) -> Result<Vec<u8>, Memory>
-    ensures { IfOk result (λ v. v.items ≡ lines_of hall.now.basis.site (take from hall.now.entries) (drop from hall.now.entries) ++ effect_line hall.now.basis.site effect.now) }
+    ensures { IfOk result (λ v. v.items ≡ lines_of hall.now.basis.site (take from hall.now.entries) (drop from hall.now.entries)
+        ++ effect_line hall.now.basis.site effect.now) }
 {
     let changes = hall.events(alloc, from)?;
     let mut text = lines_from(alloc, hall.site(), hall, &changes, from)?;

@@ -1,13 +1,12 @@
 // A server up to the end of its workers.
-ghost use Rattle.std.specs.Prelude.{◌≡◌, ◌∷◌, [], false, map, drop, IfErr, IfOk, IfSome, IsSome, IsSomeAnd, None, OnErr, OnOk, Some};
+ghost use Rattle.std.specs.Prelude.{◌≡◌, ◌∷◌, [], false, map, IfErr, IfOk, IfSome, IsSome, IsSomeAnd, None, OnErr, OnOk, Some};
 ghost use Rattle.std.specs.Arc.{arc_value};
-ghost use Rattle.std.specs.List.{AllByRecursion};
 ghost use Rattle.cts_chain.specs.Builds.{AreFresh, Taken};
 ghost use Rattle.cts_connection.specs.LineChains.{line_chains, line_uses};
-ghost use Rattle.cts_def.specs.Most.{most_interfaces, most_slots};
+ghost use Rattle.cts_def.specs.Most.{most_interfaces};
 ghost use Rattle.cts_def.specs.Sites.{SiteData};
 ghost use Rattle.cts_scribe.specs.Vaults.{AreBlank};
-ghost use Rattle.cts_server.specs.Places.{AreThere, IsStill, most_doors};
+ghost use Rattle.cts_server.specs.Places.{AreThere, most_doors};
 ghost use Rattle.cts_server.specs.Ready.{ready_line};
 ghost use Rattle.cts_server.specs.Serving.{HasIdled, HasServed};
 ghost use Rattle.cts_run.specs.Command.{LeavesShelf, first_phases};
@@ -69,7 +68,6 @@ pub(crate) fn host<
 ) -> Result<Worked, Halt<'a>>
     requires lines { AreThere most_interfaces lines.old.items }
     requires doors { AreThere most_doors doors.old.items }
-    requires still { AllByRecursion (IsStill Q.seen) (drop most_slots doors.old.items) }
     requires vault { IsSomeAnd vault.old (λ v. AreBlank (V.seen v).told) }
     ensures stays { (F.seen files.new).told ≡ (F.seen files.old).told }
     ensures files { FileCounts result (F.seen files.old) (F.seen files.new) }

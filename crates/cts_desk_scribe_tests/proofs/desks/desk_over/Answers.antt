@@ -18,5 +18,5 @@ run-end-requires-clause-desk g c =
     let there : is_desk c.args.hall.basis.site 24 ≡ true = grind arith in
     ap (λ (b : Basis). is_desk b.site 24) c.in_ok-turn.ensures.basis ∙ there
 
-pub close-requires-clause-all : goal.close-requires-clause-all
-close-requires-clause-all g c = λ m lt. ap (has m) (c.run-end.ensures.onward.makers ∙ c.in_ok-turn.ensures.makers) ∙ has_from 0 m (omega arith) lt
+pub close-left-requires-clause-all : goal.close-left-requires-clause-all
+close-left-requires-clause-all g c = λ m lt. ap (has m) (c.run-end.ensures.onward.makers ∙ c.in_ok-turn.ensures.makers) ∙ has_from 0 m (omega arith) lt

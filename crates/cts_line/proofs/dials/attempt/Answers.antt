@@ -7,6 +7,7 @@ use Rattle.cts_trace.proofs.Looking.{settles_told}
 use Rattle.cts_line.specs.Talks.{room_of}
 use Rattle.cts_line.proofs.Dialing.{begins_linked, never_both, finishes_settled, nothing_dialed, so_far}
 use Rattle.cts_line.proofs.Telling.{retells_dial, retells_has, retells_then, since_dial}
+use Rattle.cts_line.proofs.Heeding.{heeds_kept}
 use Rattle.cts_line.proofs.dials.attempt.Goals as goal
 
 pub returns-in-Linked-clause-told : goal.returns-in-Linked-clause-told
@@ -62,3 +63,12 @@ returns-in-Finished-clause-stop g c = λ off. refl
 
 pub returns-in-Failed-clause-stop : goal.returns-in-Failed-clause-stop
 returns-in-Failed-clause-stop g c = λ off. refl
+
+pub returns-in-Later-clause-heeds : goal.returns-in-Later-clause-heeds
+returns-in-Later-clause-heeds g c = heeds_kept c.args.hand.now.by (view c.args.pass).seen (view c.args.pass).seen _ (λ test. refl)
+
+pub returns-in-Finished-clause-heeds : goal.returns-in-Finished-clause-heeds
+returns-in-Finished-clause-heeds g c = heeds_kept c.args.hand.now.by (view c.args.pass).seen (view c.args.pass).seen _ (λ test. refl)
+
+pub returns-in-Failed-clause-heeds : goal.returns-in-Failed-clause-heeds
+returns-in-Failed-clause-heeds g c = heeds_kept c.args.hand.now.by (view c.args.pass).seen (view c.args.pass).seen _ (λ test. refl)

@@ -1,16 +1,17 @@
-use Rattle.std.proofs.Common.{[], ap, arith, ◌∙◌, refl, rules}
+use Rattle.std.proofs.Common.{[], ◌≡◌, Some, None, sym, subst, ap, arith, ◌∙◌, refl, rules}
 use Rattle.cts_table.specs.contracts.hall.HallStands.TheImpl.{ghosts as hall}
 use Rattle.cts_turn.specs.Lists.{has}
 use Rattle.cts_turn.specs.Passes.{basis_of, view}
 use Rattle.cts_connection.specs.Routings.{site_routing}
 use Rattle.cts_trace.proofs.Looking.{settles_told}
-use Rattle.cts_line.specs.Ending.{stops_then}
+use Rattle.cts_line.specs.Ending.{Heeds, stops_then}
 use Rattle.cts_line.specs.Talks.{room_of}
 use Rattle.cts_line.proofs.Chaining.{same_self, suits_same}
 use Rattle.cts_connection.proofs.Gathering.{same_then}
 use Rattle.cts_line.proofs.Dialing.{count_kept, faults_none, faults_same, faults_then, shut_kept, so_far_none, so_far_some, stop_keeps, stop_same_look, stop_settled}
 use Rattle.cts_worker.proofs.Onwards.{onward_hold, onward_same, onward_then}
 use Rattle.cts_line.proofs.Telling.{retells_has, retells_same, retells_then}
+use Rattle.cts_line.proofs.Heeding.{heeds_kept, heeds_quiet, heeds_then}
 use Rattle.cts_line.proofs.dials.connect.Goals as goal
 
 pub returns-then-stop-clause-shut : goal.returns-then-stop-clause-shut
@@ -77,6 +78,8 @@ dials-init g c = record {
   count = c.requires.ready.count;
   faults = faults_same c.args.hand.now.by (view c.args.pass).seen _;
   dials = omega arith;
+  failed = λ why is. refl;
+  heeds = heeds_kept c.args.hand.now.by (view c.args.pass).seen (view c.args.pass).seen None (λ test. refl);
   once = λ off. refl;
   stop = refl;
   retells = retells_same _;
@@ -106,6 +109,10 @@ dials-preserved g c =
       count = e.count;
       faults = faults_then c.args.hand.now.by u.seen w.seen x.seen _ _ _ (faults_then c.args.hand.now.by u.seen v.seen w.seen _ _ _ i.faults (faults_none c.args.hand.now.by v.seen w.seen _ _ looked refl)) e.faults;
       dials = (let a = i.dials in let b = e.dials in omega (arith, a, b));
+      failed = λ why is. e.failed why is (λ same. absurd (let f : None ≡ Some why = sym c.in_default.is ∙ same in cc)) ∙ i.failed why is;
+      heeds = heeds_then c.args.hand.now.by u.seen v.seen x.seen None i.heeds
+          (heeds_then c.args.hand.now.by v.seen w.seen x.seen None (heeds_quiet c.args.hand.now.by v.seen w.seen None looked)
+          (subst (Heeds c.args.hand.now.by w.seen x.seen) c.in_default.is e.heeds));
       once = λ off. e.again off c.in_default.is ∙ (looked.opened ∙ i.once off);
       stop = e.stop (ap stops_then c.in_default.is) ∙ (stop_same_look base c.args.hand.now.by v w c.sees_stop-next.ensures.hold ∙ i.stop);
       retells = retells_then _ _ _ i.retells e.retells;
@@ -160,3 +167,28 @@ returns-in-Some-end-clause-onward g c = onward_then _ _ _ (onward_then _ _ _ c.d
 
 pub returns-in-Some-end-clause-same : goal.returns-in-Some-end-clause-same
 returns-in-Some-end-clause-same g c = same_then c.args.connection.now.chain c.dials.connection.chain c.attempt-next.new.connection.chain c.dials.invariant.same c.attempt-next.ensures.same
+
+pub returns-in-Some-end-clause-failed : goal.returns-in-Some-end-clause-failed
+returns-in-Some-end-clause-failed g c why is apart =
+    c.attempt-next.ensures.failed why is (λ same. apart (let f : Some c.in-Some-end.why ≡ Some why = sym c.in-Some-end.is ∙ same in cc)) ∙ c.dials.invariant.failed why is
+
+pub returns-then-stop-clause-heeds : goal.returns-then-stop-clause-heeds
+returns-then-stop-clause-heeds g c =
+    let by = c.args.hand.now.by in
+    let u = view c.args.pass in
+    let v = view c.dials.pass in
+    let w = view c.sees_stop-next.result.0 in
+    heeds_then by u.seen v.seen w.seen _ c.dials.invariant.heeds
+    (heeds_quiet by v.seen w.seen _ (stop_keeps (basis_of hall.basis c.args.hand.now.turn.now) by v w c.sees_stop-next.ensures.hold))
+
+pub returns-in-Some-end-clause-heeds : goal.returns-in-Some-end-clause-heeds
+returns-in-Some-end-clause-heeds g c =
+    let by = c.args.hand.now.by in
+    let u = view c.args.pass in
+    let v = view c.dials.pass in
+    let w = view c.sees_stop-next.result.0 in
+    let x = view c.attempt-next.result.0 in
+    let looked = stop_keeps (basis_of hall.basis c.args.hand.now.turn.now) by v w c.sees_stop-next.ensures.hold in
+    heeds_then by u.seen v.seen x.seen _ c.dials.invariant.heeds
+    (heeds_then by v.seen w.seen x.seen _ (heeds_quiet by v.seen w.seen None looked)
+    (subst (Heeds by w.seen x.seen) c.in-Some-end.is c.attempt-next.ensures.heeds))

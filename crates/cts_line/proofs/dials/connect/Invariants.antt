@@ -1,4 +1,4 @@
-use Rattle.std.proofs.Common.{◌≡◌, ◌≤◌, ℕ, length, true, false}
+use Rattle.std.proofs.Common.{◌≡◌, ◌≤◌, ℕ, None, Some, length, true, false}
 use Rattle.cts_chain.specs.Shapes.{IsSameChain}
 use Rattle.cts_framing.specs.Packets.{capped}
 use Rattle.cts_turn.specs.Lists.{has}
@@ -6,7 +6,8 @@ use Rattle.cts_turn.specs.Passes.{IsPassOf, basis_of, view}
 use Rattle.cts_connection.specs.Routings.{site_routing}
 use Rattle.cts_trace.specs.Told.{Settled}
 use Rattle.cts_worker.specs.Lasts.{IsShut}
-use Rattle.cts_line.specs.Ending.{FaultsRise, has_stop, opened_in, reconnects}
+use Rattle.cts_line.specs.Ending.{FaultsRise, Heeds, after_failed, has_stop, opened_in, reconnects}
+use Rattle.cts_line.specs.declared.ending.LineWhy.{LineWhy}
 use Rattle.cts_worker.specs.Holds.{Onward}
 use Rattle.cts_line.specs.Talks.{Suits, room_of}
 use Rattle.cts_line.specs.Telling.{Has, Retells, since}
@@ -27,6 +28,8 @@ invariant-dials g l = record {
   count : l.connections ≡ capped (opened_in l.hand.by (view l.pass).seen);
   faults : FaultsRise l.hand.by (view l.initial.pass).seen (view l.pass).seen (g.D.Link.seen l.initial.dialer).faults (g.D.Link.seen l.dialer).faults;
   dials : (g.D.Link.seen l.initial.dialer).failed_dials ≤ (g.D.Link.seen l.dialer).failed_dials;
+  failed : (why : LineWhy) → after_failed l.hand.site.now l.hand.by ≡ Some why → (g.D.Link.seen l.dialer).failed_dials ≡ (g.D.Link.seen l.initial.dialer).failed_dials;
+  heeds : Heeds l.hand.by (view l.initial.pass).seen (view l.pass).seen None;
   once : reconnects l.hand.site.now l.hand.by ≡ false → opened_in l.hand.by (view l.pass).seen ≡ opened_in l.hand.by (view l.initial.pass).seen;
   stop : has_stop l.hand.by (view l.pass).seen ≡ has_stop l.hand.by (view l.initial.pass).seen;
   retells : Retells (g.D.Link.seen l.initial.dialer).told (g.D.Link.seen l.dialer).told;

@@ -1,12 +1,14 @@
-use Rattle.std.proofs.Common.{arith, sym, ◌∙◌}
+use Rattle.std.proofs.Common.{Some, arith, subst, sym, ◌∙◌}
 use Rattle.cts_table.specs.contracts.hall.HallStands.TheImpl.{ghosts as hall}
 use Rattle.cts_turn.specs.Passes.{basis_of, view}
 use Rattle.cts_connection.specs.Routings.{site_routing}
+use Rattle.cts_line.specs.Ending.{Heeds}
 use Rattle.cts_line.specs.Talks.{room_of}
 use Rattle.cts_line.proofs.Chaining.{suits_same}
 use Rattle.cts_line.proofs.Dialing.{again_of, count_closed, count_kept, faults_closed, faults_none, hangs_up, opening_is, refusal, shut_closed, shut_kept, so_far}
 use Rattle.cts_worker.proofs.Onwards.{onward_then}
 use Rattle.cts_line.proofs.Telling.{retells_has, retells_hung, retells_then, since_hung}
+use Rattle.cts_line.proofs.Heeding.{heeds_closed, heeds_quiet}
 use Rattle.cts_line.proofs.dials.serve.Goals as goal
 
 pub open-pass-requires-clause-by : goal.open-pass-requires-clause-by
@@ -74,7 +76,7 @@ returns-clause-told g c =
     let o = opening_is base c.args.hand.now.by (view c.args.pass) (view c.open-pass.result.0) c.args.connection.now c.open-pass.new.connection c.open-pass.result.1 c.open-pass.ensures.hold (sym c.refused.ensures ∙ c.in_default.is) in
     λ k has b.
     so_far (site_routing base.site) (room_of base) c.args.hand.now.by v.found v.seen _ _
-    (hangs_up (site_routing base.site) (room_of base) c.args.hand.now.by v _ _ (since_hung k _ _ (retells_has k _ _ c.talk-pass.ensures.retells has) c.hang_up-2.ensures.content) (c.talk-pass.ensures.closed k (o.talks _ b)))
+    (hangs_up (site_routing base.site) (room_of base) c.args.hand.now.by v _ _ (since_hung k _ _ (retells_has k _ _ c.talk-pass.ensures.retells has) c.hang_up-2.ensures.content) (c.talk-pass.ensures.closed k (o.talks c.args.pass.climbing _ b)))
 
 pub returns-in-Some-clause-few : goal.returns-in-Some-clause-few
 returns-in-Some-clause-few g c =
@@ -107,3 +109,14 @@ returns-in-Some-clause-retells g c = retells_hung _ _ c.hang_up.ensures.content
 
 pub returns-clause-retells : goal.returns-clause-retells
 returns-clause-retells g c = retells_then _ _ _ c.talk-pass.ensures.retells (retells_hung _ _ c.hang_up-2.ensures.content)
+
+pub returns-in-Some-clause-heeds : goal.returns-in-Some-clause-heeds
+returns-in-Some-clause-heeds g c =
+    let r = refusal (basis_of hall.basis c.args.hand.now.turn.now) c.args.hand.now.by (view c.args.pass) (view c.open-pass.result.0) c.args.connection.now c.open-pass.new.connection c.open-pass.result.1 c.open-pass.ensures.hold c.in-Some.why (sym c.refused.ensures ∙ c.in-Some.is) in
+    heeds_quiet c.args.hand.now.by (view c.args.pass).seen (view c.open-pass.result.0).seen _ r.keeps
+
+pub returns-clause-heeds : goal.returns-clause-heeds
+returns-clause-heeds g c =
+    let o = opening_is (basis_of hall.basis c.args.hand.now.turn.now) c.args.hand.now.by (view c.args.pass) (view c.open-pass.result.0) c.args.connection.now c.open-pass.new.connection c.open-pass.result.1 c.open-pass.ensures.hold (sym c.refused.ensures ∙ c.in_default.is) in
+    subst (Heeds c.args.hand.now.by (view c.args.pass).seen (view c.talk-pass.result.0).seen) (sym c.after_closed.ensures)
+    (heeds_closed c.args.hand.now.site.now c.args.hand.now.by (view c.args.pass).seen (view c.open-pass.result.0).seen (view c.talk-pass.result.0).seen c.talk-pass.result.1 o.opens c.talk-pass.ensures.keeps)

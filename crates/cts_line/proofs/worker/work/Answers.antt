@@ -10,6 +10,7 @@ use Rattle.cts_line.specs.Talks.{Suits, room_of}
 use Rattle.cts_line.specs.Telling.{since}
 use Rattle.cts_line.proofs.Dialing.{count_untouched, rose_from, rose_untouched, undialed_settled, untouched}
 use Rattle.cts_line.proofs.Telling.{retells_same}
+use Rattle.cts_line.proofs.Heeding.{heeds_kept}
 use Rattle.cts_line.proofs.worker.work.Goals as goal
 
 pub returns-in_default-clause-shut : goal.returns-in_default-clause-shut
@@ -68,3 +69,6 @@ pub returns-clause-once : goal.returns-clause-once
 returns-clause-once g c =
     let n = (untouched c.args.hand.now.by (view c.args.pass).seen c.requires.new).opened in
     λ off. (let f = c.connect.ensures.once off in omega (arith, n, f))
+
+pub returns-in_default-clause-heeds : goal.returns-in_default-clause-heeds
+returns-in_default-clause-heeds g c = heeds_kept c.args.hand.now.by (view c.args.pass).seen (view c.args.pass).seen _ (λ test. refl)

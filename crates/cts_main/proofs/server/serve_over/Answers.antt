@@ -1,5 +1,8 @@
-use Rattle.cts_main.proofs.Places.{still}
+use Rattle.cts_main.proofs.Places.{there}
 use Rattle.cts_main.proofs.server.serve_over.Goals as goal
 
-pub serve-ended-requires-clause-still : goal.serve-ended-requires-clause-still
-serve-ended-requires-clause-still g c κs within = still _ 8 12 _ c.in_ok-doors.ensures
+pub serve-ended-requires-clause-lines : goal.serve-ended-requires-clause-lines
+serve-ended-requires-clause-lines g c κs within = there _ 16 _ c.in_ok-lines.ensures
+
+pub serve-ended-requires-clause-doors : goal.serve-ended-requires-clause-doors
+serve-ended-requires-clause-doors g c κs within = there _ 12 _ c.in_ok-doors.ensures.there

@@ -15,3 +15,12 @@ returns-in-Dump-clause-vault g c = c.dump.ensures.vault (g.V.Vault.seen c.args.v
 
 pub returns-in-Rehearse-clause-performs : goal.returns-in-Rehearse-clause-performs
 returns-in-Rehearse-clause-performs g c = rw c.in-Rehearse.is (of_told _ _ (λ all. c.rehearse.ensures.performs all (g.V.Vault.seen c.args.vault.now)))
+
+pub returns-in-Extract-clause-performs : goal.returns-in-Extract-clause-performs
+returns-in-Extract-clause-performs g c = rw c.in-Extract.is (c.extract.ensures.performs (g.B.Stocked.stock c.args.shelf.now) (g.V.Vault.seen c.args.vault.now))
+
+pub returns-in-Extract-clause-vault : goal.returns-in-Extract-clause-vault
+returns-in-Extract-clause-vault g c = c.extract.ensures.vault (g.V.Vault.seen c.args.vault.now)
+
+pub returns-in-Replay-clause-performs : goal.returns-in-Replay-clause-performs
+returns-in-Replay-clause-performs g c = rw c.in-Replay.is c.replay.ensures.performs

@@ -1,11 +1,13 @@
-use Rattle.std.proofs.Common.{◌<◌, [], arith, ap, ◌∙◌, subst, sym, take}
+use Rattle.std.proofs.Common.{◌<◌, ◌+◌, [], arith, ap, ◌∙◌, subst, sym, take}
 use Rattle.std.specs.Prelude.{◌^◌}
 use Rattle.cts_def.specs.Sites.{SiteData}
 use Rattle.cts_entry.specs.Histories.{bytes_in}
 use Rattle.cts_outside.specs.declared.vault.LogKind.TheVariants.{Cmd, Tlm}
 use Rattle.cts_table.specs.Keeping.{IsOfSite}
-use Rattle.cts_scribe.specs.Logs.{entries_log}
-use Rattle.cts_scribe.proofs.NextEntries.{follows_next, lays_next, of_site_get, small_get}
+use Rattle.cts_scribe.specs.Growing.{Gives}
+use Rattle.cts_scribe.specs.Logs.{counted_after}
+use Rattle.cts_scribe.proofs.Giving.{counts_next, gives_next, gives_none}
+use Rattle.cts_scribe.proofs.NextEntries.{follows_next, of_site_get, small_get}
 use Rattle.cts_scribe.proofs.board.lay_out.Goals as goal
 
 pub add-requires-clause-of_site : goal.add-requires-clause-of_site
@@ -19,21 +21,61 @@ add-requires-clause-small c =
     let whole : bytes_in es < 2 ^ 32 = omega (arith, c.is_kept.ensures.kept.legal.bytes, c.is_kept.ensures.bytes) in
     small_get es c.entries.progress.place c.lend-entry.result.now (2 ^ 32) c.lend-entry.ensures whole
 
+pub add-requires-clause-tlm : goal.add-requires-clause-tlm
+add-requires-clause-tlm c = c.entries.invariant.gives.tlm.end
+
+pub add-requires-clause-cmd : goal.add-requires-clause-cmd
+add-requires-clause-cmd c = c.entries.invariant.gives.cmd.end
+
 pub entries-preserved : goal.entries-preserved
 entries-preserved c =
     let es = c.args.hall.now.entries in
     let site = c.args.site.now in
     let e = c.lend-entry.result.now in
+    let there = c.lend-entry.ensures in
     let p = c.entries.progress in
     let q = c.follow.new.self in
     let from = c.args.from.place in
     let i = c.entries.invariant in
+    let old = c.entries.growth in
+    let new = c.add.new.self in
+    let asked = c.entries.cycles in
+    let then = c.add.new.cycles in
+    let tlm = c.in_ok-add.ensures.tlm in
+    let cmd = c.in_ok-add.ensures.cmd in
+    let next = sym c.follow.ensures.place in
     record {
       begun = i.begun;
       within = i.within;
-      follows = follows_next p q es e c.lend-entry.ensures c.follow.ensures.place (c.follow.ensures.ended (take p.place es) i.follows.ended);
-      tlm = lays_next Tlm site es from p.place e c.entries.batch.tlm.items c.add.new.self.tlm.items c.lend-entry.ensures i.tlm c.in_ok-add.ensures.tlm
-          ∙ ap (λ n. entries_log Tlm site (take n es)) (sym c.follow.ensures.place);
-      cmd = lays_next Cmd site es from p.place e c.entries.batch.cmd.items c.add.new.self.cmd.items c.lend-entry.ensures i.cmd c.in_ok-add.ensures.cmd
-          ∙ ap (λ n. entries_log Cmd site (take n es)) (sym c.follow.ensures.place);
+      follows = follows_next p q es e there c.follow.ensures.place (c.follow.ensures.ended (take p.place es) i.follows.ended);
+      gives = record {
+        tlm = subst (λ n. Gives Tlm site es from n new.batch.tlm.items new.tlm) next
+            (gives_next Tlm site es from p.place e old.batch.tlm.items old.tlm there asked.tlm new.batch.tlm.items new.tlm then.tlm tlm i.count.tlm i.gives.tlm);
+        cmd = subst (λ n. Gives Cmd site es from n new.batch.cmd.items new.cmd) next
+            (gives_next Cmd site es from p.place e old.batch.cmd.items old.cmd there asked.cmd new.batch.cmd.items new.cmd then.cmd cmd i.count.cmd i.gives.cmd);
+      };
+      count = record {
+        tlm = counts_next Tlm site es from p.place e old.batch.tlm.items old.tlm there asked.tlm new.batch.tlm.items new.tlm then.tlm tlm i.count.tlm i.gives.tlm
+            ∙ ap (λ n. counted_after Tlm site (take n es)) next;
+        cmd = counts_next Cmd site es from p.place e old.batch.cmd.items old.cmd there asked.cmd new.batch.cmd.items new.cmd then.cmd cmd i.count.cmd i.gives.cmd
+            ∙ ap (λ n. counted_after Cmd site (take n es)) next;
+      };
+    }
+
+pub entries-init : goal.entries-init
+entries-init c =
+    let es = c.args.hall.now.entries in
+    let site = c.args.site.now in
+    let from = c.args.from.place in
+    let none = c.none-growth.ensures in
+    let growth = c.none-growth.result in
+    record {
+      begun = (let s = c.saturating_add.ensures in let m = c.min-end.ensures in let n = c.count.ensures in let a = c.requires.ahead in omega (arith, s, m, n, a));
+      within = (let m = c.min-end.ensures in let n = c.count.ensures in omega (arith, m, n));
+      follows = c.requires.follows;
+      gives = record {
+        tlm = gives_none Tlm site es from growth.batch.tlm.items growth.tlm none.bytes.0 none.places.0 none.end.0;
+        cmd = gives_none Cmd site es from growth.batch.cmd.items growth.cmd none.bytes.1 none.places.1 none.end.1;
+      };
+      count = c.requires.count;
     }

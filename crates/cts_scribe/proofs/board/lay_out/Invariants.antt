@@ -1,7 +1,6 @@
-use Rattle.std.proofs.Common.{◌≡◌, ◌≤◌, ◌<◌, ◌-◌, ◌++◌, length, take}
-use Rattle.cts_outside.specs.declared.vault.LogKind.TheVariants.{Cmd, Tlm}
+use Rattle.std.proofs.Common.{◌≤◌, ◌<◌, ◌-◌, length, take}
 use Rattle.cts_worker.specs.Followed.{Follows}
-use Rattle.cts_scribe.specs.Logs.{entries_log}
+use Rattle.cts_scribe.specs.Growing.{Count, GivesBoth}
 use Rattle.cts_scribe.proofs.board.lay_out.Given as goal
 
 abbrev pub invariant-entries : goal.invariant-entries
@@ -9,8 +8,8 @@ invariant-entries l = record {
   begun : l.fn.from.place < l.end;
   within : l.end ≤ length l.hall.entries;
   follows : Follows l.progress l.hall.entries;
-  tlm : entries_log Tlm l.site (take l.fn.from.place l.hall.entries) ++ l.batch.tlm.items ≡ entries_log Tlm l.site (take l.progress.place l.hall.entries);
-  cmd : entries_log Cmd l.site (take l.fn.from.place l.hall.entries) ++ l.batch.cmd.items ≡ entries_log Cmd l.site (take l.progress.place l.hall.entries);
+  gives : GivesBoth l.site l.hall.entries l.fn.from.place l.progress.place l.growth;
+  count : Count l.site (take l.progress.place l.hall.entries) l.cycles;
 }
 
 abbrev pub decreases-entries : goal.decreases-entries

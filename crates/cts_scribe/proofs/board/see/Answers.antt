@@ -8,7 +8,7 @@ returns-then-not-have_ended-clause-sees c =
     let p = c.args.progress.now in
     let es = c.args.hall.now.entries in
     let iff = c.have_ended.ensures (take p.place es) c.requires.follows.ended in
-    (refl, refl, λ d. both_ways c.have_ended.result (let h = c.if-not-have_ended.true in grind arith) (iff.1 (drained_others c.args.site.now c.args.by p es d)))
+    (refl, refl, (λ d. both_ways c.have_ended.result (let h = c.if-not-have_ended.true in grind arith) (iff.1 (drained_others c.args.site.now c.args.by p es d))), c.requires.count)
 
 pub returns-clause-sees : goal.returns-clause-sees
 returns-clause-sees c =

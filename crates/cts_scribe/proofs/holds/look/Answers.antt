@@ -1,4 +1,5 @@
-use Rattle.std.proofs.Common.{◌≡◌, ◌∙◌, ap, subst, sym}
+use Rattle.std.proofs.Common.{◌≡◌, ◌∙◌, List, ap, subst, sym, take}
+use Rattle.cts_entry.specs.declared.entry.Entry.{Entry}
 use Rattle.cts_table.specs.States.{Shown}
 use Rattle.cts_table.specs.declared.basis.Basis.{Basis}
 use Rattle.cts_turn.specs.Passes.{view}
@@ -6,8 +7,9 @@ use Rattle.cts_worker.specs.Grounds.{ground}
 use Rattle.cts_worker.specs.Lasts.{MayEnd}
 use Rattle.cts_worker.proofs.Holdings.{a_held, kept_may_end, new_by}
 use Rattle.cts_scribe.specs.Following.{Sees}
+use Rattle.cts_scribe.specs.Growing.{Count}
 use Rattle.cts_worker.specs.Followed.{Follows}
-use Rattle.cts_scribe.proofs.Sighting.{follows_more, may_end, sees_adds}
+use Rattle.cts_scribe.proofs.Sighting.{follows_more, may_end, sees_adds, take_kept}
 use Rattle.cts_scribe.proofs.holds.look.Goals as goal
 
 pub see-sight-requires-clause-site : goal.see-sight-requires-clause-site
@@ -30,6 +32,15 @@ see-sight-requires-clause-follows g c =
     subst (λ (h : Shown). Follows c.args.follower.progress h.entries) (sym c.state_mut.ensures.value)
     (follows_more c.args.follower.progress (view c.args.follower.pass).seen c.enter-held.result.state.entries e.seen c.requires.following.follows)
 
+pub see-sight-requires-clause-count : goal.see-sight-requires-clause-count
+see-sight-requires-clause-count g c =
+    let e = c.enter-held.ensures in
+    let v = view c.args.follower.pass in
+    let p = c.args.follower.progress in
+    let es = c.enter-held.result.state.entries in
+    subst (λ (h : Shown). Count c.args.site.now (take p.place h.entries) c.args.follower.cycles) (sym c.state_mut.ensures.value)
+    (subst (λ (l : List Entry). Count c.args.site.now l c.args.follower.cycles) (sym (take_kept v.seen es p.place c.requires.following.follows.within e.seen)) c.requires.count)
+
 pub leave-pass-requires-clause-new : goal.leave-pass-requires-clause-new
 leave-pass-requires-clause-new g c =
     let e = c.enter-held.ensures in
@@ -37,10 +48,11 @@ leave-pass-requires-clause-new g c =
     let t = c.see-sight.new.hall in
     let p = c.args.follower.progress in
     let q = c.see-sight.new.progress in
+    let d = c.see-sight.new.cycles in
     let same = c.state_mut.ensures.value in
     let base : t.basis ≡ s.basis = subst (λ (h : Shown). t.basis ≡ h.basis) same c.see-sight.ensures.basis in
-    let sees = subst (λ (h : Shown). Sees c.args.site.now c.args.by h.entries p c.see-sight.result t.entries q) same c.see-sight.ensures.sees in
-    new_by c.args.by (view c.args.follower.pass) _ s e.view e.seen e.own c.requires.following.makers t (sees_adds c.args.site.now c.args.by s t p q c.see-sight.result base sees)
+    let sees = subst (λ (h : Shown). Sees c.args.site.now c.args.by h.entries p c.see-sight.result t.entries q d) same c.see-sight.ensures.sees in
+    new_by c.args.by (view c.args.follower.pass) _ s e.view e.seen e.own c.requires.following.makers t (sees_adds c.args.site.now c.args.by s t p q d c.see-sight.result base sees)
 
 pub returns-clause-hold : goal.returns-clause-hold
 returns-clause-hold g c =
@@ -48,10 +60,11 @@ returns-clause-hold g c =
     let s = c.enter-held.result.state in
     let t = c.see-sight.new.hall in
     let p = c.args.follower.progress in
-    let q = c.see-sight.new.progress in (
+    let q = c.see-sight.new.progress in
+    let d = c.see-sight.new.cycles in (
       s,
       t,
       e.basis,
       a_held c.args.by (view c.args.follower.pass) _ s e.view e.seen e.own c.requires.following.makers t _ c.leave-pass.ensures.view,
-      subst (λ (h : Shown). Sees c.args.site.now c.args.by h.entries p c.see-sight.result t.entries q) c.state_mut.ensures.value c.see-sight.ensures.sees,
+      subst (λ (h : Shown). Sees c.args.site.now c.args.by h.entries p c.see-sight.result t.entries q d) c.state_mut.ensures.value c.see-sight.ensures.sees,
     )

@@ -1,6 +1,5 @@
-use Rattle.cts_log.proofs.Beginnings.{beginnings_are_read}
 use Rattle.cts_scribe.proofs.Stopping.{readable}
 use Rattle.cts_scribe.proofs.laws.stops_leave_logs.Goals as goal
 
 pub returns : goal.returns
-returns c = readable beginnings_are_read
+returns c = readable

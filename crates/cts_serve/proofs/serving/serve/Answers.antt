@@ -16,7 +16,9 @@ use Rattle.cts_run.specs.Command.{LeavesShelf}
 use Rattle.cts_run.specs.Phases.{first_halt}
 use Rattle.cts_serve.specs.Served.{EndsServing, left, serves_on}
 use Rattle.cts_serve.specs.Serving.{HaltsServing, IsPlanned, UnstartedBy, worked_of}
+use Rattle.cts_server.specs.Headline.{Headline}
 use Rattle.cts_server.specs.Serving.{HasServed}
+use Rattle.cts_server.proofs.Headlines.{headline_holds}
 use Rattle.cts_run.specs.Start.{short_halt}
 use Rattle.cts_serve.specs.Words.{asked_to_serve}
 use Rattle.cts_run.specs.declared.halt.status.Status.{Status}
@@ -33,30 +35,26 @@ use Rattle.cts_serve.proofs.serving.serve.Goals as goal
 
 -- ---- the words ask for no server
 
-pub returns-in-None-clause-started : goal.returns-in-None-clause-started
-returns-in-None-clause-started g c =
-    let is_so = c.unstarted-in-None.ensures.status ∙ c.end_misused.ensures.status in
-    let off = ap serves_on is_so in
-    let nothing = c.unstarted-in-None.ensures.nothing in
-    un_started c.unstarted-in-None.result off nothing
-
-pub returns-in-None-clause-nothing : goal.returns-in-None-clause-nothing
-returns-in-None-clause-nothing g c =
-    λ none. c.unstarted-in-None.ensures.nothing
-
-pub returns-in-None-clause-planned : goal.returns-in-None-clause-planned
-returns-in-None-clause-planned g c =
-    let is_so = c.unstarted-in-None.ensures.status ∙ c.end_misused.ensures.status in
-    let off = ap serves_on is_so in
-    let nothing = c.unstarted-in-None.ensures.nothing in
-    λ some. un_there c.unstarted-in-None.result off nothing some
-
-pub returns-in-None-clause-halted : goal.returns-in-None-clause-halted
-returns-in-None-clause-halted g c =
-    let none = sym c.in-None.ensures in
-    λ e. told_unasked ((g.F.Files.seen c.args.files.now).told) (asked_to_serve (map (λ w. w.now) c.args.words.now))
-    (λ all n. HaltsServing (first_phases (g.B.Stocked.stock c.args.shelf.now) all n.0 n.1) c.unstarted-in-None.result.status
-    (g.O.Sink.seen c.args.out.now) (g.O.Sink.seen c.end_misused.new.out)) none
+pub returns-in-None-clause-starts : goal.returns-in-None-clause-starts
+returns-in-None-clause-starts g c = record {
+  started =
+      let is_so = c.unstarted-in-None.ensures.status ∙ c.end_misused.ensures.status in
+      let off = ap serves_on is_so in
+      let nothing = c.unstarted-in-None.ensures.nothing in
+      un_started c.unstarted-in-None.result off nothing;
+  nothing =
+      λ none. c.unstarted-in-None.ensures.nothing;
+  planned =
+      let is_so = c.unstarted-in-None.ensures.status ∙ c.end_misused.ensures.status in
+      let off = ap serves_on is_so in
+      let nothing = c.unstarted-in-None.ensures.nothing in
+      λ some. un_there c.unstarted-in-None.result off nothing some;
+  halted =
+      let none = sym c.in-None.ensures in
+      λ e. told_unasked ((g.F.Files.seen c.args.files.now).told) (asked_to_serve (map (λ w. w.now) c.args.words.now))
+      (λ all n. HaltsServing (first_phases (g.B.Stocked.stock c.args.shelf.now) all n.0 n.1) c.unstarted-in-None.result.status
+      (g.O.Sink.seen c.args.out.now) (g.O.Sink.seen c.end_misused.new.out)) none;
+}
 
 pub returns-in-None-clause-served : goal.returns-in-None-clause-served
 returns-in-None-clause-served g c =
@@ -84,77 +82,69 @@ returns-in-None-clause-fine g c =
     let nothing = c.unstarted-in-None.ensures.nothing in
     λ e. un_status c.unstarted-in-None.result off nothing status.Ok refl e
 
-pub returns-in-None-clause-log : goal.returns-in-None-clause-log
-returns-in-None-clause-log g c =
-    let is_so = c.unstarted-in-None.ensures.status ∙ c.end_misused.ensures.status in
-    let off = ap serves_on is_so in
-    let nothing = c.unstarted-in-None.ensures.nothing in
-    λ e. un_status c.unstarted-in-None.result off nothing status.LogFault refl e
-
-pub returns-in-None-clause-worker : goal.returns-in-None-clause-worker
-returns-in-None-clause-worker g c =
-    let is_so = c.unstarted-in-None.ensures.status ∙ c.end_misused.ensures.status in
-    let off = ap serves_on is_so in
-    let nothing = c.unstarted-in-None.ensures.nothing in
-    λ e. un_status c.unstarted-in-None.result off nothing status.NoWorker refl e
-
-pub returns-in-None-clause-door : goal.returns-in-None-clause-door
-returns-in-None-clause-door g c =
-    let is_so = c.unstarted-in-None.ensures.status ∙ c.end_misused.ensures.status in
-    let off = ap serves_on is_so in
-    let nothing = c.unstarted-in-None.ensures.nothing in
-    λ e. un_status c.unstarted-in-None.result off nothing status.DoorFault refl e
+pub returns-in-None-clause-faults : goal.returns-in-None-clause-faults
+returns-in-None-clause-faults g c = record {
+  read =
+      let is_so = c.unstarted-in-None.ensures.status ∙ c.end_misused.ensures.status in
+      λ e. absurd (cc (sym is_so ∙ e));
+  absent =
+      let is_so = c.unstarted-in-None.ensures.status ∙ c.end_misused.ensures.status in
+      λ e. absurd (cc (sym is_so ∙ e));
+  write =
+      let is_so = c.unstarted-in-None.ensures.status ∙ c.end_misused.ensures.status in
+      λ e. absurd (cc (sym is_so ∙ e));
+  log =
+      let is_so = c.unstarted-in-None.ensures.status ∙ c.end_misused.ensures.status in
+      let off = ap serves_on is_so in
+      let nothing = c.unstarted-in-None.ensures.nothing in
+      λ e. un_status c.unstarted-in-None.result off nothing status.LogFault refl e;
+  worker =
+      let is_so = c.unstarted-in-None.ensures.status ∙ c.end_misused.ensures.status in
+      let off = ap serves_on is_so in
+      let nothing = c.unstarted-in-None.ensures.nothing in
+      λ e. un_status c.unstarted-in-None.result off nothing status.NoWorker refl e;
+  door =
+      let is_so = c.unstarted-in-None.ensures.status ∙ c.end_misused.ensures.status in
+      let off = ap serves_on is_so in
+      let nothing = c.unstarted-in-None.ensures.nothing in
+      λ e. un_status c.unstarted-in-None.result off nothing status.DoorFault refl e;
+}
 
 pub returns-in-None-clause-full : goal.returns-in-None-clause-full
-returns-in-None-clause-full g c =
-    let is_so = c.unstarted-in-None.ensures.status ∙ c.end_misused.ensures.status in
-    let off = ap serves_on is_so in
-    let nothing = c.unstarted-in-None.ensures.nothing in
-    λ e. un_status c.unstarted-in-None.result off nothing status.HistoryFull refl e
+returns-in-None-clause-full g c = record {
+  cause =
+      let is_so = c.unstarted-in-None.ensures.status ∙ c.end_misused.ensures.status in
+      let off = ap serves_on is_so in
+      let nothing = c.unstarted-in-None.ensures.nothing in
+      λ e. un_status c.unstarted-in-None.result off nothing status.HistoryFull refl e;
+  told =
+      let is_so = c.unstarted-in-None.ensures.status ∙ c.end_misused.ensures.status in
+      let off = ap serves_on is_so in
+      let nothing = c.unstarted-in-None.ensures.nothing in
+      λ closed. un_full c.unstarted-in-None.result off nothing closed;
+}
 
 pub returns-in-None-clause-usage : goal.returns-in-None-clause-usage
-returns-in-None-clause-usage g c =
-    let none = sym c.in-None.ensures in
-    let is_so = c.unstarted-in-None.ensures.status ∙ c.end_misused.ensures.status in
-    (λ e. none, λ e. is_so)
-
-pub returns-in-None-clause-misused : goal.returns-in-None-clause-misused
-returns-in-None-clause-misused g c =
-    λ e. c.end_misused.ensures.printed
-
-pub returns-in-None-clause-read : goal.returns-in-None-clause-read
-returns-in-None-clause-read g c =
-    let is_so = c.unstarted-in-None.ensures.status ∙ c.end_misused.ensures.status in
-    λ e. absurd (cc (sym is_so ∙ e))
-
-pub returns-in-None-clause-absent : goal.returns-in-None-clause-absent
-returns-in-None-clause-absent g c =
-    let is_so = c.unstarted-in-None.ensures.status ∙ c.end_misused.ensures.status in
-    λ e. absurd (cc (sym is_so ∙ e))
-
-pub returns-in-None-clause-write : goal.returns-in-None-clause-write
-returns-in-None-clause-write g c =
-    let is_so = c.unstarted-in-None.ensures.status ∙ c.end_misused.ensures.status in
-    λ e. absurd (cc (sym is_so ∙ e))
-
-pub returns-in-None-clause-full_told : goal.returns-in-None-clause-full_told
-returns-in-None-clause-full_told g c =
-    let is_so = c.unstarted-in-None.ensures.status ∙ c.end_misused.ensures.status in
-    let off = ap serves_on is_so in
-    let nothing = c.unstarted-in-None.ensures.nothing in
-    λ closed. un_full c.unstarted-in-None.result off nothing closed
-
-pub returns-in-None-clause-short : goal.returns-in-None-clause-short
-returns-in-None-clause-short g c =
-    let is_so = c.unstarted-in-None.ensures.status ∙ c.end_misused.ensures.status in
-    λ e. absurd (cc (sym is_so ∙ e))
+returns-in-None-clause-usage g c = record {
+  exact =
+      let none = sym c.in-None.ensures in
+      let is_so = c.unstarted-in-None.ensures.status ∙ c.end_misused.ensures.status in
+      (λ e. none, λ e. is_so);
+  misused =
+      λ e. c.end_misused.ensures.printed;
+}
 
 pub returns-in-None-clause-shelf : goal.returns-in-None-clause-shelf
-returns-in-None-clause-shelf g c =
-    let none = sym c.in-None.ensures in
-    λ steady. told_unasked ((g.F.Files.seen c.args.files.now).told) (asked_to_serve (map (λ w. w.now) c.args.words.now))
-    (λ all n. IsShortOf (g.B.Stocked.stock c.args.shelf.now) all n.0 n.1 → (c.unstarted-in-None.result.status ≡ status.ShelfEmpty)
-    ⊎ (c.unstarted-in-None.result.status ≡ status.Memory)) none
+returns-in-None-clause-shelf g c = record {
+  short =
+      let is_so = c.unstarted-in-None.ensures.status ∙ c.end_misused.ensures.status in
+      λ e. absurd (cc (sym is_so ∙ e));
+  exact =
+      let none = sym c.in-None.ensures in
+      λ steady. told_unasked ((g.F.Files.seen c.args.files.now).told) (asked_to_serve (map (λ w. w.now) c.args.words.now))
+      (λ all n. IsShortOf (g.B.Stocked.stock c.args.shelf.now) all n.0 n.1 → (c.unstarted-in-None.result.status ≡ status.ShelfEmpty)
+      ⊎ (c.unstarted-in-None.result.status ≡ status.Memory)) none;
+}
 
 pub returns-in-None-clause-complete : goal.returns-in-None-clause-complete
 returns-in-None-clause-complete g c =
@@ -176,42 +166,38 @@ returns-in-None-clause-boxes g c =
 
 -- ---- it was not started
 
-pub returns-in-Err-clause-started : goal.returns-in-Err-clause-started
-returns-in-Err-clause-started g c =
-    let is_so = c.unstarted.ensures.status in
-    let off = ap serves_on is_so ∙ unserved_status c.in-Err.halt c.end.result (g.O.Sink.seen c.host.new.out)
-    (g.O.Sink.seen c.end.new.out) c.in-Err.ensures.unserved c.end.ensures in
-    let nothing = c.unstarted.ensures.nothing in
-    un_started c.unstarted.result off nothing
-
-pub returns-in-Err-clause-nothing : goal.returns-in-Err-clause-nothing
-returns-in-Err-clause-nothing g c =
-    λ none. c.unstarted.ensures.nothing
-
-pub returns-in-Err-clause-planned : goal.returns-in-Err-clause-planned
-returns-in-Err-clause-planned g c =
-    let is_so = c.unstarted.ensures.status in
-    let off = ap serves_on is_so ∙ unserved_status c.in-Err.halt c.end.result (g.O.Sink.seen c.host.new.out)
-    (g.O.Sink.seen c.end.new.out) c.in-Err.ensures.unserved c.end.ensures in
-    let nothing = c.unstarted.ensures.nothing in
-    λ some. un_there c.unstarted.result off nothing some
-
-pub returns-in-Err-clause-halted : goal.returns-in-Err-clause-halted
-returns-in-Err-clause-halted g c =
-    let same = sym c.in-Some.ensures in
-    let is_so = c.unstarted.ensures.status in
-    λ none. told_asked ((g.F.Files.seen c.args.files.now).told) (asked_to_serve (map (λ w. w.now) c.args.words.now))
-    (c.in-Some.definitions, c.in-Some.site) same (λ all n. HaltsServing (first_phases (g.B.Stocked.stock c.args.shelf.now) all n.0 n.1)
-    c.unstarted.result.status (g.O.Sink.seen c.args.out.now) (g.O.Sink.seen c.end.new.out))
-    (told_one ((g.F.Files.seen c.args.files.now).told) (λ all. UnstartedBy
-    (first_phases (g.B.Stocked.stock c.args.shelf.now) all c.in-Some.definitions c.in-Some.site) c.in-Err.halt (g.O.Sink.seen c.args.out.now)
-    (g.O.Sink.seen c.host.new.out)) (λ all. HaltsServing
-    (first_phases (g.B.Stocked.stock c.args.shelf.now) all c.in-Some.definitions c.in-Some.site) c.unstarted.result.status
-    (g.O.Sink.seen c.args.out.now) (g.O.Sink.seen c.end.new.out))
-    (λ all u. halts_serving (first_phases (g.B.Stocked.stock c.args.shelf.now) all c.in-Some.definitions c.in-Some.site) c.in-Err.halt
-    c.unstarted.result.status (g.O.Sink.seen c.args.out.now) (g.O.Sink.seen c.host.new.out) (g.O.Sink.seen c.end.new.out) u
-    (subst (λ (s : Status). EndsHalted c.in-Err.halt s (g.O.Sink.seen c.host.new.out) (g.O.Sink.seen c.end.new.out)) (sym is_so) c.end.ensures))
-    c.in-Err.ensures.halts)
+pub returns-in-Err-clause-starts : goal.returns-in-Err-clause-starts
+returns-in-Err-clause-starts g c = record {
+  started =
+      let is_so = c.unstarted.ensures.status in
+      let off = ap serves_on is_so ∙ unserved_status c.in-Err.halt c.end.result (g.O.Sink.seen c.host.new.out)
+      (g.O.Sink.seen c.end.new.out) c.in-Err.ensures.unserved c.end.ensures in
+      let nothing = c.unstarted.ensures.nothing in
+      un_started c.unstarted.result off nothing;
+  nothing =
+      λ none. c.unstarted.ensures.nothing;
+  planned =
+      let is_so = c.unstarted.ensures.status in
+      let off = ap serves_on is_so ∙ unserved_status c.in-Err.halt c.end.result (g.O.Sink.seen c.host.new.out)
+      (g.O.Sink.seen c.end.new.out) c.in-Err.ensures.unserved c.end.ensures in
+      let nothing = c.unstarted.ensures.nothing in
+      λ some. un_there c.unstarted.result off nothing some;
+  halted =
+      let same = sym c.in-Some.ensures in
+      let is_so = c.unstarted.ensures.status in
+      λ none. told_asked ((g.F.Files.seen c.args.files.now).told) (asked_to_serve (map (λ w. w.now) c.args.words.now))
+      (c.in-Some.definitions, c.in-Some.site) same (λ all n. HaltsServing (first_phases (g.B.Stocked.stock c.args.shelf.now) all n.0 n.1)
+      c.unstarted.result.status (g.O.Sink.seen c.args.out.now) (g.O.Sink.seen c.end.new.out))
+      (told_one ((g.F.Files.seen c.args.files.now).told) (λ all. UnstartedBy
+      (first_phases (g.B.Stocked.stock c.args.shelf.now) all c.in-Some.definitions c.in-Some.site) c.in-Err.halt (g.O.Sink.seen c.args.out.now)
+      (g.O.Sink.seen c.host.new.out)) (λ all. HaltsServing
+      (first_phases (g.B.Stocked.stock c.args.shelf.now) all c.in-Some.definitions c.in-Some.site) c.unstarted.result.status
+      (g.O.Sink.seen c.args.out.now) (g.O.Sink.seen c.end.new.out))
+      (λ all u. halts_serving (first_phases (g.B.Stocked.stock c.args.shelf.now) all c.in-Some.definitions c.in-Some.site) c.in-Err.halt
+      c.unstarted.result.status (g.O.Sink.seen c.args.out.now) (g.O.Sink.seen c.host.new.out) (g.O.Sink.seen c.end.new.out) u
+      (subst (λ (s : Status). EndsHalted c.in-Err.halt s (g.O.Sink.seen c.host.new.out) (g.O.Sink.seen c.end.new.out)) (sym is_so) c.end.ensures))
+      c.in-Err.ensures.halts);
+}
 
 pub returns-in-Err-clause-served : goal.returns-in-Err-clause-served
 returns-in-Err-clause-served g c =
@@ -243,113 +229,105 @@ returns-in-Err-clause-fine g c =
     let nothing = c.unstarted.ensures.nothing in
     λ e. un_status c.unstarted.result off nothing status.Ok refl e
 
-pub returns-in-Err-clause-log : goal.returns-in-Err-clause-log
-returns-in-Err-clause-log g c =
-    let is_so = c.unstarted.ensures.status in
-    let off = ap serves_on is_so ∙ unserved_status c.in-Err.halt c.end.result (g.O.Sink.seen c.host.new.out)
-    (g.O.Sink.seen c.end.new.out) c.in-Err.ensures.unserved c.end.ensures in
-    let nothing = c.unstarted.ensures.nothing in
-    λ e. un_status c.unstarted.result off nothing status.LogFault refl e
-
-pub returns-in-Err-clause-worker : goal.returns-in-Err-clause-worker
-returns-in-Err-clause-worker g c =
-    let is_so = c.unstarted.ensures.status in
-    let off = ap serves_on is_so ∙ unserved_status c.in-Err.halt c.end.result (g.O.Sink.seen c.host.new.out)
-    (g.O.Sink.seen c.end.new.out) c.in-Err.ensures.unserved c.end.ensures in
-    let nothing = c.unstarted.ensures.nothing in
-    λ e. un_status c.unstarted.result off nothing status.NoWorker refl e
-
-pub returns-in-Err-clause-door : goal.returns-in-Err-clause-door
-returns-in-Err-clause-door g c =
-    let is_so = c.unstarted.ensures.status in
-    let off = ap serves_on is_so ∙ unserved_status c.in-Err.halt c.end.result (g.O.Sink.seen c.host.new.out)
-    (g.O.Sink.seen c.end.new.out) c.in-Err.ensures.unserved c.end.ensures in
-    let nothing = c.unstarted.ensures.nothing in
-    λ e. un_status c.unstarted.result off nothing status.DoorFault refl e
+pub returns-in-Err-clause-faults : goal.returns-in-Err-clause-faults
+returns-in-Err-clause-faults g c = record {
+  read =
+      λ e. (caused _ _ _ _ _ no_vault no_vault (Err c.in-Err.halt) _ c.in-Err.ensures.files c.in-Err.ensures.sink
+      (unserved_logs c.in-Err.halt c.in-Err.ensures.unserved) c.end.ensures).read (sym c.unstarted.ensures.status ∙ e);
+  absent =
+      λ e. (caused _ _ _ _ _ no_vault no_vault (Err c.in-Err.halt) _ c.in-Err.ensures.files c.in-Err.ensures.sink
+      (unserved_logs c.in-Err.halt c.in-Err.ensures.unserved) c.end.ensures).absent (sym c.unstarted.ensures.status ∙ e);
+  write =
+      λ e. (caused _ _ _ _ _ no_vault no_vault (Err c.in-Err.halt) _ c.in-Err.ensures.files c.in-Err.ensures.sink
+      (unserved_logs c.in-Err.halt c.in-Err.ensures.unserved) c.end.ensures).write (sym c.unstarted.ensures.status ∙ e);
+  log =
+      let is_so = c.unstarted.ensures.status in
+      let off = ap serves_on is_so ∙ unserved_status c.in-Err.halt c.end.result (g.O.Sink.seen c.host.new.out)
+      (g.O.Sink.seen c.end.new.out) c.in-Err.ensures.unserved c.end.ensures in
+      let nothing = c.unstarted.ensures.nothing in
+      λ e. un_status c.unstarted.result off nothing status.LogFault refl e;
+  worker =
+      let is_so = c.unstarted.ensures.status in
+      let off = ap serves_on is_so ∙ unserved_status c.in-Err.halt c.end.result (g.O.Sink.seen c.host.new.out)
+      (g.O.Sink.seen c.end.new.out) c.in-Err.ensures.unserved c.end.ensures in
+      let nothing = c.unstarted.ensures.nothing in
+      λ e. un_status c.unstarted.result off nothing status.NoWorker refl e;
+  door =
+      let is_so = c.unstarted.ensures.status in
+      let off = ap serves_on is_so ∙ unserved_status c.in-Err.halt c.end.result (g.O.Sink.seen c.host.new.out)
+      (g.O.Sink.seen c.end.new.out) c.in-Err.ensures.unserved c.end.ensures in
+      let nothing = c.unstarted.ensures.nothing in
+      λ e. un_status c.unstarted.result off nothing status.DoorFault refl e;
+}
 
 pub returns-in-Err-clause-full : goal.returns-in-Err-clause-full
-returns-in-Err-clause-full g c =
-    let is_so = c.unstarted.ensures.status in
-    let off = ap serves_on is_so ∙ unserved_status c.in-Err.halt c.end.result (g.O.Sink.seen c.host.new.out)
-    (g.O.Sink.seen c.end.new.out) c.in-Err.ensures.unserved c.end.ensures in
-    let nothing = c.unstarted.ensures.nothing in
-    λ e. un_status c.unstarted.result off nothing status.HistoryFull refl e
+returns-in-Err-clause-full g c = record {
+  cause =
+      let is_so = c.unstarted.ensures.status in
+      let off = ap serves_on is_so ∙ unserved_status c.in-Err.halt c.end.result (g.O.Sink.seen c.host.new.out)
+      (g.O.Sink.seen c.end.new.out) c.in-Err.ensures.unserved c.end.ensures in
+      let nothing = c.unstarted.ensures.nothing in
+      λ e. un_status c.unstarted.result off nothing status.HistoryFull refl e;
+  told =
+      let is_so = c.unstarted.ensures.status in
+      let off = ap serves_on is_so ∙ unserved_status c.in-Err.halt c.end.result (g.O.Sink.seen c.host.new.out)
+      (g.O.Sink.seen c.end.new.out) c.in-Err.ensures.unserved c.end.ensures in
+      let nothing = c.unstarted.ensures.nothing in
+      λ closed. un_full c.unstarted.result off nothing closed;
+}
 
 pub returns-in-Err-clause-usage : goal.returns-in-Err-clause-usage
-returns-in-Err-clause-usage g c =
-    let same = sym c.in-Some.ensures in (
-      λ e. absurd (never_usage (Err c.in-Err.halt) _ _ _ c.end.ensures (sym c.unstarted.ensures.status ∙ e)),
-      λ none. asked_not None
-          (asked_to_serve (map (λ w. w.now) c.args.words.now)) (c.in-Some.definitions, c.in-Some.site) same none,
-    )
-
-pub returns-in-Err-clause-misused : goal.returns-in-Err-clause-misused
-returns-in-Err-clause-misused g c =
-    let same = sym c.in-Some.ensures in
-    λ none. asked_not None (asked_to_serve (map (λ w. w.now) c.args.words.now)) (c.in-Some.definitions, c.in-Some.site) same none
-
-pub returns-in-Err-clause-read : goal.returns-in-Err-clause-read
-returns-in-Err-clause-read g c =
-    λ e. (caused _ _ _ _ _ no_vault no_vault (Err c.in-Err.halt) _ c.in-Err.ensures.files c.in-Err.ensures.sink
-    (unserved_logs c.in-Err.halt c.in-Err.ensures.unserved) c.end.ensures).read (sym c.unstarted.ensures.status ∙ e)
-
-pub returns-in-Err-clause-absent : goal.returns-in-Err-clause-absent
-returns-in-Err-clause-absent g c =
-    λ e. (caused _ _ _ _ _ no_vault no_vault (Err c.in-Err.halt) _ c.in-Err.ensures.files c.in-Err.ensures.sink
-    (unserved_logs c.in-Err.halt c.in-Err.ensures.unserved) c.end.ensures).absent (sym c.unstarted.ensures.status ∙ e)
-
-pub returns-in-Err-clause-write : goal.returns-in-Err-clause-write
-returns-in-Err-clause-write g c =
-    λ e. (caused _ _ _ _ _ no_vault no_vault (Err c.in-Err.halt) _ c.in-Err.ensures.files c.in-Err.ensures.sink
-    (unserved_logs c.in-Err.halt c.in-Err.ensures.unserved) c.end.ensures).write (sym c.unstarted.ensures.status ∙ e)
-
-pub returns-in-Err-clause-full_told : goal.returns-in-Err-clause-full_told
-returns-in-Err-clause-full_told g c =
-    let is_so = c.unstarted.ensures.status in
-    let off = ap serves_on is_so ∙ unserved_status c.in-Err.halt c.end.result (g.O.Sink.seen c.host.new.out)
-    (g.O.Sink.seen c.end.new.out) c.in-Err.ensures.unserved c.end.ensures in
-    let nothing = c.unstarted.ensures.nothing in
-    λ closed. un_full c.unstarted.result off nothing closed
-
-pub returns-in-Err-clause-short : goal.returns-in-Err-clause-short
-returns-in-Err-clause-short g c =
-    let same = sym c.in-Some.ensures in
-    let is_so = c.unstarted.ensures.status in
-    λ e.
-    let own = sym is_so ∙ e in
-    told_is_asked ((g.F.Files.seen c.args.files.now).told) (asked_to_serve (map (λ w. w.now) c.args.words.now))
-    (c.in-Some.definitions, c.in-Some.site) same (λ all n. IsShortOf (g.B.Stocked.stock c.args.shelf.now) all n.0 n.1)
-    (told_one ((g.F.Files.seen c.args.files.now).told) (λ all. UnstartedBy
-    (first_phases (g.B.Stocked.stock c.args.shelf.now) all c.in-Some.definitions c.in-Some.site) c.in-Err.halt (g.O.Sink.seen c.args.out.now)
-    (g.O.Sink.seen c.host.new.out)) (λ all. IsShortOf (g.B.Stocked.stock c.args.shelf.now) all c.in-Some.definitions c.in-Some.site)
-    (λ all u.
-    let f = phase_status (first_phases (g.B.Stocked.stock c.args.shelf.now) all c.in-Some.definitions c.in-Some.site) c.end.result
-    (g.O.Sink.seen c.args.out.now) (g.O.Sink.seen c.end.new.out)
-    (halts_serving (first_phases (g.B.Stocked.stock c.args.shelf.now) all c.in-Some.definitions c.in-Some.site) c.in-Err.halt c.end.result
-    (g.O.Sink.seen c.args.out.now) (g.O.Sink.seen c.host.new.out) (g.O.Sink.seen c.end.new.out) u c.end.ensures) (λ m. absurd (cc (sym own ∙ m)))
-    (λ r. absurd (cc (sym own ∙ r))) (λ w. absurd (cc (sym own ∙ w))) in
-    short_by (g.B.Stocked.stock c.args.shelf.now) all c.in-Some.definitions c.in-Some.site f.0 f.1 (sym f.2 ∙ own))
-    c.in-Err.ensures.halts)
+returns-in-Err-clause-usage g c = record {
+  exact =
+      let same = sym c.in-Some.ensures in (
+        λ e. absurd (never_usage (Err c.in-Err.halt) _ _ _ c.end.ensures (sym c.unstarted.ensures.status ∙ e)),
+        λ none. asked_not None
+            (asked_to_serve (map (λ w. w.now) c.args.words.now)) (c.in-Some.definitions, c.in-Some.site) same none,
+      );
+  misused =
+      let same = sym c.in-Some.ensures in
+      λ none. asked_not None (asked_to_serve (map (λ w. w.now) c.args.words.now)) (c.in-Some.definitions, c.in-Some.site) same none;
+}
 
 pub returns-in-Err-clause-shelf : goal.returns-in-Err-clause-shelf
-returns-in-Err-clause-shelf g c =
-    let same = sym c.in-Some.ensures in
-    let is_so = c.unstarted.ensures.status in
-    λ steady. told_asked ((g.F.Files.seen c.args.files.now).told) (asked_to_serve (map (λ w. w.now) c.args.words.now))
-    (c.in-Some.definitions, c.in-Some.site) same (λ all n. IsShortOf (g.B.Stocked.stock c.args.shelf.now) all n.0 n.1
-    → (c.unstarted.result.status ≡ status.ShelfEmpty) ⊎ (c.unstarted.result.status ≡ status.Memory))
-    (told_one ((g.F.Files.seen c.args.files.now).told) (λ all. UnstartedBy
-    (first_phases (g.B.Stocked.stock c.args.shelf.now) all c.in-Some.definitions c.in-Some.site) c.in-Err.halt (g.O.Sink.seen c.args.out.now)
-    (g.O.Sink.seen c.host.new.out)) (λ all. IsShortOf (g.B.Stocked.stock c.args.shelf.now) all c.in-Some.definitions c.in-Some.site
-    → (c.unstarted.result.status ≡ status.ShelfEmpty) ⊎ (c.unstarted.result.status ≡ status.Memory))
-    (λ all u. λ short. subst (λ (s : Status). (s ≡ status.ShelfEmpty) ⊎ (s ≡ status.Memory)) (sym is_so)
-    (reason_status (first_phases (g.B.Stocked.stock c.args.shelf.now) all c.in-Some.definitions c.in-Some.site) c.end.result
-    (g.O.Sink.seen c.args.out.now) (g.O.Sink.seen c.end.new.out)
-    (halts_serving (first_phases (g.B.Stocked.stock c.args.shelf.now) all c.in-Some.definitions c.in-Some.site) c.in-Err.halt c.end.result
-    (g.O.Sink.seen c.args.out.now) (g.O.Sink.seen c.host.new.out) (g.O.Sink.seen c.end.new.out) u c.end.ensures)
-    (short_halt (g.B.Stocked.stock c.args.shelf.now) (site_asked all c.in-Some.definitions c.in-Some.site) short.kind)
-    (short_reason (g.B.Stocked.stock c.args.shelf.now) all c.in-Some.definitions c.in-Some.site short)
-    (λ r. steady_rose _ _ steady (returns-in-Err-clause-read g c (is_so ∙ r))))) c.in-Err.ensures.halts)
+returns-in-Err-clause-shelf g c = record {
+  short =
+      let same = sym c.in-Some.ensures in
+      let is_so = c.unstarted.ensures.status in
+      λ e.
+      let own = sym is_so ∙ e in
+      told_is_asked ((g.F.Files.seen c.args.files.now).told) (asked_to_serve (map (λ w. w.now) c.args.words.now))
+      (c.in-Some.definitions, c.in-Some.site) same (λ all n. IsShortOf (g.B.Stocked.stock c.args.shelf.now) all n.0 n.1)
+      (told_one ((g.F.Files.seen c.args.files.now).told) (λ all. UnstartedBy
+      (first_phases (g.B.Stocked.stock c.args.shelf.now) all c.in-Some.definitions c.in-Some.site) c.in-Err.halt (g.O.Sink.seen c.args.out.now)
+      (g.O.Sink.seen c.host.new.out)) (λ all. IsShortOf (g.B.Stocked.stock c.args.shelf.now) all c.in-Some.definitions c.in-Some.site)
+      (λ all u.
+      let f = phase_status (first_phases (g.B.Stocked.stock c.args.shelf.now) all c.in-Some.definitions c.in-Some.site) c.end.result
+      (g.O.Sink.seen c.args.out.now) (g.O.Sink.seen c.end.new.out)
+      (halts_serving (first_phases (g.B.Stocked.stock c.args.shelf.now) all c.in-Some.definitions c.in-Some.site) c.in-Err.halt c.end.result
+      (g.O.Sink.seen c.args.out.now) (g.O.Sink.seen c.host.new.out) (g.O.Sink.seen c.end.new.out) u c.end.ensures) (λ m. absurd (cc (sym own ∙ m)))
+      (λ r. absurd (cc (sym own ∙ r))) (λ w. absurd (cc (sym own ∙ w))) in
+      short_by (g.B.Stocked.stock c.args.shelf.now) all c.in-Some.definitions c.in-Some.site f.0 f.1 (sym f.2 ∙ own))
+      c.in-Err.ensures.halts);
+  exact =
+      let same = sym c.in-Some.ensures in
+      let is_so = c.unstarted.ensures.status in
+      λ steady. told_asked ((g.F.Files.seen c.args.files.now).told) (asked_to_serve (map (λ w. w.now) c.args.words.now))
+      (c.in-Some.definitions, c.in-Some.site) same (λ all n. IsShortOf (g.B.Stocked.stock c.args.shelf.now) all n.0 n.1
+      → (c.unstarted.result.status ≡ status.ShelfEmpty) ⊎ (c.unstarted.result.status ≡ status.Memory))
+      (told_one ((g.F.Files.seen c.args.files.now).told) (λ all. UnstartedBy
+      (first_phases (g.B.Stocked.stock c.args.shelf.now) all c.in-Some.definitions c.in-Some.site) c.in-Err.halt (g.O.Sink.seen c.args.out.now)
+      (g.O.Sink.seen c.host.new.out)) (λ all. IsShortOf (g.B.Stocked.stock c.args.shelf.now) all c.in-Some.definitions c.in-Some.site
+      → (c.unstarted.result.status ≡ status.ShelfEmpty) ⊎ (c.unstarted.result.status ≡ status.Memory))
+      (λ all u. λ short. subst (λ (s : Status). (s ≡ status.ShelfEmpty) ⊎ (s ≡ status.Memory)) (sym is_so)
+      (reason_status (first_phases (g.B.Stocked.stock c.args.shelf.now) all c.in-Some.definitions c.in-Some.site) c.end.result
+      (g.O.Sink.seen c.args.out.now) (g.O.Sink.seen c.end.new.out)
+      (halts_serving (first_phases (g.B.Stocked.stock c.args.shelf.now) all c.in-Some.definitions c.in-Some.site) c.in-Err.halt c.end.result
+      (g.O.Sink.seen c.args.out.now) (g.O.Sink.seen c.host.new.out) (g.O.Sink.seen c.end.new.out) u c.end.ensures)
+      (short_halt (g.B.Stocked.stock c.args.shelf.now) (site_asked all c.in-Some.definitions c.in-Some.site) short.kind)
+      (short_reason (g.B.Stocked.stock c.args.shelf.now) all c.in-Some.definitions c.in-Some.site short)
+      (λ r. steady_rose _ _ steady ((returns-in-Err-clause-faults g c).read (is_so ∙ r))))) c.in-Err.ensures.halts);
+}
 
 pub returns-in-Err-clause-complete : goal.returns-in-Err-clause-complete
 returns-in-Err-clause-complete g c =
@@ -366,7 +344,7 @@ returns-in-Err-clause-complete g c =
     c.end.result (g.O.Sink.seen c.args.out.now) (g.O.Sink.seen c.end.new.out)
     (halts_serving (first_phases (g.B.Stocked.stock c.args.shelf.now) all c.in-Some.definitions c.in-Some.site) c.in-Err.halt c.end.result
     (g.O.Sink.seen c.args.out.now) (g.O.Sink.seen c.host.new.out) (g.O.Sink.seen c.end.new.out) u c.end.ensures) none
-    (λ r. steady_rose _ _ sf (returns-in-Err-clause-read g c (is_so ∙ r))) (λ w. steady_rose _ _ so (returns-in-Err-clause-write g c (is_so ∙ w)))))
+    (λ r. steady_rose _ _ sf ((returns-in-Err-clause-faults g c).read (is_so ∙ r))) (λ w. steady_rose _ _ so ((returns-in-Err-clause-faults g c).write (is_so ∙ w)))))
     c.in-Err.ensures.halts)
 
 pub returns-in-Err-clause-untouched : goal.returns-in-Err-clause-untouched
@@ -397,28 +375,24 @@ returns-in-Err-clause-boxes g c =
 
 -- ---- its workers have worked
 
-pub returns-in-Ok-clause-started : goal.returns-in-Ok-clause-started
-returns-in-Ok-clause-started g c =
-    λ on. in_there c.finish.result c.in-Ok.worked.scribe c.finish.ensures.scribe
-
-pub returns-in-Ok-clause-nothing : goal.returns-in-Ok-clause-nothing
-returns-in-Ok-clause-nothing g c =
-    λ none. in_none c.finish.result c.in-Ok.worked.scribe c.finish.ensures.scribe none
-
-pub returns-in-Ok-clause-halted : goal.returns-in-Ok-clause-halted
-returns-in-Ok-clause-halted g c =
-    λ none. in_none c.finish.result c.in-Ok.worked.scribe c.finish.ensures.scribe none
+pub returns-in-Ok-clause-starts : goal.returns-in-Ok-clause-starts
+returns-in-Ok-clause-starts g c = record {
+  started =
+      λ on. in_there c.finish.result c.in-Ok.worked.scribe c.finish.ensures.scribe;
+  nothing =
+      λ none. in_none c.finish.result c.in-Ok.worked.scribe c.finish.ensures.scribe none;
+  planned =
+      let same = sym c.in-Some.ensures in
+      λ some. told_is_asked ((g.F.Files.seen c.args.files.now).told) (asked_to_serve (map (λ w. w.now) c.args.words.now))
+      (c.in-Some.definitions, c.in-Some.site) same (λ all n. first_halt (first_phases (g.B.Stocked.stock c.args.shelf.now) all n.0 n.1) ≡ None)
+      c.in-Ok.ensures.planned;
+  halted =
+      λ none. in_none c.finish.result c.in-Ok.worked.scribe c.finish.ensures.scribe none;
+}
 
 pub returns-in-Ok-clause-idle : goal.returns-in-Ok-clause-idle
 returns-in-Ok-clause-idle g c =
     λ none. in_none c.finish.result c.in-Ok.worked.scribe c.finish.ensures.scribe none
-
-pub returns-in-Ok-clause-planned : goal.returns-in-Ok-clause-planned
-returns-in-Ok-clause-planned g c =
-    let same = sym c.in-Some.ensures in
-    λ some. told_is_asked ((g.F.Files.seen c.args.files.now).told) (asked_to_serve (map (λ w. w.now) c.args.words.now))
-    (c.in-Some.definitions, c.in-Some.site) same (λ all n. first_halt (first_phases (g.B.Stocked.stock c.args.shelf.now) all n.0 n.1) ≡ None)
-    c.in-Ok.ensures.planned
 
 pub returns-in-Ok-clause-served : goal.returns-in-Ok-clause-served
 returns-in-Ok-clause-served g c =
@@ -426,18 +400,24 @@ returns-in-Ok-clause-served g c =
     let s = c.in-Ok.ensures.served in
     let whole : c.in-Ok.worked ≡ worked_of c.finish.result c.in-Ok.worked.scribe = λ i. record
     { history = sym c.finish.ensures.history i; lines = sym c.finish.ensures.lines i; desks = sym c.finish.ensures.desks i; scribe = c.in-Ok.worked.scribe } in
+    let served = subst
+    (λ (w : Worked). HasServed g.D.Link.seen g.Q.Link.seen g.V.Vault.seen s.0 s.1 w c.args.lines.now.items c.host.new.lines.items
+    c.args.doors.now.items c.host.new.doors.items c.args.vault.now c.host.new.vault (g.W.Crew.seen c.args.crew.now)
+    (g.W.Crew.seen c.host.new.crew)) whole s.3 in
     in_if c.finish.result c.in-Ok.worked.scribe c.finish.ensures.scribe
     (λ scribe. (site : SiteData) × (digest : List ℕ) × IsPlanned ((g.F.Files.seen c.args.files.now).told)
     (asked_to_serve (map (λ w. w.now) c.args.words.now)) site digest × HasServed g.D.Link.seen g.Q.Link.seen g.V.Vault.seen site digest
     (worked_of c.finish.result scribe) c.args.lines.now.items c.host.new.lines.items c.args.doors.now.items c.host.new.doors.items
-    c.args.vault.now c.host.new.vault (g.W.Crew.seen c.args.crew.now) (g.W.Crew.seen c.host.new.crew)) (
+    c.args.vault.now c.host.new.vault (g.W.Crew.seen c.args.crew.now) (g.W.Crew.seen c.host.new.crew)
+    × Headline g.D.Link.seen g.Q.Link.seen g.V.Vault.seen site digest (worked_of c.finish.result scribe) c.args.lines.now.items
+    c.host.new.lines.items c.args.doors.now.items c.host.new.doors.items c.host.new.vault) (
       s.0,
       s.1,
       subst (λ (o : Option (List ℕ × List ℕ)). IsPlanned ((g.F.Files.seen c.args.files.now).told) o s.0 s.1) (sym same) s.2,
-      subst
-          (λ (w : Worked). HasServed g.D.Link.seen g.Q.Link.seen g.V.Vault.seen s.0 s.1 w c.args.lines.now.items c.host.new.lines.items
-          c.args.doors.now.items c.host.new.doors.items c.args.vault.now c.host.new.vault (g.W.Crew.seen c.args.crew.now)
-          (g.W.Crew.seen c.host.new.crew)) whole s.3,
+      served,
+      headline_holds g.D.Link.seen g.Q.Link.seen g.V.Vault.seen s.0 s.1 (worked_of c.finish.result c.in-Ok.worked.scribe)
+          c.args.lines.now.items c.host.new.lines.items c.args.doors.now.items c.host.new.doors.items c.args.vault.now c.host.new.vault
+          (g.W.Crew.seen c.args.crew.now) (g.W.Crew.seen c.host.new.crew) c.requires.vault served,
     )
 
 pub returns-in-Ok-clause-ends : goal.returns-in-Ok-clause-ends
@@ -461,100 +441,92 @@ returns-in-Ok-clause-fine g c =
     c.finish.ensures.desks c.finish.ensures.scribe c.finish.ensures.history
 
 pub returns-in-Ok-clause-usage : goal.returns-in-Ok-clause-usage
-returns-in-Ok-clause-usage g c =
-    let same = sym c.in-Some.ensures in
-    let ends = ready_end c.in-Ok.worked.lines c.in-Ok.worked.desks c.in-Ok.worked.scribe c.in-Ok.worked.history c.finish.result.status
-    (g.O.Sink.seen c.args.out.now) (g.O.Sink.seen c.host.new.out) (g.O.Sink.seen c.finish.new.out) c.in-Ok.ensures.ready c.finish.ensures.ends in
-    let told = trouble_of (left ends.written c.in-Ok.worked.lines c.in-Ok.worked.desks c.in-Ok.worked.scribe c.in-Ok.worked.history) in (
-      λ e. absurd (never_usage_told told (sym ends.status_is ∙ e)),
-      λ none. asked_not None (asked_to_serve (map (λ w. w.now) c.args.words.now))
-          (c.in-Some.definitions, c.in-Some.site) same none,
-    )
+returns-in-Ok-clause-usage g c = record {
+  exact =
+      let same = sym c.in-Some.ensures in
+      let ends = ready_end c.in-Ok.worked.lines c.in-Ok.worked.desks c.in-Ok.worked.scribe c.in-Ok.worked.history c.finish.result.status
+      (g.O.Sink.seen c.args.out.now) (g.O.Sink.seen c.host.new.out) (g.O.Sink.seen c.finish.new.out) c.in-Ok.ensures.ready c.finish.ensures.ends in
+      let told = trouble_of (left ends.written c.in-Ok.worked.lines c.in-Ok.worked.desks c.in-Ok.worked.scribe c.in-Ok.worked.history) in (
+        λ e. absurd (never_usage_told told (sym ends.status_is ∙ e)),
+        λ none. asked_not None (asked_to_serve (map (λ w. w.now) c.args.words.now))
+            (c.in-Some.definitions, c.in-Some.site) same none,
+      );
+  misused =
+      let same = sym c.in-Some.ensures in
+      λ none. asked_not None (asked_to_serve (map (λ w. w.now) c.args.words.now)) (c.in-Some.definitions, c.in-Some.site) same none;
+}
 
-pub returns-in-Ok-clause-misused : goal.returns-in-Ok-clause-misused
-returns-in-Ok-clause-misused g c =
-    let same = sym c.in-Some.ensures in
-    λ none. asked_not None (asked_to_serve (map (λ w. w.now) c.args.words.now)) (c.in-Some.definitions, c.in-Some.site) same none
-
-pub returns-in-Ok-clause-read : goal.returns-in-Ok-clause-read
-returns-in-Ok-clause-read g c =
-    let ends = ready_end c.in-Ok.worked.lines c.in-Ok.worked.desks c.in-Ok.worked.scribe c.in-Ok.worked.history c.finish.result.status
-    (g.O.Sink.seen c.args.out.now) (g.O.Sink.seen c.host.new.out) (g.O.Sink.seen c.finish.new.out) c.in-Ok.ensures.ready c.finish.ensures.ends in
-    let told = trouble_of (left ends.written c.in-Ok.worked.lines c.in-Ok.worked.desks c.in-Ok.worked.scribe c.in-Ok.worked.history) in
-    λ e. absurd (never_read told (sym ends.status_is ∙ e))
-
-pub returns-in-Ok-clause-absent : goal.returns-in-Ok-clause-absent
-returns-in-Ok-clause-absent g c =
-    let ends = ready_end c.in-Ok.worked.lines c.in-Ok.worked.desks c.in-Ok.worked.scribe c.in-Ok.worked.history c.finish.result.status
-    (g.O.Sink.seen c.args.out.now) (g.O.Sink.seen c.host.new.out) (g.O.Sink.seen c.finish.new.out) c.in-Ok.ensures.ready c.finish.ensures.ends in
-    let told = trouble_of (left ends.written c.in-Ok.worked.lines c.in-Ok.worked.desks c.in-Ok.worked.scribe c.in-Ok.worked.history) in
-    λ e. absurd (never_absent told (sym ends.status_is ∙ e))
-
-pub returns-in-Ok-clause-write : goal.returns-in-Ok-clause-write
-returns-in-Ok-clause-write g c =
-    let ends = ready_end c.in-Ok.worked.lines c.in-Ok.worked.desks c.in-Ok.worked.scribe c.in-Ok.worked.history c.finish.result.status
-    (g.O.Sink.seen c.args.out.now) (g.O.Sink.seen c.host.new.out) (g.O.Sink.seen c.finish.new.out) c.in-Ok.ensures.ready c.finish.ensures.ends in
-    let s = c.in-Ok.ensures.served in
-    λ e. served_write _ _ _ s.0 s.1 c.in-Ok.worked _ _ _ _ _ _ _ _ s.3 _ _ _ ends e
-
-pub returns-in-Ok-clause-log : goal.returns-in-Ok-clause-log
-returns-in-Ok-clause-log g c =
-    let ends = ready_end c.in-Ok.worked.lines c.in-Ok.worked.desks c.in-Ok.worked.scribe c.in-Ok.worked.history c.finish.result.status
-    (g.O.Sink.seen c.args.out.now) (g.O.Sink.seen c.host.new.out) (g.O.Sink.seen c.finish.new.out) c.in-Ok.ensures.ready c.finish.ensures.ends in
-    let s = c.in-Ok.ensures.served in
-    λ e. served_log _ _ _ s.0 s.1 c.in-Ok.worked _ _ _ _ _ _ _ _ s.3 _ _ _ ends e
-
-pub returns-in-Ok-clause-worker : goal.returns-in-Ok-clause-worker
-returns-in-Ok-clause-worker g c =
-    let ends = ready_end c.in-Ok.worked.lines c.in-Ok.worked.desks c.in-Ok.worked.scribe c.in-Ok.worked.history c.finish.result.status
-    (g.O.Sink.seen c.args.out.now) (g.O.Sink.seen c.host.new.out) (g.O.Sink.seen c.finish.new.out) c.in-Ok.ensures.ready c.finish.ensures.ends in
-    let s = c.in-Ok.ensures.served in
-    λ e. served_worker _ _ _ s.0 s.1 c.in-Ok.worked _ _ _ _ _ _ _ _ s.3 _ _ _ ends e
-
-pub returns-in-Ok-clause-door : goal.returns-in-Ok-clause-door
-returns-in-Ok-clause-door g c =
-    let ends = ready_end c.in-Ok.worked.lines c.in-Ok.worked.desks c.in-Ok.worked.scribe c.in-Ok.worked.history c.finish.result.status
-    (g.O.Sink.seen c.args.out.now) (g.O.Sink.seen c.host.new.out) (g.O.Sink.seen c.finish.new.out) c.in-Ok.ensures.ready c.finish.ensures.ends in
-    let s = c.in-Ok.ensures.served in
-    λ e. served_door _ _ _ s.0 s.1 c.in-Ok.worked _ _ _ _ _ _ _ _ s.3 _ _ _ ends e
+pub returns-in-Ok-clause-faults : goal.returns-in-Ok-clause-faults
+returns-in-Ok-clause-faults g c = record {
+  read =
+      let ends = ready_end c.in-Ok.worked.lines c.in-Ok.worked.desks c.in-Ok.worked.scribe c.in-Ok.worked.history c.finish.result.status
+      (g.O.Sink.seen c.args.out.now) (g.O.Sink.seen c.host.new.out) (g.O.Sink.seen c.finish.new.out) c.in-Ok.ensures.ready c.finish.ensures.ends in
+      let told = trouble_of (left ends.written c.in-Ok.worked.lines c.in-Ok.worked.desks c.in-Ok.worked.scribe c.in-Ok.worked.history) in
+      λ e. absurd (never_read told (sym ends.status_is ∙ e));
+  absent =
+      let ends = ready_end c.in-Ok.worked.lines c.in-Ok.worked.desks c.in-Ok.worked.scribe c.in-Ok.worked.history c.finish.result.status
+      (g.O.Sink.seen c.args.out.now) (g.O.Sink.seen c.host.new.out) (g.O.Sink.seen c.finish.new.out) c.in-Ok.ensures.ready c.finish.ensures.ends in
+      let told = trouble_of (left ends.written c.in-Ok.worked.lines c.in-Ok.worked.desks c.in-Ok.worked.scribe c.in-Ok.worked.history) in
+      λ e. absurd (never_absent told (sym ends.status_is ∙ e));
+  write =
+      let ends = ready_end c.in-Ok.worked.lines c.in-Ok.worked.desks c.in-Ok.worked.scribe c.in-Ok.worked.history c.finish.result.status
+      (g.O.Sink.seen c.args.out.now) (g.O.Sink.seen c.host.new.out) (g.O.Sink.seen c.finish.new.out) c.in-Ok.ensures.ready c.finish.ensures.ends in
+      let s = c.in-Ok.ensures.served in
+      λ e. served_write _ _ _ s.0 s.1 c.in-Ok.worked _ _ _ _ _ _ _ _ s.3 _ _ _ ends e;
+  log =
+      let ends = ready_end c.in-Ok.worked.lines c.in-Ok.worked.desks c.in-Ok.worked.scribe c.in-Ok.worked.history c.finish.result.status
+      (g.O.Sink.seen c.args.out.now) (g.O.Sink.seen c.host.new.out) (g.O.Sink.seen c.finish.new.out) c.in-Ok.ensures.ready c.finish.ensures.ends in
+      let s = c.in-Ok.ensures.served in
+      λ e. served_log _ _ _ s.0 s.1 c.in-Ok.worked _ _ _ _ _ _ _ _ s.3 _ _ _ ends e;
+  worker =
+      let ends = ready_end c.in-Ok.worked.lines c.in-Ok.worked.desks c.in-Ok.worked.scribe c.in-Ok.worked.history c.finish.result.status
+      (g.O.Sink.seen c.args.out.now) (g.O.Sink.seen c.host.new.out) (g.O.Sink.seen c.finish.new.out) c.in-Ok.ensures.ready c.finish.ensures.ends in
+      let s = c.in-Ok.ensures.served in
+      λ e. served_worker _ _ _ s.0 s.1 c.in-Ok.worked _ _ _ _ _ _ _ _ s.3 _ _ _ ends e;
+  door =
+      let ends = ready_end c.in-Ok.worked.lines c.in-Ok.worked.desks c.in-Ok.worked.scribe c.in-Ok.worked.history c.finish.result.status
+      (g.O.Sink.seen c.args.out.now) (g.O.Sink.seen c.host.new.out) (g.O.Sink.seen c.finish.new.out) c.in-Ok.ensures.ready c.finish.ensures.ends in
+      let s = c.in-Ok.ensures.served in
+      λ e. served_door _ _ _ s.0 s.1 c.in-Ok.worked _ _ _ _ _ _ _ _ s.3 _ _ _ ends e;
+}
 
 pub returns-in-Ok-clause-full : goal.returns-in-Ok-clause-full
-returns-in-Ok-clause-full g c =
-    let ends = ready_end c.in-Ok.worked.lines c.in-Ok.worked.desks c.in-Ok.worked.scribe c.in-Ok.worked.history c.finish.result.status
-    (g.O.Sink.seen c.args.out.now) (g.O.Sink.seen c.host.new.out) (g.O.Sink.seen c.finish.new.out) c.in-Ok.ensures.ready c.finish.ensures.ends in
-    let s = c.in-Ok.ensures.served in
-    λ e. subst (λ (h : List Entry). (has_closed FullHistory h ≡ true) ⊎ (entries_in h ≡ most_entries)) (sym c.finish.ensures.history)
-    (served_full _ _ _ s.0 s.1 c.in-Ok.worked _ _ _ _ _ _ _ _ s.3 _ _ _ ends e)
-
-pub returns-in-Ok-clause-full_told : goal.returns-in-Ok-clause-full_told
-returns-in-Ok-clause-full_told g c =
-    let ends = ready_end c.in-Ok.worked.lines c.in-Ok.worked.desks c.in-Ok.worked.scribe c.in-Ok.worked.history c.finish.result.status
-    (g.O.Sink.seen c.args.out.now) (g.O.Sink.seen c.host.new.out) (g.O.Sink.seen c.finish.new.out) c.in-Ok.ensures.ready c.finish.ensures.ends in
-    let told = trouble_of (left ends.written c.in-Ok.worked.lines c.in-Ok.worked.desks c.in-Ok.worked.scribe c.in-Ok.worked.history) in
-    λ closed. subst (λ (x : Status). (x ≡ status.Memory) ⊎ ((x ≡ status.WriteFault) ⊎ (x ≡ status.HistoryFull))) (sym ends.status_is)
-    (full_is_told (left ends.written c.in-Ok.worked.lines c.in-Ok.worked.desks c.in-Ok.worked.scribe c.in-Ok.worked.history)
-    (sym (ap (has_closed FullHistory) c.finish.ensures.history) ∙ closed) told refl)
-
-pub returns-in-Ok-clause-short : goal.returns-in-Ok-clause-short
-returns-in-Ok-clause-short g c =
-    let ends = ready_end c.in-Ok.worked.lines c.in-Ok.worked.desks c.in-Ok.worked.scribe c.in-Ok.worked.history c.finish.result.status
-    (g.O.Sink.seen c.args.out.now) (g.O.Sink.seen c.host.new.out) (g.O.Sink.seen c.finish.new.out) c.in-Ok.ensures.ready c.finish.ensures.ends in
-    let told = trouble_of (left ends.written c.in-Ok.worked.lines c.in-Ok.worked.desks c.in-Ok.worked.scribe c.in-Ok.worked.history) in
-    λ e. absurd (never_shelf told (sym ends.status_is ∙ e))
+returns-in-Ok-clause-full g c = record {
+  cause =
+      let ends = ready_end c.in-Ok.worked.lines c.in-Ok.worked.desks c.in-Ok.worked.scribe c.in-Ok.worked.history c.finish.result.status
+      (g.O.Sink.seen c.args.out.now) (g.O.Sink.seen c.host.new.out) (g.O.Sink.seen c.finish.new.out) c.in-Ok.ensures.ready c.finish.ensures.ends in
+      let s = c.in-Ok.ensures.served in
+      λ e. subst (λ (h : List Entry). (has_closed FullHistory h ≡ true) ⊎ (entries_in h ≡ most_entries)) (sym c.finish.ensures.history)
+      (served_full _ _ _ s.0 s.1 c.in-Ok.worked _ _ _ _ _ _ _ _ s.3 _ _ _ ends e);
+  told =
+      let ends = ready_end c.in-Ok.worked.lines c.in-Ok.worked.desks c.in-Ok.worked.scribe c.in-Ok.worked.history c.finish.result.status
+      (g.O.Sink.seen c.args.out.now) (g.O.Sink.seen c.host.new.out) (g.O.Sink.seen c.finish.new.out) c.in-Ok.ensures.ready c.finish.ensures.ends in
+      let told = trouble_of (left ends.written c.in-Ok.worked.lines c.in-Ok.worked.desks c.in-Ok.worked.scribe c.in-Ok.worked.history) in
+      λ closed. subst (λ (x : Status). (x ≡ status.Memory) ⊎ ((x ≡ status.WriteFault) ⊎ (x ≡ status.HistoryFull))) (sym ends.status_is)
+      (full_is_told (left ends.written c.in-Ok.worked.lines c.in-Ok.worked.desks c.in-Ok.worked.scribe c.in-Ok.worked.history)
+      (sym (ap (has_closed FullHistory) c.finish.ensures.history) ∙ closed) told refl);
+}
 
 pub returns-in-Ok-clause-shelf : goal.returns-in-Ok-clause-shelf
-returns-in-Ok-clause-shelf g c =
-    let same = sym c.in-Some.ensures in
-    λ steady. told_asked ((g.F.Files.seen c.args.files.now).told) (asked_to_serve (map (λ w. w.now) c.args.words.now))
-    (c.in-Some.definitions, c.in-Some.site) same (λ all n. IsShortOf (g.B.Stocked.stock c.args.shelf.now) all n.0 n.1
-    → (c.finish.result.status ≡ status.ShelfEmpty) ⊎ (c.finish.result.status ≡ status.Memory))
-    (told_one ((g.F.Files.seen c.args.files.now).told) (λ all. first_halt
-    (first_phases (g.B.Stocked.stock c.args.shelf.now) all c.in-Some.definitions c.in-Some.site) ≡ None)
-    (λ all. IsShortOf (g.B.Stocked.stock c.args.shelf.now) all c.in-Some.definitions c.in-Some.site → (c.finish.result.status ≡ status.ShelfEmpty)
-    ⊎ (c.finish.result.status ≡ status.Memory)) (λ all none. λ short. never_some
-    (first_phases (g.B.Stocked.stock c.args.shelf.now) all c.in-Some.definitions c.in-Some.site)
-    (short_halt (g.B.Stocked.stock c.args.shelf.now) (site_asked all c.in-Some.definitions c.in-Some.site) short.kind) none
-    (short_reason (g.B.Stocked.stock c.args.shelf.now) all c.in-Some.definitions c.in-Some.site short)) c.in-Ok.ensures.planned)
+returns-in-Ok-clause-shelf g c = record {
+  short =
+      let ends = ready_end c.in-Ok.worked.lines c.in-Ok.worked.desks c.in-Ok.worked.scribe c.in-Ok.worked.history c.finish.result.status
+      (g.O.Sink.seen c.args.out.now) (g.O.Sink.seen c.host.new.out) (g.O.Sink.seen c.finish.new.out) c.in-Ok.ensures.ready c.finish.ensures.ends in
+      let told = trouble_of (left ends.written c.in-Ok.worked.lines c.in-Ok.worked.desks c.in-Ok.worked.scribe c.in-Ok.worked.history) in
+      λ e. absurd (never_shelf told (sym ends.status_is ∙ e));
+  exact =
+      let same = sym c.in-Some.ensures in
+      λ steady. told_asked ((g.F.Files.seen c.args.files.now).told) (asked_to_serve (map (λ w. w.now) c.args.words.now))
+      (c.in-Some.definitions, c.in-Some.site) same (λ all n. IsShortOf (g.B.Stocked.stock c.args.shelf.now) all n.0 n.1
+      → (c.finish.result.status ≡ status.ShelfEmpty) ⊎ (c.finish.result.status ≡ status.Memory))
+      (told_one ((g.F.Files.seen c.args.files.now).told) (λ all. first_halt
+      (first_phases (g.B.Stocked.stock c.args.shelf.now) all c.in-Some.definitions c.in-Some.site) ≡ None)
+      (λ all. IsShortOf (g.B.Stocked.stock c.args.shelf.now) all c.in-Some.definitions c.in-Some.site → (c.finish.result.status ≡ status.ShelfEmpty)
+      ⊎ (c.finish.result.status ≡ status.Memory)) (λ all none. λ short. never_some
+      (first_phases (g.B.Stocked.stock c.args.shelf.now) all c.in-Some.definitions c.in-Some.site)
+      (short_halt (g.B.Stocked.stock c.args.shelf.now) (site_asked all c.in-Some.definitions c.in-Some.site) short.kind) none
+      (short_reason (g.B.Stocked.stock c.args.shelf.now) all c.in-Some.definitions c.in-Some.site short)) c.in-Ok.ensures.planned);
+}
 
 pub returns-in-Ok-clause-complete : goal.returns-in-Ok-clause-complete
 returns-in-Ok-clause-complete g c =

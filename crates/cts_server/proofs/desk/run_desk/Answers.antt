@@ -23,6 +23,7 @@ returns-clause-owes g c =
       stands = e.ends.told_so;
       ended = e.ended;
       cause = e.cause;
+      failed = e.failed;
       stops = e.stops;
       faults = e.faults;
       aim = e.aim;

@@ -1,6 +1,6 @@
 use Rattle.std.proofs.Common.{◌∙◌, ap, subst, inl}
 use Rattle.cts_connection.specs.Routings.{site_routing}
-use Rattle.cts_line.specs.Ending.{CausesEnd, reconnects}
+use Rattle.cts_line.specs.Ending.{CausesEnd, after_failed, reconnects}
 use Rattle.cts_line.specs.Talks.{room_of}
 use Rattle.cts_line.specs.Telling.{made_by, since}
 use Rattle.cts_trace.specs.Told.{ToldBy}
@@ -42,6 +42,9 @@ returns-clause-owes g c =
         own_stop = e.own_stop;
         faults = e.faults;
         dials = e.dials;
+        failed = λ why is. e.failed why (ap (λ s. after_failed s c.args.by) same ∙ is);
+        full = e.full;
+        memory = e.memory;
         idle = e.idle;
       }),
     )

@@ -90,7 +90,7 @@ makers-preserved g c =
             can = kept.can;
             jobs = kept.jobs;
             ready = kept.ready;
-            idle = rw pushed (all_more _ _ _ kept.idle c.split-one.ensures.pass.1);
+            idle = rw pushed (all_more _ _ _ kept.idle (c.split-one.ensures.pass.1, new_seen));
             cover = λ m below. rw pushed (rw (flat_map-append (λ p. (view p).makers) c.makers.idle.items (one ∷ []))
                 (cover_idle k _ _ _ (has_left_part k one.seat.me.0.makers []
                 (subst (λ (l : List ℕ). has k l ≡ true) (sym one_is) (ap (λ (b : Bool). b || false) (eq-eqb k k refl)))) kept.cover m below));

@@ -20,7 +20,7 @@ invariant-makers g l = record {
       × AllZip (λ t j. (j.by ≡ t.by) × (j.work ≡ t.work) × (j.context.now ≡ l.context)) done l.jobs.items;
   ready : AllByRecursion (λ j. IsPassOf j.context.now.turn.now j.pass × ((view j.pass).makers ≡ j.by ∷ []) × (of_maker j.by (view j.pass).seen ≡ [])
       × MayWork g.D.Link.seen g.Q.Link.seen g.V.Vault.seen g.C.Chained.shape j.context.now.site.now j.work j.by (ground j.context.now.turn.now)) l.jobs.items;
-  idle : AllByRecursion (λ p. IsPassOf l.context.turn.now p) l.idle.items;
+  idle : AllByRecursion (λ p. IsPassOf l.context.turn.now p × ((view p).seen ≡ [])) l.idle.items;
   cover : (m : ℕ) → m < l.by → has m (flat_map (λ p. (view p).makers) l.idle.items ++ map (λ j. j.by) l.jobs.items) ≡ true;
   room : vec_len l.jobs + vec_len l.tasks ≤ vec_capacity l.jobs;
   idle_room : (vec_len l.idle ≤ l.by) × (31 ≤ vec_capacity l.idle);

@@ -1,10 +1,12 @@
-use Rattle.std.proofs.Common.{arith, ◌∙◌, ◌++◌, List, [], length, map, ap, refl, subst, sym, vec_len}
+use Rattle.std.proofs.Common.{arith, true, ◌≡◌, ◌∙◌, ◌++◌, List, [], length, map, ap, refl, subst, sym, vec_len}
 use Rattle.std.proofs.lemmas.List.{append-nil}
 use Rattle.std.specs.List.{AllByRecursion, flat_map}
 use Rattle.std.proofs.lemmas.Grind.{common_steps}
 use Rattle.cts_worker.specs.Grounds.{ground}
 use Rattle.cts_server.specs.Owing.{WorkOwes}
+use Rattle.cts_turn.specs.Lists.{has}
 use Rattle.cts_turn.specs.Passes.{IsPassOf, view}
+use Rattle.cts_turn.proofs.Makers.{has_left_part}
 use Rattle.cts_outside.proofs.InOrder.{joined_all}
 use Rattle.cts_server.proofs.Steps.{gathered, noted, noted_all, nothing_left, made}
 use Rattle.cts_server.proofs.Keeping.{work_lasts}
@@ -17,6 +19,7 @@ ends-init g c =
     record {
       pass = c.requires.pass;
       ends = c.requires.ends;
+      own = λ m h. (h, refl);
       lefts = ap (λ (l : List _). l ++ map (λ e. e.left) c.args.ends.items) none;
       room = omega (arith, few, c.requires.room);
       makers = refl;
@@ -34,6 +37,11 @@ ends-preserved g c =
     record {
       pass = c.join.ensures.pass;
       ends = (subst (λ (l : List _). AllByRecursion (λ e. IsPassOf c.args.context.now.turn.now e.pass) l) taken kept.ends).1;
+      own = λ m h.
+          let i = kept.own m h in (
+            subst (λ (l : List _). has m l ≡ true) (sym joined) (has_left_part m c.ends.pass.seat.me.0.makers (view one.pass).makers i.0),
+            c.join.ensures.my_own m i.0 ∙ i.1,
+          );
       lefts = rw pushed (noted (λ e. e.left) c.ends.lefts.items _ c.ends.ends.items after one taken kept.lefts);
       room = grind (arith, common_steps);
       makers = made (λ e. (view e.pass).makers) c.ends.pass.seat.me.0.makers _ _ c.ends.ends.items after one taken joined kept.makers;
@@ -62,3 +70,6 @@ returns-clause-holds g c ts q =
     let none = nothing_left c.ends.ends.items (vec_len c.ends.ends) c.is_empty.result c.ends.ends.ok.0 c.ends-test.false c.is_empty.ensures in
     let h = c.ends.invariant.holds ts q in
     joined_all _ _ h.0 h.1 ts c.ends.lefts.items c.ends.ends.items none h.2 h.3 h.4
+
+pub returns-clause-own : goal.returns-clause-own
+returns-clause-own g c m h = (c.ends.invariant.own m h).1

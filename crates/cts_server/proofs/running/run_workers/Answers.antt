@@ -2,11 +2,13 @@ use Rattle.std.proofs.Common.{◌≡◌, ℕ, ◌∷◌, [], sym, ap, subst, ◌
 use Rattle.std.proofs.lemmas.Grind.{common_steps}
 use Rattle.cts_outside.specs.Crews.{CancelledFrom, with_cancelled, with_jobs}
 use Rattle.cts_server.specs.Tasks.{Leaves}
-use Rattle.cts_server.proofs.Steps.{zip_through, zip_right, zip_length, left_by, either_way, tasks_back, cancelled_map, count_map, all_home}
+use Rattle.cts_server.proofs.Steps.{zip_through, zip_right, zip_length, idle_home, left_by, either_way, tasks_back}
+use Rattle.cts_server.proofs.Steps.{cancelled_map, count_map, all_home}
 use Rattle.cts_worker.specs.Holds.{Onward}
 use Rattle.cts_worker.specs.Grounds.{ground}
 use Rattle.cts_server.specs.declared.context.WorkerContext.{WorkerContext}
 use Rattle.cts_server.specs.Owing.{WorkOwes, was_cancelled}
+use Rattle.cts_trace.specs.Makers.{of_maker}
 use Rattle.cts_turn.specs.Passes.{IsPassOf, view}
 use Rattle.cts_server.proofs.running.run_workers.Goals as goal
 
@@ -81,3 +83,8 @@ pub returns-in-Err-clause-back : goal.returns-in-Err-clause-back
 returns-in-Err-clause-back g c =
     c.give_back.ensures ∙ ap (map (λ j. record { by = j.by; work = j.work })) c.in-Err.ensures.back
     ∙ tasks_back (λ j. j.context.now ≡ c.args.context.now) (λ j. j.by) (λ j. j.work) c.args.tasks.items c.assign.new.jobs.items c.assign.ensures.jobs
+
+pub returns-in-Ok-all-clause-silent : goal.returns-in-Ok-all-clause-silent
+returns-in-Ok-all-clause-silent g c m below none =
+    c.gather.ensures.own m (idle_home m _ _ (map (λ t. t.by) c.args.tasks.items) _ (c.assign.ensures.cover m below) none c.rest.ensures.makers)
+    ∙ ap (of_maker m) c.rest.ensures.seen

@@ -1,34 +1,35 @@
-use Rattle.std.proofs.Common.{arith, ◌≡◌, ◌++◌, length, map, sym, ◌∙◌, ap, subst, take, length-append}
+use Rattle.std.proofs.Common.{arith, ◌≡◌, ◌++◌, length, map, sym, ◌∙◌, ap, subst, length-append}
 use Rattle.std.specs.Arc.{arc_value}
-use Rattle.std.specs.List.{AllByRecursion}
 use Rattle.cts_chain.specs.Builds.{AreFresh}
 use Rattle.cts_connection.specs.LineChains.{line_chains}
 use Rattle.cts_def.specs.Sites.{IsSoundSite}
 use Rattle.cts_server.specs.Aims.{desk_aims, line_aims, slot_aims}
 use Rattle.cts_server.specs.Owed.{server_basis}
-use Rattle.cts_server.specs.Places.{AreThere, IsStill}
-use Rattle.cts_server.proofs.Site.{doors_there, err_as, front_of, idled_whole, ok_as, served_whole, written}
+use Rattle.cts_server.specs.Places.{AreThere}
+use Rattle.cts_server.proofs.Site.{doors_there, err_as, idled_whole, ok_as, served_whole, written}
 use Rattle.cts_server.proofs.serving.serve_site.Goals as goal
 
-pub run_site-requires-clause-ground : goal.run_site-requires-clause-ground
-run_site-requires-clause-ground g c κs within =
-    (c.in_ok-begun.ensures.ground.0 ∙ ap server_basis (sym c.deref.ensures), subst IsSoundSite (sym c.deref.ensures) c.in_ok-begun.ensures.ground.1)
-
-pub run_site-requires-clause-aims : goal.run_site-requires-clause-aims
-run_site-requires-clause-aims g c κs within =
-    let aims = c.in_ok-begun.ensures.aims in
-    (aims.0 ∙ ap line_aims (sym c.deref.ensures), aims.1 ∙ ap slot_aims (sym c.deref.ensures), aims.2 ∙ ap desk_aims (sym c.deref.ensures))
+pub run_site-requires-clause-begun : goal.run_site-requires-clause-begun
+run_site-requires-clause-begun g c κs within =
+    let made = c.in_ok-begun.ensures in
+    record {
+      pass = made.pass.0;
+      makers = made.pass.1;
+      seen = made.pass.2;
+      stands = made.ground.0 ∙ ap server_basis (sym c.deref.ensures);
+      sound = subst IsSoundSite (sym c.deref.ensures) made.ground.1;
+      lines = made.aims.0 ∙ ap line_aims (sym c.deref.ensures);
+      slots = made.aims.1 ∙ ap slot_aims (sym c.deref.ensures);
+      desks = made.aims.2 ∙ ap desk_aims (sym c.deref.ensures);
+      whys = made.whys.0;
+      whys_room = made.whys.1;
+      left = made.left.0;
+      left_room = made.left.1;
+    }
 
 pub run_site-requires-clause-chains : goal.run_site-requires-clause-chains
 run_site-requires-clause-chains g c κs within =
     subst (λ s. AreFresh (line_chains s) (map g.C.Chained.shape c.args.chains.items)) (sym c.deref.ensures) c.requires.chains
-
-pub run_site-requires-clause-still : goal.run_site-requires-clause-still
-run_site-requires-clause-still g c κs within =
-    let was = front_of 8 c.args.doors.now.items c.split_at_mut-slots.result.0.now c.split_at_mut-slots.result.1.now
-    (sym c.as_mut_slice.ensures.value ∙ c.split_at_mut-slots.ensures.value) (omega (arith, c.split_at_mut-slots.ensures.front_len)) in
-    subst (λ s. AllByRecursion (IsStill g.Q.Link.seen) (take s.desks c.split_at_mut-slots.result.1.now)) (sym c.deref.ensures)
-    (subst (λ l. AllByRecursion (IsStill g.Q.Link.seen) (take (arc_value c.args.site).desks l)) was.1 c.requires.still)
 
 pub run_site-requires-clause-there : goal.run_site-requires-clause-there
 run_site-requires-clause-there g c κs within =

@@ -14,7 +14,7 @@ invariant-desks g l = record {
   there : AllByRecursion IsThere (drop l.place l.places);
   many : l.place + vec_len l.aims ≡ vec_len l.fn.aims;
   long : length l.places ≡ length l.fn.places;
-  fit : AreFit (FitsDesk g.Q.Link.seen l.site) (first_desk + l.place) l.aims.items (drop l.place l.places);
+  fit : AreFit (FitsDesk l.site) (first_desk + l.place) l.aims.items (drop l.place l.places);
   room : vec_len l.tasks + vec_len l.aims ≤ vec_capacity l.tasks;
   same_room : vec_capacity l.tasks ≡ vec_capacity l.fn.tasks;
 }

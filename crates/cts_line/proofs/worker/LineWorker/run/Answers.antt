@@ -7,12 +7,13 @@ use Rattle.cts_trace.specs.Makers.{faults_of}
 use Rattle.cts_worker.specs.Counts.{RoseBy}
 use Rattle.cts_worker.proofs.Lasting.{ended_last, ended_onward, ended_stops}
 use Rattle.cts_worker.proofs.Onwards.{onward_then}
-use Rattle.cts_line.specs.Ending.{CausesEnd}
+use Rattle.cts_line.specs.Ending.{CausesEnd, is_full, is_no_memory}
 use Rattle.cts_line.specs.Telling.{Retells, made_by}
 use Rattle.cts_line.specs.Talks.{room_of}
 use Rattle.cts_line.proofs.Boarding.{may_end}
-use Rattle.cts_line.proofs.Dialing.{last_causes, last_count, last_faults_same, last_opened_same, last_stop, last_told, stops_where}
+use Rattle.cts_line.proofs.Dialing.{last_causes, last_closed_same, last_count, last_faults_same, last_opened_same, last_stop, last_told, stops_where, untouched}
 use Rattle.cts_line.proofs.Telling.{has_made, undialed_made}
+use Rattle.cts_line.proofs.Heeding.{full_heeded, memory_heeded}
 use Rattle.cts_line.proofs.worker.LineWorker.run.Goals as goal
 
 pub finish-pass-requires-clause-may : goal.finish-pass-requires-clause-may
@@ -73,3 +74,17 @@ pub returns-clause-own_stop : goal.returns-clause-own_stop
 returns-clause-own_stop g c =
     let f = c.finish-pass.ensures.ended in
     stops_where _ _ (λ off. last_stop c.args.by (view c.work-pass.result.0) (view c.finish-pass.result) _ f.0 f.1 off (c.work-pass.ensures.stop off))
+
+pub returns-clause-full : goal.returns-clause-full
+returns-clause-full g c =
+    let f = c.finish-pass.ensures.ended in
+    let same = last_closed_same c.args.by (view c.work-pass.result.0) (view c.finish-pass.result) _ f.0 f.1 is_full in
+    full_heeded c.args.by (view c.args.pass).seen (view c.work-pass.result.0).seen (view c.finish-pass.result).seen c.work-pass.result.1
+    ((untouched c.args.by (view c.args.pass).seen c.requires.new).closed is_full) same c.work-pass.ensures.heeds
+
+pub returns-clause-memory : goal.returns-clause-memory
+returns-clause-memory g c =
+    let f = c.finish-pass.ensures.ended in
+    let same = last_closed_same c.args.by (view c.work-pass.result.0) (view c.finish-pass.result) _ f.0 f.1 is_no_memory in
+    memory_heeded c.args.by (view c.args.pass).seen (view c.work-pass.result.0).seen (view c.finish-pass.result).seen c.work-pass.result.1
+    ((untouched c.args.by (view c.args.pass).seen c.requires.new).closed is_no_memory) same c.work-pass.ensures.heeds

@@ -1,0 +1,5 @@
+pub mod Found
+pub mod Asked
+pub mod Asking
+pub mod ItemCells
+pub mod Texts

@@ -1,0 +1,14 @@
+pub mod Steps
+pub mod Hears
+pub mod Ends
+pub mod Handed
+pub mod Hubbing
+pub mod Played
+pub mod Valued
+pub mod Kept
+pub mod Put
+pub mod HubRun
+pub mod Staged
+pub mod Filed
+pub mod Timed
+pub mod Tied

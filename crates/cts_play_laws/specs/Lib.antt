@@ -1,0 +1,9 @@
+pub mod Hearing
+pub mod Handing
+pub mod Hubs
+pub mod Plays
+pub mod Values
+pub mod Keeping
+pub mod Putting
+pub mod Files
+pub mod Tying

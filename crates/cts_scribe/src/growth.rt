@@ -1,0 +1,70 @@
+// What entries give to both logs, and where new parts of these begin in it.
+ghost use Rattle.std.specs.Prelude.{◌≡◌, ◌<◌, ◌∷◌, ◌^◌, [], List, OnOk, length};
+ghost use Rattle.cts_entry.specs.declared.entry.Entry.{Entry as EntryData};
+ghost use Rattle.cts_entry.specs.Histories.{bytes_in};
+ghost use Rattle.cts_outside.specs.declared.vault.LogKind.TheVariants.{Cmd, Tlm};
+ghost use Rattle.cts_scribe.specs.Growing.{GivesOneMore};
+ghost use Rattle.cts_table.specs.Keeping.{IsOfSite};
+
+use crate::bounds::recall_entry;
+use crate::cycles::Cycles;
+use cts_base::Memory;
+use cts_def::Site;
+use cts_entry::Entry;
+use cts_log_batch::Batch;
+use cts_log_parts::Cuts;
+use std::alloc::Global;
+
+/// What entries give to both logs, and where new parts of these begin in it.
+#[derive(Drop)]
+pub(crate) struct Growth {
+    /// The bytes that come to each log.
+    pub batch: Batch,
+    /// Where new parts of the log of telemetry begin.
+    pub tlm: Cuts,
+    /// Where new parts of the log of commands begin.
+    pub cmd: Cuts,
+}
+
+impl Growth {
+    /// What no entries give.
+    pub fn none(alloc: Global) -> Growth
+        ensures bytes { (result.batch.tlm.items ≡ []) × (result.batch.cmd.items ≡ []) }
+        ensures places { (result.tlm.places ≡ []) × (result.cmd.places ≡ []) }
+        ensures end { (result.tlm.end ≡ 0) × (result.cmd.end ≡ 0) }
+    {
+        Growth {
+            batch: Batch::empty(alloc),
+            tlm: Cuts::none(alloc),
+            cmd: Cuts::none(alloc),
+        }
+    }
+
+    /// Adds what an entry gives, of which the cycles say whether it begins a new part.
+    ///
+    /// # Errors
+    ///
+    /// `Memory`. The cycles may have counted the entry then, and a part of what it gives may have been added.
+    pub fn add(
+        &mut self,
+        alloc: Global,
+        site: &Site,
+        entry: &Entry,
+        cycles: &mut Cycles,
+    ) -> Result<(), Memory>
+        requires of_site { (before : List EntryData) × IsOfSite site.now before entry.now }
+        requires small { bytes_in (entry.now ∷ []) < 2 ^ 32 }
+        requires tlm { self.old.tlm.end ≡ length self.old.batch.tlm.items }
+        requires cmd { self.old.cmd.end ≡ length self.old.batch.cmd.items }
+        ensures tlm { OnOk result (GivesOneMore Tlm site.now entry.now self.old.batch.tlm.items self.old.tlm cycles.old.tlm
+            self.new.batch.tlm.items self.new.tlm cycles.new.tlm) }
+        ensures cmd { OnOk result (GivesOneMore Cmd site.now entry.now self.old.batch.cmd.items self.old.cmd cycles.old.cmd
+            self.new.batch.cmd.items self.new.cmd cycles.new.cmd) }
+    {
+        recall_entry(site, entry);
+        self.batch.add(alloc, site, entry)?;
+        self.tlm.note(&mut cycles.tlm, self.batch.tlm.len())?;
+        self.cmd.note(&mut cycles.cmd, self.batch.cmd.len())?;
+        Ok(())
+    }
+}
