@@ -7,8 +7,10 @@ use atomic_table::{Seat, Table};
 use cts_base::Memory;
 use cts_entry::{Entry, Stands};
 use std::alloc::Global;
+use std::hint::spin_loop;
 use std::snapshot::Snapshot;
 use std::sync::Wait;
+use std::sync::atomic::{AtomicU64, Ordering};
 
 /// The word that says whether a pass has the turn.
 const TURN: usize = 0;
@@ -16,11 +18,17 @@ const TURN: usize = 0;
 const COUNT: usize = 1;
 /// The slot of the state.
 const STATE: usize = 0;
+/// How often a thread looks whether the turn is free before it sleeps: a sleep and its wake take some microseconds,
+/// which is longer than most holds.
+const LOOKS: usize = 100;
 
 /// A lock round a state that stands for a history, with the number of its entries beside it.
 #[derive(Drop)]
 pub struct Turn<S: Stands> {
     table: Table<Option<S>, View<Entry, S::Basis>, Snapshot<S>, TurnRule<S>, Global>,
+    /// How many threads sleep until the turn is free, or are about to. A thread counts itself before the system looks
+    /// at the turn for it, and who leaves frees the turn before it looks at the count: so one of the two sees the other.
+    sleepers: AtomicU64,
     ghost sized: { (table.shared.table_id.words ≡ 2) × (table.shared.table_id.slots ≡ 1) },
 }
 
@@ -60,7 +68,10 @@ impl<S: Stands> Turn<S> {
         let mut slots = Vec::with_capacity(alloc, 1)?;
         slots.push_reserved(Some(state));
         match Table::new(alloc, &[0, count], slots, &about) {
-            Ok((table, seat)) => Ok((Turn { table }, Pass { seat })),
+            Ok((table, seat)) => {
+                let sleepers = AtomicU64::new(0);
+                Ok((Turn { table, sleepers }, Pass { seat }))
+            }
             Err(_) => Err(Memory),
         }
     }
@@ -89,14 +100,28 @@ impl<S: Stands> Turn<S> {
                     state,
                 };
             }
-            words.park(rt, TURN, 1);
+            self.wait(rt);
         }
         unreachable!()
     }
 
-    /// Gives the turn back, and wakes one thread that waits for it. The state has to have the basis of the turn, and
-    /// only entries of the pass's makers may have come to those that stood at the beginning of the hold. It takes no
-    /// memory, and waits for nobody.
+    /// Returns once the turn was free, or for no reason: looks at it for a while, and sleeps then.
+    fn wait<R: Wait>(&self, rt: &R) {
+        let words = &self.table.shared;
+        for _ in 0..LOOKS {
+            if words.peek(TURN) == 0 {
+                return;
+            }
+            spin_loop();
+        }
+        self.sleepers.fetch_add(1, Ordering::SeqCst);
+        words.park(rt, TURN, 1);
+        self.sleepers.fetch_sub(1, Ordering::SeqCst);
+    }
+
+    /// Gives the turn back, and wakes one thread that sleeps until it is free: where none does, no call of the system
+    /// is made. The state has to have the basis of the turn, and only entries of the pass's makers may have come to
+    /// those that stood at the beginning of the hold. It takes no memory, and waits for nobody.
     pub fn leave(&self, held: Held<S>) -> Pass<S>
         requires held { IsHeldOf S.basis self.now held }
         requires basis { S.basis held.state ≡ basis_of S.basis self.now }
@@ -119,7 +144,9 @@ impl<S: Stands> Turn<S> {
         }
         words.fetch_add::<Adds<S>>(&mut seat, COUNT, count - before);
         words.store::<Leaves<S>>(&mut seat, TURN, 0);
-        words.wake_one(TURN);
+        if self.sleepers.load(Ordering::SeqCst) != 0 {
+            words.wake_one(TURN);
+        }
         Pass { seat }
     }
 
@@ -176,7 +203,7 @@ impl<S: Stands> Turn<S> {
         ensures seen { StartsWith (S.list result) (view pass).seen }
         ensures own { (m : ℕ) → has m (view pass).makers ≡ true → of (λ e. e.by) m (S.list result) ≡ of (λ e. e.by) m (view pass).seen }
     {
-        let Turn { table } = self;
+        let Turn { table, .. } = self;
         let Pass { seat } = pass;
         let mut closed = table.close_with(seat);
         let state = closed.take(STATE);
