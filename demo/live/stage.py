@@ -1,40 +1,20 @@
 """What the demos of servers share: their files with ports that are free, the devices, a server that is started and stopped, and the client of an
 operator, which shows what it asks."""
 import json
-import random
 import re
 import select
-import socket
 import subprocess
 import sys
 import time
 from pathlib import Path
 
 from client import Server
-from devices import HOST, ports_of
 
 HERE = Path(__file__).resolve().parent
 TOP = HERE.parent.parent
 TARGETS = ("ccsds", "modbus", "nmea", "ublox")
 # How long anything is waited for that has to come, on however busy a machine: what is longer away is taken for lost.
 PATIENCE = 60
-# Ports that the system gives to nobody by itself: so a port stays free while its server is away for a moment.
-PORTS = range(20_000, 32_000)
-
-
-def is_free(port):
-    with socket.socket() as probe:
-        probe.setsockopt(socket.SOL_SOCKET, socket.SO_REUSEADDR, 1)
-        try:
-            probe.bind((HOST, port))
-            return True
-        except OSError:
-            return False
-
-
-def free_ports():
-    """Ports that are free, one after another."""
-    return (port for port in random.sample(PORTS, len(PORTS)) if is_free(port))
 
 
 def with_ports(text, ports):
