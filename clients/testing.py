@@ -17,7 +17,10 @@ from pathlib import Path
 from typing import Callable, Optional, Sequence
 
 TOP = Path(__file__).resolve().parent.parent
-HOST = "127.0.0.1"
+sys.path.append(str(TOP / "demo" / "live"))
+
+from ports import HOST, free_ports
+
 PROGRAM = TOP / "crates" / "cts_main" / "out" / "cts_main"
 DEVICES = ("ccsds", "modbus", "nmea", "ublox")
 
@@ -49,23 +52,6 @@ def raises(kind: type[Exception], action: Callable[[], object], *texts: str) -> 
             need(text in str(why), f"the error is {str(why)!r}, and not {text!r}")
         return why
     raise Wrong(f"no {kind.__name__}, but {found!r}")
-
-
-_given: set[int] = set()
-_giving = threading.Lock()
-
-
-def free_ports(count: int) -> list[int]:
-    """Ports that are free, and that no other case was given."""
-    found: list[int] = []
-    with _giving:
-        while len(found) < count:
-            with socket.create_server((HOST, 0)) as door:
-                port = door.getsockname()[1]
-            if port not in _given:
-                _given.add(port)
-                found.append(port)
-    return found
 
 
 def has_sockets() -> bool:
