@@ -1,5 +1,6 @@
 -- What a line does to the hall in one hold.
-use Rattle.std.specs.Prelude.{◌≡◌, ◌≢◌, ℕ, ◌+◌, ◌≤◌, ◌⊎◌, Bool, true, false, ◌&&◌, not, List, [], ◌∷◌, ◌++◌, length, Option, None, Some}
+use Rattle.std.specs.Prelude.{◌≡◌, ◌≢◌, ℕ, ◌+◌, ◌≤◌, ◌⊎◌, Bool, true, false, ◌&&◌, not}
+use Rattle.std.specs.Prelude.{List, [], ◌∷◌, ◌++◌, length, Option, None, Some}
 use Rattle.cts_chain.specs.Chains.{Reserved}
 use Rattle.cts_chain.specs.Shapes.{IsSameChain}
 use Rattle.cts_def.specs.declared.time.Time.{Time}
@@ -26,7 +27,8 @@ use Rattle.cts_line.specs.declared.posting.Posting.TheVariants.{Posted, Closed}
 
 -- The connection is opened; or a Stop stands, perhaps since there was no room or no memory for the Opened.
 abbrev pub OpensIn : ℕ → Time → Shown → HeldConnection → Opening → Shown → HeldConnection → Type 0
-OpensIn by time s c Opened t d = Grown s (opened_entry by time ∷ []) t × IsRenewed true c d × (d.cursor ≡ record { place = length t.entries; refused = 0 })
+OpensIn by time s c Opened t d =
+    Grown s (opened_entry by time ∷ []) t × IsRenewed true c d × (d.cursor ≡ record { place = length t.entries; refused = 0 })
 OpensIn by time s c Stopped t d = (t ≡ s) × (d ≡ c) × (is_stopped s.entries ≡ true)
 OpensIn by time s c NoRoom t d = Grown s (entry_of by time Stop ∷ []) t × (d ≡ c) × (s.basis.entries ≤ entries_in s.entries)
 OpensIn by time s c NoMemoryThere t d = Grown s (entry_of by time Stop ∷ []) t × (d ≡ c)
@@ -59,7 +61,8 @@ IsPosted end (Posted some) = end ≡ None
 IsPosted end (Closed why) = (e : End) × (end ≡ Some e) × (why ≡ e.why)
 
 -- What one hold makes of a piece that was fed.
-pub record PostsFed (by : ℕ) (time : Time) (s : Shown) (c : HeldConnection) (piece : List ℕ) (posting : Posting) (t : Shown) (d : HeldConnection) : Type 0 where
+pub record PostsFed (by : ℕ) (time : Time) (s : Shown) (c : HeldConnection) (piece : List ℕ) (posting : Posting) (t : Shown)
+    (d : HeldConnection) : Type 0 where
   pub entries : List Entry
   pub unposted : ℕ
   pub failed : Option Why

@@ -1,6 +1,6 @@
 -- Why a line ends, and what it leaves.
-use Rattle.std.specs.Prelude.{◌≡◌, ℕ, ◌+◌, ◌-◌, ◌^◌, ◌≤◌, ◌==◌, ◌&&◌, ◌||◌, ◌⊎◌, min, Bool, true, false, List, length, Option, Some, None, option_map}
-use Rattle.std.specs.Prelude.{unwrap_or, slice_get, is_none, IfSome, if◌then◌else◌, []}
+use Rattle.std.specs.Prelude.{◌≡◌, ℕ, ◌+◌, ◌-◌, ◌^◌, ◌≤◌, ◌==◌, ◌&&◌, ◌||◌, ◌⊎◌, min}
+use Rattle.std.specs.Prelude.{Bool, true, false, List, length, Option, Some, None, option_map, unwrap_or, slice_get, is_none, IfSome, if◌then◌else◌, []}
 use Rattle.std.specs.List.{filter, list_any}
 use Rattle.cts_def.specs.Sites.{InterfaceData, SiteData}
 use Rattle.cts_entry.specs.declared.entry.Entry.{Entry}

@@ -11,7 +11,8 @@ use Rattle.cts_line.specs.declared.puts.PutEnd.TheVariants.{Whole, Refused, Faul
 abbrev pub PutsOne : Option Line → Option Line → Option (List ℕ) → PutEnd → Type 0
 PutsOne old new spelling Whole = (bytes : List ℕ) × (spelling ≡ Some bytes) × (new ≡ told_after (at_now (with_put bytes)) old)
 PutsOne old new spelling Refused = (spelling ≡ None) × (new ≡ old)
-PutsOne old new spelling Fault = (bytes : List ℕ) × (n : ℕ) × (spelling ≡ Some bytes) × (new ≡ told_after (at_now (with_failed_put (take n bytes))) old)
+PutsOne old new spelling Fault =
+    (bytes : List ℕ) × (n : ℕ) × (spelling ≡ Some bytes) × (new ≡ told_after (at_now (with_failed_put (take n bytes))) old)
 
 -- the count of faults rises at a put that failed, and stays at every other
 abbrev pub PutCause : PutEnd → ℕ → ℕ → Type 0

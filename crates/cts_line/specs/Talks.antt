@@ -1,5 +1,6 @@
 -- A connection that stands, beside the history so far.
-use Rattle.std.specs.Prelude.{◌≡◌, ℕ, ◌+◌, ◌<◌, ◌≤◌, ◌⊎◌, Bool, true, false, List, [], ◌∷◌, ◌++◌, length, map, Option, Some, None, option_to_list}
+use Rattle.std.specs.Prelude.{◌≡◌, ℕ, ◌+◌, ◌<◌, ◌≤◌, ◌⊎◌, Bool, true, false, List, [], ◌∷◌, ◌++◌, length, map}
+use Rattle.std.specs.Prelude.{Option, Some, None, option_to_list}
 use Rattle.cts_chain.specs.Chains.{StagesStand, AllSettled, framings_of, last_fault}
 use Rattle.cts_chain.specs.Shapes.{ChainData, writers}
 use Rattle.cts_connection.specs.Connections.{HeldConnection}
@@ -143,7 +144,8 @@ PutSo Waits spelling done rest put = (rest ≡ []) × (put ≡ spelled spelling 
 PutSo (Puts spellings) spelling done rest put = (map spelling rest ≡ spellings) × (put ≡ spelled spelling done)
 PutSo Caught spelling done rest put = (rest ≡ []) × (put ≡ spelled spelling done)
 PutSo Takes spelling done rest put = (rest ≡ []) × (put ≡ spelled spelling done)
-PutSo (Ends why) spelling done rest put = ((tail : List ℕ) × (put ≡ spelled spelling done ++ tail) × Tail spelling why rest tail) × PutsAll why (rest ≡ [])
+PutSo (Ends why) spelling done rest put =
+    ((tail : List ℕ) × (put ≡ spelled spelling done ++ tail) × Tail spelling why rest tail) × PutsAll why (rest ≡ [])
 
 -- how much of the rest counts as unsent: not what is about to be put
 abbrev pub waiting : Phase → List Entry → ℕ
@@ -163,7 +165,8 @@ LookedSo (Ends why) mine place takes = (takes ≤ length mine) × PutsAll why (I
 
 -- no more holds than this began at places behind a beginning of the history in which a Stop stands
 abbrev pub SoonBy : ℕ → List ℕ → ℕ → List Entry → Type 0
-SoonBy limit found o history = (earlier later : List Entry) (n : ℕ) → history ≡ earlier ++ later → length earlier ≡ n + 1 → o ≤ n → is_stopped earlier ≡ true
+SoonBy limit found o history =
+    (earlier later : List Entry) (n : ℕ) → history ≡ earlier ++ later → length earlier ≡ n + 1 → o ≤ n → is_stopped earlier ≡ true
     → looks found n (length history) ≤ limit
 
 -- how many may have: the last hold that posted, and the look after it; none, where a look has seen no Stop

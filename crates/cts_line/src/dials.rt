@@ -200,7 +200,8 @@ pub(crate) fn connect<R: Wait, C: Framer, D: Dialer, K: Clock, G: Gate>(
     ensures failed { (why : LineWhyData) → after_failed hand.now.site.now hand.now.by ≡ Some why → (result.1 ≡ why → ⊥)
         → (D.seen dialer.new).failed_dials ≡ (D.seen dialer.old).failed_dials }
     ensures heeds { Heeds hand.now.by (view pass).seen (view result.0).seen (Some result.1) }
-    ensures once { reconnects hand.now.site.now hand.now.by ≡ false → opened_in hand.now.by (view result.0).seen ≤ opened_in hand.now.by (view pass).seen + 1 }
+    ensures once { reconnects hand.now.site.now hand.now.by ≡ false
+        → opened_in hand.now.by (view result.0).seen ≤ opened_in hand.now.by (view pass).seen + 1 }
     ensures told { (k : ℕ) → Has k (D.seen dialer.old).told → Settled (site_routing (ground hand.now.turn.now).site)
         (room_of (ground hand.now.turn.now)) hand.now.by (view pass).found (view pass).seen (since k (D.seen dialer.old).told)
         → ToldBy (site_routing (ground hand.now.turn.now).site) (room_of (ground hand.now.turn.now)) hand.now.by (view result.0).found
