@@ -8,14 +8,13 @@ use Rattle.cts_connection.specs.Postings.{Closes, Ends, Grown, Posts, Refuses, c
 use Rattle.cts_connection.specs.Routings.{site_routing}
 use Rattle.cts_connection.specs.Takings.{entries_of}
 use Rattle.cts_connection.specs.declared.end.End.{End}
-use Rattle.cts_connection.proofs.LinePosts.{entries_count, makes}
+use Rattle.cts_connection.proofs.LinePosts.{entries_count}
 use Rattle.cts_def.specs.Sites.{IsSoundSite, SiteData}
 use Rattle.cts_def.specs.declared.time.Time.{Time}
 use Rattle.cts_entry.specs.declared.entry.Entry.{Entry}
 use Rattle.cts_entry.specs.declared.what.What.TheVariants.{Stop}
 use Rattle.cts_entry.specs.declared.why.Why.{Why}
-use Rattle.cts_entry.specs.Histories.{bytes_in, connects, entries_in, is_connected, is_stopped, or_earlier}
-use Rattle.cts_entry.specs.Legal.{has_ended}
+use Rattle.cts_entry.specs.Histories.{bytes_in, connects, entries_in, or_earlier}
 use Rattle.cts_entry.specs.Workers.{is_worker}
 use Rattle.cts_framing.specs.Framing.{Output}
 use Rattle.cts_table.specs.Keeping.{IsKept}

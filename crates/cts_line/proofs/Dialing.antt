@@ -1,7 +1,7 @@
 -- From one connection of a line to the next, and to its end.
 use Rattle.std.proofs.Common.{◌≡◌, ℕ, ◌+◌, ◌≤◌, ◌==◌, ◌&&◌, ◌||◌, Bool, true, false, cond, List, [], ◌∷◌, ◌++◌, length, filter, refl, sym, ◌∙◌, ap, subst, arith, length-append, append-nil, append_assoc, Option, Some, None, unwrap_or, eq-eqb, inl, inr}
 use Rattle.std.proofs.Math.Bool.{and-false, or-false}
-use Rattle.std.specs.Prelude.{if◌then◌else◌, not, option_to_list, IfNone}
+use Rattle.std.specs.Prelude.{if◌then◌else◌, option_to_list, IfNone, IfSome}
 use Rattle.std.specs.List.{list_any}
 use Rattle.std.proofs.lemmas.List.Elements.{filter-append}
 use Rattle.std.proofs.lemmas.List.Folds.{list_any-append}
@@ -24,11 +24,11 @@ use Rattle.cts_chain.specs.Shapes.{IsSameChain}
 use Rattle.cts_table.specs.States.{Shown}
 use Rattle.cts_table.specs.declared.basis.Basis.{Basis}
 use Rattle.cts_entry.specs.Room.{Capacity}
-use Rattle.cts_trace.specs.Makers.{LastEnded, closes_for, faults_of, is_fault, of_maker}
+use Rattle.cts_trace.specs.Makers.{closes_for, faults_of, is_fault, of_maker}
 use Rattle.cts_trace.specs.Routing.{Routing}
 use Rattle.cts_trace.specs.Told.{HasFinished, Said, Settled, ToldBy, Unopened}
 use Rattle.cts_trace.proofs.Looking.{settles_told, stop_kept, unopened_more}
-use Rattle.cts_trace.proofs.Others.{of_maker_append, of_maker_one, strange_own}
+use Rattle.cts_trace.proofs.Others.{strange_own}
 use Rattle.cts_turn.specs.declared.rule.View.{View}
 use Rattle.cts_worker.specs.Counts.{RoseBy, RoseIf, one_if}
 use Rattle.cts_worker.specs.Holds.{EndedHold, Held, Hold, InHold, Onward}
@@ -48,7 +48,7 @@ use Rattle.cts_chain.proofs.Anew.{anew}
 use Rattle.cts_line.proofs.Growing.{Grows, said_grown}
 use Rattle.cts_line.proofs.Keeping.{Quiet, closed_quiet, counted_none, faults_quiet, keeps_quiet, opened_quiet, quiet_none, quiet_others, stop_both, stop_opened, stop_strange}
 use Rattle.cts_line.proofs.Boarding.{quiet_stop}
-use Rattle.cts_line.proofs.Following.{filter_few, grows_by, look_grows, look_kept, look_onward, look_stop, onward_by, quiet_keeps, stop_kept_by}
+use Rattle.cts_line.proofs.Following.{filter_few, grows_by, look_grows, look_kept, look_stop, onward_by, quiet_keeps, stop_kept_by}
 use Rattle.cts_line.proofs.Steps.{opens_talk}
 
 -- ---- counts of faults
@@ -440,3 +440,20 @@ again_of site m why none = by_why why none
 
 pub never_both : (b : Bool) {A : Type 0} → b ≡ true → b ≡ false → A
 never_both b on off = absurd (let f : true ≡ false = sym on ∙ off in cc)
+
+-- ---- why a line ends whose connection was closed
+
+module _ (site : SiteData) (most m : ℕ) (history : List Entry) (told : Option Line) (before now : ℕ) where
+  unless_causes : has_closed m is_any history ≡ true → (b : Bool) → reconnects site m ≡ b → IfSome (unless_again b) (λ why. CausesEnd site most m history told before now why)
+  unless_causes closed true again = tt
+  unless_causes closed false again = (again, inl closed)
+
+  pub closed_causes : (why : Why) → ((test : Why → Bool) → test why ≡ true → has_closed m test history ≡ true)
+      → IfSome (after_closed site m why) (λ end. CausesEnd site most m history told before now end)
+  closed_causes PeerEnded said = unless_causes (said is_any refl) (reconnects site m) refl
+  closed_causes ReadFault said = unless_causes (said is_any refl) (reconnects site m) refl
+  closed_causes WriteFault said = unless_causes (said is_any refl) (reconnects site m) refl
+  closed_causes (BadFrame stage cause) said = unless_causes (said is_any refl) (reconnects site m) refl
+  closed_causes StoppedWhy said = unless_causes (said is_any refl) (reconnects site m) refl
+  closed_causes NoMemoryWhy said = tt
+  closed_causes FullWhy said = inl (said is_full refl)

@@ -39,6 +39,7 @@ use Rattle.cts_line.specs.Doing.{ClosesTaken, ClosesUnfed, IsRefused, PostsIn}
 use Rattle.cts_line.specs.Ending.{Keeps, has_stop}
 use Rattle.cts_worker.specs.Holds.{Held, InHold, Onward}
 use Rattle.cts_line.specs.Talks.{Caught, Ends, IsClosed, Puts, Suits, Takes, Talking, Talks, TalksAt, Waits, Went, after, closed_by, room_of, stopped_by}
+use Rattle.cts_line.specs.Telling.{SomeLine}
 use Rattle.cts_line.specs.declared.posting.Posting.{Posting}
 use Rattle.cts_line.specs.declared.posting.Posting.TheVariants.{Posted, Closed as ClosedPosting}
 use Rattle.cts_line.proofs.Bodies.{packets_shown}
@@ -341,19 +342,40 @@ module _ {G : Type 0} (base : Basis) (m : ℕ) (old new : View Entry G) (h : InH
   pub look_long : length old.seen ≤ length new.seen
   look_long = let o = look_onward.seen in let l = ap length o.1 ∙ length-append old.seen o.0 in omega (arith, l)
 
+  -- the look itself: what it saw is to be put
+  looked_up : (c : HeldConnection) (spellings given : List (Option (List ℕ))) (place : ℕ) (told : Option Line) → Suits base.site m c.chain
+      → spellings ≡ map (spell_by base.site (writers c.chain)) (queue (site_routing base.site) m (entries_ahead c new.seen)) → place ≡ length new.seen → given ≡ spellings
+      → TalksAt (site_routing base.site) (room_of base) m Waits c old told
+      → Talks (site_routing base.site) (room_of base) m (Puts given) c.chain.stages place c.cursor.refused new.found new.seen told
+  looked_up c spellings given place told suits saw is same t =
+      let g = site_routing base.site in
+      let saw' : spellings ≡ map (spell g m) (queue g m (drop c.cursor.place new.seen)) = saw ∙ ap (λ (specs : List SpecData). map (spell_by base.site specs) (queue g m (drop c.cursor.place new.seen))) suits.writing in
+      let looked = talks_map g (room_of base) m Waits (Puts spellings) c.chain.stages c.chain.stages c.cursor.place (length new.seen) c.cursor.refused c.cursor.refused old.found new.found old.seen new.seen told t
+      (λ line u. looks_talk g (room_of base) m c.cursor.place c.cursor.refused c.chain.stages old.found new.found old.seen new.seen look_grows spellings line saw' u) in
+      subst (λ (l : List (Option (List ℕ))). Talks g (room_of base) m (Puts l) c.chain.stages place c.cursor.refused new.found new.seen told) (sym same)
+      (subst (λ (k : ℕ). Talks g (room_of base) m (Puts spellings) c.chain.stages k c.cursor.refused new.found new.seen told) (sym is) looked)
+
   pub caught_up : (c : HeldConnection) (spellings given : List (Option (List ℕ))) (place unsent : ℕ) (end : Option Why) (stop : Bool) (told told' : Option Line) → Suits base.site m c.chain
       → spellings ≡ map (spell_by base.site (writers c.chain)) (queue (site_routing base.site) m (entries_ahead c new.seen)) → place ≡ length new.seen → stop ≡ is_stopped new.seen → given ≡ spellings
       → (Talks (site_routing base.site) (room_of base) m (Puts given) c.chain.stages place c.cursor.refused new.found new.seen told → Talks (site_routing base.site) (room_of base) m (after Caught end) c.chain.stages place (c.cursor.refused + unsent) new.found new.seen told')
       → TalksAt (site_routing base.site) (room_of base) m Waits c old told
       → Talks (site_routing base.site) (room_of base) m (after Takes (stopped_by end stop)) c.chain.stages place (c.cursor.refused + unsent) new.found new.seen told'
   caught_up c spellings given place unsent end stop told told' suits saw is stands same puts t =
-      let g = site_routing base.site in
-      let saw' : spellings ≡ map (spell g m) (queue g m (drop c.cursor.place new.seen)) = saw ∙ ap (λ (specs : List SpecData). map (spell_by base.site specs) (queue g m (drop c.cursor.place new.seen))) suits.writing in
-      let looked = talks_map g (room_of base) m Waits (Puts spellings) c.chain.stages c.chain.stages c.cursor.place (length new.seen) c.cursor.refused c.cursor.refused old.found new.found old.seen new.seen told t
-      (λ line u. looks_talk g (room_of base) m c.cursor.place c.cursor.refused c.chain.stages old.found new.found old.seen new.seen look_grows spellings line saw' u) in
-      let put = puts (subst (λ (l : List (Option (List ℕ))). Talks g (room_of base) m (Puts l) c.chain.stages place c.cursor.refused new.found new.seen told) (sym same)
-      (subst (λ (k : ℕ). Talks g (room_of base) m (Puts spellings) c.chain.stages k c.cursor.refused new.found new.seen told) (sym is) looked)) in
-      stopped_talks g (room_of base) m place (c.cursor.refused + unsent) c.chain.stages new.found new.seen told' end stop stands put
+      stopped_talks (site_routing base.site) (room_of base) m place (c.cursor.refused + unsent) c.chain.stages new.found new.seen told' end stop stands
+      (puts (looked_up c spellings given place told suits saw is same t))
+
+  -- the same of some line
+  pub caught_some : (c : HeldConnection) (spellings given : List (Option (List ℕ))) (place unsent : ℕ) (end : Option Why) (stop : Bool) → Suits base.site m c.chain
+      → spellings ≡ map (spell_by base.site (writers c.chain)) (queue (site_routing base.site) m (entries_ahead c new.seen)) → place ≡ length new.seen → stop ≡ is_stopped new.seen → given ≡ spellings
+      → (SomeLine (λ told. Talks (site_routing base.site) (room_of base) m (Puts given) c.chain.stages place c.cursor.refused new.found new.seen told)
+      → SomeLine (λ told. Talks (site_routing base.site) (room_of base) m (after Caught end) c.chain.stages place (c.cursor.refused + unsent) new.found new.seen told))
+      → SomeLine (λ told. TalksAt (site_routing base.site) (room_of base) m Waits c old told)
+      → SomeLine (λ told. Talks (site_routing base.site) (room_of base) m (after Takes (stopped_by end stop)) c.chain.stages place (c.cursor.refused + unsent) new.found new.seen told)
+  caught_some c spellings given place unsent end stop suits saw is stands same puts t =
+      let u = puts (t.0, looked_up c spellings given place (Some t.0) suits saw is same t.1) in (
+        u.0,
+        stopped_talks (site_routing base.site) (room_of base) m place (c.cursor.refused + unsent) c.chain.stages new.found new.seen (Some u.0) end stop stands u.1,
+      )
 
   pub looked_not : (c : HeldConnection) (told : Option Line) → TalksAt (site_routing base.site) (room_of base) m Waits c old told → TalksAt (site_routing base.site) (room_of base) m (Ends NoMemory) c new told
   looked_not c told t =

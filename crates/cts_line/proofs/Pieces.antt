@@ -5,7 +5,6 @@ use Rattle.std.proofs.lemmas.Bool.{eqb-true}
 use Rattle.std.proofs.lemmas.List.{nil_from_length, map-append}
 use Rattle.cts_chain.specs.Chains.{StagesStand, AllSettled, Reserved, framings_of, last_fault}
 use Rattle.cts_chain.specs.Laws.{AreOf}
-use Rattle.cts_chain.specs.Shapes.{ChainData, IsSameChain}
 use Rattle.cts_chain.proofs.Rising.{reserved_stand}
 use Rattle.cts_chain.proofs.Settled.{settled_gives_all}
 use Rattle.cts_connection.specs.Postings.{end_of}

@@ -1,6 +1,6 @@
 -- What a line does to the hall in one hold.
-use Rattle.std.specs.Prelude.{◌≡◌, ◌≢◌, ℕ, ◌+◌, ◌≤◌, ◌⊎◌, Bool, true, false, ◌&&◌, not}
-use Rattle.std.specs.Prelude.{List, [], ◌∷◌, ◌++◌, length, Option, None, Some}
+use Rattle.std.specs.Prelude.{◌≡◌, ◌≢◌, ℕ, ◌+◌, ◌≤◌, ◌⊎◌, true, false}
+use Rattle.std.specs.Prelude.{List, [], ◌∷◌, length, Option, None, Some}
 use Rattle.cts_chain.specs.Chains.{Reserved}
 use Rattle.cts_chain.specs.Shapes.{IsSameChain}
 use Rattle.cts_def.specs.declared.time.Time.{Time}

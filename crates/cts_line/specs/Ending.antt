@@ -1,5 +1,5 @@
 -- Why a line ends, and what it leaves.
-use Rattle.std.specs.Prelude.{◌≡◌, ℕ, ◌+◌, ◌-◌, ◌^◌, ◌≤◌, ◌==◌, ◌&&◌, ◌||◌, ◌⊎◌, min}
+use Rattle.std.specs.Prelude.{◌≡◌, ℕ, ◌+◌, ◌≤◌, ◌==◌, ◌&&◌, ◌||◌, ◌⊎◌}
 use Rattle.std.specs.Prelude.{Bool, true, false, List, length, Option, Some, None, option_map, unwrap_or, slice_get, is_none, IfSome, if◌then◌else◌, []}
 use Rattle.std.specs.List.{filter, list_any}
 use Rattle.cts_def.specs.Sites.{InterfaceData, SiteData}

@@ -27,3 +27,7 @@ Retells None None = Unit {0}
 Retells None (Some line) = ⊥
 Retells (Some was) None = ⊥
 Retells (Some was) (Some line) = StartsWith line.past was.past × (line.aim ≡ was.aim)
+
+-- This holds of some line. A device that tells nothing has connections too, and this is what can be said of them.
+abbrev pub SomeLine : (Option Line → Type 0) → Type 0
+SomeLine Holds = (line : Line) × Holds (Some line)

@@ -8,7 +8,7 @@ ghost use Rattle.cts_connection.specs.Routings.{site_routing};
 ghost use Rattle.cts_worker.specs.Counts.{RoseIf};
 ghost use Rattle.cts_worker.specs.Holds.{Onward};
 ghost use Rattle.cts_line.specs.Ending.{Keeps, fails, has_stop};
-ghost use Rattle.cts_line.specs.Telling.{Retells, since};
+ghost use Rattle.cts_line.specs.Telling.{Retells, SomeLine, since};
 ghost use Rattle.cts_line.specs.Talks.{Suits, TalksAt, Takes, Waits, after, room_of, stopped_by};
 
 use crate::holds::look;
@@ -62,6 +62,9 @@ pub(crate) fn catch_up<R: Wait, C: Framer, D: Dialer>(
         (since k (D.seen dialer.old).told)
         → TalksAt (site_routing (ground turn.now).site) (room_of (ground turn.now)) by (after Takes result.1) connection.new (view result.0)
         (since k (D.seen dialer.new).told) }
+    ensures some { SomeLine (λ told. TalksAt (site_routing (ground turn.now).site) (room_of (ground turn.now)) by Waits connection.old (view pass) told)
+        → SomeLine (λ told. TalksAt (site_routing (ground turn.now).site) (room_of (ground turn.now)) by (after Takes result.1) connection.new
+        (view result.0) told) }
 {
     let (pass, sight) = look(rt, alloc, turn, pass, by, connection);
     match sight {

@@ -12,7 +12,7 @@ ghost use Rattle.cts_worker.specs.Lasts.{IsShut};
 ghost use Rattle.cts_line.specs.Ending.{CausesEnd, FaultsRise, Heeds, after_closed, after_failed, has_stop, opened_in, reconnects, refused};
 ghost use Rattle.cts_line.specs.Ending.{stops_all, stops_then};
 ghost use Rattle.cts_line.specs.declared.ending.LineWhy.{LineWhy as LineWhyData};
-ghost use Rattle.cts_line.specs.Telling.{Has, Retells, since};
+ghost use Rattle.cts_line.specs.Telling.{Has, Retells, SomeLine, since};
 ghost use Rattle.cts_line.specs.Talks.{Begins, IsReady, ToldSoFar, room_of};
 
 use crate::ending::LineWhy;
@@ -113,6 +113,10 @@ fn serve<R: Wait, C: Framer, D: Dialer, K: Clock, G: Gate>(
         (room_of (ground hand.now.turn.now)) hand.now.by (view pass).found (view pass).seen (since k (D.seen dialer.old).told)
         → ToldSoFar (site_routing (ground hand.now.turn.now).site) (room_of (ground hand.now.turn.now)) hand.now.by (view result.0).found
         (view result.0).seen (since k (D.seen dialer.new).told) result.1 }
+    ensures some { SomeLine (λ told. Begins (site_routing (ground hand.now.turn.now).site) (room_of (ground hand.now.turn.now)) hand.now.by
+        (view pass).found (view pass).seen told)
+        → SomeLine (λ told. ToldSoFar (site_routing (ground hand.now.turn.now).site) (room_of (ground hand.now.turn.now)) hand.now.by
+        (view result.0).found (view result.0).seen told result.1) }
     ensures cause { IfSome result.1 (λ why. CausesEnd (ground hand.now.turn.now).site (ground hand.now.turn.now).entries hand.now.by
         (view result.0).seen (D.seen dialer.new).told (D.seen dialer.old).failed_dials (D.seen dialer.new).failed_dials why) }
 {
@@ -162,6 +166,10 @@ fn attempt<R: Wait, C: Framer, D: Dialer, K: Clock, G: Gate>(
         (room_of (ground hand.now.turn.now)) hand.now.by (view pass).found (view pass).seen (since k (D.seen dialer.old).told)
         → ToldSoFar (site_routing (ground hand.now.turn.now).site) (room_of (ground hand.now.turn.now)) hand.now.by (view result.0).found
         (view result.0).seen (since k (D.seen dialer.new).told) result.1 }
+    ensures some { SomeLine (λ told. Settled (site_routing (ground hand.now.turn.now).site) (room_of (ground hand.now.turn.now)) hand.now.by
+        (view pass).found (view pass).seen told)
+        → SomeLine (λ told. ToldSoFar (site_routing (ground hand.now.turn.now).site) (room_of (ground hand.now.turn.now)) hand.now.by
+        (view result.0).found (view result.0).seen told result.1) }
     ensures cause { IfSome result.1 (λ why. CausesEnd (ground hand.now.turn.now).site (ground hand.now.turn.now).entries hand.now.by
         (view result.0).seen (D.seen dialer.new).told (D.seen dialer.old).failed_dials (D.seen dialer.new).failed_dials why) }
 {
@@ -206,6 +214,10 @@ pub(crate) fn connect<R: Wait, C: Framer, D: Dialer, K: Clock, G: Gate>(
         (room_of (ground hand.now.turn.now)) hand.now.by (view pass).found (view pass).seen (since k (D.seen dialer.old).told)
         → ToldBy (site_routing (ground hand.now.turn.now).site) (room_of (ground hand.now.turn.now)) hand.now.by (view result.0).found
         (view result.0).seen (since k (D.seen dialer.new).told) }
+    ensures some { SomeLine (λ told. Settled (site_routing (ground hand.now.turn.now).site) (room_of (ground hand.now.turn.now)) hand.now.by
+        (view pass).found (view pass).seen told)
+        → SomeLine (λ told. ToldBy (site_routing (ground hand.now.turn.now).site) (room_of (ground hand.now.turn.now)) hand.now.by
+        (view result.0).found (view result.0).seen told) }
     ensures cause { CausesEnd (ground hand.now.turn.now).site (ground hand.now.turn.now).entries hand.now.by (view result.0).seen
         (D.seen dialer.new).told (D.seen dialer.old).failed_dials (D.seen dialer.new).failed_dials result.1 }
 {

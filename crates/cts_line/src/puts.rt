@@ -8,7 +8,7 @@ ghost use Rattle.cts_worker.specs.Counts.{RoseIf};
 ghost use Rattle.cts_line.specs.Ending.{fails};
 ghost use Rattle.cts_line.specs.Putting.{PutCause, PutsOne, is_write};
 ghost use Rattle.cts_line.specs.Talks.{Talks, after, Caught, Puts};
-ghost use Rattle.cts_line.specs.Telling.{Retells, since};
+ghost use Rattle.cts_line.specs.Telling.{Retells, SomeLine, since};
 
 use cts_base::Bytes;
 use cts_entry::Why;
@@ -57,6 +57,9 @@ pub(crate) fn put_all<D: Dialer>(
     ensures talks { (g : Routing) (room : Capacity) (m place unsent : ℕ) (stages : List Meaning) (found : List ℕ) (history : List Entry) (k : ℕ)
         → Talks g room m (Puts spellings.now) stages place unsent found history (since k (D.seen dialer.old).told)
         → Talks g room m (after Caught result.1) stages place (unsent + result.0) found history (since k (D.seen dialer.new).told) }
+    ensures some { (g : Routing) (room : Capacity) (m place unsent : ℕ) (stages : List Meaning) (found : List ℕ) (history : List Entry)
+        → SomeLine (λ told. Talks g room m (Puts spellings.now) stages place unsent found history told)
+        → SomeLine (λ told. Talks g room m (after Caught result.1) stages place (unsent + result.0) found history told) }
 {
     let mut left = spellings;
     let mut unsent = 0;

@@ -14,7 +14,7 @@ ghost use Rattle.cts_connection.specs.Routings.{site_routing};
 ghost use Rattle.cts_worker.specs.Counts.{RoseIf};
 ghost use Rattle.cts_worker.specs.Holds.{Onward};
 ghost use Rattle.cts_line.specs.Ending.{Keeps, fails, has_stop};
-ghost use Rattle.cts_line.specs.Telling.{Retells, since};
+ghost use Rattle.cts_line.specs.Telling.{Retells, SomeLine, since};
 ghost use Rattle.cts_line.specs.Talks.{Ends, IsClosed, Suits, TalksAt, Takes, Waits, Went, closed_by, room_of};
 
 use crate::catching::catch_up;
@@ -141,6 +141,10 @@ pub(crate) fn round<R: Wait, C: Framer, D: Dialer, K: Clock, G: Gate>(
         connection.old (view pass) (since k (D.seen dialer.old).told)
         → Went (site_routing (ground hand.now.turn.now).site) (room_of (ground hand.now.turn.now)) hand.now.by connection.new (view result.0)
         (since k (D.seen dialer.new).told) result.1 }
+    ensures some { SomeLine (λ told. TalksAt (site_routing (ground hand.now.turn.now).site) (room_of (ground hand.now.turn.now)) hand.now.by Waits
+        connection.old (view pass) told)
+        → SomeLine (λ told. Went (site_routing (ground hand.now.turn.now).site) (room_of (ground hand.now.turn.now)) hand.now.by connection.new
+        (view result.0) told result.1) }
 {
     let (pass, end) = catch_up(
         hand.rt, hand.alloc, hand.turn, pass, hand.by, connection, dialer,
@@ -186,6 +190,10 @@ pub(crate) fn talk<R: Wait, C: Framer, D: Dialer, K: Clock, G: Gate>(
         connection.old (view pass) (since k (D.seen dialer.old).told)
         → IsClosed (site_routing (ground hand.now.turn.now).site) (room_of (ground hand.now.turn.now)) hand.now.by (view result.0)
         (since k (D.seen dialer.new).told) }
+    ensures some { SomeLine (λ told. TalksAt (site_routing (ground hand.now.turn.now).site) (room_of (ground hand.now.turn.now)) hand.now.by Waits
+        connection.old (view pass) told)
+        → SomeLine (λ told. IsClosed (site_routing (ground hand.now.turn.now).site) (room_of (ground hand.now.turn.now)) hand.now.by
+        (view result.0) told) }
 {
     'rounds: for _ in hand.rt.forever() {
         let (next, closed) = round(hand, pass, connection, dialer, buffer);

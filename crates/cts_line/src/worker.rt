@@ -21,7 +21,7 @@ ghost use Rattle.cts_worker.specs.Holds.{EndedHold, Onward};
 ghost use Rattle.cts_worker.specs.Lasts.{IsShut, MayEnd, first_moment, last_entries};
 ghost use Rattle.cts_line.specs.Ending.{CausesEnd, Heeds, IsUndialed, after_failed, has_closed, has_stop, is_full, is_no_memory};
 ghost use Rattle.cts_line.specs.Ending.{opened_in, reconnects, stops_all};
-ghost use Rattle.cts_line.specs.Telling.{Has, Retells, made_by, since};
+ghost use Rattle.cts_line.specs.Telling.{Has, Retells, SomeLine, made_by, since};
 ghost use Rattle.cts_line.specs.Talks.{room_of};
 
 use crate::dials::connect;
@@ -74,6 +74,8 @@ impl LineWorker {
         ensures onward { Onward (view pass) (view result.pass) }
         ensures told { ToldBy (site_routing site.now) (room_of (ground turn.now)) by (view result.pass).found (view result.pass).seen
             (since (made_by (D.seen dialer.old).told) (D.seen dialer.new).told) }
+        ensures some { SomeLine (λ told. ToldBy (site_routing site.now) (room_of (ground turn.now)) by (view result.pass).found (view result.pass).seen
+            told) }
         ensures retells { Retells (told_after hung_up (D.seen dialer.old).told) (D.seen dialer.new).told }
         ensures ended { LastEnded by (view result.pass).seen }
         ensures connections { result.connections ≡ opened_in by (view result.pass).seen }
@@ -201,6 +203,8 @@ fn work<R: Wait, C: Framer, D: Dialer, K: Clock, G: Gate>(
     ensures told { (k : ℕ) → Has k (D.seen dialer.old).told → IsUndialed (since k (D.seen dialer.old).told)
         → ToldBy (site_routing hand.now.site.now) (room_of (ground hand.now.turn.now)) hand.now.by (view result.0).found (view result.0).seen
         (since k (D.seen dialer.new).told) }
+    ensures some { SomeLine (λ told. ToldBy (site_routing hand.now.site.now) (room_of (ground hand.now.turn.now)) hand.now.by (view result.0).found
+        (view result.0).seen told) }
     ensures cause { CausesEnd hand.now.site.now (ground hand.now.turn.now).entries hand.now.by (view result.0).seen (D.seen dialer.new).told
         (D.seen dialer.old).failed_dials (D.seen dialer.new).failed_dials result.1 }
 {

@@ -1,4 +1,5 @@
-use Rattle.std.proofs.Common.{refl}
+use Rattle.std.proofs.Common.{Some, refl}
+use Rattle.cts_outside.specs.Lines.{after_dial}
 use Rattle.cts_outside.specs.declared.link.Dialed.TheVariants.{Linked, Later, Finished, Failed}
 use Rattle.cts_table.specs.contracts.hall.HallStands.TheImpl.{ghosts as hall}
 use Rattle.cts_turn.specs.Passes.{basis_of, view}
@@ -72,3 +73,26 @@ returns-in-Finished-clause-heeds g c = heeds_kept c.args.hand.now.by (view c.arg
 
 pub returns-in-Failed-clause-heeds : goal.returns-in-Failed-clause-heeds
 returns-in-Failed-clause-heeds g c = heeds_kept c.args.hand.now.by (view c.args.pass).seen (view c.args.pass).seen _ (λ test. refl)
+
+pub returns-in-Linked-clause-some : goal.returns-in-Linked-clause-some
+returns-in-Linked-clause-some g c =
+    let base = basis_of hall.basis c.args.hand.now.turn.now in
+    let v = view c.args.pass in
+    λ t.
+    c.serve.ensures.some
+    (after_dial Linked t.0, begins_linked (site_routing base.site) (room_of base) c.args.hand.now.by v.found v.seen (Some t.0) _ refl t.1)
+
+pub returns-in-Later-clause-some : goal.returns-in-Later-clause-some
+returns-in-Later-clause-some g c = λ t. t
+
+pub returns-in-Finished-clause-some : goal.returns-in-Finished-clause-some
+returns-in-Finished-clause-some g c =
+    let base = basis_of hall.basis c.args.hand.now.turn.now in
+    let v = view c.args.pass in
+    λ t. (after_dial Finished t.0, settles_told (site_routing base.site) (room_of base) c.args.hand.now.by v.found v.seen (Some (after_dial Finished t.0)) t.1)
+
+pub returns-in-Failed-clause-some : goal.returns-in-Failed-clause-some
+returns-in-Failed-clause-some g c =
+    let base = basis_of hall.basis c.args.hand.now.turn.now in
+    let v = view c.args.pass in
+    λ t. (t.0, so_far (site_routing base.site) (room_of base) c.args.hand.now.by v.found v.seen (Some t.0) _ t.1)

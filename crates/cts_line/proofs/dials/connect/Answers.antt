@@ -84,6 +84,7 @@ dials-init g c = record {
   stop = refl;
   retells = retells_same _;
   settled = λ k has t. t;
+  some = λ t. t;
 }
 
 pub dials-preserved : goal.dials-preserved
@@ -119,6 +120,10 @@ dials-preserved g c =
       settled = λ k has t.
           so_far_none (site_routing base.site) (room_of base) c.args.hand.now.by x.found x.seen _ _ c.in_default.is
           (e.told k (retells_has k _ _ i.retells has) (stop_settled base c.args.hand.now.by v w c.sees_stop-next.ensures.hold _ (i.settled k has t)));
+      some = λ t.
+          let s = i.some t in
+          let u = e.some (s.0, stop_settled base c.args.hand.now.by v w c.sees_stop-next.ensures.hold (Some s.0) s.1) in
+          (u.0, so_far_none (site_routing base.site) (room_of base) c.args.hand.now.by x.found x.seen (Some u.0) _ c.in_default.is u.1);
     }
 
 pub returns-then-stop-clause-once : goal.returns-then-stop-clause-once
@@ -192,3 +197,26 @@ returns-in-Some-end-clause-heeds g c =
     heeds_then by u.seen v.seen x.seen _ c.dials.invariant.heeds
     (heeds_then by v.seen w.seen x.seen _ (heeds_quiet by v.seen w.seen None looked)
     (subst (Heeds by w.seen x.seen) c.in-Some-end.is c.attempt-next.ensures.heeds))
+
+pub returns-then-stop-clause-some : goal.returns-then-stop-clause-some
+returns-then-stop-clause-some g c =
+    let base = basis_of hall.basis c.args.hand.now.turn.now in
+    let v = view c.dials.pass in
+    let w = view c.sees_stop-next.result.0 in
+    λ t.
+    let s = c.dials.invariant.some t in (
+      s.0,
+      settles_told (site_routing base.site) (room_of base) c.args.hand.now.by w.found w.seen (Some s.0)
+          (stop_settled base c.args.hand.now.by v w c.sees_stop-next.ensures.hold (Some s.0) s.1),
+    )
+
+pub returns-in-Some-end-clause-some : goal.returns-in-Some-end-clause-some
+returns-in-Some-end-clause-some g c =
+    let base = basis_of hall.basis c.args.hand.now.turn.now in
+    let v = view c.dials.pass in
+    let w = view c.sees_stop-next.result.0 in
+    let x = view c.attempt-next.result.0 in
+    λ t.
+    let s = c.dials.invariant.some t in
+    let u = c.attempt-next.ensures.some (s.0, stop_settled base c.args.hand.now.by v w c.sees_stop-next.ensures.hold (Some s.0) s.1) in
+    (u.0, so_far_some (site_routing base.site) (room_of base) c.args.hand.now.by x.found x.seen (Some u.0) _ c.in-Some-end.why c.in-Some-end.is u.1)

@@ -10,7 +10,7 @@ use Rattle.cts_line.specs.Ending.{FaultsRise, Heeds, after_failed, has_stop, ope
 use Rattle.cts_line.specs.declared.ending.LineWhy.{LineWhy}
 use Rattle.cts_worker.specs.Holds.{Onward}
 use Rattle.cts_line.specs.Talks.{Suits, room_of}
-use Rattle.cts_line.specs.Telling.{Has, Retells, since}
+use Rattle.cts_line.specs.Telling.{Has, Retells, SomeLine, since}
 use Rattle.cts_table.specs.contracts.hall.HallStands.TheImpl.{ghosts as hall}
 use Rattle.cts_line.proofs.dials.connect.Given as goal
 
@@ -35,4 +35,6 @@ invariant-dials g l = record {
   retells : Retells (g.D.Link.seen l.initial.dialer).told (g.D.Link.seen l.dialer).told;
   settled : (k : ℕ) → Has k (g.D.Link.seen l.initial.dialer).told → Settled (site_routing (basis_of hall.basis l.hand.turn.now).site) (room_of (basis_of hall.basis l.hand.turn.now)) l.hand.by (view l.initial.pass).found (view l.initial.pass).seen (since k (g.D.Link.seen l.initial.dialer).told)
       → Settled (site_routing (basis_of hall.basis l.hand.turn.now).site) (room_of (basis_of hall.basis l.hand.turn.now)) l.hand.by (view l.pass).found (view l.pass).seen (since k (g.D.Link.seen l.dialer).told);
+  some : SomeLine (λ told. Settled (site_routing (basis_of hall.basis l.hand.turn.now).site) (room_of (basis_of hall.basis l.hand.turn.now)) l.hand.by (view l.initial.pass).found (view l.initial.pass).seen told)
+      → SomeLine (λ told. Settled (site_routing (basis_of hall.basis l.hand.turn.now).site) (room_of (basis_of hall.basis l.hand.turn.now)) l.hand.by (view l.pass).found (view l.pass).seen told);
 }

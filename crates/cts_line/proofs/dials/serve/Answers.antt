@@ -1,11 +1,13 @@
-use Rattle.std.proofs.Common.{Some, arith, subst, sym, ◌∙◌}
+use Rattle.std.proofs.Common.{Some, ap, arith, refl, subst, sym, ◌∙◌}
+use Rattle.std.specs.Prelude.{IfSome}
+use Rattle.cts_outside.specs.Lines.{hung_up}
 use Rattle.cts_table.specs.contracts.hall.HallStands.TheImpl.{ghosts as hall}
 use Rattle.cts_turn.specs.Passes.{basis_of, view}
 use Rattle.cts_connection.specs.Routings.{site_routing}
-use Rattle.cts_line.specs.Ending.{Heeds}
+use Rattle.cts_line.specs.Ending.{CausesEnd, Heeds, after_closed}
 use Rattle.cts_line.specs.Talks.{room_of}
 use Rattle.cts_line.proofs.Chaining.{suits_same}
-use Rattle.cts_line.proofs.Dialing.{again_of, count_closed, count_kept, faults_closed, faults_none, hangs_up, opening_is, refusal, shut_closed, shut_kept, so_far}
+use Rattle.cts_line.proofs.Dialing.{again_of, closed_causes, count_closed, count_kept, faults_closed, faults_none, hangs_up, opening_is, refusal, shut_closed, shut_kept, so_far}
 use Rattle.cts_worker.proofs.Onwards.{onward_then}
 use Rattle.cts_line.proofs.Telling.{retells_has, retells_hung, retells_then, since_hung}
 use Rattle.cts_line.proofs.Heeding.{heeds_closed, heeds_quiet}
@@ -120,3 +122,31 @@ returns-clause-heeds g c =
     let o = opening_is (basis_of hall.basis c.args.hand.now.turn.now) c.args.hand.now.by (view c.args.pass) (view c.open-pass.result.0) c.args.connection.now c.open-pass.new.connection c.open-pass.result.1 c.open-pass.ensures.hold (sym c.refused.ensures ∙ c.in_default.is) in
     subst (Heeds c.args.hand.now.by (view c.args.pass).seen (view c.talk-pass.result.0).seen) (sym c.after_closed.ensures)
     (heeds_closed c.args.hand.now.site.now c.args.hand.now.by (view c.args.pass).seen (view c.open-pass.result.0).seen (view c.talk-pass.result.0).seen c.talk-pass.result.1 o.opens c.talk-pass.ensures.keeps)
+
+pub returns-in-Some-clause-some : goal.returns-in-Some-clause-some
+returns-in-Some-clause-some g c =
+    let r = refusal (basis_of hall.basis c.args.hand.now.turn.now) c.args.hand.now.by (view c.args.pass) (view c.open-pass.result.0) c.args.connection.now c.open-pass.new.connection c.open-pass.result.1 c.open-pass.ensures.hold c.in-Some.why (sym c.refused.ensures ∙ c.in-Some.is) in
+    λ t. (hung_up t.0, r.told (Some t.0) _ refl t.1)
+
+pub returns-clause-some : goal.returns-clause-some
+returns-clause-some g c =
+    let base = basis_of hall.basis c.args.hand.now.turn.now in
+    let v = view c.talk-pass.result.0 in
+    let o = opening_is base c.args.hand.now.by (view c.args.pass) (view c.open-pass.result.0) c.args.connection.now c.open-pass.new.connection c.open-pass.result.1 c.open-pass.ensures.hold (sym c.refused.ensures ∙ c.in_default.is) in
+    λ t.
+    let u = c.talk-pass.ensures.some (t.0, o.talks c.args.pass.climbing (Some t.0) t.1) in (
+      hung_up u.0,
+      so_far (site_routing base.site) (room_of base) c.args.hand.now.by v.found v.seen (Some (hung_up u.0)) _
+          (hangs_up (site_routing base.site) (room_of base) c.args.hand.now.by v (Some u.0) (Some (hung_up u.0)) refl u.1),
+    )
+
+pub returns-clause-cause : goal.returns-clause-cause
+returns-clause-cause g c =
+    let base = basis_of hall.basis c.args.hand.now.turn.now in
+    let by = c.args.hand.now.by in
+    let v = view c.talk-pass.result.0 in
+    let old = g.D.Link.seen c.args.dialer.now in
+    let new = g.D.Link.seen c.hang_up-2.new.self in
+    let is = c.after_closed.ensures ∙ ap (λ s. after_closed s by c.talk-pass.result.1) c.requires.ready.site_is in
+    subst (λ e. IfSome e (λ why. CausesEnd base.site base.entries by v.seen new.told old.failed_dials new.failed_dials why)) (sym is)
+    (closed_causes base.site base.entries by v.seen new.told old.failed_dials new.failed_dials c.talk-pass.result.1 c.talk-pass.ensures.keeps.said)

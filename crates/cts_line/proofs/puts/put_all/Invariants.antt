@@ -4,7 +4,7 @@ use Rattle.cts_proto.specs.Meaning.{Meaning}
 use Rattle.cts_entry.specs.Room.{Capacity}
 use Rattle.cts_trace.specs.Routing.{Routing}
 use Rattle.cts_line.specs.Talks.{Talks, Puts}
-use Rattle.cts_line.specs.Telling.{Retells, since}
+use Rattle.cts_line.specs.Telling.{Retells, SomeLine, since}
 use Rattle.cts_line.proofs.puts.put_all.Given as goal
 
 abbrev pub invariant-puts : goal.invariant-puts
@@ -16,6 +16,8 @@ invariant-puts g l = record {
   retells : Retells (g.D.Link.seen l.initial.dialer).told (g.D.Link.seen l.dialer).told;
   talks : (r : Routing) (room : Capacity) (m place unsent : ℕ) (stages : List Meaning) (found : List ℕ) (history : List Entry) (k : ℕ) → Talks r room m (Puts l.spellings) stages place unsent found history (since k (g.D.Link.seen l.initial.dialer).told)
       → Talks r room m (Puts l.left) stages place (unsent + l.unsent) found history (since k (g.D.Link.seen l.dialer).told);
+  some : (r : Routing) (room : Capacity) (m place unsent : ℕ) (stages : List Meaning) (found : List ℕ) (history : List Entry) → SomeLine (λ told. Talks r room m (Puts l.spellings) stages place unsent found history told)
+      → SomeLine (λ told. Talks r room m (Puts l.left) stages place (unsent + l.unsent) found history told);
 }
 
 abbrev pub decreases-puts : goal.decreases-puts

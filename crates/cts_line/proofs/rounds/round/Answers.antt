@@ -1,5 +1,5 @@
-use Rattle.std.proofs.Common.{◌∙◌, refl}
-use Rattle.cts_outside.specs.Lines.{after_take}
+use Rattle.std.proofs.Common.{◌∙◌, Some, refl}
+use Rattle.cts_outside.specs.Lines.{after_take, at_now}
 use Rattle.cts_outside.specs.declared.link.Taken.TheVariants.{Got, Nothing, End, Failed}
 use Rattle.cts_turn.specs.Passes.{view}
 use Rattle.cts_worker.proofs.Onwards.{onward_then}
@@ -78,3 +78,51 @@ returns-in-Failed-clause-onward g c = onward_then (view c.args.pass) (view c.cat
 
 pub returns-in-Got-clause-onward : goal.returns-in-Got-clause-onward
 returns-in-Got-clause-onward g c = onward_then (view c.args.pass) (view c.catch_up-pass.result.0) (view c.post.result.0) c.catch_up-pass.ensures.onward c.post.ensures.onward
+
+pub returns-in-Some-clause-some : goal.returns-in-Some-clause-some
+returns-in-Some-clause-some g c = λ t.
+    let u = c.catch_up-pass.ensures.some t in (
+      u.0,
+      closed_went _ _ c.args.hand.now.by c.close.new.connection (view c.close.result.0) (Some u.0) _ c.in-Some.why c.close.ensures.closed
+          (c.close.ensures.talks (Some u.0) (ends_by _ _ c.args.hand.now.by c.catch_up-pass.new.connection (view c.catch_up-pass.result.0) (Some u.0) _ c.in-Some.why c.in-Some.is u.1)),
+    )
+
+pub returns-in-Nothing-clause-some : goal.returns-in-Nothing-clause-some
+returns-in-Nothing-clause-some g c = λ t.
+    let k = c.catch_up-pass.new.connection in
+    let v = view c.catch_up-pass.result.0 in
+    let u = c.catch_up-pass.ensures.some t in (
+      at_now (after_take Nothing c.take.new.buffer) u.0,
+      nothing_taken _ _ c.args.hand.now.by k v (Some u.0) _ c.take.new.buffer refl (takes_by _ _ c.args.hand.now.by k v (Some u.0) _ c.in_default.is u.1),
+    )
+
+pub returns-in-End-clause-some : goal.returns-in-End-clause-some
+returns-in-End-clause-some g c = λ t.
+    let k = c.catch_up-pass.new.connection in
+    let v = view c.catch_up-pass.result.0 in
+    let u = c.catch_up-pass.ensures.some t in
+    let l = at_now (after_take End c.take.new.buffer) u.0 in
+    let ended = end_taken _ _ c.args.hand.now.by k v (Some u.0) (Some l) c.take.new.buffer refl (takes_by _ _ c.args.hand.now.by k v (Some u.0) _ c.in_default.is u.1) in (
+      l,
+      closed_went _ _ c.args.hand.now.by c.close-in-End.new.connection (view c.close-in-End.result.0) (Some l) _ _ c.close-in-End.ensures.closed (c.close-in-End.ensures.talks (Some l) ended),
+    )
+
+pub returns-in-Failed-clause-some : goal.returns-in-Failed-clause-some
+returns-in-Failed-clause-some g c = λ t.
+    let k = c.catch_up-pass.new.connection in
+    let v = view c.catch_up-pass.result.0 in
+    let u = c.catch_up-pass.ensures.some t in
+    let l = at_now (after_take Failed c.take.new.buffer) u.0 in
+    let failed = failed_taken _ _ c.args.hand.now.by k v (Some u.0) (Some l) c.take.new.buffer refl (takes_by _ _ c.args.hand.now.by k v (Some u.0) _ c.in_default.is u.1) in (
+      l,
+      closed_went _ _ c.args.hand.now.by c.close-in-Failed.new.connection (view c.close-in-Failed.result.0) (Some l) _ _ c.close-in-Failed.ensures.closed (c.close-in-Failed.ensures.talks (Some l) failed),
+    )
+
+pub returns-in-Got-clause-some : goal.returns-in-Got-clause-some
+returns-in-Got-clause-some g c = λ t.
+    let k = c.catch_up-pass.new.connection in
+    let v = view c.catch_up-pass.result.0 in
+    let u = c.catch_up-pass.ensures.some t in (
+      at_now (after_take (Got c.in-Got.count) c.take.new.buffer) u.0,
+      c.post.ensures.talks (Some u.0) c.in-Got.count c.take.new.buffer refl (takes_by _ _ c.args.hand.now.by k v (Some u.0) _ c.in_default.is u.1),
+    )

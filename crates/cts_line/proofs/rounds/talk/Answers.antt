@@ -1,4 +1,4 @@
-use Rattle.std.proofs.Common.{◌≤◌, ap, length, refl, rules, ◌∙◌}
+use Rattle.std.proofs.Common.{◌≤◌, Some, ap, length, refl, rules, ◌∙◌}
 use Rattle.cts_turn.specs.Lists.{has}
 use Rattle.cts_turn.specs.Passes.{view}
 use Rattle.cts_line.proofs.Chaining.{same_self, suits_same}
@@ -27,6 +27,7 @@ rounds-init g c = record {
   stop = refl;
   retells = retells_same _;
   talks = λ k t. t;
+  some = λ t. t;
 }
 
 pub rounds-preserved : goal.rounds-preserved
@@ -53,6 +54,7 @@ rounds-preserved g c =
       stop = e.stop ∙ i.stop;
       retells = retells_then _ _ _ i.retells e.retells;
       talks = λ k t. went_none _ _ c.args.hand.now.by c.round-next.new.connection w _ _ is (e.talks k (i.talks k t));
+      some = λ t. let u = e.some (i.some t) in (u.0, went_none _ _ c.args.hand.now.by c.round-next.new.connection w (Some u.0) _ is u.1);
     }
 
 pub returns-in-Some-closed-clause-closed : goal.returns-in-Some-closed-clause-closed
@@ -70,3 +72,10 @@ returns-in-Some-closed-clause-onward g c = onward_then (view c.args.pass) (view 
 
 pub returns-in-Some-closed-clause-same : goal.returns-in-Some-closed-clause-same
 returns-in-Some-closed-clause-same g c = same_then c.args.connection.now.chain c.rounds.connection.chain c.round-next.new.connection.chain c.rounds.invariant.same c.round-next.ensures.same
+
+pub returns-in-Some-closed-clause-some : goal.returns-in-Some-closed-clause-some
+returns-in-Some-closed-clause-some g c = λ t.
+    let u = c.round-next.ensures.some (c.rounds.invariant.some t) in (
+      u.0,
+      went_some _ _ c.args.hand.now.by c.round-next.new.connection (view c.round-next.result.0) (Some u.0) _ c.in-Some-closed.why c.in-Some-closed.is u.1,
+    )

@@ -7,7 +7,7 @@ use Rattle.cts_connection.specs.Routings.{site_routing}
 use Rattle.cts_line.specs.Ending.{Keeps, has_stop}
 use Rattle.cts_worker.specs.Holds.{Onward}
 use Rattle.cts_line.specs.Talks.{Suits, TalksAt, Waits, room_of}
-use Rattle.cts_line.specs.Telling.{Retells, since}
+use Rattle.cts_line.specs.Telling.{Retells, SomeLine, since}
 use Rattle.cts_table.specs.contracts.hall.HallStands.TheImpl.{ghosts as hall}
 use Rattle.cts_line.proofs.rounds.talk.Given as goal
 
@@ -30,4 +30,6 @@ invariant-rounds g l = record {
   retells : Retells (g.D.Link.seen l.initial.dialer).told (g.D.Link.seen l.dialer).told;
   talks : (k : ℕ) → TalksAt (site_routing (basis_of hall.basis l.hand.turn.now).site) (room_of (basis_of hall.basis l.hand.turn.now)) l.hand.by Waits l.initial.connection (view l.initial.pass) (since k (g.D.Link.seen l.initial.dialer).told)
       → TalksAt (site_routing (basis_of hall.basis l.hand.turn.now).site) (room_of (basis_of hall.basis l.hand.turn.now)) l.hand.by Waits l.connection (view l.pass) (since k (g.D.Link.seen l.dialer).told);
+  some : SomeLine (λ told. TalksAt (site_routing (basis_of hall.basis l.hand.turn.now).site) (room_of (basis_of hall.basis l.hand.turn.now)) l.hand.by Waits l.initial.connection (view l.initial.pass) told)
+      → SomeLine (λ told. TalksAt (site_routing (basis_of hall.basis l.hand.turn.now).site) (room_of (basis_of hall.basis l.hand.turn.now)) l.hand.by Waits l.connection (view l.pass) told);
 }

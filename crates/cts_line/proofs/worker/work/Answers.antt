@@ -1,4 +1,4 @@
-use Rattle.std.proofs.Common.{◌≡◌, arith, refl, rules, subst, sym, true, ◌∙◌}
+use Rattle.std.proofs.Common.{◌≡◌, Some, arith, refl, rules, subst, sym, true, ◌∙◌}
 use Rattle.cts_table.specs.contracts.hall.HallStands.TheImpl.{ghosts as hall}
 use Rattle.cts_turn.specs.Passes.{basis_of, view}
 use Rattle.cts_connection.specs.LinePlaces.{is_line}
@@ -7,7 +7,8 @@ use Rattle.cts_def.specs.Sites.{SiteData}
 use Rattle.cts_trace.specs.Told.{ToldBy}
 use Rattle.cts_trace.proofs.Looking.{settles_told}
 use Rattle.cts_line.specs.Talks.{Suits, room_of}
-use Rattle.cts_line.specs.Telling.{since}
+use Rattle.cts_outside.specs.Lines.{no_connections}
+use Rattle.cts_line.specs.Telling.{SomeLine, since}
 use Rattle.cts_line.proofs.Dialing.{count_untouched, rose_from, rose_untouched, undialed_settled, untouched}
 use Rattle.cts_line.proofs.Telling.{retells_same}
 use Rattle.cts_line.proofs.Heeding.{heeds_kept}
@@ -72,3 +73,25 @@ returns-clause-once g c =
 
 pub returns-in_default-clause-heeds : goal.returns-in_default-clause-heeds
 returns-in_default-clause-heeds g c = heeds_kept c.args.hand.now.by (view c.args.pass).seen (view c.args.pass).seen _ (λ test. refl)
+
+pub returns-in_default-clause-some : goal.returns-in_default-clause-some
+returns-in_default-clause-some g c =
+    let base = basis_of hall.basis c.args.hand.now.turn.now in
+    let v = view c.args.pass in (
+      no_connections,
+      settles_told (site_routing c.args.hand.now.site.now) (room_of base) c.args.hand.now.by v.found v.seen (Some no_connections)
+          (undialed_settled (site_routing c.args.hand.now.site.now) (room_of base) c.args.hand.now.by v.found v.seen (Some no_connections)
+          (untouched c.args.hand.now.by v.seen c.requires.new).quiet (refl, refl)),
+    )
+
+pub returns-clause-some : goal.returns-clause-some
+returns-clause-some g c =
+    let base = basis_of hall.basis c.args.hand.now.turn.now in
+    let v = view c.args.pass in
+    let w = view c.connect.result.0 in
+    subst (λ site. SomeLine (λ told. ToldBy (site_routing site) (room_of base) c.args.hand.now.by w.found w.seen told)) (sym c.requires.site)
+    (c.connect.ensures.some (
+      no_connections,
+      undialed_settled (site_routing base.site) (room_of base) c.args.hand.now.by v.found v.seen (Some no_connections)
+          (untouched c.args.hand.now.by v.seen c.requires.new).quiet (refl, refl),
+    ))

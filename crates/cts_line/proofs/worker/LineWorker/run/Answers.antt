@@ -1,4 +1,4 @@
-use Rattle.std.proofs.Common.{◌≡◌, arith, subst, sym, true}
+use Rattle.std.proofs.Common.{◌≡◌, Some, arith, subst, sym, true}
 use Rattle.cts_table.specs.contracts.hall.HallStands.TheImpl.{ghosts as hall}
 use Rattle.cts_turn.specs.Passes.{basis_of, view}
 use Rattle.cts_connection.specs.LinePlaces.{is_line}
@@ -88,3 +88,12 @@ returns-clause-memory g c =
     let same = last_closed_same c.args.by (view c.work-pass.result.0) (view c.finish-pass.result) _ f.0 f.1 is_no_memory in
     memory_heeded c.args.by (view c.args.pass).seen (view c.work-pass.result.0).seen (view c.finish-pass.result).seen c.work-pass.result.1
     ((untouched c.args.by (view c.args.pass).seen c.requires.new).closed is_no_memory) same c.work-pass.ensures.heeds
+
+pub returns-clause-some : goal.returns-clause-some
+returns-clause-some g c =
+    let base = basis_of hall.basis c.args.turn.now in
+    let f = c.finish-pass.ensures.ended in
+    let u = c.work-pass.ensures.some in (
+      u.0,
+      last_told c.args.by (view c.work-pass.result.0) (view c.finish-pass.result) _ f.0 f.1 (site_routing c.args.site.now) (room_of base) (Some u.0) u.1,
+    )
