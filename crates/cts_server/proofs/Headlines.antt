@@ -1,6 +1,6 @@
 -- The headline, of what the workers of a site left.
 use Rattle.std.proofs.Common.{◌≡◌, inl, inr, ℕ, suc, ◌+◌, ◌<◌, ◌≤◌, true, false, List, [], ◌∷◌, ◌++◌, length, take, drop, Option, Some, None}
-use Rattle.std.proofs.Common.{IfSome, filter, sym, ◌∙◌, ap, subst, arith, length-append}
+use Rattle.std.proofs.Common.{filter, sym, ◌∙◌, ap, subst, arith, length-append}
 use Rattle.std.specs.Prelude.{IsSomeAnd}
 use Rattle.cts_connection.specs.Routings.{site_routing}
 use Rattle.cts_def.specs.Makers.{first_desk, first_slot}
@@ -18,7 +18,7 @@ use Rattle.cts_framing.specs.Packets.{capped}
 use Rattle.cts_framing.proofs.Stagings.{however_cut}
 use Rattle.cts_framing.proofs.Sound.{chains_are_sound}
 use Rattle.cts_line.specs.Talks.{room_of}
-use Rattle.cts_line.specs.Telling.{made_by, since}
+use Rattle.cts_line.specs.Telling.{SomeLine, made_by, since}
 use Rattle.cts_line.specs.declared.ending.LineWhy.{LineWhy}
 use Rattle.cts_monitor.specs.Events.{events, events_at}
 use Rattle.cts_monitor.specs.Gathered.{gathered_from}
@@ -38,8 +38,8 @@ use Rattle.cts_trace.specs.Told.{ToldBy}
 use Rattle.cts_trace_laws.specs.Stretches.{PutsStretch, sent}
 use Rattle.cts_trace_laws.proofs.Stretching.{interfaces_are_sent_commands, lines_put_stretches, slots_are_sent_routed}
 use Rattle.cts_server.specs.Aims.{aimed_at, desk_aims, line_aims, slot_aims}
-use Rattle.cts_server.specs.Headline.{DeskHolds, Headline, HeadlineHolds, HoldsLine, HoldsPackets, LineHolds, NeverFall, PutsPart, WantsNothing, to_client}
-use Rattle.cts_server.specs.Headline.{to_device}
+use Rattle.cts_server.specs.Headline.{DeskHolds, Headline, HeadlineHolds, HoldsLine, HoldsPackets, LineHolds, NeverFall}
+use Rattle.cts_server.specs.Headline.{OfToldOrSome, PutsPart, WantsNothing, to_client, to_device}
 use Rattle.cts_server.specs.Lines.{is_cancelled}
 use Rattle.cts_server.specs.Owed.{DeskOwes, LineOwes, server_basis}
 use Rattle.cts_server.specs.Places.{CameBack}
@@ -103,10 +103,8 @@ module _ (g : Routing) (m : ℕ) (sound : AllSound (g.chain m)) where
       tail_is = p.tail_is;
     }
 
-    line_told : (room : Capacity) (found : List ℕ) (told : Option Line) → ToldBy g room m found history told
-        → IfSome told (λ (line : Line). HoldsLine g m stream history line)
-    line_told room found None t = tt
-    line_told room found (Some line) (said, last, none, past, are, unopened) = record {
+    line_said : (room : Capacity) (found : List ℕ) (line : Line) → ToldBy g room m found history (Some line) → HoldsLine g m stream history line
+    line_said room found line (said, last, none, past, are, unopened) = record {
       said = said;
       last = last;
       past_is = past;
@@ -115,6 +113,11 @@ module _ (g : Routing) (m : ℕ) (sound : AllSound (g.chain m)) where
           (lines_put_stretches g room m found said history are);
       unopened = unopened;
     }
+
+    line_told : (room : Capacity) (found : List ℕ) (told : Option Line) → ToldBy g room m found history told
+        → SomeLine (λ (o : Option Line). ToldBy g room m found history o) → OfToldOrSome told (λ (line : Line). HoldsLine g m stream history line)
+    line_told room found None t some = (some.0, line_said room found some.0 some.1)
+    line_told room found (Some line) t some = line_said room found line t
 
 -- ---- a line of a site
 
@@ -125,10 +128,10 @@ module _ {X : Type 0} (seen : X → LineSeen) (site : SiteData) (history : List 
   line_holds by aim before now why streams (found, connections, owes) =
       let b = server_basis site in
       elim owes [
-        | inl r ↦ inr (subst (λ (n : ℕ). IfSome (since n (seen now).told)
+        | inl r ↦ inr (subst (λ (n : ℕ). OfToldOrSome (since n (seen now).told)
             (λ (line : Line). HoldsLine (site_routing site) by (stream history by) history line)) (made_aimed aim (seen before).told)
             (line_told (site_routing site) by (chains_are_sound site by) history (stream history by) streams (room_of b) found
-            (since (made_by (aimed_at aim (seen before)).told) (seen now).told) r.told))
+            (since (made_by (aimed_at aim (seen before)).told) (seen now).told) r.told r.some))
         | inr u ↦ inl (ap is_cancelled u.cancelled, u.same)
       ]
 

@@ -1,5 +1,5 @@
 -- The headline: what the one history of a server holds of its interfaces and routers, its desks, its logs and its limits events.
-use Rattle.std.specs.Prelude.{◌≡◌, ◌≢◌, ◌⊎◌, ◌==◌, ℕ, ◌+◌, ◌≤◌, true, List, [], ◌∷◌, ◌++◌, length, take, drop, filter, Option, Some, IfSome, IsSomeAnd}
+use Rattle.std.specs.Prelude.{◌≡◌, ◌≢◌, ◌⊎◌, ◌==◌, ℕ, ◌+◌, ◌≤◌, true, List, [], ◌∷◌, ◌++◌, length, take, drop, filter, Option, Some, None, IsSomeAnd}
 use Rattle.cts_connection.specs.Routings.{is_routed, site_routing}
 use Rattle.cts_def.specs.Makers.{first_desk, first_slot}
 use Rattle.cts_def.specs.Sites.{SiteData}
@@ -90,6 +90,11 @@ module _ (g : Routing) (m : ℕ) where
     pub puts : Stays m (PutsPart stream) [] said history
     pub unopened : Unopened history last
 
+-- this holds of the line that is told; where none is, of some line
+abbrev pub OfToldOrSome : Option Line → (Line → Type 0) → Type 0
+OfToldOrSome None Holds = (line : Line) × Holds line
+OfToldOrSome (Some line) Holds = Holds line
+
 -- what goes to the device of an interface: the spellings of the commands to it
 abbrev pub to_device : SiteData → List Entry → ℕ → ℕ → ℕ → List ℕ
 to_device site history by from end = commanded (spell (site_routing site) by) by history from end
@@ -99,10 +104,11 @@ abbrev pub to_client : SiteData → List Entry → ℕ → ℕ → ℕ → List 
 to_client site history by from end = routed (spell (site_routing site) by) (is_routed site by) history from end
 
 module _ {X : Type 0} (seen : X → LineSeen) (site : SiteData) where
-  -- all of its device that it has told since it was aimed; or the line was not started, and its device was aimed and nothing else
+  -- all of its device that it has told since it was aimed, and some line where it tells nothing; or the line was not started, and its
+  -- device was aimed and nothing else
   abbrev pub LineHolds : (List Entry → ℕ → ℕ → ℕ → List ℕ) → List Entry → ℕ → Aim → X → X → LineWhy → Type 0
   LineHolds stream history by aim before now why = ((is_cancelled why ≡ true) × (seen now ≡ aimed_at aim (seen before)))
-      ⊎ IfSome (since (made_by (seen before).told) (seen now).told) (λ (line : Line). HoldsLine (site_routing site) by (stream history by) history line)
+      ⊎ OfToldOrSome (since (made_by (seen before).told) (seen now).told) (λ (line : Line). HoldsLine (site_routing site) by (stream history by) history line)
 
 -- ---- a desk
 

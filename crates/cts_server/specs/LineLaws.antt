@@ -1,5 +1,5 @@
 -- What a line owes goes on to hold when others append.
-use Rattle.std.proofs.Common.{◌≡◌, ℕ, List, ◌++◌, ◌∙◌, sym, subst, inl, inr}
+use Rattle.std.proofs.Common.{◌≡◌, ℕ, List, ◌++◌, ◌∙◌, Some, sym, subst, inl, inr}
 use Rattle.cts_entry.specs.declared.entry.Entry.{Entry}
 use Rattle.cts_entry.specs.Histories.{is_opened, is_stop}
 use Rattle.cts_line.specs.Ending.{is_full, is_no_memory}
@@ -21,6 +21,7 @@ module _ (basis : Basis) (by : ℕ) (found : List ℕ) (old new : LineSeen) (con
     look = look_more by r.seen seen more own r.look;
     looked = r.looked;
     told = entries_of_others_may_follow _ _ by found seen more _ own r.told;
+    some = (r.some.0, entries_of_others_may_follow _ _ by found seen more (Some r.some.0) own r.some.1);
     retells = r.retells;
     ended = last_more by seen more own r.ended;
     opened = r.opened ∙ sym (counted_of by is_opened (seen ++ more) seen own);

@@ -10,7 +10,7 @@ use Rattle.cts_entry.specs.Histories.{is_stopped}
 use Rattle.cts_framing.specs.Chains.{uses_at}
 use Rattle.cts_line.specs.Ending.{CausesEnd, after_failed, has_closed, has_stop, is_full, is_no_memory, opened_in, reconnects, stops_all}
 use Rattle.cts_line.specs.Talks.{room_of}
-use Rattle.cts_line.specs.Telling.{Retells, made_by, since}
+use Rattle.cts_line.specs.Telling.{Retells, SomeLine, made_by, since}
 use Rattle.cts_line.specs.declared.ending.LineWhy.{LineWhy}
 use Rattle.cts_line.specs.declared.ending.LineWhy.TheVariants.{Stopped, Finished, NoReconnect, DoorFailed, Full, NoMemory, Cancelled}
 use Rattle.cts_outside.specs.Lines.{hung_up, told_after}
@@ -37,13 +37,14 @@ is_cancelled NoMemory = false
 is_cancelled Cancelled = true
 
 -- What a line that ran leaves, by what its dialer showed before and shows now. What the history says of its connections is what its dialer
--- tells of this run, as what it saw at its last look did; its last entry is its Ended. Why it ended has its cause in that look, since
--- others may stop the server later.
+-- tells of this run, as what it saw at its last look did, and of a dialer that tells nothing it says some connections; its last entry is
+-- its Ended. Why it ended has its cause in that look, since others may stop the server later.
 pub record RanLine (basis : Basis) (by : ℕ) (found : List ℕ) (history : List Entry) (old new : LineSeen) (connections : ℕ) (why : LineWhy) : Type 0 where
   pub seen : List Entry
   pub look : LastLook by seen history
   pub looked : ToldBy (site_routing basis.site) (room_of basis) by found seen (since (made_by old.told) new.told)
   pub told : ToldBy (site_routing basis.site) (room_of basis) by found history (since (made_by old.told) new.told)
+  pub some : SomeLine (λ told. ToldBy (site_routing basis.site) (room_of basis) by found history told)
   pub retells : Retells (told_after hung_up old.told) new.told
   pub ended : LastEnded by history
   pub opened : connections ≡ opened_in by history

@@ -2,7 +2,7 @@ use Rattle.std.proofs.Common.{◌∙◌, ap, subst, inl}
 use Rattle.cts_connection.specs.Routings.{site_routing}
 use Rattle.cts_line.specs.Ending.{CausesEnd, after_failed, reconnects}
 use Rattle.cts_line.specs.Talks.{room_of}
-use Rattle.cts_line.specs.Telling.{made_by, since}
+use Rattle.cts_line.specs.Telling.{SomeLine, made_by, since}
 use Rattle.cts_trace.specs.Told.{ToldBy}
 use Rattle.cts_turn.specs.Lists.{has}
 use Rattle.cts_turn.specs.Passes.{view}
@@ -26,6 +26,7 @@ returns-clause-owes g c =
     let v = view c.run-end.result.pass in
     let old = g.D.Link.seen c.args.line.device in
     let new = g.D.Link.seen c.run-end.new.dialer in
+    let some = subst (λ s. SomeLine (λ told. ToldBy (site_routing s) (room_of basis) c.args.by v.found v.seen told)) same e.some in
     let told = subst (λ s. ToldBy (site_routing s) (room_of basis) c.args.by v.found v.seen (since (made_by old.told) new.told)) same e.told in (
       c.run-end.result.connections,
       inl (record {
@@ -33,6 +34,7 @@ returns-clause-owes g c =
         look = look_all c.args.by v.seen;
         looked = told;
         told = told;
+        some = some;
         retells = e.retells;
         ended = e.ended;
         opened = e.connections;
