@@ -8,3 +8,5 @@ pub mod Ends
 pub mod Streaming
 pub mod Faulting
 pub mod Aiming
+pub mod Waiting
+pub mod Rounding

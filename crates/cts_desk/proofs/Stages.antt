@@ -11,7 +11,7 @@ use Rattle.cts_http.specs.Requests.{Takes, Requests, Refused as RefusedWith}
 use Rattle.cts_http.specs.declared.step.HttpStep.TheVariants.{Request, Refuse}
 use Rattle.cts_desk.specs.Exchanges.{Exchange, bodies_of, fronts_of}
 use Rattle.cts_desk.specs.Streams.{PeerEnded, ReadFault, WriteFault, LastAsked, Refused, NoMemory, IsPut, IsTaking, last_put, responses, response_to, last_front}
-use Rattle.cts_desk.specs.Serving.{Reads, Waits, Asks, Over, Halted, StageSo, TalkingBy, TalksBy, IsAnswering}
+use Rattle.cts_desk.specs.Serving.{Reads, Waits, Took, Asks, Over, Halted, StageSo, TalkingBy, TalksBy, IsAnswering}
 use Rattle.cts_http.specs.Texts.{refusal_text}
 use Rattle.cts_desk.proofs.Putting.{take_after}
 
@@ -169,58 +169,54 @@ refused_part r r' earlier mine status c n le asked so taking = (
 concat_snoc : (pieces : List (List ℕ)) (piece : List ℕ) → concat (pieces ++ piece ∷ []) ≡ concat pieces ++ piece
 concat_snoc pieces piece = concat-append pieces (piece ∷ []) ∙ ap (λ l. concat pieces ++ l) (append-nil piece)
 
--- a piece was fed
-pub took_piece : (r r' : Reading) (earlier mine : List Exchange) (n : ℕ) (buffer : List ℕ) (c : Connection)
-    → ((b : List ℕ) (bodies : List (List ℕ)) → Stands r b bodies → Stands r' (b ++ take n buffer) bodies) → StageSo Waits r earlier mine c → StageSo Reads r' earlier mine (after_take (Got n) buffer c)
-took_piece r r' earlier mine n buffer c fed so = (
-  subst (λ b. Stands r' b (bodies_of mine)) (sym (concat_snoc c.pieces (take n buffer))) (fed (concat c.pieces) (bodies_of mine) so.0),
-  so.1,
-  (inr (c.pieces, take n buffer, bodies_of mine, r.left, refl, so.2), so.3.1, so.3.2),
+-- a piece was taken, and not fed
+pub took_piece : (r : Reading) (earlier mine : List Exchange) (n : ℕ) (buffer : List ℕ) (c : Connection) → StageSo Waits r earlier mine c → StageSo (Took (take n buffer)) r earlier mine (after_take (Got n) buffer c)
+took_piece r earlier mine n buffer c so = (c, so, refl, refl, refl, refl, refl)
+
+has_taking : (r : Reading) (earlier mine : List Exchange) (piece : List ℕ) (d : Connection) → StageSo (Took piece) r earlier mine d → IsTaking d
+has_taking r earlier mine piece d has = (inr (has.0.pieces, piece, bodies_of mine, r.left, has.2, has.1.2), has.5 ∙ has.1.3.1, has.6 ∙ has.1.3.2)
+
+-- it was fed
+pub fed_piece : (r r' : Reading) (earlier mine : List Exchange) (piece : List ℕ) (d : Connection)
+    → ((b : List ℕ) (bodies : List (List ℕ)) → Stands r b bodies → Stands r' (b ++ piece) bodies) → StageSo (Took piece) r earlier mine d → StageSo Reads r' earlier mine d
+fed_piece r r' earlier mine piece d fed has = (
+  subst (λ b. Stands r' b (bodies_of mine)) (sym (ap concat has.2 ∙ concat_snoc has.0.pieces piece)) (fed (concat has.0.pieces) (bodies_of mine) has.1.0),
+  (has.3 ∙ has.1.1.0, has.4 ∙ has.1.1.1),
+  has_taking r earlier mine piece d has,
 )
 
--- a piece was taken, and not fed
-abbrev pub HasTaken : Reading → List Exchange → List Exchange → ℕ → List ℕ → Connection → Type 0
-HasTaken r earlier mine n buffer d = (c : Connection) × StageSo Waits r earlier mine c × (d.pieces ≡ c.pieces ++ take n buffer ∷ []) × (d.put ≡ c.put) × (d.put_failed ≡ c.put_failed) × (d.ended ≡ c.ended)
-    × (d.take_failed ≡ c.take_failed)
-
-pub has_taken : (r : Reading) (earlier mine : List Exchange) (n : ℕ) (buffer : List ℕ) (c : Connection) → StageSo Waits r earlier mine c → HasTaken r earlier mine n buffer (after_take (Got n) buffer c)
-has_taken r earlier mine n buffer c so = (c, so, refl, refl, refl, refl, refl)
-
-has_taking : (r : Reading) (earlier mine : List Exchange) (n : ℕ) (buffer : List ℕ) (d : Connection) → HasTaken r earlier mine n buffer d → IsTaking d
-has_taking r earlier mine n buffer d has = (inr (has.0.pieces, take n buffer, bodies_of mine, r.left, has.2, has.1.2), has.5 ∙ has.1.3.1, has.6 ∙ has.1.3.2)
-
--- what is put then
-pub unfed_whole : (r r' : Reading) (earlier mine : List Exchange) (n : ℕ) (buffer : List ℕ) (d : Connection) → HasTaken r earlier mine n buffer d
+-- no memory was found for it
+pub unfed_whole : (r r' : Reading) (earlier mine : List Exchange) (piece : List ℕ) (d : Connection) → StageSo (Took piece) r earlier mine d
     → StageSo Over r' earlier mine (with_put (last_put NoMemory (last_front (fronts_of (earlier ++ mine)))) d)
-unfed_whole r r' earlier mine n buffer d has = (
+unfed_whole r r' earlier mine piece d has = (
   NoMemory,
   refl,
   record {
-    asked = inl (has.0.pieces, take n buffer, r.left, has.2, has.1.2);
+    asked = inl (has.0.pieces, piece, r.left, has.2, has.1.2);
     put = put_whole d.put_failed d.put (responses mine) (last_put NoMemory (last_front (fronts_of (earlier ++ mine)))) (has.4 ∙ has.1.1.1) (has.3 ∙ has.1.1.0);
     cause = tt;
-    last = (has_taking r earlier mine n buffer d has, λ failed. never d.put_failed failed (has.4 ∙ has.1.1.1));
+    last = (has_taking r earlier mine piece d has, λ failed. never d.put_failed failed (has.4 ∙ has.1.1.1));
   },
 )
 
-pub unfed_part : (r r' : Reading) (earlier mine : List Exchange) (n : ℕ) (buffer : List ℕ) (k : ℕ) (d : Connection) → k ≤ length (last_put NoMemory (last_front (fronts_of (earlier ++ mine)))) → HasTaken r earlier mine n buffer d
+pub unfed_part : (r r' : Reading) (earlier mine : List Exchange) (piece : List ℕ) (k : ℕ) (d : Connection) → k ≤ length (last_put NoMemory (last_front (fronts_of (earlier ++ mine)))) → StageSo (Took piece) r earlier mine d
     → StageSo Over r' earlier mine (with_failed_put (take k (last_put NoMemory (last_front (fronts_of (earlier ++ mine))))) d)
-unfed_part r r' earlier mine n buffer k d le has = (
+unfed_part r r' earlier mine piece k d le has = (
   NoMemory,
   refl,
   record {
-    asked = inl (has.0.pieces, take n buffer, r.left, has.2, has.1.2);
+    asked = inl (has.0.pieces, piece, r.left, has.2, has.1.2);
     put = put_part d.put (responses mine) (last_put NoMemory (last_front (fronts_of (earlier ++ mine)))) k (has.3 ∙ has.1.1.0) le;
     cause = tt;
     last = (
-      has_taking r earlier mine n buffer d has,
+      has_taking r earlier mine piece d has,
       λ failed. (k, le, ap (λ l. l ++ take k (last_put NoMemory (last_front (fronts_of (earlier ++ mine))))) (has.3 ∙ has.1.1.0)),
     );
   },
 )
 
-pub took_nothing : (r : Reading) (earlier mine : List Exchange) (buffer : List ℕ) (c : Connection) → StageSo Waits r earlier mine c → StageSo Reads r earlier mine (after_take Nothing buffer c)
-took_nothing r earlier mine buffer c so = (so.0, so.1, so.3)
+pub took_nothing : (r : Reading) (earlier mine : List Exchange) (buffer : List ℕ) (c : Connection) → StageSo Waits r earlier mine c → StageSo Waits r earlier mine (after_take Nothing buffer c)
+took_nothing r earlier mine buffer c so = so
 
 still_put : (mine : List Exchange) (c : Connection) → IsAnswering c mine → IsPut c.put_failed c.put (responses mine ++ [])
 still_put mine c so = subst (λ b. IsPut b c.put (responses mine ++ [])) (sym so.1) (so.0 ∙ sym (append-nil (responses mine)))

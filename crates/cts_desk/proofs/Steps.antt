@@ -7,6 +7,7 @@ use Rattle.cts_outside.specs.Lines.{Connection, Line, told_after, at_now, with_p
 use Rattle.cts_entry.specs.declared.entry.Entry.{Entry}
 use Rattle.cts_entry.specs.Histories.{is_stopped}
 use Rattle.cts_http.specs.Readings.{Reading, Stands, Steps, Answers, steps_by}
+use Rattle.cts_http.specs.Requests.{Requests, Waiting}
 use Rattle.cts_http.specs.Texts.{refusal_text}
 use Rattle.cts_http.specs.declared.step.HttpStep.TheVariants.{Request, More, Refuse}
 use Rattle.cts_table.specs.declared.basis.Basis.{Basis}
@@ -19,12 +20,13 @@ use Rattle.cts_desk.specs.Told.{Ends, Settled, past_of}
 use Rattle.cts_worker.specs.Lasts.{last_entries}
 use Rattle.cts_desk.specs.Holds.{AskedHold}
 use Rattle.cts_worker.specs.Holds.{Hold, EndedHold}
-use Rattle.cts_desk.specs.Serving.{Going, Stage, Reads, Waits, Asks, Over, Halted, StageSo, TalksBy, Talks, Serving, Resting, Dials, Begins, goes_on, halts_or}
+use Rattle.cts_desk.specs.Serving.{Going, Stage, Reads, Waits, Took, Asks, Over, Halted, StageSo, TalksBy, Talks, Serving, Resting, Dials, Begins, goes_on, halts_or}
 use Rattle.cts_desk.proofs.Histories.{going_look, going_ask, among_more, exchanges_end}
 use Rattle.cts_trace.proofs.Looking.{stop_kept}
 use Rattle.cts_worker.proofs.Lasting.{last_own}
 use Rattle.cts_desk.proofs.Connections.{hangs_up, idle_hung, settled_at, settled_first}
-use Rattle.cts_desk.proofs.Stages.{talks_at, talks_map, talks_put, answered_whole, answered_last, answered_part, unasked_whole, unasked_part, refused_whole, refused_part, halted}
+use Rattle.cts_desk.proofs.Stages.{talks_at, talks_map, talks_put, answered_whole, answered_last, answered_part, unasked_whole, unasked_part, refused_whole, refused_part, fed_piece, unfed_whole, unfed_part, halted}
+use Rattle.cts_desk.proofs.Waiting.{none_waited}
 
 module _ (b : Basis) (by : ℕ) (was : List Connection) (r : Reading) where
   -- no room was found for a front
@@ -109,11 +111,38 @@ module _ (b : Basis) (by : ℕ) (was : List Connection) (r : Reading) where
           (subst (λ l. Stands r' (concat c.pieces) (bodies_of s.mine ++ l ∷ [])) same a.3, so.1, so.2)) s.talks;
     }
 
-  -- a piece was taken, or none
-  pub serving_taken : (r' : Reading) (goes : Bool) (fronts : List ℕ) (v : View Entry Basis) (old new : Option Line)
-      → ((earlier mine : List Exchange) → fronts ≡ fronts_of (earlier ++ mine) → Talks was Waits r earlier mine old → Talks was (goes_on goes Reads) r' earlier mine new)
-      → Serving b by was Waits fronts v r old → Serving b by was (goes_on goes Reads) fronts v r' new
-  serving_taken r' goes fronts v old new takes s = record { earlier = s.earlier; mine = s.mine; going = s.going; talks = takes s.earlier s.mine s.going.fronts_are s.talks }
+  -- a step of the connection that stands
+  pub serving_at : (stage next : Stage) (f : Connection → Connection) (fronts : List ℕ) (v : View Entry Basis) (old new : Option Line) → new ≡ told_after (at_now f) old
+      → ((earlier mine : List Exchange) (c : Connection) → StageSo stage r earlier mine c → StageSo next r earlier mine (f c)) → Serving b by was stage fronts v r old → Serving b by was next fronts v r new
+  serving_at stage next f fronts v old new at step s = record {
+    earlier = s.earlier;
+    mine = s.mine;
+    going = s.going;
+    talks = talks_at was s.earlier (StageSo stage r s.earlier s.mine) (StageSo next r s.earlier s.mine) f old new at (λ c so. step s.earlier s.mine c so) s.talks;
+  }
+
+  -- a piece was fed
+  pub serving_fed : (r' : Reading) (piece fronts : List ℕ) (v : View Entry Basis) (told : Option Line) → ((bs : List ℕ) (bodies : List (List ℕ)) → Stands r bs bodies → Stands r' (bs ++ piece) bodies)
+      → Serving b by was (Took piece) fronts v r told → Serving b by was Reads fronts v r' told
+  serving_fed r' piece fronts v told fed s = record {
+    earlier = s.earlier;
+    mine = s.mine;
+    going = s.going;
+    talks = talks_map was s.earlier (StageSo (Took piece) r s.earlier s.mine) (StageSo Reads r' s.earlier s.mine) told (λ c so. fed_piece r r' s.earlier s.mine piece c fed so) s.talks;
+  }
+
+  -- no memory was found for a piece
+  pub serving_unfed : {T E : Type 0} (r' : Reading) (piece fronts : List ℕ) (v : View Entry Basis) (old new : Option Line) (result : Result T E) → LinkPuts old new (last_put NoMemory (last_front fronts)) result
+      → Serving b by was (Took piece) fronts v r old → Serving b by was Over fronts v r' new
+  serving_unfed r' piece fronts v old new result puts s = record {
+    earlier = s.earlier;
+    mine = s.mine;
+    going = s.going;
+    talks = talks_put was s.earlier (StageSo (Took piece) r s.earlier s.mine) (StageSo Over r' s.earlier s.mine) (last_put NoMemory (last_front (fronts_of (s.earlier ++ s.mine)))) old new result
+        (subst (λ l. LinkPuts old new (last_put NoMemory (last_front l)) result) s.going.fronts_are puts)
+        (λ c so. unfed_whole r r' s.earlier s.mine piece c so)
+        (λ c n le so. unfed_part r r' s.earlier s.mine piece n c le so) s.talks;
+  }
 
   -- a look
   pub serving_looked : (stage : Stage) (fronts : List ℕ) (v v' : View Entry Basis) (told : Option Line) → Hold by v v' [] → Serving b by was stage fronts v r told → Serving b by was stage fronts v' r told
@@ -127,17 +156,24 @@ module _ (b : Basis) (by : ℕ) (was : List Connection) (r : Reading) where
     talks = talks_map was s.earlier (StageSo Waits r s.earlier s.mine) (StageSo Halted r s.earlier s.mine) told (λ c so. halted r s.earlier s.mine c so) s.talks;
   }
 
-  begins_line : (xs : List Exchange) (told : Option Line) → Stands r [] [] → Dials was xs told → TalksBy was xs (StageSo Reads r xs []) told
-  begins_line xs None stands d = tt
-  begins_line xs (Some line) stands d = record { connection = fresh; stands = d.0; gone = d.1; past = d.2; serves = d.3; so = (stands, (refl, refl), (inl refl, refl, refl)) }
+  begins_line : (xs : List Exchange) (told : Option Line) → Stands r [] [] → r.left ≡ [] → Dials was xs told → TalksBy was xs (StageSo Waits r xs []) told
+  begins_line xs None stands none d = tt
+  begins_line xs (Some line) stands none d = record {
+    connection = fresh;
+    stands = d.0;
+    gone = d.1;
+    past = d.2;
+    serves = d.3;
+    so = (stands, (refl, refl), subst (λ l. Requests [] [] (Waiting l)) (sym none) none_waited, (inl refl, refl, refl));
+  }
 
-  -- a connection begins
-  pub serving_begins : (fronts : List ℕ) (v : View Entry Basis) (told : Option Line) → Stands r [] [] → Begins b by was fronts v told → Serving b by was Reads fronts v r told
-  serving_begins fronts v told stands s = record {
+  -- a connection begins, and waits for its first request
+  pub serving_begins : (fronts : List ℕ) (v : View Entry Basis) (told : Option Line) → Stands r [] [] → r.left ≡ [] → Begins b by was fronts v told → Serving b by was Waits fronts v r told
+  serving_begins fronts v told stands none s = record {
     earlier = s.exchanges;
     mine = [];
     going = subst (Going b by fronts v) (sym (append-nil s.exchanges)) s.going;
-    talks = begins_line s.exchanges told stands s.settled;
+    talks = begins_line s.exchanges told stands none s.settled;
   }
 
   -- and ends

@@ -7,6 +7,8 @@ use Rattle.cts_http.specs.Readings.{Reading, Stands}
 use Rattle.cts_http.specs.Requests.{Requests, Waiting}
 use Rattle.cts_table.specs.declared.basis.Basis.{Basis}
 use Rattle.cts_turn.specs.declared.rule.View.{View}
+use Rattle.cts_desk.specs.declared.ending.HangUp.{HangUp}
+use Rattle.cts_desk.specs.declared.ending.HangUp.TheVariants.{Stopped as ForStop, Over as ForOther}
 use Rattle.cts_desk.specs.Exchanges.{Exchange, Exchanges, Among, fronts_of, bodies_of}
 use Rattle.cts_desk.specs.Streams.{Cut, PeerEnded, ReadFault, WriteFault, LastAsked, Refused, NoMemory, Stopped, IsTaking, Served, responses, last_front}
 use Rattle.cts_desk.specs.Told.{Serves, Settled}
@@ -17,11 +19,12 @@ pub record Going (b : Basis) (by : ℕ) (fronts : List ℕ) (v : View Entry Basi
   pub among : Among fronts v.found
   pub stand : Exchanges b by [] xs [] v.seen
 
--- where a desk is in a connection: all requests that its reader gave are answered; and the reader wants more bytes; a request
--- with this body is not answered yet; the connection is over; it is over for a Stop
+-- where a desk is in a connection: all requests that its reader gave are answered; and the reader wants more bytes; this piece
+-- was taken then, and not fed yet; a request with this body is not answered yet; the connection is over; it is over for a Stop
 pub data Stage : Type 0 where
   Reads : Stage
   Waits : Stage
+  Took : List ℕ → Stage
   Asks : List ℕ → Stage
   Over : Stage
   Halted : Stage
@@ -39,10 +42,16 @@ is_stop_cut Stopped = true
 abbrev pub IsAnswering : Connection → List Exchange → Type 0
 IsAnswering c mine = (c.put ≡ responses mine) × (c.put_failed ≡ false)
 
+-- all requests in the bytes are answered, and more bytes are waited for
+abbrev pub IsWaiting : Reading → List Exchange → Connection → Type 0
+IsWaiting r mine c =
+    Stands r (concat c.pieces) (bodies_of mine) × IsAnswering c mine × Requests (concat c.pieces) (bodies_of mine) (Waiting r.left) × IsTaking c
+
 abbrev pub StageSo : Stage → Reading → List Exchange → List Exchange → Connection → Type 0
 StageSo Reads r earlier mine c = Stands r (concat c.pieces) (bodies_of mine) × IsAnswering c mine × IsTaking c
-StageSo Waits r earlier mine c =
-    Stands r (concat c.pieces) (bodies_of mine) × IsAnswering c mine × Requests (concat c.pieces) (bodies_of mine) (Waiting r.left) × IsTaking c
+StageSo Waits r earlier mine c = IsWaiting r mine c
+StageSo (Took piece) r earlier mine d = (c : Connection) × IsWaiting r mine c × (d.pieces ≡ c.pieces ++ piece ∷ []) × (d.put ≡ c.put)
+    × (d.put_failed ≡ c.put_failed) × (d.ended ≡ c.ended) × (d.take_failed ≡ c.take_failed)
 StageSo (Asks body) r earlier mine c = Stands r (concat c.pieces) (bodies_of mine ++ body ∷ []) × IsAnswering c mine × IsTaking c
 StageSo Over r earlier mine c = (cut : Cut) × (is_stop_cut cut ≡ false) × Served cut (last_front (fronts_of (earlier ++ mine))) c mine
 StageSo Halted r earlier mine c = Served Stopped (last_front (fronts_of (earlier ++ mine))) c mine
@@ -90,6 +99,21 @@ goes_on false next = Over
 abbrev pub halts_or : Bool → Stage
 halts_or true = Halted
 halts_or false = Over
+
+-- whether a desk hangs up for a Stop
+abbrev pub is_stop : HangUp → Bool
+is_stop ForStop = true
+is_stop ForOther = false
+
+-- a desk hangs up on a connection that does not go on
+abbrev pub over_unless : Bool → Option HangUp
+over_unless true = None
+over_unless false = Some ForOther
+
+-- the stage after a round
+abbrev pub after : Option HangUp → Stage
+after None = Waits
+after (Some why) = halts_or (is_stop why)
 
 -- all exchanges so far are those of connections past, and a new one stands
 pub record Begins (b : Basis) (by : ℕ) (was : List Connection) (fronts : List ℕ) (v : View Entry Basis) (told : Option Line) : Type 0 where

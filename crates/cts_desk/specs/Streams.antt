@@ -1,8 +1,7 @@
 -- What a desk puts on a connection, and how the connection comes to its end.
-use Rattle.std.specs.Prelude.{◌≡◌, ℕ, ◌≤◌, ◌⊎◌, Bool, true, false, List, [], ◌∷◌, ◌++◌, length, take, slice_index, ◌-◌, Option, Some, Result}
+use Rattle.std.specs.Prelude.{◌≡◌, ℕ, ◌≤◌, ◌⊎◌, Bool, true, false, List, [], ◌∷◌, ◌++◌, length, take, slice_index, ◌-◌, Option, Some}
 use Rattle.std.specs.List.{concat, flat_map}
-use Rattle.cts_outside.specs.Lines.{Connection, Line, LinkPuts}
-use Rattle.cts_outside.specs.declared.sink.PutFailed.{PutFailed}
+use Rattle.cts_outside.specs.Lines.{Connection}
 use Rattle.cts_http.specs.Requests.{Takes, Requests, Closed, Waiting, Refused as RefusedWith}
 use Rattle.cts_http.specs.Streams.{response_with}
 use Rattle.cts_http.specs.Texts.{refusal_text}
@@ -110,7 +109,3 @@ pub record Served (cut : Cut) (front : ℕ) (c : Connection) (xs : List Exchange
   pub put : IsPut c.put_failed c.put (responses xs ++ last_put cut front)
   pub cause : HasCause cut c
   pub last : IsAtLast cut front c xs
-
--- these bytes were put, or, where the put failed, a beginning of them
-abbrev pub LinksTold : Option Line → Option Line → List ℕ → Type 0
-LinksTold old new bytes = (whole : Result (Unit {0}) PutFailed) × LinkPuts old new bytes whole

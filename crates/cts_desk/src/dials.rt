@@ -12,29 +12,25 @@ ghost use Rattle.cts_desk.specs.Holds.{IsReady};
 ghost use Rattle.cts_worker.specs.Holds.{Onward};
 ghost use Rattle.cts_desk.specs.Serving.{Begins, Resting};
 
-use crate::Talk;
 use crate::ending::DeskWhy;
 use crate::hand::AtHand;
-use crate::rounds::{look, talk_on};
+use crate::holds::look;
+use crate::{Talk, rounds};
 use cts_http::Reader;
 use cts_outside::{Clock, Dialed, Dialer, Gate};
-use cts_table::Hall;
-use cts_turn::Turn;
 use std::sync::Wait;
 
 // Serves the client of the connection that stands, and hangs up. Says whether it is over for a Stop.
 fn serve<W: Wait, R: Dialer, K: Clock, G: Gate>(
     hand: &AtHand<'_, W, K, G>,
-    by: u32,
-    turn: &Turn<Hall>,
     talk: Talk,
     door: &mut R,
 ) -> (Talk, bool)
-    requires pass { IsPassOf turn.now talk.pass }
-    requires ready { IsReady (ground turn.now) by (view talk.pass) }
+    requires pass { IsPassOf hand.now.turn.now talk.pass }
+    requires ready { IsReady (ground hand.now.turn.now) hand.now.by (view talk.pass) }
     requires linked { (R.seen door.old).linked ≡ true }
-    ensures pass { IsPassOf turn.now result.0.pass }
-    ensures ready { IsReady (ground turn.now) by (view result.0.pass) }
+    ensures pass { IsPassOf hand.now.turn.now result.0.pass }
+    ensures ready { IsReady (ground hand.now.turn.now) hand.now.by (view result.0.pass) }
     ensures onward { Onward (view talk.pass) (view result.0.pass) }
     ensures idle { (R.seen door.new).linked ≡ false }
     ensures dials { (R.seen door.new).failed_dials ≡ (R.seen door.old).failed_dials }
@@ -42,29 +38,27 @@ fn serve<W: Wait, R: Dialer, K: Clock, G: Gate>(
     ensures aim { aim_of (R.seen door.new).told ≡ aim_of (R.seen door.old).told }
     ensures stop { result.1 ≡ true → is_stopped (view result.0.pass).seen ≡ true }
     ensures serves { (was : List Connection)
-        → Begins (ground turn.now) by was talk.fronts.items (view talk.pass) (R.seen door.old).told
-        → Resting (ground turn.now) by was result.1 result.0.fronts.items (view result.0.pass) (R.seen door.new).told }
+        → Begins (ground hand.now.turn.now) hand.now.by was talk.fronts.items (view talk.pass) (R.seen door.old).told
+        → Resting (ground hand.now.turn.now) hand.now.by was result.1 result.0.fronts.items (view result.0.pass) (R.seen door.new).told }
 {
     let mut reader = Reader::new(hand.alloc);
-    let (talk, stop) = talk_on(hand, by, turn, talk, door, &mut reader);
+    let (talk, why) = rounds::talk(hand, talk, door, &mut reader);
     door.hang_up();
     drop(reader);
-    (talk, stop)
+    (talk, rounds::is_stop(why))
 }
 
 // Serves the next client, if one is there. Says why the desk ends, if it does.
 fn attempt<W: Wait, R: Dialer, K: Clock, G: Gate>(
     hand: &AtHand<'_, W, K, G>,
-    by: u32,
-    turn: &Turn<Hall>,
     talk: Talk,
     door: &mut R,
 ) -> (Talk, Option<DeskWhy>)
-    requires pass { IsPassOf turn.now talk.pass }
-    requires ready { IsReady (ground turn.now) by (view talk.pass) }
+    requires pass { IsPassOf hand.now.turn.now talk.pass }
+    requires ready { IsReady (ground hand.now.turn.now) hand.now.by (view talk.pass) }
     requires idle { (R.seen door.old).linked ≡ false }
-    ensures pass { IsPassOf turn.now result.0.pass }
-    ensures ready { IsReady (ground turn.now) by (view result.0.pass) }
+    ensures pass { IsPassOf hand.now.turn.now result.0.pass }
+    ensures ready { IsReady (ground hand.now.turn.now) hand.now.by (view result.0.pass) }
     ensures onward { Onward (view talk.pass) (view result.0.pass) }
     ensures idle { (R.seen door.new).linked ≡ false }
     ensures faults { FaultsRise (R.seen door.old) (R.seen door.new) }
@@ -72,16 +66,17 @@ fn attempt<W: Wait, R: Dialer, K: Clock, G: Gate>(
     ensures cause { CausesEndIf (view result.0.pass).seen (R.seen door.new).told (R.seen door.old).failed_dials (R.seen door.new).failed_dials result.1 }
     ensures failed { (result.1 ≡ Some DoorFailed → ⊥) → (R.seen door.new).failed_dials ≡ (R.seen door.old).failed_dials }
     ensures serves { (was : List Connection)
-        → Resting (ground turn.now) by was false talk.fronts.items (view talk.pass) (R.seen door.old).told
-        → Resting (ground turn.now) by was (may_cut result.1 (view result.0.pass).seen) result.0.fronts.items (view result.0.pass) (R.seen door.new).told }
+        → Resting (ground hand.now.turn.now) hand.now.by was false talk.fronts.items (view talk.pass) (R.seen door.old).told
+        → Resting (ground hand.now.turn.now) hand.now.by was (may_cut result.1 (view result.0.pass).seen) result.0.fronts.items (view result.0.pass)
+        (R.seen door.new).told }
 {
     match door.dial() {
         Dialed::Linked => {
-            let (talk, stop) = serve(hand, by, turn, talk, door);
+            let (talk, stop) = serve(hand, talk, door);
             (talk, stop_if(stop))
         }
         Dialed::Later => {
-            let (talk, stop) = look(hand.rt, turn, talk, by);
+            let (talk, stop) = look(hand.rt, hand.turn, talk, hand.by);
             (talk, stop_if(stop))
         }
         Dialed::Finished => (talk, Some(DeskWhy::Finished)),
@@ -99,16 +94,14 @@ fn stop_if(stop: bool) -> Option<DeskWhy>
 /// Serves one client after another, until the desk ends, and says why.
 pub(crate) fn connect<W: Wait, R: Dialer, K: Clock, G: Gate>(
     hand: &AtHand<'_, W, K, G>,
-    by: u32,
-    turn: &Turn<Hall>,
     mut talk: Talk,
     door: &mut R,
 ) -> (Talk, DeskWhy)
-    requires pass { IsPassOf turn.now talk.pass }
-    requires ready { IsReady (ground turn.now) by (view talk.pass) }
+    requires pass { IsPassOf hand.now.turn.now talk.pass }
+    requires ready { IsReady (ground hand.now.turn.now) hand.now.by (view talk.pass) }
     requires idle { (R.seen door.old).linked ≡ false }
-    ensures pass { IsPassOf turn.now result.0.pass }
-    ensures ready { IsReady (ground turn.now) by (view result.0.pass) }
+    ensures pass { IsPassOf hand.now.turn.now result.0.pass }
+    ensures ready { IsReady (ground hand.now.turn.now) hand.now.by (view result.0.pass) }
     ensures onward { Onward (view talk.pass) (view result.0.pass) }
     ensures idle { (R.seen door.new).linked ≡ false }
     ensures faults { FaultsRise (R.seen door.old) (R.seen door.new) }
@@ -116,11 +109,12 @@ pub(crate) fn connect<W: Wait, R: Dialer, K: Clock, G: Gate>(
     ensures cause { CausesEnd (view result.0.pass).seen (R.seen door.new).told (R.seen door.old).failed_dials (R.seen door.new).failed_dials result.1 }
     ensures failed { (result.1 ≡ DoorFailed → ⊥) → (R.seen door.new).failed_dials ≡ (R.seen door.old).failed_dials }
     ensures serves { (was : List Connection)
-        → Resting (ground turn.now) by was false talk.fronts.items (view talk.pass) (R.seen door.old).told
-        → Resting (ground turn.now) by was (is_stopped (view result.0.pass).seen) result.0.fronts.items (view result.0.pass) (R.seen door.new).told }
+        → Resting (ground hand.now.turn.now) hand.now.by was false talk.fronts.items (view talk.pass) (R.seen door.old).told
+        → Resting (ground hand.now.turn.now) hand.now.by was (is_stopped (view result.0.pass).seen) result.0.fronts.items (view result.0.pass)
+        (R.seen door.new).told }
 {
     'dials: for _ in hand.rt.forever() {
-        let (next, end) = attempt(hand, by, turn, talk, door);
+        let (next, end) = attempt(hand, talk, door);
         talk = next;
         if let Some(why) = end {
             return (talk, why);

@@ -1,4 +1,4 @@
-// How a desk ends.
+// How a desk ends, and how it leaves a client.
 
 use cts_base::List;
 use cts_table::Hall;
@@ -26,4 +26,13 @@ pub struct DeskEnd {
     pub fronts: List<u64>,
     /// Why it ended.
     pub why: DeskWhy,
+}
+
+/// Why a desk hangs up on a client.
+#[derive(Clone, Copy)]
+pub(crate) enum HangUp {
+    /// A Stop stands.
+    Stopped,
+    /// The connection is over for another cause.
+    Over,
 }

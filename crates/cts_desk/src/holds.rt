@@ -1,16 +1,20 @@
 // Holds of the turn, each for one event.
-ghost use Rattle.std.specs.Prelude.{◌≡◌, true, false};
+ghost use Rattle.std.specs.Prelude.{◌≡◌, [], true, false};
+ghost use Rattle.cts_entry.specs.Histories.{is_stopped};
 ghost use Rattle.cts_entry.specs.Legal.{has_ended};
 ghost use Rattle.cts_entry.specs.Workers.{is_desk};
 ghost use Rattle.cts_turn.specs.Passes.{IsPassOf, view};
 ghost use Rattle.cts_worker.specs.Grounds.{ground};
+ghost use Rattle.cts_worker.specs.Holds.{Hold};
 ghost use Rattle.cts_desk.specs.Holds.{Asked, AskedHold, IsReady, text_of};
 
+use crate::Talk;
 use cts_api::{Answer, replies_are_of_their_desk, reply};
 use cts_base::Memory;
 use cts_def::Time;
 use cts_table::Hall;
 use cts_turn::{Pass, Turn};
+use cts_worker::sees_stop;
 use std::alloc::Global;
 use std::sync::Wait;
 
@@ -50,4 +54,19 @@ pub(crate) fn ask<W: Wait>(
     let mut held = turn.enter(rt, pass);
     let (front, answer) = ask_hall(alloc, held.state_mut(), by, time, body);
     (turn.leave(held), front, answer)
+}
+
+/// Looks whether a Stop stands.
+pub(crate) fn look<W: Wait>(rt: &W, turn: &Turn<Hall>, talk: Talk, by: u32) -> (Talk, bool)
+    requires pass { IsPassOf turn.now talk.pass }
+    requires ready { IsReady (ground turn.now) by (view talk.pass) }
+    ensures pass { IsPassOf turn.now result.0.pass }
+    ensures fronts { result.0.fronts ≡ talk.fronts }
+    ensures ready { IsReady (ground turn.now) by (view result.0.pass) }
+    ensures hold { Hold by (view talk.pass) (view result.0.pass) [] }
+    ensures stop { result.1 ≡ is_stopped (view result.0.pass).seen }
+{
+    let Talk { pass, fronts } = talk;
+    let (pass, stop) = sees_stop(rt, turn, pass, by);
+    (Talk { pass, fronts }, stop)
 }

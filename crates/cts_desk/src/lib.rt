@@ -9,7 +9,6 @@ mod holds;
 mod laws;
 mod puts;
 mod rounds;
-mod taking;
 mod talk;
 mod worker;
 

@@ -72,10 +72,12 @@ impl DeskWorker {
         let hand = AtHand {
             rt,
             alloc,
+            by,
+            turn,
             clock,
             gate,
         };
-        let (talk, why) = connect(&hand, by, turn, talk, door);
+        let (talk, why) = connect(&hand, talk, door);
         let Talk { pass, fronts } = talk;
         let pass = end(rt, turn, pass, by, time_of(clock), stops_all(why));
         gate.pass(rt, by, GateStage::Posted);

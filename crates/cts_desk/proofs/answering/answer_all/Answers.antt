@@ -10,19 +10,19 @@ use Rattle.cts_desk.proofs.answering.answer_all.Goals as goal
 
 pub returns-in-More-clause-serves : goal.returns-in-More-clause-serves
 returns-in-More-clause-serves g c = λ was s.
-    serving_more (ground c.args.turn.now) c.args.by was c.requests.reader c.next-step.new.self c.requests.talk.fronts.items (view c.requests.talk.pass) (g.R.Link.seen c.requests.door).told (c.requests.invariant.serves was s) c.in-More.ensures.answer
+    serving_more (ground c.args.hand.now.turn.now) c.args.hand.now.by was c.requests.reader c.next-step.new.self c.requests.talk.fronts.items (view c.requests.talk.pass) (g.R.Link.seen c.requests.door).told (c.requests.invariant.serves was s) c.in-More.ensures.answer
 
 pub returns-in-Refuse-clause-serves : goal.returns-in-Refuse-clause-serves
 returns-in-Refuse-clause-serves g c = λ was s.
-    serving_refused (ground c.args.turn.now) c.args.by was c.requests.reader c.next-step.new.self c.requests.talk.fronts.items (view c.requests.talk.pass) (g.R.Link.seen c.requests.door).told (c.requests.invariant.serves was s)
+    serving_refused (ground c.args.hand.now.turn.now) c.args.hand.now.by was c.requests.reader c.next-step.new.self c.requests.talk.fronts.items (view c.requests.talk.pass) (g.R.Link.seen c.requests.door).told (c.requests.invariant.serves was s)
     c.in-Refuse.status (g.R.Link.seen c.put_refusal-put.new.door).told c.put_refusal-put.result c.in-Refuse.ensures.answer c.put_refusal-put.ensures.content
 
 pub returns-then-not-goes-clause-serves : goal.returns-then-not-goes-clause-serves
 returns-then-not-goes-clause-serves g c = λ was s.
     let r = given_of c.requests.reader c.next-step.new.self c.in-Request.last c.in-Request.ensures.step in
-    let asks = serving_asks (ground c.args.turn.now) c.args.by was c.requests.reader c.next-step.new.self c.requests.talk.fronts.items (view c.requests.talk.pass) (g.R.Link.seen c.requests.door).told (c.requests.invariant.serves was s)
+    let asks = serving_asks (ground c.args.hand.now.turn.now) c.args.hand.now.by was c.requests.reader c.next-step.new.self c.requests.talk.fronts.items (view c.requests.talk.pass) (g.R.Link.seen c.requests.door).told (c.requests.invariant.serves was s)
     r.0 c.in-Request.last r.1 c.in-Request.ensures.answer in
-    subst (λ (x : Bool). Serving (ground c.args.turn.now) c.args.by was (goes_on x Reads) c.answer-next.result.0.fronts.items (view c.answer-next.result.0.pass) c.next-step.new.self (g.R.Link.seen c.answer-next.new.door).told) c.if-not-goes.true
+    subst (λ (x : Bool). Serving (ground c.args.hand.now.turn.now) c.args.hand.now.by was (goes_on x Reads) c.answer-next.result.0.fronts.items (view c.answer-next.result.0.pass) c.next-step.new.self (g.R.Link.seen c.answer-next.new.door).told) c.if-not-goes.true
     (c.answer-next.ensures.serves was r.0 r.1 asks)
 
 pub requests-preserved : goal.requests-preserved
@@ -38,9 +38,9 @@ requests-preserved g c =
       aim = c.answer-next.ensures.aim ∙ c.requests.invariant.aim;
       open_still = r.3 ∙ c.answer-next.ensures.last goes;
       serves = λ was s.
-          let asks = serving_asks (ground c.args.turn.now) c.args.by was c.requests.reader c.next-step.new.self c.requests.talk.fronts.items (view c.requests.talk.pass) (g.R.Link.seen c.requests.door).told (c.requests.invariant.serves was s)
+          let asks = serving_asks (ground c.args.hand.now.turn.now) c.args.hand.now.by was c.requests.reader c.next-step.new.self c.requests.talk.fronts.items (view c.requests.talk.pass) (g.R.Link.seen c.requests.door).told (c.requests.invariant.serves was s)
           r.0 c.in-Request.last r.1 c.in-Request.ensures.answer in
-          subst (λ (x : Bool). Serving (ground c.args.turn.now) c.args.by was (goes_on x Reads) c.answer-next.result.0.fronts.items (view c.answer-next.result.0.pass) c.next-step.new.self (g.R.Link.seen c.answer-next.new.door).told) goes
+          subst (λ (x : Bool). Serving (ground c.args.hand.now.turn.now) c.args.hand.now.by was (goes_on x Reads) c.answer-next.result.0.fronts.items (view c.answer-next.result.0.pass) c.next-step.new.self (g.R.Link.seen c.answer-next.new.door).told) goes
           (c.answer-next.ensures.serves was r.0 r.1 asks);
     }
 

@@ -11,14 +11,14 @@ use Rattle.cts_desk.proofs.answering.answer_all.Given as goal
 
 abbrev pub invariant-requests : goal.invariant-requests
 invariant-requests g l = record {
-  pass : IsPassOf l.turn l.talk.pass;
-  ready : IsReady (ground l.turn) l.by (view l.talk.pass);
+  pass : IsPassOf l.hand.turn.now l.talk.pass;
+  ready : IsReady (ground l.hand.turn.now) l.hand.by (view l.talk.pass);
   onward : Onward (view l.initial.talk.pass) (view l.talk.pass);
   linked : (g.R.Link.seen l.door).linked ≡ true;
   dials : (g.R.Link.seen l.door).failed_dials ≡ (g.R.Link.seen l.initial.door).failed_dials;
   faults : FaultsRise (g.R.Link.seen l.initial.door) (g.R.Link.seen l.door);
   aim : aim_of (g.R.Link.seen l.door).told ≡ aim_of (g.R.Link.seen l.initial.door).told;
   open_still : l.reader.closed ≡ false;
-  serves : (was : List Connection) → Serving (ground l.turn) l.by was Reads l.initial.talk.fronts.items (view l.initial.talk.pass) l.initial.reader (g.R.Link.seen l.initial.door).told
-      → Serving (ground l.turn) l.by was Reads l.talk.fronts.items (view l.talk.pass) l.reader (g.R.Link.seen l.door).told;
+  serves : (was : List Connection) → Serving (ground l.hand.turn.now) l.hand.by was Reads l.initial.talk.fronts.items (view l.initial.talk.pass) l.initial.reader (g.R.Link.seen l.initial.door).told
+      → Serving (ground l.hand.turn.now) l.hand.by was Reads l.talk.fronts.items (view l.talk.pass) l.reader (g.R.Link.seen l.door).told;
 }

@@ -12,29 +12,29 @@ use Rattle.cts_desk.proofs.dials.attempt.Goals as goal
 
 pub returns-in-Linked-clause-serves : goal.returns-in-Linked-clause-serves
 returns-in-Linked-clause-serves g c = λ was s.
-    let b = ground c.args.turn.now in
+    let b = ground c.args.hand.now.turn.now in
     let w = view c.serve-talk.result.0.pass in
-    let begins = linked_begins b c.args.by was c.args.talk.fronts.items (view c.args.talk.pass) (g.R.Link.seen c.args.door.now).told (g.R.Link.seen c.dial.new.self).told c.in-Linked.ensures.content s in
-    subst (λ (x : Bool). Resting b c.args.by was x c.serve-talk.result.0.fronts.items w (g.R.Link.seen c.serve-talk.new.door).told)
+    let begins = linked_begins b c.args.hand.now.by was c.args.talk.fronts.items (view c.args.talk.pass) (g.R.Link.seen c.args.door.now).told (g.R.Link.seen c.dial.new.self).told c.in-Linked.ensures.content s in
+    subst (λ (x : Bool). Resting b c.args.hand.now.by was x c.serve-talk.result.0.fronts.items w (g.R.Link.seen c.serve-talk.new.door).told)
     (cut_for c.serve-talk.result.1 c.stop_if.result w.seen c.stop_if.ensures c.serve-talk.ensures.stop) (c.serve-talk.ensures.serves was begins)
 
 pub returns-in-Later-clause-serves : goal.returns-in-Later-clause-serves
 returns-in-Later-clause-serves g c = λ was s.
-    let b = ground c.args.turn.now in
+    let b = ground c.args.hand.now.turn.now in
     let w = view c.look-talk.result.0.pass in
     let stop = may_cut c.stop_if-in-Later.result w.seen in
-    subst (λ f. Resting b c.args.by was stop f.items w (g.R.Link.seen c.dial.new.self).told) (sym c.look-talk.ensures.fronts)
-    (later_rests b c.args.by was c.args.talk.fronts.items stop (view c.args.talk.pass) w _ (g.R.Link.seen c.dial.new.self).told c.in-Later.ensures.content c.look-talk.ensures.hold s)
+    subst (λ f. Resting b c.args.hand.now.by was stop f.items w (g.R.Link.seen c.dial.new.self).told) (sym c.look-talk.ensures.fronts)
+    (later_rests b c.args.hand.now.by was c.args.talk.fronts.items stop (view c.args.talk.pass) w _ (g.R.Link.seen c.dial.new.self).told c.in-Later.ensures.content c.look-talk.ensures.hold s)
 
 pub returns-in-Finished-clause-serves : goal.returns-in-Finished-clause-serves
 returns-in-Finished-clause-serves g c = λ was s.
     let v = view c.args.talk.pass in
-    finished_rests (ground c.args.turn.now) c.args.by was c.args.talk.fronts.items (is_stopped v.seen) v _ (g.R.Link.seen c.dial.new.self).told c.in-Finished.ensures.content s
+    finished_rests (ground c.args.hand.now.turn.now) c.args.hand.now.by was c.args.talk.fronts.items (is_stopped v.seen) v _ (g.R.Link.seen c.dial.new.self).told c.in-Finished.ensures.content s
 
 pub returns-in-Failed-clause-serves : goal.returns-in-Failed-clause-serves
 returns-in-Failed-clause-serves g c = λ was s.
     let v = view c.args.talk.pass in
-    failed_rests (ground c.args.turn.now) c.args.by was c.args.talk.fronts.items (is_stopped v.seen) v _ (g.R.Link.seen c.dial.new.self).told c.in-Failed.ensures.content s
+    failed_rests (ground c.args.hand.now.turn.now) c.args.hand.now.by was c.args.talk.fronts.items (is_stopped v.seen) v _ (g.R.Link.seen c.dial.new.self).told c.in-Failed.ensures.content s
 
 pub returns-in-Linked-clause-faults : goal.returns-in-Linked-clause-faults
 returns-in-Linked-clause-faults g c = rise_then (g.R.Link.seen c.args.door.now) (g.R.Link.seen c.dial.new.self) (g.R.Link.seen c.serve-talk.new.door) (dial_rises Linked (g.R.Link.seen c.args.door.now) (g.R.Link.seen c.dial.new.self) c.in-Linked.ensures.content c.in-Linked.ensures.faults) c.serve-talk.ensures.faults

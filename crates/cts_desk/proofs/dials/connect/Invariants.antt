@@ -11,13 +11,13 @@ use Rattle.cts_desk.proofs.dials.connect.Given as goal
 
 abbrev pub invariant-dials : goal.invariant-dials
 invariant-dials g l = record {
-  pass : IsPassOf l.turn l.talk.pass;
-  ready : IsReady (ground l.turn) l.by (view l.talk.pass);
+  pass : IsPassOf l.hand.turn.now l.talk.pass;
+  ready : IsReady (ground l.hand.turn.now) l.hand.by (view l.talk.pass);
   onward : Onward (view l.initial.talk.pass) (view l.talk.pass);
   idle : (g.R.Link.seen l.door).linked ≡ false;
   dials : (g.R.Link.seen l.door).failed_dials ≡ (g.R.Link.seen l.initial.door).failed_dials;
   faults : FaultsRise (g.R.Link.seen l.initial.door) (g.R.Link.seen l.door);
   aim : aim_of (g.R.Link.seen l.door).told ≡ aim_of (g.R.Link.seen l.initial.door).told;
-  serves : (was : List Connection) → Resting (ground l.turn) l.by was false l.initial.talk.fronts.items (view l.initial.talk.pass) (g.R.Link.seen l.initial.door).told
-      → Resting (ground l.turn) l.by was false l.talk.fronts.items (view l.talk.pass) (g.R.Link.seen l.door).told;
+  serves : (was : List Connection) → Resting (ground l.hand.turn.now) l.hand.by was false l.initial.talk.fronts.items (view l.initial.talk.pass) (g.R.Link.seen l.initial.door).told
+      → Resting (ground l.hand.turn.now) l.hand.by was false l.talk.fronts.items (view l.talk.pass) (g.R.Link.seen l.door).told;
 }

@@ -2,7 +2,7 @@ use Rattle.std.proofs.Common.{[], refl}
 use Rattle.cts_turn.specs.Passes.{view}
 use Rattle.cts_worker.specs.Grounds.{ground}
 use Rattle.cts_desk.proofs.Histories.{ready_hold}
-use Rattle.cts_desk.proofs.rounds.look.Goals as goal
+use Rattle.cts_desk.proofs.holds.look.Goals as goal
 
 pub sees_stop-pass-requires-clause-by : goal.sees_stop-pass-requires-clause-by
 sees_stop-pass-requires-clause-by g c = c.requires.ready.makers

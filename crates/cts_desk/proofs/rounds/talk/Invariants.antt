@@ -6,13 +6,13 @@ use Rattle.cts_desk.specs.Told.{aim_of}
 use Rattle.cts_worker.specs.Grounds.{ground}
 use Rattle.cts_desk.specs.Holds.{IsReady}
 use Rattle.cts_worker.specs.Holds.{Onward}
-use Rattle.cts_desk.specs.Serving.{Serving, Reads}
-use Rattle.cts_desk.proofs.rounds.talk_on.Given as goal
+use Rattle.cts_desk.specs.Serving.{Serving, Waits}
+use Rattle.cts_desk.proofs.rounds.talk.Given as goal
 
 abbrev pub invariant-rounds : goal.invariant-rounds
 invariant-rounds g l = record {
-  pass : IsPassOf l.turn l.talk.pass;
-  ready : IsReady (ground l.turn) l.by (view l.talk.pass);
+  pass : IsPassOf l.hand.turn.now l.talk.pass;
+  ready : IsReady (ground l.hand.turn.now) l.hand.by (view l.talk.pass);
   onward : Onward (view l.initial.talk.pass) (view l.talk.pass);
   linked : (g.R.Link.seen l.door).linked ≡ true;
   dials : (g.R.Link.seen l.door).failed_dials ≡ (g.R.Link.seen l.initial.door).failed_dials;
@@ -20,6 +20,6 @@ invariant-rounds g l = record {
   aim : aim_of (g.R.Link.seen l.door).told ≡ aim_of (g.R.Link.seen l.initial.door).told;
   open_still : l.reader.closed ≡ false;
   room : length l.buffer ≡ 4096;
-  serves : (was : List Connection) → Serving (ground l.turn) l.by was Reads l.initial.talk.fronts.items (view l.initial.talk.pass) l.initial.reader (g.R.Link.seen l.initial.door).told
-      → Serving (ground l.turn) l.by was Reads l.talk.fronts.items (view l.talk.pass) l.reader (g.R.Link.seen l.door).told;
+  serves : (was : List Connection) → Serving (ground l.hand.turn.now) l.hand.by was Waits l.initial.talk.fronts.items (view l.initial.talk.pass) l.initial.reader (g.R.Link.seen l.initial.door).told
+      → Serving (ground l.hand.turn.now) l.hand.by was Waits l.talk.fronts.items (view l.talk.pass) l.reader (g.R.Link.seen l.door).told;
 }
