@@ -22,6 +22,7 @@ use Rattle.cts_trace.proofs.Others.{nothing_own, of_maker_append, strange_ended}
 use Rattle.cts_worker.specs.Lasts.{MayEnd}
 use Rattle.cts_desk.specs.Holds.{AskedHold, IsReady}
 use Rattle.cts_worker.specs.Holds.{Hold}
+use Rattle.cts_desk.specs.Growing.{exchanges_more}
 use Rattle.cts_desk.specs.Serving.{Going}
 
 -- a hold, from what the turn tells of it
@@ -75,20 +76,6 @@ ready_hold b m old new added hold lasts ready = record {
 
 -- ---- the exchanges
 
--- more entries after them, and which of those are the desk's
-pub exchanges_more : (b : Basis) (by : ℕ) (before : List Entry) (xs : List Exchange) (last rest new : List Entry) → Exchanges b by before xs last rest → Exchanges b by before xs (last ++ of_maker by new) (rest ++ new)
-exchanges_more b by before [] last rest new s = of_maker_append by rest new ∙ ap (λ l. l ++ of_maker by new) s
-exchanges_more b by before (x ∷ xs) last rest new s = (
-  s.0,
-  s.1,
-  s.2 ++ new,
-  ap (λ l. l ++ new) s.3 ∙ append_assoc s.0 (s.1 ++ s.2) new ∙ ap (λ l. s.0 ++ l) (append_assoc s.1 s.2 new),
-  s.4,
-  s.5,
-  s.6,
-  exchanges_more b by (before ++ (s.0 ++ s.1)) xs last s.2 new s.7,
-)
-
 -- one more exchange at the end
 pub exchanges_snoc : (b : Basis) (by : ℕ) (before : List Entry) (xs : List Exchange) (rest gap added : List Entry) (x : Exchange)
     → Exchanges b by before xs [] rest → of_maker by gap ≡ [] → x.front ≡ length (before ++ (rest ++ gap)) → IsAnswered b by (before ++ (rest ++ gap)) x added
@@ -116,23 +103,11 @@ exchanges_snoc b by before (y ∷ xs) rest gap added x s none at answered =
       exchanges_snoc b by (before ++ (s.0 ++ s.1)) xs s.2 gap added x s.7 none (at ∙ ap length to) (subst (λ l. IsAnswered b by l x added) to answered),
     )
 
-pub among_more : (xs ys more : List ℕ) → Among xs ys → Among xs (ys ++ more)
-among_more [] ys more a = tt
-among_more (x ∷ xs) ys more a = (a.0, a.1 ++ more, ap (λ l. l ++ more) a.2 ∙ append_assoc a.0 (x ∷ a.1) more, among_more xs a.1 more a.3)
-
 pub among_snoc : (xs ys : List ℕ) (x : ℕ) → Among xs ys → Among (xs ++ x ∷ []) (ys ++ x ∷ [])
 among_snoc [] ys x a = (ys, [], refl, tt)
 among_snoc (y ∷ xs) ys x a = (a.0, a.1 ++ x ∷ [], ap (λ l. l ++ x ∷ []) a.2 ∙ append_assoc a.0 (y ∷ a.1) (x ∷ []), among_snoc xs a.1 x a.3)
 
 -- ---- a desk's history so far
-
-pub going_look : (b : Basis) (m : ℕ) (fronts : List ℕ) (old new : View Entry Basis) (xs : List Exchange) → Hold m old new [] → Going b m fronts old xs → Going b m fronts new xs
-going_look b m fronts old new xs hold g = record {
-  fronts_are = g.fronts_are;
-  among = subst (Among fronts) (sym hold.found) (among_more fronts old.found (length (old.seen ++ hold.others) ∷ []) g.among);
-  stand = subst (λ l. Exchanges b m [] xs [] l) (sym (hold.seen ∙ ap (λ l. old.seen ++ l) (append-nil hold.others)))
-      (subst (λ l. Exchanges b m [] xs l (old.seen ++ hold.others)) hold.strange (exchanges_more b m [] xs [] old.seen hold.others g.stand));
-}
 
 pub going_ask : (b : Basis) (m : ℕ) (body : List ℕ) (front : ℕ) (text : Option (List ℕ)) (fronts : List ℕ) (old new : View Entry Basis) (xs : List Exchange)
     → AskedHold b m body front text old new → Going b m fronts old xs → Going b m (fronts ++ front ∷ []) new (xs ++ record { body = body; front = front; text = text } ∷ [])

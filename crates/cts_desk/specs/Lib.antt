@@ -4,5 +4,6 @@ pub mod Told
 pub mod Faults
 pub mod Holds
 pub mod Serving
+pub mod Growing
 pub mod Ending
 pub mod Laws

@@ -13,11 +13,15 @@ use Rattle.cts_desk.specs.Exchanges.{Exchange, Exchanges, Among, fronts_of, bodi
 use Rattle.cts_desk.specs.Streams.{Cut, PeerEnded, ReadFault, WriteFault, LastAsked, Refused, NoMemory, Stopped, IsTaking, Served, responses, last_front}
 use Rattle.cts_desk.specs.Told.{Serves, Settled}
 
--- the exchanges of a desk in what it has seen
+-- the exchanges of a desk in what it has seen, where each reply is given in a hold of its own
 pub record Going (b : Basis) (by : ℕ) (fronts : List ℕ) (v : View Entry Basis) (xs : List Exchange) : Type 0 where
   pub fronts_are : fronts ≡ fronts_of xs
   pub among : Among fronts v.found
   pub stand : Exchanges b by [] xs [] v.seen
+
+-- what is known of a desk's exchanges, beside their fronts and what the desk has seen
+abbrev pub Knows : Type 1
+Knows = List ℕ → View Entry Basis → List Exchange → Type 0
 
 -- where a desk is in a connection: all requests that its reader gave are answered; and the reader wants more bytes; this piece
 -- was taken then, and not fed yet; a request with this body is not answered yet; the connection is over; it is over for a Stop
@@ -72,17 +76,17 @@ TalksBy was earlier Known (Some line) = TalkingBy was earlier Known line
 abbrev pub Talks : List Connection → Stage → Reading → List Exchange → List Exchange → Option Line → Type 0
 Talks was stage r earlier mine told = TalksBy was earlier (StageSo stage r earlier mine) told
 
-pub record Serving (b : Basis) (by : ℕ) (was : List Connection) (stage : Stage) (fronts : List ℕ) (v : View Entry Basis) (r : Reading)
+pub record Serving (Goes : Knows) (was : List Connection) (stage : Stage) (fronts : List ℕ) (v : View Entry Basis) (r : Reading)
     (told : Option Line) : Type 0 where
   pub earlier : List Exchange
   pub mine : List Exchange
-  pub going : Going b by fronts v (earlier ++ mine)
+  pub going : Goes fronts v (earlier ++ mine)
   pub talks : Talks was stage r earlier mine told
 
 -- between two connections
-pub record Resting (b : Basis) (by : ℕ) (was : List Connection) (stop : Bool) (fronts : List ℕ) (v : View Entry Basis) (told : Option Line) : Type 0 where
+pub record Resting (Goes : Knows) (was : List Connection) (stop : Bool) (fronts : List ℕ) (v : View Entry Basis) (told : Option Line) : Type 0 where
   pub exchanges : List Exchange
-  pub going : Going b by fronts v exchanges
+  pub going : Goes fronts v exchanges
   pub settled : Settled stop was exchanges told
 
 -- all connections past are settled, and a new one stands
@@ -116,7 +120,7 @@ after None = Waits
 after (Some why) = halts_or (is_stop why)
 
 -- all exchanges so far are those of connections past, and a new one stands
-pub record Begins (b : Basis) (by : ℕ) (was : List Connection) (fronts : List ℕ) (v : View Entry Basis) (told : Option Line) : Type 0 where
+pub record Begins (Goes : Knows) (was : List Connection) (fronts : List ℕ) (v : View Entry Basis) (told : Option Line) : Type 0 where
   pub exchanges : List Exchange
-  pub going : Going b by fronts v exchanges
+  pub going : Goes fronts v exchanges
   pub settled : Dials was exchanges told

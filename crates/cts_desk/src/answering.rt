@@ -9,10 +9,10 @@ ghost use Rattle.cts_desk.specs.Holds.{IsReady, text_of};
 ghost use Rattle.cts_worker.specs.Holds.{Onward};
 ghost use Rattle.cts_desk.specs.Serving.{Serving, Reads, Waits, Asks, goes_on};
 
-use crate::Talk;
 use crate::hand::AtHand;
-use crate::holds::ask;
 use crate::puts::{out_of_memory, put_memory, put_refusal, put_response};
+use crate::source::Source;
+use crate::talk::Talk;
 use cts_api::Answer;
 use cts_base::Memory;
 use cts_def::Time;
@@ -48,15 +48,16 @@ fn comes_by<W: Wait, G: Gate>(rt: &W, by: u32, gate: &G, answer: &Result<Answer,
 }
 
 // One hold, and one response, after which the connection goes on or not.
-fn reply_to<W: Wait, R: Dialer, K: Clock, G: Gate>(
+fn reply_to<W: Wait, R: Dialer, K: Clock, G: Gate, S: Source>(
     hand: &AtHand<'_, W, K, G>,
-    talk: Talk,
+    talk: Talk<S>,
     door: &mut R,
     reader: &Reader,
     last: bool,
-) -> (Talk, bool)
+) -> (Talk<S>, bool)
     requires pass { IsPassOf hand.now.turn.now talk.pass }
     requires ready { IsReady (ground hand.now.turn.now) hand.now.by (view talk.pass) }
+    requires fits { S.fits talk.source (ground hand.now.turn.now) }
     requires linked { (R.seen door.old).linked ≡ true }
     requires room { vec_len talk.fronts < vec_capacity talk.fronts }
     requires given { IsSome reader.now.given }
@@ -64,21 +65,27 @@ fn reply_to<W: Wait, R: Dialer, K: Clock, G: Gate>(
     requires last { reader.now.closed ≡ last }
     ensures pass { IsPassOf hand.now.turn.now result.0.pass }
     ensures ready { IsReady (ground hand.now.turn.now) hand.now.by (view result.0.pass) }
+    ensures fits { S.fits result.0.source (ground hand.now.turn.now) }
     ensures onward { Onward (view talk.pass) (view result.0.pass) }
     ensures linked { (R.seen door.new).linked ≡ true }
     ensures dials { (R.seen door.new).failed_dials ≡ (R.seen door.old).failed_dials }
     ensures faults { FaultsRise (R.seen door.old) (R.seen door.new) }
     ensures aim { aim_of (R.seen door.new).told ≡ aim_of (R.seen door.old).told }
     ensures last { result.1 ≡ true → last ≡ false }
-    ensures serves { (was : List Connection) (body : List ℕ) → Some body ≡ reader.now.given
-        → Serving (ground hand.now.turn.now) hand.now.by was (Asks body) talk.fronts.items (view talk.pass) reader.now (R.seen door.old).told
-        → Serving (ground hand.now.turn.now) hand.now.by was (goes_on result.1 Reads) result.0.fronts.items (view result.0.pass) reader.now
-        (R.seen door.new).told }
+    ensures serves { (n : ℕ) (was : List Connection) (body : List ℕ) → Some body ≡ reader.now.given
+        → Serving (S.going talk.source n (ground hand.now.turn.now) hand.now.by) was (Asks body) talk.fronts.items (view talk.pass) reader.now
+        (R.seen door.old).told
+        → Serving (S.going result.0.source n (ground hand.now.turn.now) hand.now.by) was (goes_on result.1 Reads)
+        result.0.fronts.items (view result.0.pass) reader.now (R.seen door.new).told }
 {
-    let Talk { pass, mut fronts } = talk;
+    let Talk {
+        pass,
+        mut fronts,
+        mut source,
+    } = talk;
     hand.gate.pass(hand.rt, hand.by, GateStage::Took);
     let time = time_of(hand.clock);
-    let (pass, front, answer) = ask(
+    let (pass, front, answer) = source.ask(
         hand.rt,
         hand.alloc,
         hand.turn,
@@ -86,12 +93,17 @@ fn reply_to<W: Wait, R: Dialer, K: Clock, G: Gate>(
         hand.by,
         time,
         reader.body(),
+        fronts.as_slice(),
     );
     fronts.push_reserved(front);
     comes_by(hand.rt, hand.by, hand.gate, &answer);
     let put = put_response(door, front, text_of(&answer));
     drop(answer);
-    let talk = Talk { pass, fronts };
+    let talk = Talk {
+        pass,
+        fronts,
+        source,
+    };
     match put {
         Ok(()) => {
             hand.gate.pass(hand.rt, hand.by, GateStage::Answered);
@@ -102,31 +114,34 @@ fn reply_to<W: Wait, R: Dialer, K: Clock, G: Gate>(
 }
 
 // Answers the request that the reader gave. Says whether the connection goes on.
-fn answer<W: Wait, R: Dialer, K: Clock, G: Gate>(
+fn answer<W: Wait, R: Dialer, K: Clock, G: Gate, S: Source>(
     hand: &AtHand<'_, W, K, G>,
-    mut talk: Talk,
+    mut talk: Talk<S>,
     door: &mut R,
     reader: &Reader,
     last: bool,
-) -> (Talk, bool)
+) -> (Talk<S>, bool)
     requires pass { IsPassOf hand.now.turn.now talk.pass }
     requires ready { IsReady (ground hand.now.turn.now) hand.now.by (view talk.pass) }
+    requires fits { S.fits talk.source (ground hand.now.turn.now) }
     requires linked { (R.seen door.old).linked ≡ true }
     requires given { IsSome reader.now.given }
     requires open { reader.now.refused ≡ None }
     requires last { reader.now.closed ≡ last }
     ensures pass { IsPassOf hand.now.turn.now result.0.pass }
     ensures ready { IsReady (ground hand.now.turn.now) hand.now.by (view result.0.pass) }
+    ensures fits { S.fits result.0.source (ground hand.now.turn.now) }
     ensures onward { Onward (view talk.pass) (view result.0.pass) }
     ensures linked { (R.seen door.new).linked ≡ true }
     ensures dials { (R.seen door.new).failed_dials ≡ (R.seen door.old).failed_dials }
     ensures faults { FaultsRise (R.seen door.old) (R.seen door.new) }
     ensures aim { aim_of (R.seen door.new).told ≡ aim_of (R.seen door.old).told }
     ensures last { result.1 ≡ true → last ≡ false }
-    ensures serves { (was : List Connection) (body : List ℕ) → Some body ≡ reader.now.given
-        → Serving (ground hand.now.turn.now) hand.now.by was (Asks body) talk.fronts.items (view talk.pass) reader.now (R.seen door.old).told
-        → Serving (ground hand.now.turn.now) hand.now.by was (goes_on result.1 Reads) result.0.fronts.items (view result.0.pass) reader.now
-        (R.seen door.new).told }
+    ensures serves { (n : ℕ) (was : List Connection) (body : List ℕ) → Some body ≡ reader.now.given
+        → Serving (S.going talk.source n (ground hand.now.turn.now) hand.now.by) was (Asks body) talk.fronts.items (view talk.pass) reader.now
+        (R.seen door.old).told
+        → Serving (S.going result.0.source n (ground hand.now.turn.now) hand.now.by) was (goes_on result.1 Reads)
+        result.0.fronts.items (view result.0.pass) reader.now (R.seen door.new).told }
 {
     match talk.fronts.reserve(1) {
         Ok(()) => reply_to(hand, talk, door, reader, last),
@@ -138,28 +153,31 @@ fn answer<W: Wait, R: Dialer, K: Clock, G: Gate>(
 }
 
 /// Answers all requests that stand in the bytes that the reader was fed. Says whether the connection goes on, for more bytes.
-pub(crate) fn answer_all<W: Wait, R: Dialer, K: Clock, G: Gate>(
+pub(crate) fn answer_all<W: Wait, R: Dialer, K: Clock, G: Gate, S: Source>(
     hand: &AtHand<'_, W, K, G>,
-    mut talk: Talk,
+    mut talk: Talk<S>,
     door: &mut R,
     reader: &mut Reader,
-) -> (Talk, bool)
+) -> (Talk<S>, bool)
     requires pass { IsPassOf hand.now.turn.now talk.pass }
     requires ready { IsReady (ground hand.now.turn.now) hand.now.by (view talk.pass) }
+    requires fits { S.fits talk.source (ground hand.now.turn.now) }
     requires linked { (R.seen door.old).linked ≡ true }
     requires open { reader.old.closed ≡ false }
     ensures pass { IsPassOf hand.now.turn.now result.0.pass }
     ensures ready { IsReady (ground hand.now.turn.now) hand.now.by (view result.0.pass) }
+    ensures fits { S.fits result.0.source (ground hand.now.turn.now) }
     ensures onward { Onward (view talk.pass) (view result.0.pass) }
     ensures linked { (R.seen door.new).linked ≡ true }
     ensures dials { (R.seen door.new).failed_dials ≡ (R.seen door.old).failed_dials }
     ensures faults { FaultsRise (R.seen door.old) (R.seen door.new) }
     ensures aim { aim_of (R.seen door.new).told ≡ aim_of (R.seen door.old).told }
     ensures open { result.1 ≡ true → reader.new.closed ≡ false }
-    ensures serves { (was : List Connection)
-        → Serving (ground hand.now.turn.now) hand.now.by was Reads talk.fronts.items (view talk.pass) reader.old (R.seen door.old).told
-        → Serving (ground hand.now.turn.now) hand.now.by was (goes_on result.1 Waits) result.0.fronts.items (view result.0.pass) reader.new
-        (R.seen door.new).told }
+    ensures serves { (n : ℕ) (was : List Connection)
+        → Serving (S.going talk.source n (ground hand.now.turn.now) hand.now.by) was Reads talk.fronts.items (view talk.pass) reader.old
+        (R.seen door.old).told
+        → Serving (S.going result.0.source n (ground hand.now.turn.now) hand.now.by) was (goes_on result.1 Waits)
+        result.0.fronts.items (view result.0.pass) reader.new (R.seen door.new).told }
 {
     'requests: for _ in hand.rt.forever() {
         let step = reader.next();

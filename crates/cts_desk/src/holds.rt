@@ -8,7 +8,8 @@ ghost use Rattle.cts_worker.specs.Grounds.{ground};
 ghost use Rattle.cts_worker.specs.Holds.{Hold};
 ghost use Rattle.cts_desk.specs.Holds.{Asked, AskedHold, IsReady, text_of};
 
-use crate::Talk;
+use crate::source::Source;
+use crate::talk::Talk;
 use cts_api::{Answer, replies_are_of_their_desk, reply};
 use cts_base::Memory;
 use cts_def::Time;
@@ -36,8 +37,8 @@ fn ask_hall(
     (front, answer)
 }
 
-/// Asks for the reply to a body, at a point of the history.
-pub(crate) fn ask<W: Wait>(
+// Asks for the reply to a body, at a point of the history.
+fn ask<W: Wait>(
     rt: &W,
     alloc: Global,
     turn: &Turn<Hall>,
@@ -56,17 +57,67 @@ pub(crate) fn ask<W: Wait>(
     (turn.leave(held), front, answer)
 }
 
+/// Replies over the hall under the turn, each in a hold of its own.
+#[derive(Clone, Copy, Debug)]
+pub struct ByHolds;
+
+impl Source for ByHolds {
+    ghost use Rattle.cts_desk.specs.Serving.{Going};
+    ghost use Rattle.cts_desk.specs.Growing.{going_begins, going_look};
+
+    ghost going = { λ s n. Going };
+
+    ghost fits = { λ s b. Unit {0} };
+
+    fn ask<W: Wait>(
+        &mut self,
+        rt: &W,
+        alloc: Global,
+        turn: &Turn<Hall>,
+        pass: Pass<Hall>,
+        by: u32,
+        time: Time,
+        body: &[u8],
+        _fronts: &[u64],
+    ) -> (Pass<Hall>, u64, Result<Answer, Memory>) {
+        ask(rt, alloc, turn, pass, by, time, body)
+    }
+
+    ghost counts = { λ s n b by fronts v xs g. g.fronts_are };
+
+    ghost begins = { λ s n. going_begins };
+
+    ghost stays = { λ s n. going_look };
+}
+
 /// Looks whether a Stop stands.
-pub(crate) fn look<W: Wait>(rt: &W, turn: &Turn<Hall>, talk: Talk, by: u32) -> (Talk, bool)
+pub(crate) fn look<W: Wait, S: Source>(
+    rt: &W,
+    turn: &Turn<Hall>,
+    talk: Talk<S>,
+    by: u32,
+) -> (Talk<S>, bool)
     requires pass { IsPassOf turn.now talk.pass }
     requires ready { IsReady (ground turn.now) by (view talk.pass) }
     ensures pass { IsPassOf turn.now result.0.pass }
     ensures fronts { result.0.fronts ≡ talk.fronts }
+    ensures source { result.0.source ≡ talk.source }
     ensures ready { IsReady (ground turn.now) by (view result.0.pass) }
     ensures hold { Hold by (view talk.pass) (view result.0.pass) [] }
     ensures stop { result.1 ≡ is_stopped (view result.0.pass).seen }
 {
-    let Talk { pass, fronts } = talk;
+    let Talk {
+        pass,
+        fronts,
+        source,
+    } = talk;
     let (pass, stop) = sees_stop(rt, turn, pass, by);
-    (Talk { pass, fronts }, stop)
+    (
+        Talk {
+            pass,
+            fronts,
+            source,
+        },
+        stop,
+    )
 }

@@ -9,10 +9,13 @@ mod holds;
 mod laws;
 mod puts;
 mod rounds;
+mod source;
 mod talk;
 mod worker;
 
 pub use ending::{DeskEnd, DeskWhy};
+pub use holds::ByHolds;
 pub use laws::{out_of_memory_is_told, streams_are_put};
+pub use source::Source;
 pub use talk::Talk;
 pub use worker::DeskWorker;

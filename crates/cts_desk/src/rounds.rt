@@ -1,5 +1,5 @@
 // A connection of a desk that stands, round by round.
-ghost use Rattle.std.specs.Prelude.{◌≡◌, ◌<◌, List, length, true, false, IfNone, IfSome};
+ghost use Rattle.std.specs.Prelude.{◌≡◌, ◌<◌, ℕ, List, length, true, false, IfNone, IfSome};
 ghost use Rattle.cts_outside.specs.Lines.{Connection};
 ghost use Rattle.cts_entry.specs.Histories.{is_stopped};
 ghost use Rattle.cts_turn.specs.Passes.{IsPassOf, view};
@@ -10,12 +10,13 @@ ghost use Rattle.cts_desk.specs.Holds.{IsReady};
 ghost use Rattle.cts_worker.specs.Holds.{Onward};
 ghost use Rattle.cts_desk.specs.Serving.{Serving, Waits, Took, after, goes_on, halts_or, is_stop, over_unless};
 
-use crate::Talk;
 use crate::answering::answer_all;
 use crate::ending::HangUp;
 use crate::hand::AtHand;
 use crate::holds::look;
 use crate::puts::put_memory;
+use crate::source::Source;
+use crate::talk::Talk;
 use cts_http::Reader;
 use cts_outside::{Clock, Dialer, Gate, Taken};
 use std::sync::Wait;
@@ -38,29 +39,32 @@ pub(crate) fn is_stop(why: HangUp) -> bool
 }
 
 // Posts the requests that a piece makes whole, each in a hold, and puts the response to each. Says whether the connection goes on.
-fn post<W: Wait, R: Dialer, K: Clock, G: Gate>(
+fn post<W: Wait, R: Dialer, K: Clock, G: Gate, S: Source>(
     hand: &AtHand<'_, W, K, G>,
-    talk: Talk,
+    talk: Talk<S>,
     door: &mut R,
     reader: &mut Reader,
     piece: &[u8],
-) -> (Talk, bool)
+) -> (Talk<S>, bool)
     requires pass { IsPassOf hand.now.turn.now talk.pass }
     requires ready { IsReady (ground hand.now.turn.now) hand.now.by (view talk.pass) }
+    requires fits { S.fits talk.source (ground hand.now.turn.now) }
     requires linked { (R.seen door.old).linked ≡ true }
     requires open { reader.old.closed ≡ false }
     ensures pass { IsPassOf hand.now.turn.now result.0.pass }
     ensures ready { IsReady (ground hand.now.turn.now) hand.now.by (view result.0.pass) }
+    ensures fits { S.fits result.0.source (ground hand.now.turn.now) }
     ensures onward { Onward (view talk.pass) (view result.0.pass) }
     ensures linked { (R.seen door.new).linked ≡ true }
     ensures dials { (R.seen door.new).failed_dials ≡ (R.seen door.old).failed_dials }
     ensures faults { FaultsRise (R.seen door.old) (R.seen door.new) }
     ensures aim { aim_of (R.seen door.new).told ≡ aim_of (R.seen door.old).told }
     ensures open { result.1 ≡ true → reader.new.closed ≡ false }
-    ensures serves { (was : List Connection)
-        → Serving (ground hand.now.turn.now) hand.now.by was (Took piece.now) talk.fronts.items (view talk.pass) reader.old (R.seen door.old).told
-        → Serving (ground hand.now.turn.now) hand.now.by was (goes_on result.1 Waits) result.0.fronts.items (view result.0.pass) reader.new
-        (R.seen door.new).told }
+    ensures serves { (n : ℕ) (was : List Connection)
+        → Serving (S.going talk.source n (ground hand.now.turn.now) hand.now.by) was (Took piece.now) talk.fronts.items (view talk.pass) reader.old
+        (R.seen door.old).told
+        → Serving (S.going result.0.source n (ground hand.now.turn.now) hand.now.by) was (goes_on result.1 Waits)
+        result.0.fronts.items (view result.0.pass) reader.new (R.seen door.new).told }
 {
     match reader.feed(piece) {
         Ok(()) => answer_all(hand, talk, door, reader),
@@ -72,20 +76,22 @@ fn post<W: Wait, R: Dialer, K: Clock, G: Gate>(
 }
 
 /// Looks, takes a piece, posts its requests and puts the responses. Says why the desk hangs up, if it does.
-pub(crate) fn round<W: Wait, R: Dialer, K: Clock, G: Gate>(
+pub(crate) fn round<W: Wait, R: Dialer, K: Clock, G: Gate, S: Source>(
     hand: &AtHand<'_, W, K, G>,
-    talk: Talk,
+    talk: Talk<S>,
     door: &mut R,
     reader: &mut Reader,
     buffer: &mut [u8],
-) -> (Talk, Option<HangUp>)
+) -> (Talk<S>, Option<HangUp>)
     requires pass { IsPassOf hand.now.turn.now talk.pass }
     requires ready { IsReady (ground hand.now.turn.now) hand.now.by (view talk.pass) }
+    requires fits { S.fits talk.source (ground hand.now.turn.now) }
     requires linked { (R.seen door.old).linked ≡ true }
     requires open { reader.old.closed ≡ false }
     requires room { 0 < length buffer.old }
     ensures pass { IsPassOf hand.now.turn.now result.0.pass }
     ensures ready { IsReady (ground hand.now.turn.now) hand.now.by (view result.0.pass) }
+    ensures fits { S.fits result.0.source (ground hand.now.turn.now) }
     ensures onward { Onward (view talk.pass) (view result.0.pass) }
     ensures linked { (R.seen door.new).linked ≡ true }
     ensures dials { (R.seen door.new).failed_dials ≡ (R.seen door.old).failed_dials }
@@ -93,10 +99,11 @@ pub(crate) fn round<W: Wait, R: Dialer, K: Clock, G: Gate>(
     ensures aim { aim_of (R.seen door.new).told ≡ aim_of (R.seen door.old).told }
     ensures open { IfNone result.1 (reader.new.closed ≡ false) }
     ensures stop { IfSome result.1 (λ why. is_stop why ≡ true → is_stopped (view result.0.pass).seen ≡ true) }
-    ensures serves { (was : List Connection)
-        → Serving (ground hand.now.turn.now) hand.now.by was Waits talk.fronts.items (view talk.pass) reader.old (R.seen door.old).told
-        → Serving (ground hand.now.turn.now) hand.now.by was (after result.1) result.0.fronts.items (view result.0.pass) reader.new
-        (R.seen door.new).told }
+    ensures serves { (n : ℕ) (was : List Connection)
+        → Serving (S.going talk.source n (ground hand.now.turn.now) hand.now.by) was Waits talk.fronts.items (view talk.pass) reader.old
+        (R.seen door.old).told
+        → Serving (S.going result.0.source n (ground hand.now.turn.now) hand.now.by) was (after result.1)
+        result.0.fronts.items (view result.0.pass) reader.new (R.seen door.new).told }
 {
     let (talk, stop) = look(hand.rt, hand.turn, talk, hand.by);
     if stop {
@@ -114,28 +121,31 @@ pub(crate) fn round<W: Wait, R: Dialer, K: Clock, G: Gate>(
 }
 
 /// Talks with the client of the connection that stands, until the desk hangs up. Says why it does.
-pub(crate) fn talk<W: Wait, R: Dialer, K: Clock, G: Gate>(
+pub(crate) fn talk<W: Wait, R: Dialer, K: Clock, G: Gate, S: Source>(
     hand: &AtHand<'_, W, K, G>,
-    mut talk: Talk,
+    mut talk: Talk<S>,
     door: &mut R,
     reader: &mut Reader,
-) -> (Talk, HangUp)
+) -> (Talk<S>, HangUp)
     requires pass { IsPassOf hand.now.turn.now talk.pass }
     requires ready { IsReady (ground hand.now.turn.now) hand.now.by (view talk.pass) }
+    requires fits { S.fits talk.source (ground hand.now.turn.now) }
     requires linked { (R.seen door.old).linked ≡ true }
     requires open { reader.old.closed ≡ false }
     ensures pass { IsPassOf hand.now.turn.now result.0.pass }
     ensures ready { IsReady (ground hand.now.turn.now) hand.now.by (view result.0.pass) }
+    ensures fits { S.fits result.0.source (ground hand.now.turn.now) }
     ensures onward { Onward (view talk.pass) (view result.0.pass) }
     ensures linked { (R.seen door.new).linked ≡ true }
     ensures dials { (R.seen door.new).failed_dials ≡ (R.seen door.old).failed_dials }
     ensures faults { FaultsRise (R.seen door.old) (R.seen door.new) }
     ensures aim { aim_of (R.seen door.new).told ≡ aim_of (R.seen door.old).told }
     ensures stop { is_stop result.1 ≡ true → is_stopped (view result.0.pass).seen ≡ true }
-    ensures serves { (was : List Connection)
-        → Serving (ground hand.now.turn.now) hand.now.by was Waits talk.fronts.items (view talk.pass) reader.old (R.seen door.old).told
-        → Serving (ground hand.now.turn.now) hand.now.by was (halts_or (is_stop result.1)) result.0.fronts.items (view result.0.pass) reader.new
-        (R.seen door.new).told }
+    ensures serves { (n : ℕ) (was : List Connection)
+        → Serving (S.going talk.source n (ground hand.now.turn.now) hand.now.by) was Waits talk.fronts.items (view talk.pass) reader.old
+        (R.seen door.old).told
+        → Serving (S.going result.0.source n (ground hand.now.turn.now) hand.now.by) was (halts_or (is_stop result.1))
+        result.0.fronts.items (view result.0.pass) reader.new (R.seen door.new).told }
 {
     let mut buffer = [0u8; 4096];
     'rounds: for _ in hand.rt.forever() {

@@ -14,11 +14,12 @@ ghost use Rattle.cts_worker.specs.Grounds.{ground};
 ghost use Rattle.cts_worker.specs.Holds.{Onward};
 ghost use Rattle.cts_desk.specs.Told.{Ends, aim_of, past_of};
 
-use crate::Talk;
 use crate::answering::time_of;
 use crate::dials::connect;
 use crate::ending::{DeskEnd, DeskWhy};
 use crate::hand::AtHand;
+use crate::holds::ByHolds;
+use crate::talk::Talk;
 use cts_base::List;
 use cts_outside::{Clock, Dialer, Gate, GateStage};
 use cts_table::Hall;
@@ -68,6 +69,7 @@ impl DeskWorker {
         let talk = Talk {
             pass,
             fronts: Vec::new(alloc),
+            source: ByHolds,
         };
         let hand = AtHand {
             rt,
@@ -78,7 +80,7 @@ impl DeskWorker {
             gate,
         };
         let (talk, why) = connect(&hand, talk, door);
-        let Talk { pass, fronts } = talk;
+        let Talk { pass, fronts, .. } = talk;
         let pass = end(rt, turn, pass, by, time_of(clock), stops_all(why));
         gate.pass(rt, by, GateStage::Posted);
         DeskEnd {

@@ -1,4 +1,4 @@
-use Rattle.std.proofs.Common.{◌≡◌, true, false, List}
+use Rattle.std.proofs.Common.{◌≡◌, ℕ, true, false, List}
 use Rattle.cts_outside.specs.Lines.{Connection}
 use Rattle.cts_turn.specs.Passes.{IsPassOf, view}
 use Rattle.cts_desk.specs.Faults.{FaultsRise}
@@ -13,12 +13,13 @@ abbrev pub invariant-requests : goal.invariant-requests
 invariant-requests g l = record {
   pass : IsPassOf l.hand.turn.now l.talk.pass;
   ready : IsReady (ground l.hand.turn.now) l.hand.by (view l.talk.pass);
+  fits : g.S.Source.fits l.talk.source (ground l.hand.turn.now);
   onward : Onward (view l.initial.talk.pass) (view l.talk.pass);
   linked : (g.R.Link.seen l.door).linked ≡ true;
   dials : (g.R.Link.seen l.door).failed_dials ≡ (g.R.Link.seen l.initial.door).failed_dials;
   faults : FaultsRise (g.R.Link.seen l.initial.door) (g.R.Link.seen l.door);
   aim : aim_of (g.R.Link.seen l.door).told ≡ aim_of (g.R.Link.seen l.initial.door).told;
   open_still : l.reader.closed ≡ false;
-  serves : (was : List Connection) → Serving (ground l.hand.turn.now) l.hand.by was Reads l.initial.talk.fronts.items (view l.initial.talk.pass) l.initial.reader (g.R.Link.seen l.initial.door).told
-      → Serving (ground l.hand.turn.now) l.hand.by was Reads l.talk.fronts.items (view l.talk.pass) l.reader (g.R.Link.seen l.door).told;
+  serves : (n : ℕ) (was : List Connection) → Serving (g.S.Source.going l.initial.talk.source n (ground l.hand.turn.now) l.hand.by) was Reads l.initial.talk.fronts.items (view l.initial.talk.pass) l.initial.reader (g.R.Link.seen l.initial.door).told
+      → Serving (g.S.Source.going l.talk.source n (ground l.hand.turn.now) l.hand.by) was Reads l.talk.fronts.items (view l.talk.pass) l.reader (g.R.Link.seen l.door).told;
 }

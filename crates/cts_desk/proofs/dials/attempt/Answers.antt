@@ -1,9 +1,9 @@
-use Rattle.std.proofs.Common.{Bool, subst, sym, ◌∙◌}
+use Rattle.std.proofs.Common.{Bool, ap, subst, sym, ◌∙◌}
 use Rattle.cts_turn.specs.Passes.{view}
 use Rattle.cts_desk.specs.Ending.{may_cut}
 use Rattle.cts_worker.specs.Grounds.{ground}
 use Rattle.cts_desk.specs.Serving.{Resting}
-use Rattle.cts_desk.proofs.Ends.{cut_for, failed_rests, finished_rests, later_rests, linked_begins}
+use Rattle.cts_desk.proofs.Ends.{cut_for, failed_rests, finished_rests, later_rests, linked_begins, rests_on}
 use Rattle.cts_entry.specs.Histories.{is_stopped}
 use Rattle.cts_outside.specs.declared.link.Dialed.TheVariants.{Linked, Later, Finished, Failed}
 use Rattle.cts_desk.proofs.Faulting.{dial_rises, rise_then}
@@ -11,30 +11,33 @@ use Rattle.cts_desk.proofs.Aiming.{aim_dial}
 use Rattle.cts_desk.proofs.dials.attempt.Goals as goal
 
 pub returns-in-Linked-clause-serves : goal.returns-in-Linked-clause-serves
-returns-in-Linked-clause-serves g c = λ was s.
+returns-in-Linked-clause-serves g c = λ n was s.
     let b = ground c.args.hand.now.turn.now in
     let w = view c.serve-talk.result.0.pass in
-    let begins = linked_begins b c.args.hand.now.by was c.args.talk.fronts.items (view c.args.talk.pass) (g.R.Link.seen c.args.door.now).told (g.R.Link.seen c.dial.new.self).told c.in-Linked.ensures.content s in
-    subst (λ (x : Bool). Resting b c.args.hand.now.by was x c.serve-talk.result.0.fronts.items w (g.R.Link.seen c.serve-talk.new.door).told)
-    (cut_for c.serve-talk.result.1 c.stop_if.result w.seen c.stop_if.ensures c.serve-talk.ensures.stop) (c.serve-talk.ensures.serves was begins)
+    let begins = linked_begins (g.S.Source.going c.args.talk.source n b c.args.hand.now.by) was c.args.talk.fronts.items (view c.args.talk.pass) (g.R.Link.seen c.args.door.now).told (g.R.Link.seen c.dial.new.self).told c.in-Linked.ensures.content s in
+    subst (λ (x : Bool). Resting (g.S.Source.going c.serve-talk.result.0.source n b c.args.hand.now.by) was x c.serve-talk.result.0.fronts.items w (g.R.Link.seen c.serve-talk.new.door).told)
+    (cut_for c.serve-talk.result.1 c.stop_if.result w.seen c.stop_if.ensures c.serve-talk.ensures.stop) (c.serve-talk.ensures.serves n was begins)
 
 pub returns-in-Later-clause-serves : goal.returns-in-Later-clause-serves
-returns-in-Later-clause-serves g c = λ was s.
+returns-in-Later-clause-serves g c = λ n was s.
     let b = ground c.args.hand.now.turn.now in
     let w = view c.look-talk.result.0.pass in
     let stop = may_cut c.stop_if-in-Later.result w.seen in
-    subst (λ f. Resting b c.args.hand.now.by was stop f.items w (g.R.Link.seen c.dial.new.self).told) (sym c.look-talk.ensures.fronts)
-    (later_rests b c.args.hand.now.by was c.args.talk.fronts.items stop (view c.args.talk.pass) w _ (g.R.Link.seen c.dial.new.self).told c.in-Later.ensures.content c.look-talk.ensures.hold s)
+    let told = (g.R.Link.seen c.dial.new.self).told in
+    let goes = g.S.Source.going c.args.talk.source n b c.args.hand.now.by in
+    rests_on g.S.Source.going n b c.args.hand.now.by was stop c.args.talk.source c.look-talk.result.0.source c.args.talk.fronts.items c.look-talk.result.0.fronts.items w told c.look-talk.ensures.source
+    (ap (λ f. f.items) c.look-talk.ensures.fronts)
+    (later_rests goes was c.args.talk.fronts.items c.args.hand.now.by stop (view c.args.talk.pass) w _ told (g.met.S.Source.stays c.args.talk.source n b c.args.hand.now.by) c.in-Later.ensures.content c.look-talk.ensures.hold s)
 
 pub returns-in-Finished-clause-serves : goal.returns-in-Finished-clause-serves
-returns-in-Finished-clause-serves g c = λ was s.
+returns-in-Finished-clause-serves g c = λ n was s.
     let v = view c.args.talk.pass in
-    finished_rests (ground c.args.hand.now.turn.now) c.args.hand.now.by was c.args.talk.fronts.items (is_stopped v.seen) v _ (g.R.Link.seen c.dial.new.self).told c.in-Finished.ensures.content s
+    finished_rests (g.S.Source.going c.args.talk.source n (ground c.args.hand.now.turn.now) c.args.hand.now.by) was c.args.talk.fronts.items (is_stopped v.seen) v _ (g.R.Link.seen c.dial.new.self).told c.in-Finished.ensures.content s
 
 pub returns-in-Failed-clause-serves : goal.returns-in-Failed-clause-serves
-returns-in-Failed-clause-serves g c = λ was s.
+returns-in-Failed-clause-serves g c = λ n was s.
     let v = view c.args.talk.pass in
-    failed_rests (ground c.args.hand.now.turn.now) c.args.hand.now.by was c.args.talk.fronts.items (is_stopped v.seen) v _ (g.R.Link.seen c.dial.new.self).told c.in-Failed.ensures.content s
+    failed_rests (g.S.Source.going c.args.talk.source n (ground c.args.hand.now.turn.now) c.args.hand.now.by) was c.args.talk.fronts.items (is_stopped v.seen) v _ (g.R.Link.seen c.dial.new.self).told c.in-Failed.ensures.content s
 
 pub returns-in-Linked-clause-faults : goal.returns-in-Linked-clause-faults
 returns-in-Linked-clause-faults g c = rise_then (g.R.Link.seen c.args.door.now) (g.R.Link.seen c.dial.new.self) (g.R.Link.seen c.serve-talk.new.door) (dial_rises Linked (g.R.Link.seen c.args.door.now) (g.R.Link.seen c.dial.new.self) c.in-Linked.ensures.content c.in-Linked.ensures.faults) c.serve-talk.ensures.faults
@@ -59,3 +62,6 @@ returns-in-Finished-clause-aim g c = aim_dial Finished _ _ c.in-Finished.ensures
 
 pub returns-in-Failed-clause-aim : goal.returns-in-Failed-clause-aim
 returns-in-Failed-clause-aim g c = aim_dial Failed _ _ c.in-Failed.ensures.content
+
+pub returns-in-Later-clause-fits : goal.returns-in-Later-clause-fits
+returns-in-Later-clause-fits g c = subst (λ x. g.S.Source.fits x (ground c.args.hand.now.turn.now)) (sym c.look-talk.ensures.source) c.requires.fits

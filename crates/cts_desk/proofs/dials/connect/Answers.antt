@@ -8,12 +8,13 @@ pub dials-init : goal.dials-init
 dials-init g c = record {
   pass = c.requires.pass;
   ready = c.requires.ready;
+  fits = c.requires.fits;
   onward = onward_same _;
   idle = c.requires.idle;
   dials = refl;
   faults = rise_same (g.R.Link.seen c.args.door.now);
   aim = refl;
-  serves = λ was s. s;
+  serves = λ n was s. s;
 }
 
 pub returns-in-Some-end-clause-onward : goal.returns-in-Some-end-clause-onward

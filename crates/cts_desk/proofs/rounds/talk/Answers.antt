@@ -13,6 +13,7 @@ pub rounds-init : goal.rounds-init
 rounds-init g c = record {
   pass = c.requires.pass;
   ready = c.requires.ready;
+  fits = c.requires.fits;
   onward = onward_same _;
   linked = c.requires.linked;
   dials = refl;
@@ -20,7 +21,7 @@ rounds-init g c = record {
   aim = refl;
   open_still = c.requires.open;
   room = search rules;
-  serves = λ was s. s;
+  serves = λ n was s. s;
 }
 
 pub rounds-preserved : goal.rounds-preserved
@@ -30,6 +31,7 @@ rounds-preserved g c =
     let is = c.in_default.is in record {
       pass = e.pass;
       ready = e.ready;
+      fits = e.fits;
       onward = onward_then _ _ _ i.onward e.onward;
       linked = e.linked;
       dials = e.dials ∙ i.dials;
@@ -37,14 +39,14 @@ rounds-preserved g c =
       aim = e.aim ∙ i.aim;
       open_still = if_none _ _ is e.open;
       room = search rules;
-      serves = λ was s. subst (λ (o : Option HangUp). Serving (ground c.args.hand.now.turn.now) c.args.hand.now.by was (after o) c.round-next.result.0.fronts.items (view c.round-next.result.0.pass) c.round-next.new.reader (g.R.Link.seen c.round-next.new.door).told) is
-          (e.serves was (i.serves was s));
+      serves = λ n was s. subst (λ (o : Option HangUp). Serving (g.S.Source.going c.round-next.result.0.source n (ground c.args.hand.now.turn.now) c.args.hand.now.by) was (after o) c.round-next.result.0.fronts.items (view c.round-next.result.0.pass) c.round-next.new.reader (g.R.Link.seen c.round-next.new.door).told) is
+          (e.serves n was (i.serves n was s));
     }
 
 pub returns-in-Some-end-clause-serves : goal.returns-in-Some-end-clause-serves
-returns-in-Some-end-clause-serves g c = λ was s.
-    subst (λ (o : Option HangUp). Serving (ground c.args.hand.now.turn.now) c.args.hand.now.by was (after o) c.round-next.result.0.fronts.items (view c.round-next.result.0.pass) c.round-next.new.reader (g.R.Link.seen c.round-next.new.door).told) c.in-Some-end.is
-    (c.round-next.ensures.serves was (c.rounds.invariant.serves was s))
+returns-in-Some-end-clause-serves g c = λ n was s.
+    subst (λ (o : Option HangUp). Serving (g.S.Source.going c.round-next.result.0.source n (ground c.args.hand.now.turn.now) c.args.hand.now.by) was (after o) c.round-next.result.0.fronts.items (view c.round-next.result.0.pass) c.round-next.new.reader (g.R.Link.seen c.round-next.new.door).told) c.in-Some-end.is
+    (c.round-next.ensures.serves n was (c.rounds.invariant.serves n was s))
 
 pub returns-in-Some-end-clause-stop : goal.returns-in-Some-end-clause-stop
 returns-in-Some-end-clause-stop g c = if_some _ c.in-Some-end.why (λ (why : HangUp). is_stop why ≡ true → is_stopped (view c.round-next.result.0.pass).seen ≡ true) c.in-Some-end.is c.round-next.ensures.stop

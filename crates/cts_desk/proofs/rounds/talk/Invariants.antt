@@ -1,4 +1,4 @@
-use Rattle.std.proofs.Common.{◌≡◌, true, false, List, length}
+use Rattle.std.proofs.Common.{◌≡◌, ℕ, true, false, List, length}
 use Rattle.cts_outside.specs.Lines.{Connection}
 use Rattle.cts_turn.specs.Passes.{IsPassOf, view}
 use Rattle.cts_desk.specs.Faults.{FaultsRise}
@@ -13,6 +13,7 @@ abbrev pub invariant-rounds : goal.invariant-rounds
 invariant-rounds g l = record {
   pass : IsPassOf l.hand.turn.now l.talk.pass;
   ready : IsReady (ground l.hand.turn.now) l.hand.by (view l.talk.pass);
+  fits : g.S.Source.fits l.talk.source (ground l.hand.turn.now);
   onward : Onward (view l.initial.talk.pass) (view l.talk.pass);
   linked : (g.R.Link.seen l.door).linked ≡ true;
   dials : (g.R.Link.seen l.door).failed_dials ≡ (g.R.Link.seen l.initial.door).failed_dials;
@@ -20,6 +21,6 @@ invariant-rounds g l = record {
   aim : aim_of (g.R.Link.seen l.door).told ≡ aim_of (g.R.Link.seen l.initial.door).told;
   open_still : l.reader.closed ≡ false;
   room : length l.buffer ≡ 4096;
-  serves : (was : List Connection) → Serving (ground l.hand.turn.now) l.hand.by was Waits l.initial.talk.fronts.items (view l.initial.talk.pass) l.initial.reader (g.R.Link.seen l.initial.door).told
-      → Serving (ground l.hand.turn.now) l.hand.by was Waits l.talk.fronts.items (view l.talk.pass) l.reader (g.R.Link.seen l.door).told;
+  serves : (n : ℕ) (was : List Connection) → Serving (g.S.Source.going l.initial.talk.source n (ground l.hand.turn.now) l.hand.by) was Waits l.initial.talk.fronts.items (view l.initial.talk.pass) l.initial.reader (g.R.Link.seen l.initial.door).told
+      → Serving (g.S.Source.going l.talk.source n (ground l.hand.turn.now) l.hand.by) was Waits l.talk.fronts.items (view l.talk.pass) l.reader (g.R.Link.seen l.door).told;
 }

@@ -3,7 +3,8 @@ use Rattle.cts_turn.specs.Passes.{view}
 use Rattle.cts_entry.specs.Histories.{is_stopped}
 use Rattle.cts_desk.specs.Ending.{CausesEnd, stops_all}
 use Rattle.cts_worker.specs.Grounds.{ground}
-use Rattle.cts_desk.specs.Serving.{Resting}
+use Rattle.cts_desk.specs.Growing.{going_begins}
+use Rattle.cts_desk.specs.Serving.{Going, Resting}
 use Rattle.cts_desk.specs.Told.{Ends, past_of}
 use Rattle.cts_outside.specs.Lines.{hung_up, told_after}
 use Rattle.cts_worker.proofs.Lasting.{ended_last, ended_onward}
@@ -34,8 +35,8 @@ returns-clause-ends g c =
     let hung = (g.R.Link.seen c.hang_up.new.self).told in
     let told = (g.R.Link.seen c.connect-talk.new.door).told in
     let was = past_of (told_after hung_up at_first) in
-    let first = subst (λ (l : List ℕ). Resting b c.args.by was false l u hung) (sym c.new.ensures.items) (resting_first b c.args.by u at_first hung c.requires.new c.hang_up.ensures.content) in
-    let rests = c.connect-talk.ensures.serves was first in
+    let first = subst (λ (l : List ℕ). Resting (Going b c.args.by) was false l u hung) (sym c.new.ensures.items) (resting_first (Going b c.args.by) u at_first hung (going_begins b c.args.by u c.requires.new) c.hang_up.ensures.content) in
+    let rests = c.connect-talk.ensures.serves 0 was first in
     let fronts = c.connect-talk.result.0.fronts.items in
     let ends = resting_ends b c.args.by was (is_stopped v.seen) c.stops_all.result c.time_of.result fronts v w told c.end-pass.ensures.ended (λ e. e) rests in
     subst (λ (l : List ℕ). Ends b c.args.by (stops_all c.connect-talk.result.1) l w was told) (sym c.of.ensures)
