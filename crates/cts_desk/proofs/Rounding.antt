@@ -1,5 +1,5 @@
 -- Whether a round is the last of its connection.
-use Rattle.std.proofs.Common.{◌≡◌, Bool, true, false, refl, sym, ◌∙◌, subst, Option, Some, None}
+use Rattle.std.proofs.Common.{◌≡◌, Bool, true, false, refl, sym, subst, Option, Some, None}
 use Rattle.std.specs.Prelude.{IfNone, IfSome}
 use Rattle.cts_desk.specs.declared.ending.HangUp.{HangUp}
 use Rattle.cts_desk.specs.Serving.{Waits, after, goes_on, is_stop, over_unless}

@@ -18,7 +18,7 @@ use Rattle.cts_desk.specs.Streams.{NoMemory, last_put, last_front}
 use Rattle.cts_desk.specs.Told.{Ends, Settled, past_of}
 use Rattle.cts_worker.specs.Lasts.{last_entries}
 use Rattle.cts_worker.specs.Holds.{Hold, EndedHold}
-use Rattle.cts_desk.specs.Serving.{Going, Knows, Stage, Reads, Waits, Took, Asks, Over, Halted, StageSo, TalksBy, Talks, Serving, Resting, Dials, Begins, goes_on, halts_or}
+use Rattle.cts_desk.specs.Serving.{Going, Knows, Stage, Reads, Waits, Took, Asks, Over, Halted, StageSo, TalksBy, Serving, Resting, Dials, Begins, goes_on, halts_or}
 use Rattle.cts_desk.specs.Growing.{among_more}
 use Rattle.cts_desk.proofs.Histories.{exchanges_end}
 use Rattle.cts_trace.proofs.Looking.{stop_kept}

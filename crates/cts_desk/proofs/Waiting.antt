@@ -1,5 +1,5 @@
 -- A connection of which nothing was taken waits for its first request.
-use Rattle.std.proofs.Common.{ℕ, ◌+◌, ◌≤◌, false, List, [], ◌∷◌, ◌++◌, length, refl, ap, ◌∙◌, arith, length-append, inl}
+use Rattle.std.proofs.Common.{ℕ, ◌≤◌, false, List, [], ◌∷◌, ◌++◌, length, refl, ap, ◌∙◌, arith, length-append, inl}
 use Rattle.std.specs.List.{flat_map}
 use Rattle.httparse.specs.Grammar.{LineEnd, crlf, lf, print_end, print_field, RequestHead, print_request, print_section, print_blank, print_version}
 use Rattle.httparse.specs.Pieces.{BlankLines, Completes}

@@ -1,5 +1,5 @@
 -- What a desk puts on a connection, and how the connection comes to its end.
-use Rattle.std.specs.Prelude.{◌≡◌, ℕ, ◌≤◌, ◌⊎◌, Bool, true, false, List, [], ◌∷◌, ◌++◌, length, take, slice_index, ◌-◌, Option, Some}
+use Rattle.std.specs.Prelude.{◌≡◌, ℕ, ◌≤◌, ◌⊎◌, Bool, true, false, List, [], ◌∷◌, ◌++◌, length, take, slice_index, ◌-◌, Some}
 use Rattle.std.specs.List.{concat, flat_map}
 use Rattle.cts_outside.specs.Lines.{Connection}
 use Rattle.cts_http.specs.Requests.{Takes, Requests, Closed, Waiting, Refused as RefusedWith}
