@@ -97,8 +97,8 @@ fn stop_if(stop: bool) -> Option<DeskWhy>
     if stop { Some(DeskWhy::Stopped) } else { None }
 }
 
-/// Serves one client after another, until the desk ends, and says why.
-pub(crate) fn connect<W: Wait, R: Dialer, K: Clock, G: Gate, S: Source>(
+/// Serves one client after another, with the replies of a source, until the desk ends, and says why. It appends no last entries.
+pub fn connect<W: Wait, R: Dialer, K: Clock, G: Gate, S: Source>(
     hand: &AtHand<'_, W, K, G>,
     mut talk: Talk<S>,
     door: &mut R,

@@ -4,12 +4,18 @@ use cts_turn::Turn;
 use std::alloc::Global;
 
 /// What a desk has at hand while it works: its number, the turn, the clock that gives its entries their times, and the gate.
-pub(crate) struct AtHand<'a, W, K, G> {
+pub struct AtHand<'a, W, K, G> {
+    /// The runtime.
     pub rt: &'a W,
+    /// The allocator.
     pub alloc: Global,
+    /// The number of the desk.
     pub by: u32,
+    /// The turn.
     pub turn: &'a Turn<Hall>,
+    /// The clock.
     pub clock: &'a K,
+    /// The gate.
     pub gate: &'a G,
 }
 

@@ -13,7 +13,9 @@ mod source;
 mod talk;
 mod worker;
 
+pub use dials::connect;
 pub use ending::{DeskEnd, DeskWhy};
+pub use hand::AtHand;
 pub use holds::ByHolds;
 pub use laws::{out_of_memory_is_told, streams_are_put};
 pub use source::Source;
