@@ -43,7 +43,8 @@ fn serve<W: Wait, R: Dialer, K: Clock, G: Gate, S: Source>(
     ensures stop { result.1 ≡ true → is_stopped (view result.0.pass).seen ≡ true }
     ensures serves { (n : ℕ) (was : List Connection)
         → Begins (S.going talk.source n (ground hand.now.turn.now) hand.now.by) was talk.fronts.items (view talk.pass) (R.seen door.old).told
-        → Resting (S.going result.0.source n (ground hand.now.turn.now) hand.now.by) was result.1 result.0.fronts.items (view result.0.pass) (R.seen door.new).told }
+        → Resting (S.going result.0.source n (ground hand.now.turn.now) hand.now.by) was result.1 result.0.fronts.items (view result.0.pass)
+        (R.seen door.new).told }
 {
     let mut reader = Reader::new(hand.alloc);
     let (talk, why) = rounds::talk(hand, talk, door, &mut reader);

@@ -38,7 +38,7 @@ pub(crate) fn is_stop(why: HangUp) -> bool
     }
 }
 
-// Posts the requests that a piece makes whole, each in a hold, and puts the response to each. Says whether the connection goes on.
+// Posts the requests that a piece makes whole, one after another, and puts the response to each. Says whether the connection goes on.
 fn post<W: Wait, R: Dialer, K: Clock, G: Gate, S: Source>(
     hand: &AtHand<'_, W, K, G>,
     talk: Talk<S>,
