@@ -3,12 +3,13 @@ ghost use Rattle.std.specs.Prelude.{◌≡◌, [], false, true};
 ghost use Rattle.cts_turn.specs.Passes.{IsPassOf};
 
 use crate::said::{said, tell_puts};
+use crate::ticking::Ticking;
 use cts_base::Memory;
 use cts_chain::Framer;
 use cts_def::Site;
 use cts_entry::Stands;
 use cts_line::{LineEnd, LineWorker};
-use cts_outside::{FixedClock, Gate, Job, MemDialer};
+use cts_outside::{Gate, Job, MemDialer};
 use cts_table::Hall;
 use cts_turn::{Pass, Turn};
 use std::alloc::Global;
@@ -81,7 +82,7 @@ impl<'a, R: Wait + Sync, C: Framer + Send, G: Gate + Sync> Job for LineJob<'a, R
             chain,
             gate,
         } = self;
-        let clock = FixedClock::new(100, 250_000);
+        let clock = Ticking::new();
         let end = LineWorker::run(
             rt,
             alloc,

@@ -23,6 +23,8 @@ mod read;
 #[cfg(test)]
 mod said;
 #[cfg(test)]
+mod ticking;
+#[cfg(test)]
 mod turns;
 #[cfg(test)]
 mod waiting;

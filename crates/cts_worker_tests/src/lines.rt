@@ -124,7 +124,12 @@ bytes for one of two packets|;0 000401ff00 0401ff|9 7|O P4 CFull:0:1:0 S E (Full
 no entry for a second Opened|;0,0|1 100|O CPeerEnded:0:0:0 S E (Full, 1) -
 a bad frame needs no entry|;0 0001ff|1 100|O CBadFrame { stage: 1, cause: Short(1) }:3:0:0 E (Finished, 1) -
 no entry for the packet before a bad frame|;0 000401ff0001ff|1 100|O CFull:3:1:0 S E (Full, 1) -
-no entry for an Opened|;0 000601800001|0 100|S E (Full, 0)";
+no entry for an Opened|;0 000601800001|0 100|S E (Full, 0)
+eight entries, of which the last one is a packet|;0 000401ff000401ff000401ff000401ff000401ff000401ff000401ff|8 1000|O P4 P4 P4 P4 P4 P4 P4 CPeerEnded:0:0:0 E (Finished, 1) -
+eight entries, and one more packet|;0 000401ff000401ff000401ff000401ff000401ff000401ff 000401ff 000401ff|8 1000|O P4 P4 P4 P4 P4 P4 P4 CFull:0:1:0 S E (Full, 1) -
+eight entries, and a piece of one packet more|;0 000401ff000401ff000401ff000401ff000401ff000401ff000401ff000401ff,0|8 1000|O CFull:0:8:0 S E (Full, 1) -
+eight entries, of which the last one is an Opened|;0 000401ff000401ff000401ff,0 000401ff000401ff,0 000401ff|8 1000|O P4 P4 P4 CPeerEnded:0:0:0 O P4 P4 CPeerEnded:0:0:0 O CFull:0:1:0 S E (Full, 3) - - -
+eight entries, and another connection|;0 000401ff000401ff000401ff,0 000401ff000401ff000401ff,0 000401ff|8 1000|O P4 P4 P4 CPeerEnded:0:0:0 O P4 P4 P4 CPeerEnded:0:0:0 S E (Full, 2) - -";
 
 #[test]
 fn a_line_stops_the_server_where_the_history_is_full(rt: HostRuntime) -> Result<(), Fail> {

@@ -1,6 +1,7 @@
 // What is told of lines: their entries in short, and what was put to their peers.
+use crate::ticking::FIRST_SECOND;
 use cts_base::{Bytes, Memory};
-use cts_entry::What;
+use cts_entry::{Entry, What};
 use cts_outside::MemDialer;
 use cts_table::Hall;
 use cts_trace::lend;
@@ -8,16 +9,38 @@ use std::alloc::Global;
 
 /// Each entry of a maker in short: O for Opened, P for a packet and its length, with a * where it was stored, C for Closed and why, the bytes that the first stage held, and
 /// how many packets were not posted and how many entries for the peer not put; K for a command and its interface, number and bytes, U for an Unrouted entry,
-/// why it is one and its bytes; S for Stop and E for Ended.
+/// why it is one and its bytes; S for Stop and E for Ended. A `!` stands at the end where the clock did not go on from entry to entry.
 pub fn said(alloc: Global, hall: &Hall, by: u32) -> Result<String, Memory> {
     let mut text = String::new(alloc);
+    let mut least = FIRST_SECOND;
     for n in 0..hall.count() {
         let entry = lend(hall, n);
         if entry.by == by {
             tell(&mut text, &word(alloc, &entry.what)?)?;
+            least = least_after(entry, least);
         }
     }
+    if least == u32::MAX {
+        text.push('!')?;
+    }
     Ok(text)
+}
+
+/// The least second of the next entry, by that of this one: a later one than that of an Opened, and no earlier one than that of any other. It is the greatest of
+/// all where this entry is too early. Opened and Closed have a time of the clock; any other that shows none of it, as a packet that brings its own, is left out.
+fn least_after(entry: &Entry, least: u32) -> u32 {
+    let second = entry.time.seconds;
+    let of_clock = matches!(entry.what, What::Opened | What::Closed { .. });
+    if second < FIRST_SECOND && !of_clock {
+        return least;
+    }
+    if second < least {
+        return u32::MAX;
+    }
+    match entry.what {
+        What::Opened => second.saturating_add(1),
+        _ => second,
+    }
 }
 
 /// Appends a word and a blank.
