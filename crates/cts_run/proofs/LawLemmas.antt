@@ -24,7 +24,7 @@ use Rattle.cts_run.specs.Command.{IsDone, IsDueOf, IsOutcome, Outcome, misused, 
 use Rattle.cts_run.specs.Demo.{definitions_name, demo_files, demo_site, site_name}
 use Rattle.cts_run.specs.Dump.{AreDumped, AreLines, GoesOn, IsDump, IsFileDump, dump_answer, head_after, log_phase, other_head}
 use Rattle.cts_run.specs.Endings.{halt_status}
-use Rattle.cts_run.specs.Laws.{HasOneOutcome, HasOutcome, HasRefused, IsBadLog, IsGoodLog, IsRefusedLog, IsShortOf, IsWholeLog, ShortExactly}
+use Rattle.cts_run.specs.Laws.{HasOneOutcome, HasOutcome, HasRefused, IsBadLog, IsGoodLog, IsRefusedLog, IsShortFor, IsWholeLog, ShortExactly}
 use Rattle.cts_run.specs.Load.{bytes_of, definitions_asked, definitions_phase, definitions_read, digest_asked, events_asked, script_phase, site_asked, site_phase, site_phases, site_read}
 use Rattle.cts_run.specs.Load.Files.{log_limit, within}
 use Rattle.cts_run.specs.Phases.{Phase, file_halt, first_halt}
@@ -147,14 +147,14 @@ module _ (stock : List Meaning) (files : List ℕ → Option (List ℕ)) (defini
   past_before : (acts : List Act) (due : Result (Unit {0}) Halt) → first_halt before ≡ None → Due (before ++ rest) acts due → Due rest acts due
   past_before acts due e m = subst (λ (o : Option Halt). MatchOption o (done acts due) (λ h. (acts ≡ []) × (due ≡ Err h))) (first_past before rest e) m
 
-  by_kind : (kind : Option Kind) (acts : List Act) (due : Result (Unit {0}) Halt) → short_kind stock x ≡ kind → first_halt before ≡ None → Due rest acts due → (outcome_of [] due).status ≡ is.ShelfEmpty → IsShortOf stock files definitions site x
+  by_kind : (kind : Option Kind) (acts : List Act) (due : Result (Unit {0}) Halt) → short_kind stock x ≡ kind → first_halt before ≡ None → Due rest acts due → (outcome_of [] due).status ≡ is.ShelfEmpty → IsShortFor stock files definitions site x
   by_kind (Some kind) acts due k e m h = record { taken = e; kind = kind; short = k }
   by_kind None acts due k e m h =
       let none : (shelf_phase stock x).halts ≡ None = ap (option_map (short_halt stock x)) k in
       let m' = subst (λ (o : Option Halt). MatchOption o (done acts due) (λ h. (acts ≡ []) × (due ≡ Err h))) (first_past (shelf_phase stock x ∷ []) after (none_alone (shelf_phase stock x) none)) m in
       absurd (never acts due m' h)
 
-  by_first : (first : Option Halt) (acts : List Act) (due : Result (Unit {0}) Halt) → first_halt before ≡ first → Other is.ShelfEmpty shelf_is_other first → Due (before ++ rest) acts due → (outcome_of [] due).status ≡ is.ShelfEmpty → IsShortOf stock files definitions site x
+  by_first : (first : Option Halt) (acts : List Act) (due : Result (Unit {0}) Halt) → first_halt before ≡ first → Other is.ShelfEmpty shelf_is_other first → Due (before ++ rest) acts due → (outcome_of [] due).status ≡ is.ShelfEmpty → IsShortFor stock files definitions site x
   by_first None acts due e o m h = by_kind (short_kind stock x) acts due refl e (past_before acts due e m) h
   by_first (Some f) acts due e o m h = absurd (o (front_status acts due f e m h))
     where
@@ -163,10 +163,10 @@ module _ (stock : List Meaning) (files : List ℕ → Option (List ℕ)) (defini
           let m' = subst (λ (o : Option Halt). MatchOption o (done acts due) (λ y. (acts ≡ []) × (due ≡ Err y))) (first_front before rest f e) m in
           sym (ap (λ (d : Result (Unit {0}) Halt). (outcome_of [] d).status) m'.1) ∙ h
 
-  pub short_where : (acts : List Act) (due : Result (Unit {0}) Halt) → Due (before ++ rest) acts due → (outcome_of [] due).status ≡ is.ShelfEmpty → IsShortOf stock files definitions site x
+  pub short_where : (acts : List Act) (due : Result (Unit {0}) Halt) → Due (before ++ rest) acts due → (outcome_of [] due).status ≡ is.ShelfEmpty → IsShortFor stock files definitions site x
   short_where acts due m h = by_first (first_halt before) acts due refl (of_site is.ShelfEmpty shelf_is_other files definitions site) m h
 
-  short_told : (acts : List Act) (due : Result (Unit {0}) Halt) (o : Outcome) → o ≡ outcome_of acts due → Due (before ++ rest) acts due → IsShortOf stock files definitions site x → o.status ≡ is.ShelfEmpty
+  short_told : (acts : List Act) (due : Result (Unit {0}) Halt) (o : Outcome) → o ≡ outcome_of acts due → Due (before ++ rest) acts due → IsShortFor stock files definitions site x → o.status ≡ is.ShelfEmpty
   short_told acts due o e m s =
       let short : first_halt rest ≡ Some (short_halt stock x s.kind) = ap (λ (t : Option Kind). option_or (option_map (short_halt stock x) t) (first_halt after)) s.short in
       let m' = subst (λ (t : Option Halt). MatchOption t (done acts due) (λ y. (acts ≡ []) × (due ≡ Err y))) (first_past before rest s.taken ∙ short) m in

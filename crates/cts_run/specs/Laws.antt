@@ -45,16 +45,20 @@ abbrev pub HasOutcome : Type 0
 HasOutcome = (stock : List Meaning) (files : List ℕ → Option (List ℕ)) (asked : Option Command) → (o : Outcome) × IsOutcome stock files asked o
 
 -- Definitions and a site are taken, and the chains of the site whose world is made need more boxes of a kind than there are.
-pub record IsShortOf (stock : List Meaning) (files : List ℕ → Option (List ℕ)) (definitions site : List ℕ) (made : SiteData) : Type 0 where
+pub record IsShortFor (stock : List Meaning) (files : List ℕ → Option (List ℕ)) (definitions site : List ℕ) (made : SiteData) : Type 0 where
   pub taken : first_halt (site_phases files definitions site) ≡ None
   pub kind : Kind
   pub short : short_kind stock made ≡ Some kind
 
+-- the same where that is the site of the files
+abbrev pub IsShortOf : List Meaning → (List ℕ → Option (List ℕ)) → List ℕ → List ℕ → Type 0
+IsShortOf stock files definitions site = IsShortFor stock files definitions site (site_asked files definitions site)
+
 -- A replay of such a site is asked for; or a playback, and the site that plays logs is such; or a rehearsal, and the demo's site is such.
 abbrev pub IsShort : List Meaning → (List ℕ → Option (List ℕ)) → Option Command → Type 0
-IsShort stock files (Some (Replay definitions site script)) = IsShortOf stock files definitions site (site_asked files definitions site)
-IsShort stock files (Some (Rehearse number)) = IsShortOf stock demo_files definitions_name site_name (site_asked demo_files definitions_name site_name)
-IsShort stock files (Some (Play definitions site log)) = IsShortOf stock files definitions site (played 2 (site_asked files definitions site))
+IsShort stock files (Some (Replay definitions site script)) = IsShortOf stock files definitions site
+IsShort stock files (Some (Rehearse number)) = IsShortOf stock demo_files definitions_name site_name
+IsShort stock files (Some (Play definitions site log)) = IsShortFor stock files definitions site (played 2 (site_asked files definitions site))
 IsShort stock files asked = ⊥
 
 -- the outcome has the status of a shelf that is short exactly there
