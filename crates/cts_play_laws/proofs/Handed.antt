@@ -1,6 +1,7 @@
 -- Packets are handed on.
-use Rattle.std.proofs.Common.{◌≡◌, ℕ, ◌<◌, Bool, true, false, ◌&&◌, List, [], ◌∷◌, ◌++◌, length, map, refl, sym, ◌∙◌, ap, subst, arith}
-use Rattle.std.specs.Prelude.{not}
+use Rattle.std.proofs.Common.{◌≡◌, ℕ, ◌<◌, Bool, true, false, ◌&&◌, List, [], ◌∷◌, ◌++◌, ◌+◌, length, map, refl, sym, ◌∙◌, ap, subst, arith}
+use Rattle.std.specs.Prelude.{not, sum_by}
+use Rattle.std.proofs.lemmas.List.Sums.{sum_by-cons}
 use Rattle.std.specs.List.{AllByRecursion, filter}
 use Rattle.cts_connection.specs.Routings.{packet_names, site_routing}
 use Rattle.cts_def.specs.Names.{names_at}
@@ -10,7 +11,7 @@ use Rattle.cts_def.specs.Sites.{SiteData, targets_at}
 use Rattle.cts_def.specs.declared.ident.Ident.{Ident}
 use Rattle.cts_def.specs.declared.ident.Ident.TheVariants.{Known, Unknown}
 use Rattle.cts_def.specs.declared.time.Time.{Time}
-use Rattle.cts_entry.specs.Histories.{bytes_of, stored_of}
+use Rattle.cts_entry.specs.Histories.{bytes_for, bytes_of, stored_of}
 use Rattle.cts_entry.specs.Queues.{is_refused}
 use Rattle.cts_entry.specs.Workers.{is_interface}
 use Rattle.cts_entry.specs.declared.entry.Entry.{Entry}
@@ -131,6 +132,14 @@ module _ (d : PreidentifiedData) (above below : SiteData) (m : ℕ) (h : IsHeare
 
   pub device : IsDevice (is_interface below) (framings_at below) m (cut_by d)
   device = record { is_interface = h.is_interface; chain_is = h.chain; sound = is_sound (Preidentified d); all_bytes = refl }
+
+-- and has as many bytes
+pub out_bytes : (d : PreidentifiedData) (above below : SiteData) (m : ℕ) (t : IsHearer d above below m) (es : List Entry)
+    → sum_by (λ (o : Output). length o.bytes) (map (out d above below m t) es) ≡ sum_by (λ (e : Entry). bytes_for e.what) es
+out_bytes d above below m t [] = refl
+out_bytes d above below m t (e ∷ es) =
+    sum_by-cons (λ (o : Output). length o.bytes) (out d above below m t e) (map (out d above below m t) es)
+    ∙ (ap (λ n. bytes_for e.what + n) (out_bytes d above below m t es) ∙ sym (sum_by-cons (λ (x : Entry). bytes_for x.what) e es))
 
 pub are_handed_on : AreHandedOn
 are_handed_on d above base m es pieces more times dids h all is runs =

@@ -35,7 +35,7 @@ use Rattle.cts_play_laws.specs.Hearing.{HasRoomFor, MayCome, hearing}
 use Rattle.cts_play_laws.specs.Hubs.{AreTied, CanBeRouted, HandsOn, HaveShortTimes, HubsRun, IsStretch, routed_packets}
 use Rattle.cts_play_laws.specs.Keeping.{HaveStages, IsOfMaker}
 use Rattle.cts_play_laws.proofs.Ends.{sites_end}
-use Rattle.cts_play_laws.proofs.Handed.{all_back, device, out}
+use Rattle.cts_play_laws.proofs.Handed.{all_back, device, out, out_bytes}
 use Rattle.cts_play_laws.proofs.Hubbing.{all_below, hubs_hand_on, same_stream}
 use Rattle.cts_play_laws.proofs.Kept.{runs_keep_packets}
 use Rattle.cts_play_laws.proofs.Put.{last_put_is_routed}
@@ -146,13 +146,6 @@ module _ (above : SiteData) (sound : IsSoundSite above) (slot : ℕ) where
       can_by false h rec = rw h rec
 
 -- ---- room below
-
-out_bytes : (d : PreidentifiedData) (above below : SiteData) (m : ℕ) (t : IsHearer d above below m) (es : List Entry)
-    → sum_by (λ (o : Output). length o.bytes) (map (out d above below m t) es) ≡ sum_by (λ (e : Entry). bytes_for e.what) es
-out_bytes d above below m t [] = refl
-out_bytes d above below m t (e ∷ es) =
-    sum_by-cons (λ (o : Output). length o.bytes) (out d above below m t e) (map (out d above below m t) es)
-    ∙ (ap (λ n. bytes_for e.what + n) (out_bytes d above below m t es) ∙ sym (sum_by-cons (λ (x : Entry). bytes_for x.what) e es))
 
 module _ (d : PreidentifiedData) (above below : SiteData) (m slot : ℕ) (t : IsHearer d above below m) where
   abbrev given : List Entry → List Output

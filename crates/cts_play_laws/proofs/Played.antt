@@ -40,7 +40,7 @@ module _ (layout : ℕ) (heading : Heading) (bytes : List ℕ) (short : length (
   put_whole = rw not_large refl
 
 module _ (layout : ℕ) (above below : SiteData) where
-  all_put : (es : List Entry) → AllByRecursion (CanPlay layout above below) es
+  pub all_put : (es : List Entry) → AllByRecursion (CanPlay layout above below) es
       → (stream (relayed (log_frames layout) above) es ≡ flat_map (λ e. laid_out (has_flags layout) (packed above e).heading (packed above e).bytes) es) × (spoken (relayed (log_frames layout) above) es ≡ es)
   all_put [] all = (refl, refl)
   all_put (e ∷ es) all =

@@ -1,5 +1,5 @@
 // Laws of the definitions. Each function does nothing: its contract is the law.
-ghost use Rattle.cts_play_laws.specs.Files.{LogFilesArePlayed};
+ghost use Rattle.cts_play_laws.specs.Files.{LogFilesArePlayed, LogFilesAreRead, LogFilesEnd};
 ghost use Rattle.cts_play_laws.specs.Handing.{AreHandedOn};
 ghost use Rattle.cts_play_laws.specs.Hearing.{SitesEnd, SitesHear};
 ghost use Rattle.cts_play_laws.specs.Hubs.{HubsHandOn, HubsHandOnAll, HubsRun};
@@ -30,13 +30,15 @@ pub fn hubs_hand_on()
     ensures run { HubsRun }
 {}
 
-/// A log of packets that is played gives a history with exactly its packets. Where every interface is logged, the layout carries the stored
-/// flags or there are none, and nobody injects or sets anything, its current bytes, its counts and its limits events are those of the
-/// history that was logged, but for the numbers of entries.
+/// A log of packets that is played gives a history with exactly its packets, and all is done where a history has room for them. Where
+/// every interface is logged, the layout carries the stored flags or there are none, and nobody injects or sets anything, its current
+/// bytes, its counts and its limits events are those of the history that was logged, but for the numbers of entries.
 pub fn logs_are_played()
     ensures played { LogsArePlayed }
     ensures hears { AllPlayLogs }
     ensures there { LogsArePlayedThere }
+    ensures read { LogFilesAreRead }
+    ensures ends { LogFilesEnd }
     ensures files { LogFilesArePlayed }
     ensures brought { BroughtSaysAll }
     ensures values { PlayedSaysSame }

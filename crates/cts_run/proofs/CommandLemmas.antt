@@ -29,6 +29,8 @@ use Rattle.cts_run.specs.Lines.{counts_line, log_fault_line, memory_line, read_f
 use Rattle.cts_run.specs.Load.{bytes_of, definitions_asked, digest_asked, events_asked, script_phase, site_asked, site_phases}
 use Rattle.cts_run.specs.Load.Files.{GivesBytes, log_limit}
 use Rattle.cts_run.specs.Phases.{FileCounts, HaltsAt, HaltsIn, IsFound, Phase, Takes, TakesAt, answer_seen, first_halt, is_fault}
+use Rattle.cts_play.specs.Played.{played}
+use Rattle.cts_run.specs.Play.{play_phases}
 use Rattle.cts_run.specs.Putting.{Printed, PutsText, SinkCounts, VaultCounts}
 use Rattle.cts_run.specs.Rehearsal.{IsRehearsal, Rehearses, rehearsal_acts, rehearsal_answer}
 use Rattle.cts_run.specs.Replay.{IsReplay, Replays, replay_acts, replay_answer}
@@ -43,13 +45,14 @@ use Rattle.cts_run.specs.declared.halt.status.Status.{Status}
 use Rattle.cts_run.specs.declared.halt.status.Status.TheVariants as is
 use Rattle.cts_run.specs.declared.putting.Undone.{Undone}
 use Rattle.cts_run.specs.declared.words.Command.{Command}
-use Rattle.cts_run.specs.declared.words.Command.TheVariants.{Check, Replay, Rehearse, Dump, Extract}
+use Rattle.cts_run.specs.declared.words.Command.TheVariants.{Check, Replay, Rehearse, Dump, Play, Extract}
 use Rattle.cts_run.proofs.ActLemmas.{all_of, put_done, sink_of, vault_of}
 use Rattle.cts_run.proofs.DumpedLemmas.{IsFileDue, another_head, file_dumped, same_head, some_dumped}
 use Rattle.cts_run.proofs.EndingLemmas.{ends_with, fails_still}
 use Rattle.cts_run.proofs.ExtractLemmas.{some_table}
 use Rattle.cts_run.proofs.LoadLemmas.{site_asked_sound}
 use Rattle.cts_run.proofs.LogLemmas.{replay_is}
+use Rattle.cts_run.proofs.PlayedLemmas.{some_play}
 use Rattle.cts_run.proofs.PhaseLemmas.{first_past, front, here, none_alone, past, read_past}
 
 -- acts and an end of which this holds
@@ -405,6 +408,8 @@ some_outcome stock files (Check definitions site) = some_due (phases stock files
 some_outcome stock files (Replay definitions site script) = some_due (phases stock files (Replay definitions site script)) (IsDone files (Replay definitions site script)) (some_done stock definitions site script files)
 some_outcome stock files (Rehearse n) = some_due (phases stock files (Rehearse n)) (IsDone files (Rehearse n)) (some_rehearsed stock n files)
 some_outcome stock files (Dump logs) = some_due (phases stock files (Dump logs)) (IsDone files (Dump logs)) (some_dumped files [] logs)
+some_outcome stock files (Play definitions site log) =
+    some_due (phases stock files (Play definitions site log)) (IsDone files (Play definitions site log)) (some_play (site_asked files definitions site) (bytes_of (files log)))
 some_outcome stock files (Extract definitions log wanted) =
     some_due (phases stock files (Extract definitions log wanted)) (IsDone files (Extract definitions log wanted)) (some_table (definitions_asked files definitions) wanted (bytes_of (files log)))
 
@@ -606,5 +611,6 @@ command_shelf (Some all) command asked answer status old new out out' e k h = su
     by_command (Check definitions site) k = k
     by_command (Dump logs) k = k
     by_command (Extract definitions log wanted) k = k
+    by_command (Play definitions site log) k = shelf_status (played 2 (site_asked all definitions site)) (first_halt (play_phases old all definitions site log)) answer status old new out out' k h
     by_command (Rehearse n) k = shelf_status demo_site (first_halt (first_phases old demo_files definitions_name site_name)) answer status old new out out' k h
     by_command (Replay definitions site script) k = shelf_status (site_asked all definitions site) (first_halt (first_phases old all definitions site)) answer status old new out out' k h

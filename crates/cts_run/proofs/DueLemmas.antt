@@ -36,7 +36,7 @@ module _ (stock : List Meaning) (files : List ℕ → Option (List ℕ)) (asked 
   due_in : Answers stock files asked status old new → (nothing_failed → Completes stock files asked status) → AreDue stock files asked nothing_failed status
   due_in a c = record {
     short = comes is.ShelfEmpty (IsShort stock files asked) (λ o d. d.0) (short_exactly stock files asked) a c;
-    refused = comes is.LogRefused (IsRefused files asked) (λ o d. d.0) (refused_exactly stock files asked) a c;
+    refused = comes is.LogRefused (IsRefused stock files asked) (λ o d. d.0) (refused_exactly stock files asked) a c;
     unknown = comes is.UnknownName (IsUnknownName files asked) (λ o d. d.0) (unknown_exactly stock files asked) a c;
   }
 

@@ -16,6 +16,7 @@ use Rattle.cts_log.proofs.OneText.{entries_have_one_line}
 use Rattle.cts_log.proofs.ReadOnce.{logs_are_read_once, no_head_no_read}
 use Rattle.cts_log.specs.Logged.{Logged}
 use Rattle.cts_log.specs.Reading.{IsLogRead}
+use Rattle.cts_play.specs.Played.{played}
 use Rattle.cts_proto.specs.Meaning.{Meaning}
 use Rattle.cts_rehearsal.specs.Generated.{generated}
 use Rattle.cts_run.specs.Acts.{Act, puts}
@@ -23,10 +24,11 @@ use Rattle.cts_run.specs.Command.{IsDone, IsDueOf, IsOutcome, Outcome, misused, 
 use Rattle.cts_run.specs.Demo.{definitions_name, demo_files, demo_site, site_name}
 use Rattle.cts_run.specs.Dump.{AreDumped, AreLines, GoesOn, IsDump, IsFileDump, dump_answer, head_after, log_phase, other_head}
 use Rattle.cts_run.specs.Endings.{halt_status}
-use Rattle.cts_run.specs.Laws.{HasOneOutcome, HasOutcome, HasRefused, IsBadLog, IsGoodLog, IsRefusedLog, IsShortOf, IsWholeLog, ShortExactly}
+use Rattle.cts_run.specs.Laws.{HasOneOutcome, HasOutcome, HasRefused, IsBadLog, IsGoodLog, IsRefusedLog, IsShortFor, IsWholeLog, ShortExactly}
 use Rattle.cts_run.specs.Load.{bytes_of, definitions_asked, definitions_phase, definitions_read, digest_asked, events_asked, script_phase, site_asked, site_phase, site_phases, site_read}
 use Rattle.cts_run.specs.Load.Files.{log_limit, within}
 use Rattle.cts_run.specs.Phases.{Phase, file_halt, first_halt}
+use Rattle.cts_run.specs.Play.{log_phases}
 use Rattle.cts_run.specs.Rehearsal.{IsRehearsal, rehearsal_acts, rehearsal_answer}
 use Rattle.cts_run.specs.Replay.{IsReplay, replay_acts, replay_answer}
 use Rattle.cts_run.specs.Start.{shelf_phase, short_halt, short_kind}
@@ -37,11 +39,13 @@ use Rattle.cts_run.specs.declared.halt.file_kind.FileKind.TheVariants.{Configura
 use Rattle.cts_run.specs.declared.halt.status.Status.{Status}
 use Rattle.cts_run.specs.declared.halt.status.Status.TheVariants as is
 use Rattle.cts_run.specs.declared.words.Command.{Command}
-use Rattle.cts_run.specs.declared.words.Command.TheVariants.{Check, Replay, Rehearse, Dump, Extract}
+use Rattle.cts_run.specs.declared.words.Command.TheVariants.{Check, Replay, Rehearse, Dump, Play, Extract}
 use Rattle.cts_run.proofs.CommandLemmas.{some_outcome}
 use Rattle.cts_run.proofs.DumpedLemmas.{IsFileDue, another_head, same_head}
 use Rattle.cts_run.proofs.StatusLemmas.{Other, has_status, log_is_other, of_check, of_file, of_phases, of_rehearsal, of_replay, of_script, of_site, other_or, outcome_status, shelf_is_other, status_alone}
 use Rattle.cts_run.proofs.TableLawLemmas.{extract_other, one_table}
+use Rattle.cts_run.proofs.PlayLawLemmas.{play_after}
+use Rattle.cts_run.proofs.PlayedLemmas.{one_play}
 use Rattle.cts_run.proofs.PhaseLemmas.{first_front, first_past, none_alone}
 
 -- ---- one outcome
@@ -105,6 +109,7 @@ one_done files (Check definitions site) acts other due answer h k = (h.0 ∙ sym
 one_done files (Replay definitions site script) acts other due answer h k = one_replay (digest_asked files definitions) (site_asked files definitions site) script (events_asked files (site_asked files definitions site) script) acts other due answer h k
 one_done files (Rehearse n) acts other due answer h k = one_rehearsal demo_site n acts other due answer h k
 one_done files (Dump logs) acts other due answer h k = one_dumped files [] logs acts other due answer h k
+one_done files (Play definitions site log) acts other due answer h k = one_play (site_asked files definitions site) (bytes_of (files log)) acts other due answer h k
 one_done files (Extract definitions log w) acts other due answer h k = one_table (definitions_asked files definitions) w (bytes_of (files log)) acts other due answer h k
 
 one_by : (h : Option Halt) (files : List ℕ → Option (List ℕ)) (command : Command) (acts other : List Act) (due answer : Result (Unit {0}) Halt)
@@ -127,11 +132,8 @@ has_outcome stock files (Some command) =
 -- ---- a shelf that is short
 
 -- phases in which a site is read and its world is made, and those after them, which never end so
-module _ (stock : List Meaning) (files : List ℕ → Option (List ℕ)) (definitions site : List ℕ) (after : List Phase) (done : List Act → Result (Unit {0}) Halt → Type 0)
+module _ (stock : List Meaning) (files : List ℕ → Option (List ℕ)) (definitions site : List ℕ) (x : SiteData) (after : List Phase) (done : List Act → Result (Unit {0}) Halt → Type 0)
     (never : (acts : List Act) (due : Result (Unit {0}) Halt) → IsDueOf after done acts due → (outcome_of [] due).status ≡ is.ShelfEmpty → ⊥) where
-  abbrev x : SiteData
-  x = site_asked files definitions site
-
   abbrev before : List Phase
   before = site_phases files definitions site
 
@@ -145,14 +147,14 @@ module _ (stock : List Meaning) (files : List ℕ → Option (List ℕ)) (defini
   past_before : (acts : List Act) (due : Result (Unit {0}) Halt) → first_halt before ≡ None → Due (before ++ rest) acts due → Due rest acts due
   past_before acts due e m = subst (λ (o : Option Halt). MatchOption o (done acts due) (λ h. (acts ≡ []) × (due ≡ Err h))) (first_past before rest e) m
 
-  by_kind : (kind : Option Kind) (acts : List Act) (due : Result (Unit {0}) Halt) → short_kind stock x ≡ kind → first_halt before ≡ None → Due rest acts due → (outcome_of [] due).status ≡ is.ShelfEmpty → IsShortOf stock files definitions site
+  by_kind : (kind : Option Kind) (acts : List Act) (due : Result (Unit {0}) Halt) → short_kind stock x ≡ kind → first_halt before ≡ None → Due rest acts due → (outcome_of [] due).status ≡ is.ShelfEmpty → IsShortFor stock files definitions site x
   by_kind (Some kind) acts due k e m h = record { taken = e; kind = kind; short = k }
   by_kind None acts due k e m h =
       let none : (shelf_phase stock x).halts ≡ None = ap (option_map (short_halt stock x)) k in
       let m' = subst (λ (o : Option Halt). MatchOption o (done acts due) (λ h. (acts ≡ []) × (due ≡ Err h))) (first_past (shelf_phase stock x ∷ []) after (none_alone (shelf_phase stock x) none)) m in
       absurd (never acts due m' h)
 
-  by_first : (first : Option Halt) (acts : List Act) (due : Result (Unit {0}) Halt) → first_halt before ≡ first → Other is.ShelfEmpty shelf_is_other first → Due (before ++ rest) acts due → (outcome_of [] due).status ≡ is.ShelfEmpty → IsShortOf stock files definitions site
+  by_first : (first : Option Halt) (acts : List Act) (due : Result (Unit {0}) Halt) → first_halt before ≡ first → Other is.ShelfEmpty shelf_is_other first → Due (before ++ rest) acts due → (outcome_of [] due).status ≡ is.ShelfEmpty → IsShortFor stock files definitions site x
   by_first None acts due e o m h = by_kind (short_kind stock x) acts due refl e (past_before acts due e m) h
   by_first (Some f) acts due e o m h = absurd (o (front_status acts due f e m h))
     where
@@ -161,10 +163,10 @@ module _ (stock : List Meaning) (files : List ℕ → Option (List ℕ)) (defini
           let m' = subst (λ (o : Option Halt). MatchOption o (done acts due) (λ y. (acts ≡ []) × (due ≡ Err y))) (first_front before rest f e) m in
           sym (ap (λ (d : Result (Unit {0}) Halt). (outcome_of [] d).status) m'.1) ∙ h
 
-  pub short_where : (acts : List Act) (due : Result (Unit {0}) Halt) → Due (before ++ rest) acts due → (outcome_of [] due).status ≡ is.ShelfEmpty → IsShortOf stock files definitions site
+  pub short_where : (acts : List Act) (due : Result (Unit {0}) Halt) → Due (before ++ rest) acts due → (outcome_of [] due).status ≡ is.ShelfEmpty → IsShortFor stock files definitions site x
   short_where acts due m h = by_first (first_halt before) acts due refl (of_site is.ShelfEmpty shelf_is_other files definitions site) m h
 
-  short_told : (acts : List Act) (due : Result (Unit {0}) Halt) (o : Outcome) → o ≡ outcome_of acts due → Due (before ++ rest) acts due → IsShortOf stock files definitions site → o.status ≡ is.ShelfEmpty
+  short_told : (acts : List Act) (due : Result (Unit {0}) Halt) (o : Outcome) → o ≡ outcome_of acts due → Due (before ++ rest) acts due → IsShortFor stock files definitions site x → o.status ≡ is.ShelfEmpty
   short_told acts due o e m s =
       let short : first_halt rest ≡ Some (short_halt stock x s.kind) = ap (λ (t : Option Kind). option_or (option_map (short_halt stock x) t) (first_halt after)) s.short in
       let m' = subst (λ (t : Option Halt). MatchOption t (done acts due) (λ y. (acts ≡ []) × (due ≡ Err y))) (first_past before rest s.taken ∙ short) m in
@@ -313,13 +315,20 @@ short_exactly stock files (Some (Extract definitions log w)) o h = (
 short_exactly stock files (Some (Replay definitions site script)) o h =
     let done = IsDone files (Replay definitions site script) in
     let after = script_phase files (site_asked files definitions site) script ∷ [] in (
-      λ e. short_where stock files definitions site after done (replay_never files definitions site script) h.acts h.due h.is (has_status is.ShelfEmpty shelf_is_other h.acts h.due o h.outcome e),
-      λ s. short_told stock files definitions site after done (replay_never files definitions site script) h.acts h.due o h.outcome h.is s,
+      λ e. short_where stock files definitions site (site_asked files definitions site) after done (replay_never files definitions site script) h.acts h.due h.is (has_status is.ShelfEmpty shelf_is_other h.acts h.due o h.outcome e),
+      λ s. short_told stock files definitions site (site_asked files definitions site) after done (replay_never files definitions site script) h.acts h.due o h.outcome h.is s,
+    )
+short_exactly stock files (Some (Play definitions site log)) o h =
+    let y = site_asked files definitions site in
+    let done = IsDone files (Play definitions site log) in
+    let never = play_after is.ShelfEmpty shelf_is_other (λ k. absurd (cc k)) files y log in (
+      λ e. short_where stock files definitions site (played 2 y) (log_phases files log) done never h.acts h.due h.is (has_status is.ShelfEmpty shelf_is_other h.acts h.due o h.outcome e),
+      λ s. short_told stock files definitions site (played 2 y) (log_phases files log) done never h.acts h.due o h.outcome h.is s,
     )
 short_exactly stock files (Some (Rehearse n)) o h =
     let done = IsDone files (Rehearse n) in (
-      λ e. short_where stock demo_files definitions_name site_name [] done (rehearsal_never files n) h.acts h.due h.is (has_status is.ShelfEmpty shelf_is_other h.acts h.due o h.outcome e),
-      λ s. short_told stock demo_files definitions_name site_name [] done (rehearsal_never files n) h.acts h.due o h.outcome h.is s,
+      λ e. short_where stock demo_files definitions_name site_name (site_asked demo_files definitions_name site_name) [] done (rehearsal_never files n) h.acts h.due h.is (has_status is.ShelfEmpty shelf_is_other h.acts h.due o h.outcome e),
+      λ s. short_told stock demo_files definitions_name site_name (site_asked demo_files definitions_name site_name) [] done (rehearsal_never files n) h.acts h.due o h.outcome h.is s,
     )
 
 -- ---- a log that is refused
@@ -401,9 +410,10 @@ rehearsal_not_log stock files n acts due m =
     (other_or s other (shelf_phase stock demo_site).halts _ (no_log_short stock demo_site (short_kind stock demo_site)) tt)))
     (λ d e. of_rehearsal s other demo_site n acts due d e) m
 
--- Which outcomes have the status of a log that is refused, of commands that put no columns.
+-- Which outcomes have the status of a log that is refused, of commands that put no columns and play nothing.
 abbrev pub RefusedSo : (List ℕ → Option (List ℕ)) → Option Command → Outcome → Type 0
 RefusedSo files (Some (Extract definitions log w)) o = Unit {0}
+RefusedSo files (Some (Play definitions site log)) o = Unit {0}
 RefusedSo files asked o = (o.status ≡ is.LogRefused) ↔ IsBadLog files asked
 
 pub dumps_refused : (stock : List Meaning) (files : List ℕ → Option (List ℕ)) (asked : Option Command) (o : Outcome) → IsOutcome stock files asked o → RefusedSo files asked o
@@ -425,3 +435,4 @@ dumps_refused stock files (Some (Dump logs)) o h = (
   λ b. log_told stock files logs o h b,
 )
 dumps_refused stock files (Some (Extract definitions log w)) o h = tt
+dumps_refused stock files (Some (Play definitions site log)) o h = tt

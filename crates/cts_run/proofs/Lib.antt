@@ -10,10 +10,15 @@ pub mod LogLemmas
 pub mod DumpLemmas
 pub mod DumpedLemmas
 pub mod ExtractLemmas
+pub mod EventLemmas
+pub mod PlayLemmas
+pub mod PlayedLemmas
 pub mod CommandLemmas
 pub mod ExtractingLemmas
+pub mod PlayingLemmas
 pub mod StatusLemmas
 pub mod TableLawLemmas
+pub mod PlayLawLemmas
 pub mod LawLemmas
 pub mod RefusedLemmas
 pub mod DueLemmas

@@ -32,7 +32,7 @@ use Rattle.cts_trace.specs.Streams.{lay_out}
 
 -- ---- one put
 
-text_puts : (text : List ℕ) → text_of (puts text) ≡ text
+pub text_puts : (text : List ℕ) → text_of (puts text) ≡ text
 text_puts [] = refl
 text_puts (c ∷ text) = append-nil (c ∷ text)
 

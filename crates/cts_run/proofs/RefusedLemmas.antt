@@ -10,7 +10,7 @@ use Rattle.cts_run.specs.Command.{IsDone, IsDueOf, Outcome, outcome_of, phases}
 use Rattle.cts_run.specs.Demo.{definitions_name, demo_files, demo_site, site_name}
 use Rattle.cts_run.specs.Dump.{AreDumped, head_after}
 use Rattle.cts_run.specs.Extract.{unknown_word}
-use Rattle.cts_run.specs.Laws.{IsBadTable, IsRefused, IsUnknownName, IsWholeLog, RefusedExactly, UnknownExactly}
+use Rattle.cts_run.specs.Laws.{IsBadPlay, IsBadTable, IsRefused, IsUnknownName, IsWholeLog, RefusedExactly, UnknownExactly}
 use Rattle.cts_run.specs.Load.{bytes_of, definitions_asked, definitions_phase, definitions_read, digest_asked, events_asked, site_asked, site_phase, site_read}
 use Rattle.cts_run.specs.Load.Files.{log_limit}
 use Rattle.cts_run.specs.Phases.{first_halt}
@@ -21,8 +21,9 @@ use Rattle.cts_run.specs.declared.halt.Halt.TheVariants as halt
 use Rattle.cts_run.specs.declared.halt.file_kind.FileKind.TheVariants.{Configuration}
 use Rattle.cts_run.specs.declared.halt.status.Status.{Status}
 use Rattle.cts_run.specs.declared.halt.status.Status.TheVariants as is
-use Rattle.cts_run.specs.declared.words.Command.TheVariants.{Check, Replay, Rehearse, Dump, Extract}
+use Rattle.cts_run.specs.declared.words.Command.TheVariants.{Check, Replay, Rehearse, Dump, Play, Extract}
 use Rattle.cts_run.proofs.LawLemmas.{FileEnds, dumps_refused, file_ends, never_going, status_by}
+use Rattle.cts_run.proofs.PlayLawLemmas.{SamePlay, bad_of, bad_refused, play_bad, play_other, same_play}
 use Rattle.cts_run.proofs.StatusLemmas.{Has, IsOther, Other, has_status, log_is_other, name_is_other, of_check, of_file, of_phases, of_rehearsal, of_replay, of_script, other_or, status_alone}
 use Rattle.cts_run.proofs.TableLawLemmas.{SameAsked, are_taken, past_definitions, same_asked, table_bad, table_named, table_refused_so, table_unknown_so}
 
@@ -36,14 +37,18 @@ by_side back never (inr c) = absurd (never c)
 either : {A B C : Type 0} → A ↔ B → (C → ⊥) → A ↔ (B ⊎ C)
 either e never = (λ a. inl (e.0 a), λ s. by_side e.1 never s)
 
+neither : {A B : Type 0} → (A → ⊥) → (B → ⊥) → A ⊎ B → ⊥
+neither a b (inl x) = a x
+neither a b (inr y) = b y
+
 pub refused_exactly : RefusedExactly
-refused_exactly stock files None o h = either (dumps_refused stock files None o h) (λ b. absurd (cc (b.asked_is)))
-refused_exactly stock files (Some (Check definitions site)) o h = either (dumps_refused stock files (Some (Check definitions site)) o h) (λ b. absurd (cc (b.asked_is)))
-refused_exactly stock files (Some (Replay definitions site script)) o h = either (dumps_refused stock files (Some (Replay definitions site script)) o h) (λ b. absurd (cc (b.asked_is)))
-refused_exactly stock files (Some (Rehearse n)) o h = either (dumps_refused stock files (Some (Rehearse n)) o h) (λ b. absurd (cc (b.asked_is)))
-refused_exactly stock files (Some (Dump log)) o h = either (dumps_refused stock files (Some (Dump log)) o h) (λ b. absurd (cc (b.asked_is)))
+refused_exactly stock files None o h = either (dumps_refused stock files None o h) (neither (λ b. absurd (cc (b.asked_is))) (λ b. absurd (cc (b.asked_is))))
+refused_exactly stock files (Some (Check definitions site)) o h = either (dumps_refused stock files (Some (Check definitions site)) o h) (neither (λ b. absurd (cc (b.asked_is))) (λ b. absurd (cc (b.asked_is))))
+refused_exactly stock files (Some (Replay definitions site script)) o h = either (dumps_refused stock files (Some (Replay definitions site script)) o h) (neither (λ b. absurd (cc (b.asked_is))) (λ b. absurd (cc (b.asked_is))))
+refused_exactly stock files (Some (Rehearse n)) o h = either (dumps_refused stock files (Some (Rehearse n)) o h) (neither (λ b. absurd (cc (b.asked_is))) (λ b. absurd (cc (b.asked_is))))
+refused_exactly stock files (Some (Dump log)) o h = either (dumps_refused stock files (Some (Dump log)) o h) (neither (λ b. absurd (cc (b.asked_is))) (λ b. absurd (cc (b.asked_is))))
 refused_exactly stock files (Some (Extract definitions log w)) o h = (
-  λ e. inr (refused_table (has_status is.LogRefused log_is_other h.acts h.due o h.outcome e)),
+  λ e. inr (inl (refused_table (has_status is.LogRefused log_is_other h.acts h.due o h.outcome e))),
   λ b. by_bad b,
 )
   where
@@ -60,9 +65,22 @@ refused_exactly stock files (Some (Extract definitions log w)) o h = (
         (subst (λ (v : WantedData). (log_limit < length b.file) ⊎ ((unknown_word (definitions_asked files b.definitions) v (kind_of b.file) ≡ None) × (IsWholeLog b.file → ⊥))) (sym k.wanted) b.bad) in
         ap (λ (t : Outcome). t.status) h.outcome ∙ (status_alone is.LogRefused log_is_other h.acts h.due ∙ table_refused_so files definitions log w h.acts h.due taken b.file there bad h.is)
 
-    by_bad : IsRefused files (Some (Extract definitions log w)) → o.status ≡ is.LogRefused
+    by_bad : IsRefused stock files (Some (Extract definitions log w)) → o.status ≡ is.LogRefused
     by_bad (inl b) = absurd (cc (b.asked_is))
-    by_bad (inr b) = of_words b (same_asked definitions b.definitions log b.log w b.wanted b.asked_is)
+    by_bad (inr (inl b)) = of_words b (same_asked definitions b.definitions log b.log w b.wanted b.asked_is)
+    by_bad (inr (inr b)) = absurd (cc (b.asked_is))
+refused_exactly stock files (Some (Play definitions site log)) o h = (
+  λ e. inr (inr (play_bad stock files definitions site log h.acts h.due h.is (has_status is.LogRefused log_is_other h.acts h.due o h.outcome e))),
+  λ b. by_bad b,
+)
+  where
+    of_words : (b : IsBadPlay stock files (Some (Play definitions site log))) → SamePlay definitions b.definitions site b.site log b.log → o.status ≡ is.LogRefused
+    of_words b k = ap (λ (t : Outcome). t.status) h.outcome ∙ (status_alone is.LogRefused log_is_other h.acts h.due ∙ bad_refused stock files definitions site log h.acts h.due (bad_of stock files definitions site log h.acts h.due b k) h.is)
+
+    by_bad : IsRefused stock files (Some (Play definitions site log)) → o.status ≡ is.LogRefused
+    by_bad (inl b) = absurd (cc (b.asked_is))
+    by_bad (inr (inl b)) = absurd (cc (b.asked_is))
+    by_bad (inr (inr b)) = of_words b (same_play definitions b.definitions site b.site log b.log b.asked_is)
 
 -- ---- a word that names nothing
 
@@ -118,6 +136,10 @@ unknown_exactly stock files (Some (Rehearse n)) o h = (
 )
 unknown_exactly stock files (Some (Dump log)) o h = (
   λ e. absurd (no_name_dumped files [] log h.acts h.due h.is (has_status is.UnknownName name_is_other h.acts h.due o h.outcome e)),
+  λ b. absurd (cc (b.asked_is)),
+)
+unknown_exactly stock files (Some (Play definitions site log)) o h = (
+  λ e. absurd (play_other is.UnknownName name_is_other (λ k. absurd (cc k)) (λ k. absurd (cc k)) stock files definitions site log h.acts h.due h.is (has_status is.UnknownName name_is_other h.acts h.due o h.outcome e)),
   λ b. absurd (cc (b.asked_is)),
 )
 unknown_exactly stock files (Some (Extract definitions log w)) o h = (

@@ -43,7 +43,7 @@ one_table d w file acts other due answer (inr a) (inr b) = (a.nothing ∙ sym b.
 
 -- statuses that columns do not have
 module _ (s : Status) (other : IsOther s) (log_other : is.LogRefused ≢ s) where
-  ends_other : (place n : ℕ) (whole : Bool) → nat_eq place n ≡ whole → (outcome_of [] (dump_answer place n)).status ≡ s → ⊥
+  pub ends_other : (place n : ℕ) (whole : Bool) → nat_eq place n ≡ whole → (outcome_of [] (dump_answer place n)).status ≡ s → ⊥
   ends_other place n true e = rw e (λ k. other.ok k)
   ends_other place n false e = rw e (λ k. log_other k)
 
@@ -54,7 +54,7 @@ module _ (s : Status) (other : IsOther s) (log_other : is.LogRefused ≢ s) wher
   size_other bytes true e = rw e log_other
   size_other bytes false e = rw e tt
 
-  columns_phase_other : (log : List ℕ) (file : Option (List ℕ)) → Other s other (file_halt log (within log_limit (halt.LogRefused log_limit) (λ b. None)) file)
+  pub columns_phase_other : (log : List ℕ) (file : Option (List ℕ)) → Other s other (file_halt log (within log_limit (halt.LogRefused log_limit) (λ b. None)) file)
   columns_phase_other log None = other.absent
   columns_phase_other log (Some bytes) = size_other bytes (nat_lt log_limit (length bytes)) refl
 
@@ -85,43 +85,43 @@ module _ (s : Status) (other : IsOther s) (log_other : is.LogRefused ≢ s) wher
 
 -- ---- where the file ends
 
-at_end : (place n : ℕ) → place ≡ n → (outcome_of [] (dump_answer place n)).status ≢ is.LogRefused
+pub at_end : (place n : ℕ) → place ≡ n → (outcome_of [] (dump_answer place n)).status ≢ is.LogRefused
 at_end place n e = let same : nat_eq place n ≡ true = grind (arith, nat_tests) in rw same (λ k. absurd (cc k))
 
-before_end : (place n : ℕ) → nat_eq place n ≡ false → (outcome_of [] (dump_answer place n)).status ≡ is.LogRefused
+pub before_end : (place n : ℕ) → nat_eq place n ≡ false → (outcome_of [] (dump_answer place n)).status ≡ is.LogRefused
 before_end place n e = rw e refl
 
-by_place : (file : List ℕ) (place : ℕ) (whole : Bool) → nat_eq place (length file) ≡ whole → (place ≡ length file → ⊥) → (outcome_of [] (dump_answer place (length file))).status ≡ is.LogRefused
+pub by_place : (file : List ℕ) (place : ℕ) (whole : Bool) → nat_eq place (length file) ≡ whole → (place ≡ length file → ⊥) → (outcome_of [] (dump_answer place (length file))).status ≡ is.LogRefused
 by_place file place false e n = before_end place (length file) e
 by_place file place true e n = absurd (n (grind (arith, nat_tests)))
 
 -- ---- where they are refused, and where a word names nothing
 
 -- a phase that has no reason to halt, and one that has one
-step_none : (p : Phase) (ps : List Phase) (done : List Act → Result (Unit {0}) Halt → Type 0) (acts : List Act) (due : Result (Unit {0}) Halt) → p.halts ≡ None → IsDueOf (p ∷ ps) done acts due → IsDueOf ps done acts due
+pub step_none : (p : Phase) (ps : List Phase) (done : List Act → Result (Unit {0}) Halt → Type 0) (acts : List Act) (due : Result (Unit {0}) Halt) → p.halts ≡ None → IsDueOf (p ∷ ps) done acts due → IsDueOf ps done acts due
 step_none p ps done acts due e m = subst (λ (o : Option Halt). MatchOption o (done acts due) (λ x. (acts ≡ []) × (due ≡ Err x))) (first_past (p ∷ []) ps (none_alone p e)) m
 
-step_some : (p : Phase) (ps : List Phase) (done : List Act → Result (Unit {0}) Halt → Type 0) (acts : List Act) (due : Result (Unit {0}) Halt) (h : Halt) → p.halts ≡ Some h → IsDueOf (p ∷ ps) done acts due → due ≡ Err h
+pub step_some : (p : Phase) (ps : List Phase) (done : List Act → Result (Unit {0}) Halt → Type 0) (acts : List Act) (due : Result (Unit {0}) Halt) (h : Halt) → p.halts ≡ Some h → IsDueOf (p ∷ ps) done acts due → due ≡ Err h
 step_some p ps done acts due h e m = (subst (λ (o : Option Halt). MatchOption (option_or o (first_halt ps)) (done acts due) (λ x. (acts ≡ []) × (due ≡ Err x))) e m).1
 
 -- the status of such an end
-status_of : (due : Result (Unit {0}) Halt) (h : Halt) → due ≡ Err h → (outcome_of [] due).status ≡ halt_status h
+pub status_of : (due : Result (Unit {0}) Halt) (h : Halt) → due ≡ Err h → (outcome_of [] due).status ≡ halt_status h
 status_of due h e = ap (λ (r : Result (Unit {0}) Halt). (outcome_of [] r).status) e
 
 -- a file of some size
-large_halts : (log file : List ℕ) → nat_lt log_limit (length file) ≡ true → file_halt log (within log_limit (halt.LogRefused log_limit) (λ b. None)) (Some file) ≡ Some (halt.LogRefused log_limit)
+pub large_halts : (log file : List ℕ) → nat_lt log_limit (length file) ≡ true → file_halt log (within log_limit (halt.LogRefused log_limit) (λ b. None)) (Some file) ≡ Some (halt.LogRefused log_limit)
 large_halts log file e = rw e refl
 
-small_halts : (log file : List ℕ) → nat_lt log_limit (length file) ≡ false → file_halt log (within log_limit (halt.LogRefused log_limit) (λ b. None)) (Some file) ≡ None
+pub small_halts : (log file : List ℕ) → nat_lt log_limit (length file) ≡ false → file_halt log (within log_limit (halt.LogRefused log_limit) (λ b. None)) (Some file) ≡ None
 small_halts log file e = rw e refl
 
-is_large : (n : ℕ) → nat_lt log_limit n ≡ true → log_limit < n
+pub is_large : (n : ℕ) → nat_lt log_limit n ≡ true → log_limit < n
 is_large n e = grind (arith, nat_tests)
 
 is_small : (n : ℕ) → nat_lt log_limit n ≡ false → n ≤ log_limit
 is_small n e = grind (arith, nat_tests)
 
-no_large : (n : ℕ) → log_limit < n → nat_lt log_limit n ≡ false → ⊥
+pub no_large : (n : ℕ) → log_limit < n → nat_lt log_limit n ≡ false → ⊥
 no_large n l e = grind (arith, nat_tests)
 
 no_small : (n : ℕ) → n ≤ log_limit → nat_lt log_limit n ≡ true → ⊥

@@ -14,6 +14,8 @@ use Rattle.cts_run.specs.Acts.{Act, AreDone, DoesAll, EndsWith, LogFails, Outsid
 use Rattle.cts_run.specs.Lines.{log_fault_line, memory_line, read_fault_line, counts_line, usage_line}
 use Rattle.cts_run.specs.Load.{bytes_of, definitions_asked, digest_asked, events_asked, script_phase, site_asked, site_phases}
 use Rattle.cts_run.specs.Phases.{IsRead, Phase, first_halt}
+use Rattle.cts_play.specs.Played.{played}
+use Rattle.cts_run.specs.Play.{IsPlay, play_phases}
 use Rattle.cts_run.specs.Rehearsal.{IsRehearsal}
 use Rattle.cts_run.specs.Replay.{IsReplay}
 use Rattle.cts_run.specs.Start.{shelf_phase}
@@ -22,7 +24,7 @@ use Rattle.cts_run.specs.declared.halt.Halt.TheVariants as halt
 use Rattle.cts_run.specs.declared.halt.status.Status.{Status}
 use Rattle.cts_run.specs.declared.halt.status.Status.TheVariants.{Ok as Fine, Memory, Usage, ReadFault, Absent, WriteFault, LogFault}
 use Rattle.cts_run.specs.declared.words.Command.{Command}
-use Rattle.cts_run.specs.declared.words.Command.TheVariants.{Check, Replay, Rehearse, Dump, Extract}
+use Rattle.cts_run.specs.declared.words.Command.TheVariants.{Check, Replay, Rehearse, Dump, Play, Extract}
 
 -- ---- the phases of each command, in order, and what is done where it halts at none of them
 
@@ -39,6 +41,7 @@ phases stock files (Replay definitions site script) =
     (site_asked files definitions site) script ∷ []
 phases stock files (Rehearse number) = first_phases stock demo_files definitions_name site_name
 phases stock files (Dump logs) = []
+phases stock files (Play definitions site log) = play_phases stock files definitions site log
 phases stock files (Extract definitions log wanted) = extract_phases files definitions log wanted
 
 -- what a command does outside before its last line, and how it ends
@@ -49,6 +52,7 @@ IsDone files (Replay definitions site script) acts due =
     (events_asked files (site_asked files definitions site) script) acts due
 IsDone files (Rehearse number) acts due = IsRehearsal demo_site number acts due
 IsDone files (Dump logs) acts due = AreDumped files [] logs acts due
+IsDone files (Play definitions site log) acts due = IsPlay (site_asked files definitions site) (bytes_of (files log)) acts due
 IsDone files (Extract definitions log wanted) acts due = IsExtract (definitions_asked files definitions) wanted (bytes_of (files log)) acts due
 
 -- a file of this name is read at one of these phases, before anything is done
@@ -196,12 +200,14 @@ abbrev pub LeavesShelf : (List ℕ → Option (List ℕ)) → List ℕ → List 
 LeavesShelf files definitions site answer old new = ShelfBy (site_asked files definitions site) (first_halt (first_phases old files definitions site))
     answer old new
 
--- only a replay and a rehearsal take boxes
+-- only a replay, a rehearsal and a playback take boxes
 abbrev pub CommandLeaves : (List ℕ → Option (List ℕ)) → Command → Result (Unit {0}) Halt → List Meaning → List Meaning → Type 0
 CommandLeaves files (Check definitions site) answer old new = new ≡ old
 CommandLeaves files (Replay definitions site script) answer old new = LeavesShelf files definitions site answer old new
 CommandLeaves files (Rehearse number) answer old new = LeavesShelf demo_files definitions_name site_name answer old new
 CommandLeaves files (Dump logs) answer old new = new ≡ old
+CommandLeaves files (Play definitions site log) answer old new = ShelfBy (played 2 (site_asked files definitions site))
+    (first_halt (play_phases old files definitions site log)) answer old new
 CommandLeaves files (Extract definitions log wanted) answer old new = new ≡ old
 
 abbrev pub ShelfAfter : (List ℕ → Option (List ℕ)) → Option Command → Status → List Meaning → List Meaning → Type 0
@@ -209,12 +215,15 @@ ShelfAfter files (Some (Replay definitions site script)) status old new = ShelfA
     (first_halt (first_phases old files definitions site)) status old new
 ShelfAfter files (Some (Rehearse number)) status old new = ShelfAt demo_site (first_halt (first_phases old demo_files definitions_name site_name))
     status old new
+ShelfAfter files (Some (Play definitions site log)) status old new = ShelfAt (played 2 (site_asked files definitions site))
+    (first_halt (play_phases old files definitions site log)) status old new
 ShelfAfter files asked status old new = new ≡ old
 
 -- a command makes a world
 abbrev pub makes_world : Option Command → Bool
 makes_world (Some (Replay definitions site script)) = true
 makes_world (Some (Rehearse number)) = true
+makes_world (Some (Play definitions site log)) = true
 makes_world asked = false
 
 -- a command keeps packet logs

@@ -21,5 +21,5 @@ pub record ComesExactly (due : Status) (cause nothing_failed : Type 0) (status :
 -- That of a shelf that is short, that of a log that is refused and that of a word that names nothing, of what is asked for.
 pub record AreDue (stock : List Meaning) (files : List ℕ → Option (List ℕ)) (asked : Option Command) (nothing_failed : Type 0) (status : Status) : Type 0 where
   pub short : ComesExactly ShelfEmpty (IsShort stock files asked) nothing_failed status
-  pub refused : ComesExactly LogRefused (IsRefused files asked) nothing_failed status
+  pub refused : ComesExactly LogRefused (IsRefused stock files asked) nothing_failed status
   pub unknown : ComesExactly UnknownName (IsUnknownName files asked) nothing_failed status

@@ -1,6 +1,8 @@
 -- Laws of outcomes.
 use Rattle.std.specs.Prelude.{◌≡◌, ◌↔◌, ◌<◌, ◌≤◌, ◌⊎◌, ◌++◌, ℕ, Bool, true, false, List, [], ◌∷◌, length, map, Option, Some, None, option_map, Result}
 use Rattle.std.specs.List.{All}
+use Rattle.cts_core.specs.Runs.{HistoryFull}
+use Rattle.cts_def.specs.Sites.{SiteData}
 use Rattle.cts_def.specs.declared.proto_spec.Kind.{Kind}
 use Rattle.cts_framing.specs.Heads.{AreBytes}
 use Rattle.cts_framing.specs.Patterns.{begins}
@@ -8,12 +10,14 @@ use Rattle.cts_log.specs.Files.{kind_of}
 use Rattle.cts_log.specs.Logged.{FitsLogged, Logged}
 use Rattle.cts_log.specs.Reading.{IsLogRead}
 use Rattle.cts_log.specs.declared.kind.LogKind.{LogKind}
+use Rattle.cts_log.specs.declared.kind.LogKind.TheVariants.{Tlm}
 use Rattle.cts_log_parts.specs.Grouping.{BeginsParts, StartsWith}
 use Rattle.cts_log_parts.specs.Parts.{groups_of, log_parts}
 use Rattle.cts_log_parts.specs.Stops.{AreClosed, AreLeft, read_of}
 use Rattle.cts_outside.specs.Contents.{appended}
 use Rattle.cts_outside.specs.Vaults.{Logs, Part, log_of}
 use Rattle.cts_outside.specs.declared.vault.LogKind.{LogKind as Kept}
+use Rattle.cts_play.specs.Played.{played}
 use Rattle.cts_proto.specs.Meaning.{Meaning}
 use Rattle.cts_run.specs.Acts.{Act, Outside, after_acts, logged_of, puts, syncs, text_of}
 use Rattle.cts_run.specs.Command.{Outcome, IsOutcome}
@@ -23,11 +27,12 @@ use Rattle.cts_run.specs.Extract.{unknown_word}
 use Rattle.cts_run.specs.Load.{bytes_of, definitions_asked, definitions_phase, site_asked, site_phases}
 use Rattle.cts_run.specs.Load.Files.{log_limit}
 use Rattle.cts_run.specs.Phases.{first_halt}
+use Rattle.cts_run.specs.Play.{IsPlayed}
 use Rattle.cts_run.specs.Start.{short_kind}
 use Rattle.cts_run.specs.declared.halt.Halt.{Halt}
 use Rattle.cts_run.specs.declared.halt.status.Status.TheVariants.{LogRefused, ShelfEmpty, UnknownName}
 use Rattle.cts_run.specs.declared.words.Command.{Command}
-use Rattle.cts_run.specs.declared.words.Command.TheVariants.{Dump, Extract, Rehearse, Replay}
+use Rattle.cts_run.specs.declared.words.Command.TheVariants.{Dump, Extract, Play, Rehearse, Replay}
 use Rattle.cts_run.specs.Wanted.{WantedData}
 
 -- a command has one outcome, for a shelf with these boxes and files with this content
@@ -39,16 +44,21 @@ HasOneOutcome = (stock : List Meaning) (files : List ℕ → Option (List ℕ)) 
 abbrev pub HasOutcome : Type 0
 HasOutcome = (stock : List Meaning) (files : List ℕ → Option (List ℕ)) (asked : Option Command) → (o : Outcome) × IsOutcome stock files asked o
 
--- Definitions and a site are taken, and the chains of this site need more boxes of a kind than there are.
-pub record IsShortOf (stock : List Meaning) (files : List ℕ → Option (List ℕ)) (definitions site : List ℕ) : Type 0 where
+-- Definitions and a site are taken, and the chains of the site whose world is made need more boxes of a kind than there are.
+pub record IsShortFor (stock : List Meaning) (files : List ℕ → Option (List ℕ)) (definitions site : List ℕ) (made : SiteData) : Type 0 where
   pub taken : first_halt (site_phases files definitions site) ≡ None
   pub kind : Kind
-  pub short : short_kind stock (site_asked files definitions site) ≡ Some kind
+  pub short : short_kind stock made ≡ Some kind
 
--- A replay of such a site is asked for, or a rehearsal, and the demo's site is such.
+-- the same where that is the site of the files
+abbrev pub IsShortOf : List Meaning → (List ℕ → Option (List ℕ)) → List ℕ → List ℕ → Type 0
+IsShortOf stock files definitions site = IsShortFor stock files definitions site (site_asked files definitions site)
+
+-- A replay of such a site is asked for; or a playback, and the site that plays logs is such; or a rehearsal, and the demo's site is such.
 abbrev pub IsShort : List Meaning → (List ℕ → Option (List ℕ)) → Option Command → Type 0
 IsShort stock files (Some (Replay definitions site script)) = IsShortOf stock files definitions site
 IsShort stock files (Some (Rehearse number)) = IsShortOf stock demo_files definitions_name site_name
+IsShort stock files (Some (Play definitions site log)) = IsShortFor stock files definitions site (played 2 (site_asked files definitions site))
 IsShort stock files asked = ⊥
 
 -- the outcome has the status of a shelf that is short exactly there
@@ -95,8 +105,29 @@ pub record IsBadTable (files : List ℕ → Option (List ℕ)) (asked : Option C
   pub bad : (log_limit < length file)
       ⊎ ((unknown_word (definitions_asked files definitions) wanted (kind_of file) ≡ None) × (IsWholeLog file → ⊥))
 
-abbrev pub IsRefused : (List ℕ → Option (List ℕ)) → Option Command → Type 0
-IsRefused files asked = IsBadLog files asked ⊎ IsBadTable files asked
+-- the head of a log of packets, and whole entries alone after it
+abbrev pub IsWholePackets : List ℕ → Type 0
+IsWholePackets file = (flagged : Bool) × (es : List Logged) × IsLogRead file Tlm flagged es (length file)
+
+-- its whole entries get the history full
+abbrev pub FillsHistory : SiteData → List ℕ → Type 0
+FillsHistory site file = (acts : List Act) × (due : Result (Unit {0}) Halt) × (p : IsPlayed site file acts due) × (p.ending ≡ HistoryFull)
+
+-- A playback is asked for by definitions and a site that are taken, the shelf has the box for it, and the file is too large, or is no head of a
+-- log of packets with whole entries alone after it, and its whole entries don't get the history full.
+pub record IsBadPlay (stock : List Meaning) (files : List ℕ → Option (List ℕ)) (asked : Option Command) : Type 0 where
+  pub definitions : List ℕ
+  pub site : List ℕ
+  pub log : List ℕ
+  pub asked_is : asked ≡ Some (Play definitions site log)
+  pub taken : first_halt (site_phases files definitions site) ≡ None
+  pub enough : short_kind stock (played 2 (site_asked files definitions site)) ≡ None
+  pub file : List ℕ
+  pub file_is : files log ≡ Some file
+  pub bad : (log_limit < length file) ⊎ ((IsWholePackets file → ⊥) × (FillsHistory (site_asked files definitions site) file → ⊥))
+
+abbrev pub IsRefused : List Meaning → (List ℕ → Option (List ℕ)) → Option Command → Type 0
+IsRefused stock files asked = IsBadLog files asked ⊎ (IsBadTable files asked ⊎ IsBadPlay stock files asked)
 
 -- Columns are asked for by definitions that are taken, of a log that is not too large, and this is the first word that names nothing.
 pub record IsUnknownName (files : List ℕ → Option (List ℕ)) (asked : Option Command) : Type 0 where
@@ -119,7 +150,7 @@ UnknownExactly = (stock : List Meaning) (files : List ℕ → Option (List ℕ))
 -- the outcome has the status of a log that is refused exactly there
 abbrev pub RefusedExactly : Type 0
 RefusedExactly = (stock : List Meaning) (files : List ℕ → Option (List ℕ)) (asked : Option Command) (o : Outcome) → IsOutcome stock files asked o
-    → (o.status ≡ LogRefused) ↔ IsRefused files asked
+    → (o.status ≡ LogRefused) ↔ IsRefused stock files asked
 
 -- ---- the parts of a log
 

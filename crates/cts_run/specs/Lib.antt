@@ -15,8 +15,10 @@ pub mod Demo
 pub mod Replay
 pub mod Rehearsal
 pub mod Dump
+pub mod Play
 pub mod Extract
 pub mod Command
 pub mod Extracting
+pub mod Playing
 pub mod Laws
 pub mod Due

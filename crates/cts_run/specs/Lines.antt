@@ -7,7 +7,7 @@ use Rattle.cts_def.specs.Packets.{items_in}
 use Rattle.cts_def.specs.Sites.{SiteData}
 
 abbrev pub usage_line : List ℕ
-usage_line = codes "usage: check DEFS SITE | replay DEFS SITE SCRIPT | rehearse N | dump LOG | serve DEFS SITE | extract DEFS LOG TARGET PACKET KIND ITEMS\n"
+usage_line = codes "usage: check DEFS SITE | replay DEFS SITE SCRIPT | rehearse N | dump LOG | serve DEFS SITE | play DEFS SITE LOG | extract DEFS LOG TARGET PACKET KIND ITEMS\n"
 
 abbrev pub memory_line : List ℕ
 memory_line = codes "out of memory\n"

@@ -4,7 +4,7 @@ use Rattle.std.specs.Prelude.{Option, Some, None, option_map, ℤ, pos, negsuc, 
 use Rattle.cts_base.specs.Wholes.{whole_of}
 use Rattle.std.specs.Cmp.Lexicographic.{pointwise}
 use Rattle.cts_run.specs.declared.words.Command.{Command}
-use Rattle.cts_run.specs.declared.words.Command.TheVariants.{Check, Replay, Rehearse, Dump, Extract}
+use Rattle.cts_run.specs.declared.words.Command.TheVariants.{Check, Replay, Rehearse, Dump, Play, Extract}
 use Rattle.cts_extract.specs.Words.{kind_named}
 use Rattle.cts_run.specs.Wanted.{wanted_of}
 
@@ -41,11 +41,17 @@ most_logs = 64
 abbrev pub dump_asked : List (List ℕ) → Option Command
 dump_asked logs = if nat_lt 0 (length logs) && nat_le (length logs) most_logs then Some (Dump logs) else None
 
+-- a command over a site that reads one more file
+abbrev pub sited_asked : List ℕ → List ℕ → List ℕ → List ℕ → Option Command
+sited_asked command definitions site last =
+    if is_word command (codes "replay") then Some (Replay definitions site last)
+    else if is_word command (codes "play") then Some (Play definitions site last) else None
+
 -- the command of this name that takes as many words, if they fit it
 abbrev pub asked_of : List ℕ → List (List ℕ) → Option Command
 asked_of command (number ∷ []) = if is_word command (codes "rehearse") then option_map Rehearse (rehearsal_number number) else None
 asked_of command (definitions ∷ site ∷ []) = if is_word command (codes "check") then Some (Check definitions site) else None
-asked_of command (definitions ∷ site ∷ script ∷ []) = if is_word command (codes "replay") then Some (Replay definitions site script) else None
+asked_of command (definitions ∷ site ∷ last ∷ []) = sited_asked command definitions site last
 asked_of command words = None
 
 -- the command that the words ask for, if they fit one

@@ -14,6 +14,7 @@ use crate::extract::extract;
 use crate::halt::Halt;
 use crate::halt::ending::{end, end_misused};
 use crate::halt::status::Status;
+use crate::play::play;
 use crate::rehearse::rehearse;
 use crate::replay::replay;
 use crate::words::{Command, read_words};
@@ -29,7 +30,8 @@ use std::alloc::Global;
 /// puts how much they have; `replay DEFS SITE SCRIPT` does the events of a script, and writes both packet logs to the vault;
 /// `rehearse N` does the events that are made from a number from 1 to 1,000,000 in the world of the demo's site, and puts eight lines
 /// of what they were; `dump LOG LOG ..` puts the entries of 1 to 64 log files with one head, each before the next one is read;
-/// `extract DEFS LOG TARGET PACKET KIND ITEMS` puts columns of one. Other words are `Usage`. The boxes of the protocols of all chains of a
+/// `extract DEFS LOG TARGET PACKET KIND ITEMS` puts columns of one; `play DEFS SITE LOG` brings the packets of one to an interface of the site
+/// that plays it. Other words are `Usage`. The boxes of the protocols of all chains of a
 /// site whose world is made are taken from the shelf, before a script is read. The program's chains and shelf are `Chain` of `cts_chain`
 /// and `Shelf` of
 /// `cts_proto`; it is written over any, since a function that is lent boxes may not make a world of them.
@@ -55,7 +57,7 @@ pub fn run<C: Framer, B: Supplier<C>, F: Files, O: Sink, V: Vault>(
     // A command that makes no world leaves the shelf, and one that keeps no logs the vault.
     ensures untouched { makes_world (asked (map (λ w. w.now) words.now)) ≡ false → B.stock shelf.new ≡ B.stock shelf.old }
     ensures idle { keeps_logs (asked (map (λ w. w.now) words.now)) ≡ false → V.seen vault.new ≡ V.seen vault.old }
-    // A replay or rehearsal that halts before its world is made leaves it too; and else exactly the boxes of all chains of its site are gone.
+    // A replay, rehearsal or playback that halts before its world is made leaves it too; and else exactly the boxes of all chains of its site are gone.
     ensures boxes { IfSome (F.seen files.old).told (λ all. ShelfAfter all (asked (map (λ w. w.now) words.now)) result (B.stock shelf.old) (B.stock shelf.new)) }
     // The outcome that the boxes on the shelf and the content of the files have, and what was put and appended for it.
     ensures transcript { IfSome (F.seen files.old).told (λ all. Answers (B.stock shelf.old) all (asked (map (λ w. w.now) words.now)) result
@@ -101,6 +103,11 @@ fn perform<'a, C: Framer, B: Supplier<C>, F: Files, O: Sink, V: Vault>(
         } => replay::<C, B, F, O, V>(alloc, definitions, site, script, shelf, files, out, vault),
         Command::Rehearse { number } => rehearse::<C, B, O>(alloc, *number, shelf, out),
         Command::Dump { logs } => dump(alloc, logs, files, out),
+        Command::Play {
+            definitions,
+            site,
+            log,
+        } => play::<C, B, F, O>(alloc, definitions, site, log, shelf, files, out),
         Command::Extract {
             definitions,
             log,

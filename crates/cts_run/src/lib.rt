@@ -13,6 +13,7 @@ mod halt;
 mod keeping;
 mod laws;
 mod load;
+mod play;
 mod putting;
 mod rehearse;
 mod replay;

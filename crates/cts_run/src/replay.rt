@@ -253,8 +253,8 @@ fn end_logs<O: Sink, V: Vault>(
     }
 }
 
-// Puts the number of entries.
-fn put_end<O: Sink>(alloc: Global, entries: usize, out: &mut O) -> Result<(), Undone>
+/// Puts the number of entries.
+pub(crate) fn put_end<O: Sink>(alloc: Global, entries: usize, out: &mut O) -> Result<(), Undone>
     ensures { PutsText (end_line entries) result (O.seen out.old) (O.seen out.new) }
 {
     let line = lines::end(alloc, entries as u64)?;

@@ -2,7 +2,7 @@
 ghost use Rattle.std.specs.Prelude.{◌≡◌, map, option_map};
 ghost use Rattle.cts_extract.specs.Words.{kind_named};
 ghost use Rattle.cts_run.specs.Wanted.{wanted_of};
-ghost use Rattle.cts_run.specs.Words.{asked, asked_of, dump_asked, extract_asked, rehearsal_number};
+ghost use Rattle.cts_run.specs.Words.{asked, asked_of, dump_asked, extract_asked, rehearsal_number, sited_asked};
 ghost use Rattle.cts_run.specs.declared.words.Command.TheVariants.{Rehearse};
 
 use crate::file_name::{FileName, FileNames};
@@ -31,6 +31,12 @@ pub enum Command<'a> {
     /// Puts the entries of logs, file after file.
     Dump {
         logs: FileNames<'a>,
+    },
+    /// Plays a log of packets in the world of the site that plays it.
+    Play {
+        definitions: FileName<'a>,
+        site: FileName<'a>,
+        log: FileName<'a>,
     },
     /// Puts columns of a log.
     Extract {
@@ -69,13 +75,35 @@ fn read_named<'a>(command: &str, words: &'a [&'a str]) -> Option<Command<'a>>
             definitions: FileName::of(*definitions),
             site: FileName::of(*site),
         }),
-        [definitions, site, script] if command == "replay" => Some(Command::Replay {
-            definitions: FileName::of(*definitions),
-            site: FileName::of(*site),
-            script: FileName::of(*script),
-        }),
+        [definitions, site, last] => read_sited(command, *definitions, *site, *last),
         _ => None,
     }
+}
+
+// The command of this name over a site that reads one more file.
+fn read_sited<'a>(
+    command: &str,
+    definitions: &'a str,
+    site: &'a str,
+    last: &'a str,
+) -> Option<Command<'a>>
+    ensures { result ≡ sited_asked command.now definitions.now site.now last.now }
+{
+    if command == "replay" {
+        return Some(Command::Replay {
+            definitions: FileName::of(definitions),
+            site: FileName::of(site),
+            script: FileName::of(last),
+        });
+    }
+    if command == "play" {
+        return Some(Command::Play {
+            definitions: FileName::of(definitions),
+            site: FileName::of(site),
+            log: FileName::of(last),
+        });
+    }
+    None
 }
 
 // Columns, where the words are as many and fit them.

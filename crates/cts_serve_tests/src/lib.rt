@@ -41,6 +41,8 @@ mod logs;
 #[cfg(test)]
 mod parts;
 #[cfg(test)]
+mod plays;
+#[cfg(test)]
 mod refusals;
 #[cfg(test)]
 mod rehearsals;

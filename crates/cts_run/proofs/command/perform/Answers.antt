@@ -24,3 +24,9 @@ returns-in-Extract-clause-vault g c = c.extract.ensures.vault (g.V.Vault.seen c.
 
 pub returns-in-Replay-clause-performs : goal.returns-in-Replay-clause-performs
 returns-in-Replay-clause-performs g c = rw c.in-Replay.is c.replay.ensures.performs
+
+pub returns-in-Play-clause-performs : goal.returns-in-Play-clause-performs
+returns-in-Play-clause-performs g c = rw c.in-Play.is (c.play.ensures.performs (g.V.Vault.seen c.args.vault.now))
+
+pub returns-in-Play-clause-vault : goal.returns-in-Play-clause-vault
+returns-in-Play-clause-vault g c = c.play.ensures.vault (g.V.Vault.seen c.args.vault.now)
