@@ -1,5 +1,6 @@
 -- What the next entry gives to the logs.
-use Rattle.std.proofs.Common.{◌≡◌, ℕ, ◌+◌, ◌-◌, ◌<◌, Bool, true, false, List, [], ◌∷◌, ◌++◌, length, take, refl, sym, ◌∙◌, ap, subst, arith, inl, inr, append-nil, length-append, Some}
+use Rattle.std.proofs.Common.{◌≡◌, ℕ, ◌+◌, ◌-◌, ◌<◌, Bool, true, false, List, [], ◌∷◌, ◌++◌, length, take, refl, sym, ◌∙◌, ap, subst, arith, inl, inr}
+use Rattle.std.proofs.Common.{append-nil, length-append, Some}
 use Rattle.std.specs.Prelude.{◌⊎◌, ◌^◌, if◌then◌else◌, slice_get}
 use Rattle.cts_def.specs.Sites.{SiteData}
 use Rattle.cts_entry.specs.declared.entry.Entry.{Entry}
@@ -17,12 +18,13 @@ use Rattle.cts_scribe.proofs.Logging.{gives_in, gives_out, logged_in, logged_out
 use Rattle.cts_scribe.proofs.NextEntries.{take_next}
 use Rattle.cts_scribe.proofs.Parting.{begins_there, counts as counts_of, counts_on, cut_on, entry_short, fall_on, grown_on, same_parts}
 
-true_or_not : (x : Bool) → (x ≡ true) ⊎ (x ≡ false)
+pub true_or_not : (x : Bool) → (x ≡ true) ⊎ (x ≡ false)
 true_or_not true = inl refl
 true_or_not false = inr refl
 
 -- no entries give nothing
-pub gives_none : (kind : LogKind) (site : SiteData) (history : List Entry) (p : ℕ) (bytes : List ℕ) (cuts : CutsData) → bytes ≡ [] → cuts.places ≡ [] → cuts.end ≡ 0 → Gives kind site history p p bytes cuts
+pub gives_none : (kind : LogKind) (site : SiteData) (history : List Entry) (p : ℕ) (bytes : List ℕ) (cuts : CutsData) → bytes ≡ [] → cuts.places ≡ []
+    → cuts.end ≡ 0 → Gives kind site history p p bytes cuts
 gives_none kind site history p bytes cuts none nowhere end =
     subst (λ (b : List ℕ). Gives kind site history p p b cuts) (sym none)
     (subst (λ (c : CutsData). Gives kind site history p p [] c) (sym cuts_are) (record {
@@ -35,13 +37,15 @@ gives_none kind site history p bytes cuts none nowhere end =
     cuts_are = ap (λ (l : List ℕ). record { places = l; end = cuts.end }) nowhere ∙ ap (λ (n : ℕ). record { places = []; end = n }) end
 
 -- an entry is not too long for a cycle
-pub entry_room : (kind : LogKind) (site : SiteData) (e : Entry) → FitsLogged (has_flags site.log_layout) (logged_as site e) → length (entries_log kind site (e ∷ [])) < 2 ^ 33
+pub entry_room : (kind : LogKind) (site : SiteData) (e : Entry) → FitsLogged (has_flags site.log_layout) (logged_as site e)
+    → length (entries_log kind site (e ∷ [])) < 2 ^ 33
 entry_room kind site e fits = elim (true_or_not (is_in_log kind site e)) [
   | inl is ↦ subst (λ (l : List ℕ). length l < 2 ^ 33) (sym (gives_in kind site e is)) (entry_short (has_flags site.log_layout) (logged_as site e) fits)
   | inr is ↦ subst (λ (l : List ℕ). length l < 2 ^ 33) (sym (gives_out kind site e is)) (omega arith)
 ]
 
-module _ (kind : LogKind) (site : SiteData) (history : List Entry) (p n : ℕ) (e : Entry) (bytes : List ℕ) (cuts : CutsData) (there : slice_get history n ≡ Some e) where
+module _ (kind : LogKind) (site : SiteData) (history : List Entry) (p n : ℕ) (e : Entry) (bytes : List ℕ) (cuts : CutsData)
+    (there : slice_get history n ≡ Some e) where
   abbrev flags : Bool
   flags = has_flags site.log_layout
 
@@ -61,12 +65,14 @@ module _ (kind : LogKind) (site : SiteData) (history : List Entry) (p n : ℕ) (
   entries_same is = ap (logged kind site) (take_next history n e there) ∙ logged_out kind site (take n history) e is
 
   -- an entry that stands in the log
-  given_in : is_in_log kind site e ≡ true → Gives kind site history p n bytes cuts → Gives kind site history p (n + 1) (bytes ++ entry_bytes flags (logged_as site e)) cuts_then
+  given_in : is_in_log kind site e ≡ true → Gives kind site history p n bytes cuts
+      → Gives kind site history p (n + 1) (bytes ++ entry_bytes flags (logged_as site e)) cuts_then
   given_in is g = record {
     places = fall_on begins cuts.places bytes (entry_bytes flags (logged_as site e)) g.places;
     end = refl;
     grown = λ digest.
-        grown_on (file_kind kind) flags digest site.log_cycle (logged kind site (take p history)) entries (logged_as site e) bytes cuts.places g.places (g.grown digest)
+        grown_on (file_kind kind) flags digest site.log_cycle (logged kind site (take p history)) entries (logged_as site e) bytes cuts.places g.places
+        (g.grown digest)
         ∙ ap (λ (l : List Logged). log_parts (file_kind kind) flags digest site.log_cycle l) (sym (entries_then is));
   }
 

@@ -30,7 +30,8 @@ drains_nothing NoMemory site by place stood stops = tt
 drains_nothing Cancelled site by place stood stops = tt
 
 -- a scribe that cannot go on
-pub gave_up : {G : Type 0} (site : SiteData) (by : ℕ) (why : ScribeWhy) (old new : View Entry G) (p : Progress) → stops_all why ≡ true → EndedHold by first_moment true old new → Following by old p
+pub gave_up : {G : Type 0} (site : SiteData) (by : ℕ) (why : ScribeWhy) (old new : View Entry G) (p : Progress) → stops_all why ≡ true
+    → EndedHold by first_moment true old new → Following by old p
     → Ends site by why new.seen p.place
 gave_up site by why old new p stops ended f =
     let stood = old.seen ++ ended.hold.others in
@@ -43,7 +44,8 @@ gave_up site by why old new p stops ended f =
     }
 
 -- a scribe that has drained the history
-pub drained_ends : {G : Type 0} (site : SiteData) (by : ℕ) (old new : View Entry G) (s t : Shown) (p : Progress) → Held by old new s t → t.entries ≡ s.entries ++ last_entries false by first_moment s.entries
+pub drained_ends : {G : Type 0} (site : SiteData) (by : ℕ) (old new : View Entry G) (s t : Shown) (p : Progress) → Held by old new s t
+    → t.entries ≡ s.entries ++ last_entries false by first_moment s.entries
     → IsDrained site by p.place s.entries → Following by old p → Ends site by Drained new.seen p.place
 drained_ends site by old new s t p held grows drained f = record {
   stood = s.entries;
@@ -61,7 +63,8 @@ module _ (site : SiteData) (by : ℕ) (why : ScribeWhy) (seen : List Entry) (cur
       let words = last_entries (stops_all why) by first_moment stood in (
         stop_if (stops_all why && not (is_stopped stood)) by first_moment,
         entry_of by first_moment Ended,
-        ap (of_maker by) ends.seen_is ∙ of_maker_append by stood words ∙ ap (λ l. l ++ of_maker by words) ends.silent ∙ last_own by first_moment (stops_all why) stood,
+        ap (of_maker by) ends.seen_is ∙ of_maker_append by stood words ∙ ap (λ l. l ++ of_maker by words) ends.silent
+            ∙ last_own by first_moment (stops_all why) stood,
         refl,
       )
 
@@ -73,21 +76,26 @@ always : (x : Bool) (by : ℕ) → (x || is_stopped (stop_if (true && not x) by 
 always true by = refl
 always false by = refl
 
-pub ends_stopped : (site : SiteData) (by : ℕ) (why : ScribeWhy) (seen : List Entry) (cursor : ℕ) → Ends site by why seen cursor → stops_all why ≡ true → is_stopped seen ≡ true
+pub ends_stopped : (site : SiteData) (by : ℕ) (why : ScribeWhy) (seen : List Entry) (cursor : ℕ) → Ends site by why seen cursor → stops_all why ≡ true
+    → is_stopped seen ≡ true
 ends_stopped site by why seen cursor ends stops =
     let stood = ends.stood in
     ap is_stopped ends.seen_is ∙ stopped-append stood (last_entries (stops_all why) by first_moment stood)
     ∙ ap (λ x. is_stopped stood || is_stopped (last_entries x by first_moment stood)) stops ∙ always (is_stopped stood) by
 
-pub looked_drained : {G : Type 0} (site : SiteData) (base : Basis) (by : ℕ) (old new : View Entry G) (p q : Progress) (d : Cycles) → Following by old p → Looked site base by old new p (Ok DrainedSight) q d → Ends site by Drained new.seen q.place
+pub looked_drained : {G : Type 0} (site : SiteData) (base : Basis) (by : ℕ) (old new : View Entry G) (p q : Progress) (d : Cycles) → Following by old p
+    → Looked site base by old new p (Ok DrainedSight) q d → Ends site by Drained new.seen q.place
 looked_drained site base by old new p q d f (s, t, b, held, sees) =
     subst (λ (x : Progress). Ends site by Drained new.seen x.place) (sym sees.1) (drained_ends site by old new s t p held sees.0 sees.2 f)
 
 -- what was followed before it gave up is what was followed
-pub gave_up_taken : {G : Type 0} (by : ℕ) (old new : View Entry G) (p r : Progress) → EndedHold by first_moment true old new → Following by old p → r ≡ p → take r.place new.seen ≡ take p.place old.seen
+pub gave_up_taken : {G : Type 0} (by : ℕ) (old new : View Entry G) (p r : Progress) → EndedHold by first_moment true old new → Following by old p → r ≡ p
+    → take r.place new.seen ≡ take p.place old.seen
 gave_up_taken by old new p r ended f same =
     ap (λ (x : Progress). take x.place new.seen) same ∙ take_kept old.seen new.seen p.place f.follows.within (ended.hold.others ++ ended.added, ended.hold.seen)
 
-pub gave_up_at : {G : Type 0} (site : SiteData) (by : ℕ) (why : ScribeWhy) (old new : View Entry G) (p r : Progress) → stops_all why ≡ true → EndedHold by first_moment true old new → Following by old p → r ≡ p
+pub gave_up_at : {G : Type 0} (site : SiteData) (by : ℕ) (why : ScribeWhy) (old new : View Entry G) (p r : Progress) → stops_all why ≡ true
+    → EndedHold by first_moment true old new → Following by old p → r ≡ p
     → Ends site by why new.seen r.place
-gave_up_at site by why old new p r stops ended f same = subst (λ (x : Progress). Ends site by why new.seen x.place) (sym same) (gave_up site by why old new p stops ended f)
+gave_up_at site by why old new p r stops ended f same =
+    subst (λ (x : Progress). Ends site by why new.seen x.place) (sym same) (gave_up site by why old new p stops ended f)

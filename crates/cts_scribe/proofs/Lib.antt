@@ -2,6 +2,7 @@ pub mod Logging
 pub mod NextEntries
 pub mod Parting
 pub mod Giving
+pub mod Bounding
 pub mod Vaulting
 pub mod Sighting
 pub mod Lasting

@@ -19,7 +19,8 @@ take_suc (x ∷ xs) (suc n) e h = ap (λ l. x ∷ l) (take_suc xs n e h)
 pub take_next : (xs : List Entry) (n : ℕ) (e : Entry) → slice_get xs n ≡ Some e → take (n + 1) xs ≡ take n xs ++ e ∷ []
 take_next xs n e h = let s : n + 1 ≡ suc n = omega arith in ap (λ k. take k xs) s ∙ take_suc xs n e h
 
-pub of_site_get : (site : SiteData) (before xs : List Entry) (n : ℕ) (e : Entry) → AllOfSite site before xs → slice_get xs n ≡ Some e → (b : List Entry) × IsOfSite site b e
+pub of_site_get : (site : SiteData) (before xs : List Entry) (n : ℕ) (e : Entry) → AllOfSite site before xs → slice_get xs n ≡ Some e → (b : List Entry)
+    × IsOfSite site b e
 of_site_get site before [] zero e all h = absurd cc
 of_site_get site before [] (suc n) e all h = absurd cc
 of_site_get site before (x ∷ xs) zero e all h = (before, subst (IsOfSite site before) (let s : x ≡ e = cc in s) all.0)
@@ -30,11 +31,13 @@ small_get [] zero e most h small = absurd cc
 small_get [] (suc n) e most h small = absurd cc
 small_get (x ∷ xs) zero e most h small =
     let s : x ≡ e = cc in
-    subst (λ y. bytes_in (y ∷ []) < most) s (omega (arith, small, sum_by-cons (λ (y : Entry). bytes_for y.what) x xs, sum_by-cons (λ (y : Entry). bytes_for y.what) x []))
+    subst (λ y. bytes_in (y ∷ []) < most) s (omega
+    (arith, small, sum_by-cons (λ (y : Entry). bytes_for y.what) x xs, sum_by-cons (λ (y : Entry). bytes_for y.what) x []))
 small_get (x ∷ xs) (suc n) e most h small = small_get xs n e most h (omega (arith, small, sum_by-cons (λ (y : Entry). bytes_for y.what) x xs))
 
 -- the next entry is followed
-pub follows_next : (p q : Progress) (xs : List Entry) (e : Entry) → slice_get xs p.place ≡ Some e → q.place ≡ p.place + 1 → EndedTell q.ended (take p.place xs ++ e ∷ []) → Follows q xs
+pub follows_next : (p q : Progress) (xs : List Entry) (e : Entry) → slice_get xs p.place ≡ Some e → q.place ≡ p.place + 1
+    → EndedTell q.ended (take p.place xs ++ e ∷ []) → Follows q xs
 follows_next p q xs e there next ended = record {
   within = (let w = slice_get_within xs p.place e there in omega (arith, w, next));
   ended = subst (EndedTell q.ended) (sym (ap (λ n. take n xs) next ∙ take_next xs p.place e there)) ended;

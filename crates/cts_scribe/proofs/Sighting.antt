@@ -1,5 +1,6 @@
 -- What a look at the history leaves, and the logs after it.
-use Rattle.std.proofs.Common.{◌≡◌, ◌∷◌, [], ◌++◌, ℕ, ◌≤◌, Bool, true, false, ◌||◌, ◌==◌, List, length, length-append, take, refl, sym, ◌∙◌, ap, subst, arith, append_assoc, append-nil, inr, Option, Result, Ok, Err}
+use Rattle.std.proofs.Common.{◌≡◌, ◌∷◌, [], ◌++◌, ℕ, ◌≤◌, Bool, true, false, ◌||◌, ◌==◌, List, length, length-append, take, refl, sym, ◌∙◌, ap, subst}
+use Rattle.std.proofs.Common.{arith, append_assoc, append-nil, inr, Option, Result, Ok, Err}
 use Rattle.std.proofs.lemmas.List.{take-append-le, take_all}
 use Rattle.cts_def.specs.Sites.{SiteData}
 use Rattle.cts_entry.specs.declared.entry.Entry.{Entry}
@@ -99,37 +100,45 @@ held_onward by old new s t held more = record {
 
 -- ---- drained
 
-pub drained_at : (site : SiteData) (by : ℕ) (p : Progress) (entries : List Entry) → p.place ≡ length entries → HaveEnded site by (take p.place entries) → IsDrained site by p.place entries
+pub drained_at : (site : SiteData) (by : ℕ) (p : Progress) (entries : List Entry) → p.place ≡ length entries → HaveEnded site by (take p.place entries)
+    → IsDrained site by p.place entries
 drained_at site by p entries last others = record { last = last; others = subst (HaveEnded site by) (take_all p.place entries (omega (arith, last))) others }
 
-pub drained_others : (site : SiteData) (by : ℕ) (p : Progress) (entries : List Entry) → IsDrained site by p.place entries → HaveEnded site by (take p.place entries)
+pub drained_others : (site : SiteData) (by : ℕ) (p : Progress) (entries : List Entry) → IsDrained site by p.place entries
+    → HaveEnded site by (take p.place entries)
 drained_others site by p entries d = subst (HaveEnded site by) (sym (take_all p.place entries (let e = d.last in omega (arith, e)))) d.others
 
 -- ---- the logs
 
-given_is : (kind : LogKind) (site : SiteData) (digest : List ℕ) (entries : List Entry) (from to : ℕ) (bytes head : List ℕ) (cuts : CutsData) → head ≡ head_of kind site digest → Gives kind site entries from to bytes cuts
+given_is : (kind : LogKind) (site : SiteData) (digest : List ℕ) (entries : List Entry) (from to : ℕ) (bytes head : List ℕ) (cuts : CutsData)
+    → head ≡ head_of kind site digest → Gives kind site entries from to bytes cuts
     → joined (parts kind site digest (take from entries)) (cut_growth head cuts.places bytes) ≡ parts kind site digest (take to entries)
-given_is kind site digest entries from to bytes head cuts is g = ap (λ (h : List ℕ). joined (parts kind site digest (take from entries)) (cut_growth h cuts.places bytes)) is ∙ g.grown digest
+given_is kind site digest entries from to bytes head cuts is g =
+    ap (λ (h : List ℕ). joined (parts kind site digest (take from entries)) (cut_growth h cuts.places bytes)) is ∙ g.grown digest
 
 -- what a look gave is put to logs that were whole
 abbrev pub PutsGrowths : Heads → Growth → Option Logs → Option Logs → Result (Unit {0}) PutFailed → Type 0
 PutsGrowths heads growth old new result =
     PutsBoth old new (cut_growth heads.tlm growth.tlm.places growth.batch.tlm.items) (cut_growth heads.cmd growth.cmd.places growth.batch.cmd.items) result
 
-pub logs_put : (site : SiteData) (digest : List ℕ) (entries : List Entry) (p q : Progress) (heads : Heads) (growth : Growth) (old new : Option Logs) (result : Result (Unit {0}) PutFailed)
+pub logs_put : (site : SiteData) (digest : List ℕ) (entries : List Entry) (p q : Progress) (heads : Heads) (growth : Growth) (old new : Option Logs)
+    (result : Result (Unit {0}) PutFailed)
     → AreHeads site digest heads → Lays site entries p q growth → PutsGrowths heads growth old new result → AreWhole site digest (take p.place entries) old
     → LogsSo (IsLeft result) (parts Tlm site digest (take q.place entries)) (parts Cmd site digest (take q.place entries)) new
 logs_put site digest entries p q heads growth old new result are lays puts whole =
     let before = take p.place entries in
     let tlm = cut_growth heads.tlm growth.tlm.places growth.batch.tlm.items in
-    subst (λ t. LogsSo (IsLeft result) t (parts Cmd site digest (take q.place entries)) new) (given_is Tlm site digest entries p.place q.place growth.batch.tlm.items heads.tlm growth.tlm are.tlm lays.gives.tlm)
-    (subst (λ c. LogsSo (IsLeft result) (joined (parts Tlm site digest before) tlm) c new) (given_is Cmd site digest entries p.place q.place growth.batch.cmd.items heads.cmd growth.cmd are.cmd lays.gives.cmd)
+    subst (λ t. LogsSo (IsLeft result) t (parts Cmd site digest (take q.place entries)) new)
+    (given_is Tlm site digest entries p.place q.place growth.batch.tlm.items heads.tlm growth.tlm are.tlm lays.gives.tlm)
+    (subst (λ c. LogsSo (IsLeft result) (joined (parts Tlm site digest before) tlm) c new)
+    (given_is Cmd site digest entries p.place q.place growth.batch.cmd.items heads.cmd growth.cmd are.cmd lays.gives.cmd)
     (puts (parts Tlm site digest before) (parts Cmd site digest before) whole))
 
 -- ---- a look at the hall, in a hold
 
 -- a look adds entries of the scribe alone
-pub sees_adds : (site : SiteData) (by : ℕ) (s t : Shown) (p q : Progress) (d : Cycles) (sight : Result Sight Memory) → t.basis ≡ s.basis → Sees site by s.entries p sight t.entries q d → Adds by s t
+pub sees_adds : (site : SiteData) (by : ℕ) (s t : Shown) (p q : Progress) (d : Cycles) (sight : Result Sight Memory) → t.basis ≡ s.basis
+    → Sees site by s.entries p sight t.entries q d → Adds by s t
 sees_adds site by s t p q d (Ok (More growth)) base sees = (base, ([], sees.0 ∙ sym (append-nil s.entries), tt))
 sees_adds site by s t p q d (Ok Still) base sees = (base, ([], sees.0 ∙ sym (append-nil s.entries), tt))
 sees_adds site by s t p q d (Ok Drained) base sees = (base, (last_entries false by first_moment s.entries, sees.0, last_by by first_moment false s.entries))
@@ -156,11 +165,14 @@ module _ {G : Type 0} (site : SiteData) (base : Basis) (by : ℕ) (old new : Vie
   counted_still (s, t, b, held, sees) = subst (λ (l : List Entry). Count site (take q.place l) d) (sym (held.seen ∙ sees.0)) sees.3
 
   -- and what is given is as long as its cuts say
-  pub ends_more : (growth : Growth) → Looked site base by old new p (Ok (More growth)) q d → (growth.tlm.end ≤ length growth.batch.tlm.items) × (growth.cmd.end ≤ length growth.batch.cmd.items)
+  pub ends_more : (growth : Growth) → Looked site base by old new p (Ok (More growth)) q d → (growth.tlm.end ≤ length growth.batch.tlm.items)
+      × (growth.cmd.end ≤ length growth.batch.cmd.items)
   ends_more growth (s, t, b, held, sees) = (omega (arith, sees.1.gives.tlm.end), omega (arith, sees.1.gives.cmd.end))
 
   unmoved : (s t : Shown) → Held by old new s t → t.entries ≡ s.entries → q ≡ p → Following by old p → Following by new q
-  unmoved s t held same stays f = looked by old new s t held p q same f (subst (λ (x : Progress). Follows x s.entries) (sym stays) (follows_more p old.seen s.entries (held_starts by old new s t held) f.follows))
+  unmoved s t held same stays f =
+      looked by old new s t held p q same f (subst (λ (x : Progress). Follows x s.entries) (sym stays)
+      (follows_more p old.seen s.entries (held_starts by old new s t held) f.follows))
 
   pub looked_still : Following by old p → Looked site base by old new p (Ok Still) q d → Following by new q
   looked_still f (s, t, b, held, sees) = unmoved s t held sees.0 sees.1 f
@@ -169,12 +181,15 @@ module _ {G : Type 0} (site : SiteData) (base : Basis) (by : ℕ) (old new : Vie
   looked_wanting m f (s, t, b, held, sees) = unmoved s t held sees.0 sees.1 f
 
   -- the logs after it, where nothing was laid out
-  pub whole_after : (digest : List ℕ) (told : Option Logs) → q ≡ p → Onward old new → Following by old p → AreWhole site digest (take p.place old.seen) told → AreWhole site digest (take q.place new.seen) told
+  pub whole_after : (digest : List ℕ) (told : Option Logs) → q ≡ p → Onward old new → Following by old p → AreWhole site digest (take p.place old.seen) told
+      → AreWhole site digest (take q.place new.seen) told
   whole_after digest told stays on f whole =
-      subst (λ l. AreWhole site digest l told) (sym (ap (λ (x : Progress). take x.place new.seen) stays ∙ take_kept old.seen new.seen p.place f.follows.within on.seen)) whole
+      subst (λ l. AreWhole site digest l told)
+      (sym (ap (λ (x : Progress). take x.place new.seen) stays ∙ take_kept old.seen new.seen p.place f.follows.within on.seen)) whole
 
   -- and where that was put
-  pub put_after : (digest : List ℕ) (heads : Heads) (growth : Growth) (before after : Option Logs) (result : Result (Unit {0}) PutFailed) → AreHeads site digest heads → Looked site base by old new p (Ok (More growth)) q d → Following by old p
+  pub put_after : (digest : List ℕ) (heads : Heads) (growth : Growth) (before after : Option Logs) (result : Result (Unit {0}) PutFailed)
+      → AreHeads site digest heads → Looked site base by old new p (Ok (More growth)) q d → Following by old p
       → PutsGrowths heads growth before after result → AreWhole site digest (take p.place old.seen) before
       → LogsSo (IsLeft result) (parts Tlm site digest (take q.place new.seen)) (parts Cmd site digest (take q.place new.seen)) after
   put_after digest heads growth before after result are (s, t, b, held, sees) f puts whole =
@@ -183,5 +198,6 @@ module _ {G : Type 0} (site : SiteData) (base : Basis) (by : ℕ) (old new : Vie
       subst (λ l. LogsSo (IsLeft result) (parts Tlm site digest (take q.place l)) (parts Cmd site digest (take q.place l)) after) (sym (held.seen ∙ sees.0))
       (logs_put site digest s.entries p q heads growth before after result are sees.1 puts start)
 
-  pub wanting_whole : (m : Memory) (digest : List ℕ) (told : Option Logs) → Looked site base by old new p (Err m) q d → Following by old p → AreWhole site digest (take p.place old.seen) told → AreWhole site digest (take q.place new.seen) told
+  pub wanting_whole : (m : Memory) (digest : List ℕ) (told : Option Logs) → Looked site base by old new p (Err m) q d → Following by old p
+      → AreWhole site digest (take p.place old.seen) told → AreWhole site digest (take q.place new.seen) told
   wanting_whole m digest told (s, t, b, held, sees) f whole = whole_after digest told sees.1 (looked_onward (Err m) (s, t, b, held, sees)) f whole

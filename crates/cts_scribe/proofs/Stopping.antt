@@ -22,7 +22,8 @@ whole_bytes (p ∷ ps) = ap (λ l. p ∷ l) (whole_bytes ps)
 
 part_bytes : (l : Log) → map (λ (p : Part). p.bytes) (parts_of l) ≡ bytes_of l
 part_bytes l =
-    map-append (λ (p : Part). p.bytes) (map whole_part l.past) (record { bytes = l.bytes; synced = l.synced } ∷ []) ∙ ap (λ (ps : List (List ℕ)). ps ++ l.bytes ∷ []) (whole_bytes l.past)
+    map-append (λ (p : Part). p.bytes) (map whole_part l.past) (record { bytes = l.bytes; synced = l.synced } ∷ [])
+    ∙ ap (λ (ps : List (List ℕ)). ps ++ l.bytes ∷ []) (whole_bytes l.past)
 
 -- all but the last are synced
 all_closed : (ps : List (List ℕ)) (last : Part) → AreClosed (map whole_part ps ++ last ∷ [])
@@ -35,7 +36,8 @@ readable kind site digest entries l files long bytes fit begun stop =
     let flagged = has_flags site.log_layout in
     let es = logged kind site entries in
     let closed : AreClosed (parts_of l) = all_closed l.past (record { bytes = l.bytes; synced = l.synced }) in
-    let begins : BeginsParts (parts kind site digest entries) (map (λ (p : Part). p.bytes) (parts_of l)) = subst (BeginsParts (parts kind site digest entries)) (sym (part_bytes l)) begun.0 in
+    let begins : BeginsParts (parts kind site digest entries) (map (λ (p : Part). p.bytes) (parts_of l)) =
+    subst (BeginsParts (parts kind site digest entries)) (sym (part_bytes l)) begun.0 in
     let left = stops_leave (parts kind site digest entries) (parts_of l) files begins closed stop in
     let read = parts_are_read (file_kind kind) flagged digest site.log_cycle es files long bytes fit left in
     record {

@@ -48,7 +48,8 @@ left_begun (Err e) l ps w = full_begun l ps w
 -- ---- both logs
 
 -- the first fails
-pub both_first : (old new : Option Logs) (tlm cmd : List (List ℕ)) (fault : PutFailed) → PutsGrowth {T = Unit {0}} Tlm old new tlm (Err fault) → PutsBoth old new tlm cmd (Err fault)
+pub both_first : (old new : Option Logs) (tlm cmd : List (List ℕ)) (fault : PutFailed) → PutsGrowth {T = Unit {0}} Tlm old new tlm (Err fault)
+    → PutsBoth old new tlm cmd (Err fault)
 both_first old None tlm cmd fault puts t c w = tt
 both_first None (Some n) tlm cmd fault puts t c w = absurd (let e = puts.1 in cc)
 both_first (Some o) (Some n) tlm cmd fault puts t c w =
@@ -56,12 +57,14 @@ both_first (Some o) (Some n) tlm cmd fault puts t c w =
     let same : n.cmd ≡ o.cmd = cc in
     (puts.0 t w.0, subst (λ (l : Log). AreBegunParts l (joined c cmd)) (sym same) (whole_begun o.cmd c cmd w.1))
 
-left_grown : (result : Result (Unit {0}) PutFailed) (o n : Log) (ps growth : List (List ℕ)) → Grows (Some o) (Some n) growth result → AreWholeParts o ps → IsLeft result n (joined ps growth)
+left_grown : (result : Result (Unit {0}) PutFailed) (o n : Log) (ps growth : List (List ℕ)) → Grows (Some o) (Some n) growth result → AreWholeParts o ps
+    → IsLeft result n (joined ps growth)
 left_grown (Ok u) o n ps growth g w = g ps w
 left_grown (Err e) o n ps growth g w = g ps w
 
 -- the first succeeds
-pub both_second : (old mid new : Option Logs) (tlm cmd : List (List ℕ)) (u : Unit {0}) (result : Result (Unit {0}) PutFailed) → PutsGrowth {E = PutFailed} Tlm old mid tlm (Ok u) → PutsGrowth Cmd mid new cmd result
+pub both_second : (old mid new : Option Logs) (tlm cmd : List (List ℕ)) (u : Unit {0}) (result : Result (Unit {0}) PutFailed)
+    → PutsGrowth {E = PutFailed} Tlm old mid tlm (Ok u) → PutsGrowth Cmd mid new cmd result
     → PutsBoth old new tlm cmd result
 both_second old mid None tlm cmd u result first second t c w = tt
 both_second old None (Some n) tlm cmd u result first second t c w = absurd (let e = second.1 in cc)
@@ -94,11 +97,13 @@ none_parts Tlm site digest = ap (λ (l : List ℕ). l ∷ []) (append-nil (head_
 none_parts Cmd site digest = ap (λ (l : List ℕ). l ∷ []) (append-nil (head_of Cmd site digest))
 
 -- the heads are put first
-pub heads_put : (site : SiteData) (digest : List ℕ) (heads : Heads) (old new : Option Logs) (result : Result (Unit {0}) PutFailed) → AreHeads site digest heads → PutsBoth old new (heads.tlm ∷ []) (heads.cmd ∷ []) result → AreBlank old
+pub heads_put : (site : SiteData) (digest : List ℕ) (heads : Heads) (old new : Option Logs) (result : Result (Unit {0}) PutFailed) → AreHeads site digest heads
+    → PutsBoth old new (heads.tlm ∷ []) (heads.cmd ∷ []) result → AreBlank old
     → LogsSo (IsLeft result) (parts Tlm site digest []) (parts Cmd site digest []) new
 heads_put site digest heads old new result are puts blank =
     subst (λ t. LogsSo (IsLeft result) t (parts Cmd site digest []) new) (ap (λ (l : List ℕ). l ∷ []) are.tlm ∙ sym (none_parts Tlm site digest))
-    (subst (λ c. LogsSo (IsLeft result) (heads.tlm ∷ []) c new) (ap (λ (l : List ℕ). l ∷ []) are.cmd ∙ sym (none_parts Cmd site digest)) (puts ([] ∷ []) ([] ∷ []) (both_blank old blank)))
+    (subst (λ c. LogsSo (IsLeft result) (heads.tlm ∷ []) c new) (ap (λ (l : List ℕ). l ∷ []) are.cmd ∙ sym (none_parts Cmd site digest))
+    (puts ([] ∷ []) ([] ∷ []) (both_blank old blank)))
 
 -- logs to which nothing was appended are a beginning of the parts of no entries
 pub blank_begun : (kind : LogKind) (site : SiteData) (digest : List ℕ) (l : Log) → IsBlank l → AreBegunParts l (parts kind site digest [])

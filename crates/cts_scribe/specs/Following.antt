@@ -17,15 +17,16 @@ use Rattle.cts_scribe.specs.declared.growth.Growth.{Growth}
 use Rattle.cts_scribe.specs.declared.sight.Sight.{Sight}
 use Rattle.cts_scribe.specs.declared.sight.Sight.TheVariants.{More, Still, Drained}
 use Rattle.cts_scribe.specs.Ending.{stops_all}
-use Rattle.cts_scribe.specs.Growing.{Count, GivesBoth}
+use Rattle.cts_scribe.specs.Growing.{AreBounded, Count, GivesBoth}
 use Rattle.cts_scribe.specs.Vaults.{AreSynced}
 
--- The next entries were followed, at least one, and this is what they give to the logs: the parts of each log of all that were followed are what
--- they were of those before, grown by this.
+-- The next entries were followed, at least one and not too many, and this is what they give to the logs: the parts of each log of all that were
+-- followed are what they were of those before, grown by this.
 pub record Lays (site : SiteData) (history : List Entry) (p q : Progress) (growth : Growth) : Type 0 where
   pub further : p.place < q.place
   pub follows : Follows q history
   pub gives : GivesBoth site history p.place q.place growth
+  pub bounded : AreBounded site history p.place q.place growth.batch
 
 -- All entries were followed up to this place, and every other worker has ended.
 pub record IsDrained (site : SiteData) (by place : ℕ) (history : List Entry) : Type 0 where

@@ -1,8 +1,9 @@
 -- What entries give to the logs of a vault in parts.
-use Rattle.std.specs.Prelude.{◌≡◌, ℕ, ◌-◌, List, [], ◌∷◌, ◌++◌, length, take}
+use Rattle.std.specs.Prelude.{◌≡◌, ℕ, ◌+◌, ◌-◌, ◌<◌, ◌≤◌, ◌⊎◌, Bool, false, List, [], ◌∷◌, ◌++◌, length, slice_get, take, Some}
 use Rattle.cts_def.specs.Sites.{SiteData}
 use Rattle.cts_entry.specs.declared.entry.Entry.{Entry}
 use Rattle.cts_log.specs.Cycling.{CycleData}
+use Rattle.cts_log_batch.specs.declared.batch.Batch.{Batch}
 use Rattle.cts_log_parts.specs.Grouping.{joined}
 use Rattle.cts_log_parts.specs.Growths.{CutsData, DoNotFall, begins_entry, cut_growth, cut_with, cycle_after}
 use Rattle.cts_outside.specs.declared.vault.LogKind.{LogKind}
@@ -42,3 +43,40 @@ pub record GivesOneMore (kind : LogKind) (site : SiteData) (e : Entry) (bytes : 
   pub bytes_are : bytes' ≡ bytes ++ entries_log kind site (e ∷ [])
   pub cuts_are : cuts' ≡ cut_with (begins_entry cycle (length bytes' - cuts.end)) (length bytes') cuts
   pub cycle_is : cycle' ≡ cycle_after cycle (length bytes' - cuts.end)
+
+-- ---- how much is given at once
+
+-- how many bytes come to both logs together
+abbrev pub bytes_given : Batch → ℕ
+bytes_given batch = length batch.tlm.items + length batch.cmd.items
+
+-- and how many of them an entry gives
+abbrev pub bytes_of_entry : SiteData → Entry → ℕ
+bytes_of_entry site e = length (entries_log Tlm site (e ∷ [])) + length (entries_log Cmd site (e ∷ []))
+
+-- How many entries are followed at once at most; and how many bytes come to both logs together then, 1 MiB, but for a single entry that is longer.
+abbrev pub most_entries : ℕ
+most_entries = 256
+
+abbrev pub most_bytes : ℕ
+most_bytes = 1048576
+
+-- The bytes of an entry come after those that stood, and where it is not the first, there are not too many.
+pub record Takes (site : SiteData) (e : Entry) (is_first : Bool) (old new : Batch) : Type 0 where
+  pub tlm : new.tlm.items ≡ old.tlm.items ++ entries_log Tlm site (e ∷ [])
+  pub cmd : new.cmd.items ≡ old.cmd.items ++ entries_log Cmd site (e ∷ [])
+  pub short : is_first ≡ false → bytes_given new ≤ most_bytes
+
+-- An entry that is not the first is left out, since there would be too many bytes with it: no bytes have come.
+pub record Leaves (site : SiteData) (e : Entry) (is_first : Bool) (old new : Batch) : Type 0 where
+  pub tlm : new.tlm.items ≡ old.tlm.items
+  pub cmd : new.cmd.items ≡ old.cmd.items
+  pub later : is_first ≡ false
+  pub over : most_bytes < bytes_given old + bytes_of_entry site e
+
+-- Of the entries from one place up to another one not too many are followed, nor do they give too many bytes, but for a single one. Where another one
+-- stands and it is not for their number that it is left out, there would have been too many bytes with it.
+pub record AreBounded (site : SiteData) (history : List Entry) (from to : ℕ) (batch : Batch) : Type 0 where
+  pub few : to ≤ from + most_entries
+  pub short : (to ≡ from + 1) ⊎ (bytes_given batch ≤ most_bytes)
+  pub full : (e : Entry) → slice_get history to ≡ Some e → to < from + most_entries → most_bytes < bytes_given batch + bytes_of_entry site e

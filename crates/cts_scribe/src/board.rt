@@ -57,7 +57,8 @@ pub(crate) fn see(
     Ok(Sight::Drained)
 }
 
-// Follows the next entries, and lays out what they give to the logs.
+// Follows the next entries, and lays out what they give to the logs: so many, or up to one that would give too much. That one is left for the next
+// look; but the first is followed however long it is.
 fn lay_out(
     alloc: Global,
     site: &Site,
@@ -78,7 +79,11 @@ fn lay_out(
     let mut growth = Growth::none(alloc);
     'entries: while progress.place < end {
         let entry = lend(hall, progress.place);
-        growth.add(alloc, site, entry, cycles)?;
+        let is_first = progress.place == from.place;
+        let added = growth.add(alloc, site, entry, is_first, cycles)?;
+        if !added {
+            break;
+        }
         progress.follow(entry);
     }
     Ok((progress, growth))

@@ -1,9 +1,9 @@
 // What entries give to both logs, and where new parts of these begin in it.
-ghost use Rattle.std.specs.Prelude.{◌≡◌, ◌<◌, ◌∷◌, ◌^◌, [], List, OnOk, length};
+ghost use Rattle.std.specs.Prelude.{◌≡◌, ◌<◌, ◌∷◌, ◌^◌, [], IfOk, List, false, length, true};
 ghost use Rattle.cts_entry.specs.declared.entry.Entry.{Entry as EntryData};
 ghost use Rattle.cts_entry.specs.Histories.{bytes_in};
 ghost use Rattle.cts_outside.specs.declared.vault.LogKind.TheVariants.{Cmd, Tlm};
-ghost use Rattle.cts_scribe.specs.Growing.{GivesOneMore};
+ghost use Rattle.cts_scribe.specs.Growing.{GivesOneMore, Leaves, Takes};
 ghost use Rattle.cts_table.specs.Keeping.{IsOfSite};
 
 use crate::bounds::recall_entry;
@@ -14,6 +14,9 @@ use cts_entry::Entry;
 use cts_log_batch::Batch;
 use cts_log_parts::Cuts;
 use std::alloc::Global;
+
+/// The most bytes that come to both logs together at once, but for a single entry that is longer: so that a put is short, and little memory is needed.
+const MOST_BYTES: usize = 1_048_576;
 
 /// What entries give to both logs, and where new parts of these begin in it.
 #[derive(Drop)]
@@ -40,7 +43,8 @@ impl Growth {
         }
     }
 
-    /// Adds what an entry gives, of which the cycles say whether it begins a new part.
+    /// Adds what an entry gives, of which the cycles say whether it begins a new part. Where it is not the first, and there would be more bytes with it than
+    /// are given at once, it is left out, and nothing changes. Says whether it was added.
     ///
     /// # Errors
     ///
@@ -50,21 +54,51 @@ impl Growth {
         alloc: Global,
         site: &Site,
         entry: &Entry,
+        is_first: bool,
         cycles: &mut Cycles,
-    ) -> Result<(), Memory>
+    ) -> Result<bool, Memory>
         requires of_site { (before : List EntryData) × IsOfSite site.now before entry.now }
         requires small { bytes_in (entry.now ∷ []) < 2 ^ 32 }
         requires tlm { self.old.tlm.end ≡ length self.old.batch.tlm.items }
         requires cmd { self.old.cmd.end ≡ length self.old.batch.cmd.items }
-        ensures tlm { OnOk result (GivesOneMore Tlm site.now entry.now self.old.batch.tlm.items self.old.tlm cycles.old.tlm
+        ensures tlm { IfOk result (λ added. added ≡ true → GivesOneMore Tlm site.now entry.now self.old.batch.tlm.items self.old.tlm cycles.old.tlm
             self.new.batch.tlm.items self.new.tlm cycles.new.tlm) }
-        ensures cmd { OnOk result (GivesOneMore Cmd site.now entry.now self.old.batch.cmd.items self.old.cmd cycles.old.cmd
+        ensures cmd { IfOk result (λ added. added ≡ true → GivesOneMore Cmd site.now entry.now self.old.batch.cmd.items self.old.cmd cycles.old.cmd
             self.new.batch.cmd.items self.new.cmd cycles.new.cmd) }
+        ensures takes { IfOk result (λ added. added ≡ true → Takes site.now entry.now is_first self.old.batch self.new.batch) }
+        ensures leaves { IfOk result (λ added. added ≡ false → Leaves site.now entry.now is_first self.old.batch self.new.batch) }
+        ensures same { IfOk result (λ added. added ≡ false → (self.new.tlm ≡ self.old.tlm) × (self.new.cmd ≡ self.old.cmd) × (cycles.new ≡ cycles.old)) }
     {
         recall_entry(site, entry);
-        self.batch.add(alloc, site, entry)?;
+        if !lay(alloc, site, entry, is_first, &mut self.batch)? {
+            return Ok(false);
+        }
         self.tlm.note(&mut cycles.tlm, self.batch.tlm.len())?;
         self.cmd.note(&mut cycles.cmd, self.batch.cmd.len())?;
-        Ok(())
+        Ok(true)
     }
+}
+
+// Lays out an entry behind those of a batch, or leaves it out. Says whether it stands there.
+fn lay(
+    alloc: Global,
+    site: &Site,
+    entry: &Entry,
+    is_first: bool,
+    batch: &mut Batch,
+) -> Result<bool, Memory>
+    requires of_site { (before : List EntryData) × IsOfSite site.now before entry.now }
+    requires small { bytes_in (entry.now ∷ []) < 2 ^ 32 }
+    ensures takes { IfOk result (λ stands. stands ≡ true → Takes site.now entry.now is_first batch.old batch.new) }
+    ensures leaves { IfOk result (λ stands. stands ≡ false → Leaves site.now entry.now is_first batch.old batch.new) }
+{
+    let tlm = batch.tlm.len();
+    let cmd = batch.cmd.len();
+    batch.add(alloc, site, entry)?;
+    if is_first || batch.tlm.len() + batch.cmd.len() <= MOST_BYTES {
+        return Ok(true);
+    }
+    batch.tlm.truncate(tlm);
+    batch.cmd.truncate(cmd);
+    Ok(false)
 }

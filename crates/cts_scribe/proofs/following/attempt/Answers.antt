@@ -40,7 +40,8 @@ returns-in-Ok-More-clause-goes g c =
     let first = subst (λ s. Looked site base c.args.by v w p s q d) c.in-Ok-More.is c.look-follower.ensures.hold in
     let hold = subst (λ s. Looked site base c.args.by v w p (Ok s) q d) c.in-Ok-More.field-0-is first in
     let f = looked_more site base c.args.by v w p q d c.in-Ok-More.growth c.requires.following hold in
-    gave_up_at site c.args.by VaultFailed w (view c.give_up-follower.result.pass) q c.give_up-follower.result.progress refl c.give_up-follower.ensures.ended f c.give_up-follower.ensures.progress
+    gave_up_at site c.args.by VaultFailed w (view c.give_up-follower.result.pass) q c.give_up-follower.result.progress refl c.give_up-follower.ensures.ended f
+    c.give_up-follower.ensures.progress
 
 pub returns-in-Ok-More-clause-logs : goal.returns-in-Ok-More-clause-logs
 returns-in-Ok-More-clause-logs g c = λ digest are whole.
@@ -60,8 +61,10 @@ returns-in-Ok-More-clause-logs g c = λ digest are whole.
     let hold = subst (λ s. Looked site base c.args.by v w p (Ok s) q d) c.in-Ok-More.field-0-is first in
     let f = looked_more site base c.args.by v w p q d growth c.requires.following hold in
     let puts = c.in-Err-put_both.ensures.content in
-    let parts : AreBegun site digest (take q.place w.seen) after = put_after site base c.args.by v w p q d digest c.args.heads.now growth before after result are hold c.requires.following puts whole in
-    subst (λ l. AreBegun site digest l after) (sym (gave_up_taken c.args.by w x q c.give_up-follower.result.progress c.give_up-follower.ensures.ended f c.give_up-follower.ensures.progress)) parts
+    let parts : AreBegun site digest (take q.place w.seen) after =
+    put_after site base c.args.by v w p q d digest c.args.heads.now growth before after result are hold c.requires.following puts whole in
+    subst (λ l. AreBegun site digest l after)
+    (sym (gave_up_taken c.args.by w x q c.give_up-follower.result.progress c.give_up-follower.ensures.ended f c.give_up-follower.ensures.progress)) parts
 
 pub returns-clause-goes : goal.returns-clause-goes
 returns-clause-goes g c =
@@ -74,7 +77,8 @@ returns-clause-goes g c =
     let d = c.look-follower.result.0.cycles in
     let hold = subst (λ s. Looked site base c.args.by v w p s q d) c.in-Err.is c.look-follower.ensures.hold in
     let f = looked_wanting site base c.args.by v w p q d c.in-Err.field-0 c.requires.following hold in
-    gave_up_at site c.args.by NoMemory w (view c.give_up-follower-in-Err.result.pass) q c.give_up-follower-in-Err.result.progress refl c.give_up-follower-in-Err.ensures.ended f c.give_up-follower-in-Err.ensures.progress
+    gave_up_at site c.args.by NoMemory w (view c.give_up-follower-in-Err.result.pass) q c.give_up-follower-in-Err.result.progress refl
+    c.give_up-follower-in-Err.ensures.ended f c.give_up-follower-in-Err.ensures.progress
 
 pub returns-clause-logs : goal.returns-clause-logs
 returns-clause-logs g c = λ digest are whole.
@@ -90,24 +94,41 @@ returns-clause-logs g c = λ digest are whole.
     let f = looked_wanting site base c.args.by v w p q d c.in-Err.field-0 c.requires.following hold in
     let kept = wanting_whole site base c.args.by v w p q d c.in-Err.field-0 digest told hold c.requires.following whole in
     inl (subst (λ l. AreWhole site digest l told)
-    (sym (gave_up_taken c.args.by w (view c.give_up-follower-in-Err.result.pass) q c.give_up-follower-in-Err.result.progress c.give_up-follower-in-Err.ensures.ended f c.give_up-follower-in-Err.ensures.progress)) kept)
+    (sym (gave_up_taken c.args.by w (view c.give_up-follower-in-Err.result.pass) q c.give_up-follower-in-Err.result.progress
+    c.give_up-follower-in-Err.ensures.ended f c.give_up-follower-in-Err.ensures.progress)) kept)
 
 pub returns-in-Ok-clause-onward : goal.returns-in-Ok-clause-onward
-returns-in-Ok-clause-onward g c = looked_onward c.args.site.now (ground c.args.turn.now) c.args.by (view c.args.follower.pass) (view c.look-follower.result.0.pass) c.args.follower.progress c.look-follower.result.0.progress c.look-follower.result.0.cycles c.look-follower.result.1 c.look-follower.ensures.hold
+returns-in-Ok-clause-onward g c =
+    looked_onward c.args.site.now (ground c.args.turn.now) c.args.by (view c.args.follower.pass)
+    (view c.look-follower.result.0.pass) c.args.follower.progress c.look-follower.result.0.progress c.look-follower.result.0.cycles c.look-follower.result.1
+    c.look-follower.ensures.hold
 
 pub returns-in-Ok-Still-clause-onward : goal.returns-in-Ok-Still-clause-onward
-returns-in-Ok-Still-clause-onward g c = looked_onward c.args.site.now (ground c.args.turn.now) c.args.by (view c.args.follower.pass) (view c.look-follower.result.0.pass) c.args.follower.progress c.look-follower.result.0.progress c.look-follower.result.0.cycles c.look-follower.result.1 c.look-follower.ensures.hold
+returns-in-Ok-Still-clause-onward g c =
+    looked_onward c.args.site.now (ground c.args.turn.now) c.args.by (view c.args.follower.pass)
+    (view c.look-follower.result.0.pass) c.args.follower.progress c.look-follower.result.0.progress c.look-follower.result.0.cycles c.look-follower.result.1
+    c.look-follower.ensures.hold
 
 pub returns-in-Ok-Drained-clause-onward : goal.returns-in-Ok-Drained-clause-onward
-returns-in-Ok-Drained-clause-onward g c = looked_onward c.args.site.now (ground c.args.turn.now) c.args.by (view c.args.follower.pass) (view c.look-follower.result.0.pass) c.args.follower.progress c.look-follower.result.0.progress c.look-follower.result.0.cycles c.look-follower.result.1 c.look-follower.ensures.hold
+returns-in-Ok-Drained-clause-onward g c =
+    looked_onward c.args.site.now (ground c.args.turn.now) c.args.by (view c.args.follower.pass)
+    (view c.look-follower.result.0.pass) c.args.follower.progress c.look-follower.result.0.progress c.look-follower.result.0.cycles c.look-follower.result.1
+    c.look-follower.ensures.hold
 
 pub returns-in-Ok-More-clause-onward : goal.returns-in-Ok-More-clause-onward
-returns-in-Ok-More-clause-onward g c = onward_then _ _ _ (looked_onward c.args.site.now (ground c.args.turn.now) c.args.by (view c.args.follower.pass) (view c.look-follower.result.0.pass) c.args.follower.progress c.look-follower.result.0.progress c.look-follower.result.0.cycles c.look-follower.result.1 c.look-follower.ensures.hold)
+returns-in-Ok-More-clause-onward g c =
+    onward_then _ _ _ (looked_onward c.args.site.now (ground c.args.turn.now) c.args.by (view c.args.follower.pass)
+    (view c.look-follower.result.0.pass) c.args.follower.progress c.look-follower.result.0.progress c.look-follower.result.0.cycles c.look-follower.result.1
+    c.look-follower.ensures.hold)
     (ended_onward c.args.by first_moment true (view c.look-follower.result.0.pass) (view c.give_up-follower.result.pass) c.give_up-follower.ensures.ended)
 
 pub returns-clause-onward : goal.returns-clause-onward
-returns-clause-onward g c = onward_then _ _ _ (looked_onward c.args.site.now (ground c.args.turn.now) c.args.by (view c.args.follower.pass) (view c.look-follower.result.0.pass) c.args.follower.progress c.look-follower.result.0.progress c.look-follower.result.0.cycles c.look-follower.result.1 c.look-follower.ensures.hold)
-    (ended_onward c.args.by first_moment true (view c.look-follower.result.0.pass) (view c.give_up-follower-in-Err.result.pass) c.give_up-follower-in-Err.ensures.ended)
+returns-clause-onward g c =
+    onward_then _ _ _ (looked_onward c.args.site.now (ground c.args.turn.now) c.args.by (view c.args.follower.pass)
+    (view c.look-follower.result.0.pass) c.args.follower.progress c.look-follower.result.0.progress c.look-follower.result.0.cycles c.look-follower.result.1
+    c.look-follower.ensures.hold)
+    (ended_onward c.args.by first_moment true (view c.look-follower.result.0.pass)
+    (view c.give_up-follower-in-Err.result.pass) c.give_up-follower-in-Err.ensures.ended)
 
 pub put_both-requires-clause-tlm : goal.put_both-requires-clause-tlm
 put_both-requires-clause-tlm g c =

@@ -25,7 +25,8 @@ looks-preserved g c =
       count = subst (λ o. CountIf c.args.site.now (take x.progress.place (view x.pass).seen) x.cycles o) none e.count;
       synced = subst (λ o. SyncedIf told o) none e.synced;
       onward = onward_then _ _ _ i.onward e.onward;
-      logs = λ digest are whole. subst (λ o. LogsEndIf c.args.site.now digest (take x.progress.place (view x.pass).seen) o told) none (e.logs digest are (i.logs digest are whole));
+      logs = λ digest are whole. subst (λ o. LogsEndIf c.args.site.now digest (take x.progress.place (view x.pass).seen) o told) none
+          (e.logs digest are (i.logs digest are whole));
       faults = subst (λ o. CausesEndIf (g.V.Vault.seen c.looks.vault).faults (g.V.Vault.seen c.attempt-next.new.vault).faults o) none e.cause ∙ i.faults;
     }
 

@@ -24,7 +24,8 @@ see-sight-requires-clause-may g c =
     let site = (ground c.args.turn.now).site in
     let v = view c.args.follower.pass in
     let may = kept_may_end c.args.by v _ s e.view e.seen e.own f.makers site (may_end site c.args.by v.seen c.requires.scribe f.silent) in
-    subst (λ (h : Shown). MayEnd h.basis.site c.args.by h.entries) (sym c.state_mut.ensures.value) (subst (λ (b : Basis). MayEnd b.site c.args.by s.entries) (sym e.basis) may)
+    subst (λ (h : Shown). MayEnd h.basis.site c.args.by h.entries) (sym c.state_mut.ensures.value)
+    (subst (λ (b : Basis). MayEnd b.site c.args.by s.entries) (sym e.basis) may)
 
 pub see-sight-requires-clause-follows : goal.see-sight-requires-clause-follows
 see-sight-requires-clause-follows g c =
@@ -39,7 +40,8 @@ see-sight-requires-clause-count g c =
     let p = c.args.follower.progress in
     let es = c.enter-held.result.state.entries in
     subst (λ (h : Shown). Count c.args.site.now (take p.place h.entries) c.args.follower.cycles) (sym c.state_mut.ensures.value)
-    (subst (λ (l : List Entry). Count c.args.site.now l c.args.follower.cycles) (sym (take_kept v.seen es p.place c.requires.following.follows.within e.seen)) c.requires.count)
+    (subst (λ (l : List Entry). Count c.args.site.now l c.args.follower.cycles)
+    (sym (take_kept v.seen es p.place c.requires.following.follows.within e.seen)) c.requires.count)
 
 pub leave-pass-requires-clause-new : goal.leave-pass-requires-clause-new
 leave-pass-requires-clause-new g c =
@@ -52,7 +54,8 @@ leave-pass-requires-clause-new g c =
     let same = c.state_mut.ensures.value in
     let base : t.basis ≡ s.basis = subst (λ (h : Shown). t.basis ≡ h.basis) same c.see-sight.ensures.basis in
     let sees = subst (λ (h : Shown). Sees c.args.site.now c.args.by h.entries p c.see-sight.result t.entries q d) same c.see-sight.ensures.sees in
-    new_by c.args.by (view c.args.follower.pass) _ s e.view e.seen e.own c.requires.following.makers t (sees_adds c.args.site.now c.args.by s t p q d c.see-sight.result base sees)
+    new_by c.args.by (view c.args.follower.pass) _ s e.view e.seen e.own c.requires.following.makers t
+    (sees_adds c.args.site.now c.args.by s t p q d c.see-sight.result base sees)
 
 pub returns-clause-hold : goal.returns-clause-hold
 returns-clause-hold g c =

@@ -15,7 +15,8 @@ returns-in-Ok-clause-content g c =
     let mid = (g.V.Vault.seen c.put_growth.new.vault).told in
     let after = (g.V.Vault.seen c.put_growth-in-Ok.new.vault).told in
     let result = c.put_growth-in-Ok.result in
-    both_second before mid after (heads.tlm ∷ []) (heads.cmd ∷ []) c.in-Ok.field-0 result (subst (λ x. PutsGrowth {E = PutFailed} Tlm before mid x (Ok c.in-Ok.field-0)) tlm c.in-Ok.ensures.content)
+    both_second before mid after (heads.tlm ∷ []) (heads.cmd ∷ []) c.in-Ok.field-0 result
+    (subst (λ x. PutsGrowth {E = PutFailed} Tlm before mid x (Ok c.in-Ok.field-0)) tlm c.in-Ok.ensures.content)
     (subst (λ x. PutsGrowth Cmd mid after x result) cmd c.put_growth-in-Ok.ensures.content)
 
 pub returns-clause-content : goal.returns-clause-content
@@ -24,4 +25,5 @@ returns-clause-content g c =
     let tlm = head_growth c.as_slice-tlm.result.now c.none-uncut.result.places c.none-uncut.ensures.places ∙ ap (λ h. h ∷ []) c.as_slice-tlm.ensures in
     let before = (g.V.Vault.seen c.args.vault.now).told in
     let after = (g.V.Vault.seen c.put_growth.new.vault).told in
-    both_first before after (heads.tlm ∷ []) (heads.cmd ∷ []) c.in-Err.fault (subst (λ x. PutsGrowth {T = Unit {0}} Tlm before after x (Err c.in-Err.fault)) tlm c.in-Err.ensures.content)
+    both_first before after (heads.tlm ∷ []) (heads.cmd ∷ []) c.in-Err.fault
+    (subst (λ x. PutsGrowth {T = Unit {0}} Tlm before after x (Err c.in-Err.fault)) tlm c.in-Err.ensures.content)
