@@ -1,5 +1,5 @@
 -- How much is given at once.
-use Rattle.std.proofs.Common.{◌≡◌, ℕ, ◌+◌, ◌≤◌, ◌<◌, Bool, true, false, List, length, sym, ap, subst, arith, inl, inr, Some}
+use Rattle.std.proofs.Common.{◌≡◌, ℕ, ◌+◌, ◌≤◌, ◌<◌, Bool, false, List, length, sym, subst, arith, inl, inr, Some}
 use Rattle.std.specs.Prelude.{◌⊎◌, nat_eq, slice_get}
 use Rattle.std.proofs.lemmas.Option.{slice_get_within}
 use Rattle.cts_def.specs.Sites.{SiteData}

@@ -8,12 +8,12 @@ use Rattle.cts_framing.specs.Layouts.{has_flags}
 use Rattle.cts_log.specs.Cycling.{CycleData, begins_part}
 use Rattle.cts_log.specs.Files.{log_head_len}
 use Rattle.cts_log.specs.Logged.{FitsLogged, Logged, entry_bytes}
-use Rattle.cts_log_parts.specs.Grouping.{joined, size_after}
-use Rattle.cts_log_parts.specs.Growths.{CutsData, begins_entry, cut_growth, cut_with, cycle_after}
+use Rattle.cts_log_parts.specs.Grouping.{size_after}
+use Rattle.cts_log_parts.specs.Growths.{CutsData, begins_entry, cut_with, cycle_after}
 use Rattle.cts_log_parts.specs.Parts.{entry_len, log_parts}
 use Rattle.cts_outside.specs.declared.vault.LogKind.{LogKind}
 use Rattle.cts_scribe.specs.Growing.{Gives, GivesOneMore}
-use Rattle.cts_scribe.specs.Logs.{counted_after, entries_log, file_kind, head_of, is_in_log, logged, logged_as, parts}
+use Rattle.cts_scribe.specs.Logs.{counted_after, entries_log, file_kind, is_in_log, logged, logged_as}
 use Rattle.cts_scribe.proofs.Logging.{gives_in, gives_out, logged_in, logged_out}
 use Rattle.cts_scribe.proofs.NextEntries.{take_next}
 use Rattle.cts_scribe.proofs.Parting.{begins_there, counts as counts_of, counts_on, cut_on, entry_short, fall_on, grown_on, same_parts}

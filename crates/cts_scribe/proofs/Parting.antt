@@ -1,5 +1,5 @@
 -- The parts of a log, entry by entry, and what is given to them.
-use Rattle.std.proofs.Common.{◌≡◌, ℕ, ◌<◌, ◌+◌, ◌-◌, Bool, true, false, List, [], ◌∷◌, ◌++◌, length, refl, sym, ◌∙◌, ap, subst, arith, append-nil}
+use Rattle.std.proofs.Common.{◌≡◌, ℕ, ◌<◌, Bool, true, false, List, [], ◌∷◌, ◌++◌, length, refl, sym, ◌∙◌, ap, arith, append-nil}
 use Rattle.std.proofs.Common.{length-append, Option, Some, None}
 use Rattle.std.specs.Prelude.{◌^◌, if◌then◌else◌, map, nat_lt, slice_range}
 use Rattle.cts_framing.specs.Heads.{head_bytes}
@@ -11,7 +11,7 @@ use Rattle.cts_log.specs.Files.{log_head, log_head_len}
 use Rattle.cts_log.specs.Logged.{FitsLogged, Logged, entry_bytes}
 use Rattle.cts_log.specs.declared.kind.LogKind.{LogKind}
 use Rattle.cts_log_parts.specs.Grouping.{joined, size_after}
-use Rattle.cts_log_parts.specs.Growths.{CutsData, DoNotFall, begins_entry, cut_growth, cut_with, cycle_after, given, pieces_from, with_entry}
+use Rattle.cts_log_parts.specs.Growths.{CutsData, DoNotFall, begins_entry, cut_growth, cut_with, cycle_after, pieces_from, with_entry}
 use Rattle.cts_log_parts.specs.Parts.{counted, entry_len, log_parts}
 use Rattle.cts_log_parts.proofs.Cutting.{cuts_tell_growth, fall_later, fall_more}
 use Rattle.cts_log_parts.proofs.Growing.{given_one_more, parts_are_grown}

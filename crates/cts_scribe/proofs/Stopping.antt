@@ -1,9 +1,7 @@
 -- What a stop leaves of the parts of a log is read.
-use Rattle.std.proofs.Common.{◌≡◌, ℕ, List, [], ◌∷◌, ◌++◌, length, refl, sym, ◌∙◌, ap, subst}
+use Rattle.std.proofs.Common.{◌≡◌, ℕ, List, [], ◌∷◌, ◌++◌, refl, sym, ◌∙◌, ap, subst}
 use Rattle.std.specs.Prelude.{map}
 use Rattle.std.proofs.lemmas.List.{map-append}
-use Rattle.cts_def.specs.Sites.{SiteData}
-use Rattle.cts_entry.specs.declared.entry.Entry.{Entry}
 use Rattle.cts_framing.specs.Layouts.{has_flags}
 use Rattle.cts_log_parts.specs.Grouping.{BeginsParts}
 use Rattle.cts_log_parts.specs.Stops.{AreClosed}
@@ -11,8 +9,7 @@ use Rattle.cts_log_parts.specs.Told.{bytes_of}
 use Rattle.cts_log_parts.proofs.Leaving.{stops_leave}
 use Rattle.cts_log_parts.proofs.PartsRead.{parts_are_read, synced_are_read}
 use Rattle.cts_outside.specs.Vaults.{Log, Part, parts_of, whole_part}
-use Rattle.cts_outside.specs.declared.vault.LogKind.{LogKind}
-use Rattle.cts_scribe.specs.Laws.{AreReadable, StopsLeaveLogs}
+use Rattle.cts_scribe.specs.Laws.{StopsLeaveLogs}
 use Rattle.cts_scribe.specs.Logs.{file_kind, groups, logged, parts}
 
 -- the bytes of the parts of a log

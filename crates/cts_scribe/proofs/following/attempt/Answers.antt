@@ -7,7 +7,7 @@ use Rattle.cts_worker.proofs.Onwards.{onward_then}
 use Rattle.cts_scribe.specs.declared.ending.ScribeWhy.TheVariants.{NoMemory, VaultFailed}
 use Rattle.cts_scribe.specs.Vaults.{AreBegun, AreWhole}
 use Rattle.cts_scribe.proofs.Lasting.{gave_up_at, gave_up_taken}
-use Rattle.cts_scribe.proofs.Sighting.{Looked, counted_more, counted_still, ends_more, looked_more, looked_onward, looked_wanting, put_after, wanting_whole}
+use Rattle.cts_scribe.proofs.Sighting.{Looked, counted_more, ends_more, looked_more, looked_onward, looked_wanting, put_after, wanting_whole}
 use Rattle.cts_scribe.proofs.following.attempt.Goals as goal
 
 pub returns-in-Ok-clause-logs : goal.returns-in-Ok-clause-logs

@@ -1,4 +1,4 @@
-use Rattle.std.proofs.Common.{◌≡◌, ◌∙◌, ◌∷◌, [], ap, subst, Ok, Err}
+use Rattle.std.proofs.Common.{◌∙◌, ◌∷◌, [], ap, subst, Ok, Err}
 use Rattle.cts_log_parts.specs.Told.{PutsGrowth}
 use Rattle.cts_outside.specs.declared.sink.PutFailed.{PutFailed}
 use Rattle.cts_outside.specs.declared.vault.LogKind.TheVariants.{Cmd, Tlm}
