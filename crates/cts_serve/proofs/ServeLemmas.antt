@@ -101,7 +101,7 @@ module _ (stock : List Meaning) (all : List ℕ → Option (List ℕ)) (definiti
 
   pub short_by : (f : Halt) → first_halt (first_phases stock all definitions site) ≡ Some f → halt_status f ≡ is.ShelfEmpty
       → IsShortOf stock all definitions site
-  short_by f e s = short_where stock all definitions site [] nothing (λ acts due m h. m) [] (Err f)
+  short_by f e s = short_where stock all definitions site (site_asked all definitions site) [] nothing (λ acts due m h. m) [] (Err f)
       (halts_so (first_phases stock all definitions site) nothing f e) s
 
   -- the reason of the phases where it is short
