@@ -63,7 +63,7 @@ pub struct ByHolds;
 
 impl Source for ByHolds {
     ghost use Rattle.cts_desk.specs.Serving.{Going};
-    ghost use Rattle.cts_desk.specs.Growing.{going_begins, going_look};
+    ghost use Rattle.cts_desk.specs.Growing.{going_look};
 
     ghost going = { λ s n. Going };
 
@@ -84,8 +84,6 @@ impl Source for ByHolds {
     }
 
     ghost counts = { λ s n b by fronts v xs g. g.fronts_are };
-
-    ghost begins = { λ s n. going_begins };
 
     ghost stays = { λ s n. going_look };
 }

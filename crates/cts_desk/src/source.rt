@@ -19,7 +19,6 @@ pub trait Source: Drop {
     ghost use Rattle.std.specs.Prelude.{◌≡◌, [], List, ℕ};
     ghost use Rattle.cts_entry.specs.declared.entry.Entry.{Entry};
     ghost use Rattle.cts_table.specs.declared.basis.Basis.{Basis};
-    ghost use Rattle.cts_trace.specs.Makers.{of_maker};
     ghost use Rattle.cts_turn.specs.declared.rule.View.{View};
     ghost use Rattle.cts_worker.specs.Holds.{Hold};
     ghost use Rattle.cts_desk.specs.Exchanges.{Exchange, fronts_of};
@@ -57,9 +56,6 @@ pub trait Source: Drop {
     /// The fronts are those of the exchanges.
     ghost counts: { (s : Self) (n : ℕ) (b : Basis) (by : ℕ) (fronts : List ℕ) (v : View Entry Basis) (xs : List Exchange)
         → going s n b by fronts v xs → fronts ≡ fronts_of xs };
-
-    /// A desk that has appended nothing has no exchanges.
-    ghost begins: { (s : Self) (n : ℕ) (b : Basis) (by : ℕ) (v : View Entry Basis) → of_maker by v.seen ≡ [] → going s n b by [] v [] };
 
     /// A look changes nothing of them.
     ghost stays: { (s : Self) (n : ℕ) (b : Basis) (by : ℕ) (fronts : List ℕ) (v w : View Entry Basis) (xs : List Exchange)
