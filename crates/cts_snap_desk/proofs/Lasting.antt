@@ -1,9 +1,8 @@
 -- The end of a desk that reads from a pane.
-use Rattle.std.proofs.Common.{◌≡◌, ℕ, ◌≤◌, Bool, true, false, List, [], ◌∷◌, ◌++◌, length, sym, refl, ap, ◌∙◌, subst, append_assoc, arith, le_refl, Option}
+use Rattle.std.proofs.Common.{◌≡◌, ℕ, Bool, true, List, [], ◌∷◌, ◌++◌, length, sym, refl, ap, ◌∙◌, subst, append_assoc, arith, le_refl, Option}
 use Rattle.cts_def.specs.declared.time.Time.{Time}
 use Rattle.cts_entry.specs.declared.entry.Entry.{Entry}
 use Rattle.cts_entry.specs.Histories.{is_stopped}
-use Rattle.cts_outside.specs.Causes.{Steady}
 use Rattle.cts_outside.specs.Lines.{Connection, Line}
 use Rattle.cts_table.specs.declared.basis.Basis.{Basis}
 use Rattle.cts_trace.specs.Makers.{of_maker}

@@ -1,5 +1,5 @@
 -- The exchanges of a desk that reads from a pane.
-use Rattle.std.proofs.Common.{◌≡◌, ℕ, ◌+◌, ◌≤◌, ◌&&◌, true, List, [], ◌∷◌, ◌++◌, length, sym, refl, ap, ◌∙◌, subst, append-nil, append_assoc, length-append, le-leb, leb, arith, le_refl, Some}
+use Rattle.std.proofs.Common.{◌≡◌, ℕ, ◌+◌, ◌≤◌, ◌&&◌, true, List, [], ◌∷◌, ◌++◌, length, sym, refl, ap, ◌∙◌, subst, append-nil, append_assoc, length-append, le-leb, arith, le_refl, Some}
 use mathlib.Core.List.{IsPrefix}
 use Rattle.cts_book.proofs.Fronts.{prefix_trans}
 use Rattle.cts_entry.specs.declared.entry.Entry.{Entry}
@@ -65,7 +65,7 @@ module _ (b : Basis) (by : ℕ) (pane : Basis) (list : List Entry) (x : Exchange
         s.6,
         s.7,
         snap_held (held_at y.front (length (before ++ (s.1 ++ s.2)))) (before ++ (s.1 ++ s.2)) gs s.3 gap added stood none le (is ∙ ap length to) (subst (λ l. IsAnswered b by l x added) to answered)
-        (stands ∙ ap length (past before rest s.1 s.2 s.3 (gap ++ added) s.4)) s.8,
+            (stands ∙ ap length (past before rest s.1 s.2 s.3 (gap ++ added) s.4)) s.8,
       )
   snap_held at before (ByRead y ∷ gs) rest gap added stood none le is answered stands s = (s.0, s.1, snap_held (read_at y.front) before gs rest gap added stood none le is answered stands s.2)
   snap_held at before (Lacks y ∷ gs) rest gap added stood none le is answered stands s = (s.0, s.1, snap_held (lacks_at y.front at) before gs rest gap added stood none le is answered stands s.2)

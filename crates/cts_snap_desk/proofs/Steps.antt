@@ -1,19 +1,17 @@
 -- What is known of a desk after each answer of its source.
-use Rattle.std.proofs.Common.{◌≡◌, ℕ, zero, suc, ◌+◌, ◌-◌, ◌≤◌, ◌<◌, true, List, [], ◌∷◌, ◌++◌, length, slice_index, sym, refl, ap, ◌∙◌, subst, append-nil, append_assoc, length-append, arith, le_refl, Option, Some, inl, inr, ⊎_elim, ◌⊎◌}
-use Rattle.std.specs.List.{All}
+use Rattle.std.proofs.Common.{◌≡◌, ℕ, ◌-◌, ◌≤◌, true, List, [], ◌∷◌, ◌++◌, length, slice_index, sym, refl, ap, ◌∙◌, subst, append-nil, length-append, arith, Option, Some, ⊎_elim}
 use Rattle.std.proofs.lemmas.List.{map-append}
 use Rattle.std.proofs.lemmas.List.Elements.{All-cons, All-head, All-nil, All-tail}
 use mathlib.Core.List.{IsPrefix}
 use Rattle.cts_book.proofs.Fronts.{prefix_length, prefix_self}
 use Rattle.cts_entry.specs.declared.entry.Entry.{Entry}
-use Rattle.cts_outside.specs.Causes.{Rose, Steady, raised}
+use Rattle.cts_outside.specs.Causes.{Rose, Steady}
 use Rattle.cts_table.specs.States.{Shown}
 use Rattle.cts_table.specs.declared.basis.Basis.{Basis}
 use Rattle.cts_turn.specs.declared.rule.View.{View}
 use Rattle.cts_turn.specs.Passes.{shown}
 use Rattle.cts_api.specs.Looks.{IsChanging}
 use Rattle.cts_snap.specs.Reading.{TextOver}
-use Rattle.cts_trace.specs.Makers.{of_maker}
 use Rattle.cts_desk.specs.Exchanges.{Exchange, Among, bodies_of, fronts_of, out_of_memory}
 use Rattle.cts_desk.specs.Holds.{AskedHold, IsReady}
 use Rattle.cts_desk.specs.Streams.{last_front}

@@ -1,5 +1,5 @@
 -- What stands of the exchanges where more entries came: lemmas that the source of replies cites.
-use Rattle.std.proofs.Common.{◌≡◌, ℕ, List, [], ◌∷◌, ◌++◌, length, sym, refl, ap, ◌∙◌, subst, append-nil, append_assoc}
+use Rattle.std.proofs.Common.{ℕ, List, [], ◌∷◌, ◌++◌, length, sym, ap, ◌∙◌, subst, append-nil, append_assoc}
 use Rattle.cts_entry.specs.declared.entry.Entry.{Entry}
 use Rattle.cts_table.specs.declared.basis.Basis.{Basis}
 use Rattle.cts_turn.specs.declared.rule.View.{View}

@@ -2,13 +2,10 @@ use Rattle.std.proofs.Common.{◌≡◌, ap, subst, sym, arith, inl, inr}
 use Rattle.cts_turn.specs.Passes.{view}
 use Rattle.cts_worker.specs.Grounds.{ground}
 use Rattle.cts_table.specs.States.{Shown}
-use Rattle.cts_table.specs.declared.basis.Basis.{Basis}
 use Rattle.cts_desk.specs.Holds.{text_of}
 use Rattle.cts_desk.proofs.Histories.{ready_hold}
 use Rattle.cts_snap.specs.Reading.{IsShown}
-use Rattle.cts_snap_desk.specs.Reading.{IsCourse, SnapGoing}
-use Rattle.cts_snap_desk.specs.declared.course.Course.{Course}
-use Rattle.cts_snap_desk.specs.declared.course.Course.TheVariants.{Hold}
+use Rattle.cts_snap_desk.specs.Reading.{IsCourse}
 use Rattle.cts_snap_desk.proofs.Steps.{course_over, going_held, going_lacks, going_moved, going_read, ready_shown}
 use Rattle.cts_snap_desk.proofs.reads.ByReadsSource.ask.Goals.{in-Ok, in-Err}
 use Rattle.cts_snap_desk.proofs.reads.ByReadsSource.ask.Goals as goal
@@ -22,12 +19,13 @@ returns-in-Give-clause-going g c = λ n xs k.
     let list = g.P.Pane.list new in
     let floor = c.args.self.now.floor in
     let body = c.args.body.now in
-    let course : IsCourse base list (g.P.Pane.refused old) (g.P.Pane.refused new) floor body c.match-shown.course = elim c.match-shown.branch
-        [ in-Ok w ↦
-        let x = w.in-Ok.ensures.ok in
-        course_over x.0 base list (g.P.Pane.refused old) (g.P.Pane.refused new) floor body w.course_of-course.result c.match-shown.course x.1 x.2 w.course-is
-        (w.course_of-course.ensures x.0 body (g.P.Pane.refused old) (g.P.Pane.refused new) (subst (λ (s : Shown). IsShown s body w.in-Ok.seen) x.3.2 x.3.1))
-        | in-Err w ↦ subst (IsCourse base list (g.P.Pane.refused old) (g.P.Pane.refused new) floor body) (sym w.course-is) (inr (inl w.in-Err.ensures.rose)) ] in
+    let course : IsCourse base list (g.P.Pane.refused old) (g.P.Pane.refused new) floor body c.match-shown.course = elim c.match-shown.branch [
+      | in-Ok w ↦
+          let x = w.in-Ok.ensures.ok in
+          course_over x.0 base list (g.P.Pane.refused old) (g.P.Pane.refused new) floor body w.course_of-course.result c.match-shown.course x.1 x.2 w.course-is
+          (w.course_of-course.ensures x.0 body (g.P.Pane.refused old) (g.P.Pane.refused new) (subst (λ (s : Shown). IsShown s body w.in-Ok.seen) x.3.2 x.3.1))
+      | in-Err w ↦ subst (IsCourse base list (g.P.Pane.refused old) (g.P.Pane.refused new) floor body) (sym w.course-is) (inr (inl w.in-Err.ensures.rose))
+    ] in
     let gives = subst (IsCourse base list (g.P.Pane.refused old) (g.P.Pane.refused new) floor body) c.in-Give.is course in
     let moved = going_moved (g.P.Pane.basis old) base (g.P.Pane.list old) (g.P.Pane.refused old) floor n (ground c.args.turn.now) c.args.by c.args.fronts.now (view c.args.pass) (view c.front-stands.new.pass) xs c.front-stands.result e.basis c.front-stands.ensures.view k in
     going_read base (g.P.Pane.list old) list (g.P.Pane.refused old) (g.P.Pane.refused new) floor n (ground c.args.turn.now) c.args.by c.args.fronts.now (view c.front-stands.new.pass) xs e.list e.refused moved body c.in-Give.front c.in-Give.text gives.0 gives.1 gives.2
@@ -46,12 +44,13 @@ returns-in-Hold-clause-going g c = λ n xs k.
     let list = g.P.Pane.list new in
     let floor = c.args.self.now.floor in
     let body = c.args.body.now in
-    let course : IsCourse base list (g.P.Pane.refused old) (g.P.Pane.refused new) floor body c.match-shown.course = elim c.match-shown.branch
-        [ in-Ok w ↦
-        let x = w.in-Ok.ensures.ok in
-        course_over x.0 base list (g.P.Pane.refused old) (g.P.Pane.refused new) floor body w.course_of-course.result c.match-shown.course x.1 x.2 w.course-is
-        (w.course_of-course.ensures x.0 body (g.P.Pane.refused old) (g.P.Pane.refused new) (subst (λ (s : Shown). IsShown s body w.in-Ok.seen) x.3.2 x.3.1))
-        | in-Err w ↦ subst (IsCourse base list (g.P.Pane.refused old) (g.P.Pane.refused new) floor body) (sym w.course-is) (inr (inl w.in-Err.ensures.rose)) ] in
+    let course : IsCourse base list (g.P.Pane.refused old) (g.P.Pane.refused new) floor body c.match-shown.course = elim c.match-shown.branch [
+      | in-Ok w ↦
+          let x = w.in-Ok.ensures.ok in
+          course_over x.0 base list (g.P.Pane.refused old) (g.P.Pane.refused new) floor body w.course_of-course.result c.match-shown.course x.1 x.2 w.course-is
+          (w.course_of-course.ensures x.0 body (g.P.Pane.refused old) (g.P.Pane.refused new) (subst (λ (s : Shown). IsShown s body w.in-Ok.seen) x.3.2 x.3.1))
+      | in-Err w ↦ subst (IsCourse base list (g.P.Pane.refused old) (g.P.Pane.refused new) floor body) (sym w.course-is) (inr (inl w.in-Err.ensures.rose))
+    ] in
     let needs = subst (IsCourse base list (g.P.Pane.refused old) (g.P.Pane.refused new) floor body) c.in-Hold.is course in
     let moved = going_moved (g.P.Pane.basis old) base (g.P.Pane.list old) (g.P.Pane.refused old) floor n (ground c.args.turn.now) c.args.by c.args.fronts.now (view c.args.pass) (view c.front-stands.new.pass) xs c.front-stands.result e.basis c.front-stands.ensures.view k in
     let h = c.hold-pass.ensures in
