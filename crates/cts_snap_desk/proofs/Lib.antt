@@ -1,0 +1,3 @@
+pub mod Snapping
+pub mod Steps
+pub mod Lasting
