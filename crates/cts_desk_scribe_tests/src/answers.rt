@@ -1,5 +1,7 @@
 // What clients of a desk are answered: whole and cut, refused, where the door fails, and where the server is stopped.
-use crate::clients::{Asked, answered, answered_after_a_dial, entries_left, in_short};
+use crate::clients::{
+    Asked, answered, answered_after_a_dial, answered_silently, entries_left, in_short,
+};
 use cts_rows::{asked_and_wanted, cut, number, same};
 use std::alloc::Global;
 use std::sync::Wait;
@@ -233,4 +235,18 @@ fn each_entry_has_the_time_of_its_request(rt: HostRuntime) -> Result<(), Fail> {
     let texts = format!(in rt.alloc(); "{CHOICES}{CHOICES}&{CHOICES}")?;
     let left = entries_left(&rt, rt.alloc(), &texts)?;
     same(&left, "(Finished, 4, 3)", "three choices")
+}
+
+/// Three requests of two clients, to a source whose replies have no text.
+const SILENCE: &str =
+    "$$&$|HTTP/1.1 204 No Content;X-Cts-Front: 7;;HTTP/1.1 204 No Content;X-Cts-Front: 8;;&HTTP/1.1 204 No Content;X-Cts-Front: 9;;&(Finished, [7, 8, 9])";
+
+#[test]
+fn a_desk_answers_from_any_source(rt: HostRuntime) -> Result<(), Fail> {
+    let (texts, wanted) = parts(rt.alloc(), SILENCE)?;
+    same(
+        &answered_silently(&rt, rt.alloc(), &texts)?,
+        wanted,
+        SILENCE,
+    )
 }

@@ -1,5 +1,6 @@
 // What clients of a desk are answered.
 use crate::desks::{Left, desk_over, hall_of};
+use crate::sources::silence_over;
 use cts_base::Bytes;
 use cts_outside::{Dialed, Dialer, MemConnection, MemDialer, MemPiece};
 use cts_rows::{as_text, bytes_by_number, debug_of, numbers};
@@ -116,6 +117,22 @@ pub fn entries_left<W: Wait>(rt: &W, alloc: Global, texts: &str) -> Result<Strin
     let mut door = MemDialer::new(alloc, clients, Vec::new(alloc));
     let left = desk_over(rt, alloc, hall, &mut door)?;
     debug_of(alloc, &(left.why, left.entries, left.later))
+}
+
+/// What is put to clients by a desk whose source answers nothing, why it ends, and its fronts.
+pub fn answered_silently<W: Wait>(rt: &W, alloc: Global, texts: &str) -> Result<String, Fail> {
+    let asked = Asked {
+        texts,
+        at_once: 2_000_000,
+        failing: "",
+    };
+    let clients = clients(alloc, asked)?;
+    let hall = hall_of(alloc, "")?;
+    let mut door = MemDialer::new(alloc, clients, Vec::new(alloc));
+    let (why, fronts) = silence_over(rt, alloc, hall, &mut door)?;
+    let mut out = puts_of(alloc, &door, texts.split('&').count())?;
+    out.push_str(&debug_of(alloc, &(why, fronts.as_slice()))?)?;
+    Ok(out)
 }
 
 /// The same in short: of what is put to a client, the status of each response.

@@ -23,6 +23,8 @@ mod scribes;
 #[cfg(test)]
 mod scribing;
 #[cfg(test)]
+mod sources;
+#[cfg(test)]
 mod ticking;
 #[cfg(test)]
 mod words;
