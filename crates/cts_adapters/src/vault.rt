@@ -20,7 +20,8 @@ pub enum Opening {
 
 /// The two packet logs in files of the system. The file of part 0 has the name of its log, and that of part n has `_n` in front of the
 /// ending of that name, with n in decimal. Each file is opened at its first append, so a part to which nothing is appended has none, and
-/// then the folder that has it is synced; an append that can't open it or sync the folder fails. It tells nothing of what the files hold, since no proof sees that.
+/// then the folder that has it is synced; an append that can't open it or sync the folder fails. It tells nothing of what the files hold,
+/// since no proof sees that.
 #[derive(Drop)]
 pub struct DiskVault<'a, R> {
     rt: &'a R,

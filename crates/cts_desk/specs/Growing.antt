@@ -10,7 +10,8 @@ use Rattle.cts_desk.specs.Exchanges.{Exchange, Exchanges, Among}
 use Rattle.cts_desk.specs.Serving.{Going}
 
 -- more entries after them, and which of those are the desk's
-pub exchanges_more : (b : Basis) (by : ℕ) (before : List Entry) (xs : List Exchange) (last rest new : List Entry) → Exchanges b by before xs last rest → Exchanges b by before xs (last ++ of_maker by new) (rest ++ new)
+pub exchanges_more : (b : Basis) (by : ℕ) (before : List Entry) (xs : List Exchange) (last rest new : List Entry)
+    → Exchanges b by before xs last rest → Exchanges b by before xs (last ++ of_maker by new) (rest ++ new)
 exchanges_more b by before [] last rest new s = of_maker_append by rest new ∙ ap (λ l. l ++ of_maker by new) s
 exchanges_more b by before (x ∷ xs) last rest new s = (
   s.0,
@@ -32,7 +33,8 @@ pub going_begins : (b : Basis) (m : ℕ) (v : View Entry Basis) → of_maker m v
 going_begins b m v none = record { fronts_are = refl; among = tt; stand = none }
 
 -- a look
-pub going_look : (b : Basis) (m : ℕ) (fronts : List ℕ) (old new : View Entry Basis) (xs : List Exchange) → Hold m old new [] → Going b m fronts old xs → Going b m fronts new xs
+pub going_look : (b : Basis) (m : ℕ) (fronts : List ℕ) (old new : View Entry Basis) (xs : List Exchange)
+    → Hold m old new [] → Going b m fronts old xs → Going b m fronts new xs
 going_look b m fronts old new xs hold g = record {
   fronts_are = g.fronts_are;
   among = subst (Among fronts) (sym hold.found) (among_more fronts old.found (length (old.seen ++ hold.others) ∷ []) g.among);

@@ -23,7 +23,7 @@ use cts_outside::{Clock, Dialed, Dialer, Gate};
 use std::sync::Wait;
 
 // Serves the client of the connection that stands, and hangs up. Says whether it is over for a Stop.
-fn serve<W: Wait, R: Dialer, K: Clock, G: Gate, S: Source>(
+fn attend<W: Wait, R: Dialer, K: Clock, G: Gate, S: Source>(
     hand: &AtHand<'_, W, K, G>,
     talk: Talk<S>,
     door: &mut R,
@@ -79,7 +79,7 @@ fn attempt<W: Wait, R: Dialer, K: Clock, G: Gate, S: Source>(
 {
     match door.dial() {
         Dialed::Linked => {
-            let (talk, stop) = serve(hand, talk, door);
+            let (talk, stop) = attend(hand, talk, door);
             (talk, stop_if(stop))
         }
         Dialed::Later => {

@@ -15,6 +15,15 @@ use crate::plain::write_over;
 use cts_bits::{Place, write_uint};
 use cts_def::FRAME_LIMIT;
 
+/// What LENGTH writes into its field: where the field stands, what its count says of a frame's length, and the greatest count.
+#[derive(Clone, Copy)]
+pub(crate) struct LengthField<'a> {
+    pub place: &'a Place,
+    pub value_offset: &'a i32,
+    pub per_count: u32,
+    pub max: Option<u64>,
+}
+
 /// The count of a frame of `total` bytes, if one states it.
 fn count_of(total: usize, value_offset: &i32, per_count: u32) -> Option<u128>
     requires { 1 ≤ per_count }
@@ -53,22 +62,21 @@ fn is_wide(number: u128, place: &Place) -> bool
 /// The count of a frame of `total` bytes, or why it has none.
 fn count_for(
     total: usize,
-    place: &Place,
-    value_offset: &i32,
-    per_count: u32,
+    field: &LengthField<'_>,
     discard: u32,
     sync: &[u8],
-    max: Option<u64>,
 ) -> Result<u64, EncodeFault>
-    requires { 1 ≤ per_count }
-    ensures { CountsFor (length_row (place_data place.now) value_offset.now per_count discard sync.now max true) total result }
+    requires { 1 ≤ field.now.per_count }
+    ensures { CountsFor (length_row (place_data field.now.place.now) field.now.value_offset.now field.now.per_count discard sync.now field.now.max true)
+        total result }
 {
-    if total < sync.len() || total < place.reach() as usize {
+    if total < sync.len() || total < field.place.reach() as usize {
         return Err(EncodeFault::NoPlace);
     }
-    match count_of(total, value_offset, per_count) {
+    match count_of(total, field.value_offset, field.per_count) {
         None => Err(EncodeFault::NoPlace),
-        Some(count) if is_wide(count, place) || is_over(max, count) || total > FRAME_LIMIT => {
+        Some(count)
+            if is_wide(count, field.place) || is_over(field.max, count) || total > FRAME_LIMIT => {
             Err(EncodeFault::LengthTooLarge)
         }
         Some(count) => Ok(count as u64),
@@ -97,33 +105,22 @@ fn write_count(out: &mut Vec<u8>, start: usize, place: &Place, count: u64)
 /// Appends zero bytes and the bytes, with the sync pattern over the first of them and the count in its field.
 pub(crate) fn encode_counted(
     out: &mut Vec<u8>,
-    place: &Place,
-    value_offset: &i32,
-    per_count: u32,
+    field: &LengthField<'_>,
     discard: u32,
     sync: &[u8],
-    max: Option<u64>,
     bytes: &[u8],
 ) -> Result<(), EncodeFault>
-    requires { 1 ≤ per_count }
-    ensures put { (h : Heading) → Encodes (Length (length_row (place_data place.now) value_offset.now per_count discard sync.now max true)) h
-        bytes.now out.old.items out.new.items result }
+    requires { 1 ≤ field.now.per_count }
+    ensures put { (h : Heading) → Encodes (Length (length_row (place_data field.now.place.now) field.now.value_offset.now field.now.per_count discard
+        sync.now field.now.max true)) h bytes.now out.old.items out.new.items result }
     ensures bytes { AreBytes sync.now }
 {
     let start = out.len();
     put_ended(out, discard as usize, bytes, &[])?;
-    match count_for(
-        out.len() - start,
-        place,
-        value_offset,
-        per_count,
-        discard,
-        sync,
-        max,
-    ) {
+    match count_for(out.len() - start, field, discard, sync) {
         Ok(count) => {
             write_over(out, start, sync);
-            write_count(out, start, place, count);
+            write_count(out, start, field.place, count);
             Ok(())
         }
         Err(fault) => {

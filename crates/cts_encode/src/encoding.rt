@@ -9,11 +9,10 @@ ghost use Rattle.cts_encode.specs.Spelled.{Spells, spelling_of};
 ghost use Rattle.cts_encode.specs.Spellings.{Encodes, heading_of};
 
 use crate::EncodeFault;
-use crate::counted::encode_counted;
+use crate::counted::{LengthField, encode_counted};
 use crate::headed::encode_headed;
 use crate::plain::{encode_bare, encode_filled};
 use cts_base::Bytes;
-use cts_bits::Place;
 use cts_def::{Label, ProtoSpec};
 
 /// Appends the spelling of the bytes by this protocol. The label stands in the head of PREIDENTIFIED.
@@ -54,17 +53,13 @@ pub fn encode(
             fill,
         } => {
             let sync = sync.as_slice();
-            encode_length(
-                out,
+            let field = LengthField {
                 place,
                 value_offset,
-                *per_count,
-                *discard,
-                sync,
-                *max,
-                *fill,
-                bytes,
-            )
+                per_count: *per_count,
+                max: *max,
+            };
+            encode_length(out, &field, *discard, sync, *fill, bytes)
         }
         ProtoSpec::Terminated {
             write,
@@ -87,31 +82,19 @@ pub fn encode(
 // LENGTH, which without fill writes the bytes alone.
 fn encode_length(
     out: &mut Vec<u8>,
-    place: &Place,
-    value_offset: &i32,
-    per_count: u32,
+    field: &LengthField<'_>,
     discard: u32,
     sync: &[u8],
-    max: Option<u64>,
     fill: bool,
     bytes: &[u8],
 ) -> Result<(), EncodeFault>
-    requires { 1 ≤ per_count }
-    ensures put { (h : Heading) → Encodes (Length (length_row (place_data place.now) value_offset.now per_count discard sync.now max fill)) h
-        bytes.now out.old.items out.new.items result }
+    requires { 1 ≤ field.now.per_count }
+    ensures put { (h : Heading) → Encodes (Length (length_row (place_data field.now.place.now) field.now.value_offset.now field.now.per_count discard
+        sync.now field.now.max fill)) h bytes.now out.old.items out.new.items result }
     ensures bytes { AreBytes sync.now }
 {
     if fill {
-        encode_counted(
-            out,
-            place,
-            value_offset,
-            per_count,
-            discard,
-            sync,
-            max,
-            bytes,
-        )
+        encode_counted(out, field, discard, sync, bytes)
     } else {
         encode_bare(out, discard, sync, bytes, &[])
     }

@@ -1,17 +1,20 @@
 -- What a connection has in the history, when the history grows by a hold.
-use Rattle.std.proofs.Common.{◌≡◌, ℕ, suc, ◌+◌, List, [], ◌∷◌, ◌++◌, length, refl, sym, ◌∙◌, ap, subst, arith, append_assoc, append-nil, length-append}
+use Rattle.std.proofs.Common.{◌≡◌, ℕ, suc, ◌+◌, false, List, [], ◌∷◌, ◌++◌, length, refl, sym, ◌∙◌, ap, subst, arith, append_assoc, append-nil, length-append}
 use Rattle.std.specs.Prelude.{drop}
 use Rattle.cts_def.specs.declared.time.Time.{Time}
 use Rattle.cts_entry.specs.declared.entry.Entry.{Entry}
 use Rattle.cts_entry.specs.Places.{Posts}
-use Rattle.cts_entry.proofs.Queuing.{posts_append, posts_none}
+use Rattle.cts_entry.specs.Histories.{has_own}
+use Rattle.cts_entry.proofs.Queuing.{any_append, posts_append, posts_none}
 use Rattle.cts_framing.specs.Framing.{Output}
 use Rattle.cts_trace.specs.Connections.{Shows}
 use Rattle.cts_trace.specs.Routing.{Routing, queue, posted_entries}
 use Rattle.cts_trace.proofs.Others.{strange_own}
 use Rattle.cts_trace.proofs.Walks.{queue-append, packets_show}
+use Rattle.cts_line.specs.Rows.{Gives, InRows, Row}
 use Rattle.cts_line.specs.Talks.{Body}
 use Rattle.cts_line.proofs.Growing.{Grows}
+use Rattle.cts_line.proofs.Rows.{rows_next, rows_others}
 
 pub inside : (history before within : List Entry) (opened : Entry) → history ≡ before ++ opened ∷ within → length history ≡ length before + 1 + length within
 inside history before within opened e = let f = ap length e ∙ length-append before (opened ∷ within) in omega arith
@@ -88,3 +91,26 @@ module _ (g : Routing) (m : ℕ) where
     rest = b.rest;
     queue_is = b.queue_is;
   }
+
+  module _ (found : List ℕ) (history added : List Entry) (found' : List ℕ) (history' : List Entry) (grows : Grows m found history added found' history') (b : Body g m history) (fed : List (List ℕ))
+      (r : InRows g m fed b.posted (b.before ++ b.opened ∷ []) (b.looked ++ b.ahead)) where
+    -- a hold added no packet
+    pub rows_kept : has_own m added ≡ false → InRows g m fed (b.posted ++ []) (b.before ++ b.opened ∷ []) (b.looked ++ (b.ahead ++ (grows.others ++ added)))
+    rows_kept none =
+        let base : List Entry = b.before ++ b.opened ∷ [] in
+        let strange = any_append m grows.others added (strange_own m grows.others grows.strange) none in
+        subst (λ (l : List Output). InRows g m fed l base (b.looked ++ (b.ahead ++ (grows.others ++ added)))) (sym (append-nil b.posted))
+        (subst (λ (l : List Entry). InRows g m fed b.posted base l) (append_assoc b.looked b.ahead (grows.others ++ added))
+        (rows_others g m fed b.posted base (b.looked ++ b.ahead) r (grows.others ++ added) strange))
+
+    -- it added those of a piece
+    pub rows_grown : (piece : List ℕ) (packets : List Output) → Gives (g.chain m) fed b.posted → Row g m (history ++ grows.others) packets added
+        → InRows g m (fed ++ piece ∷ []) (b.posted ++ packets) (b.before ++ b.opened ∷ []) (b.looked ++ (b.ahead ++ (grows.others ++ added)))
+    rows_grown piece packets gives row =
+        let base : List Entry = b.before ++ b.opened ∷ [] in
+        let within : List Entry = b.looked ++ b.ahead in
+        let is : history ++ grows.others ≡ base ++ (within ++ grows.others) =
+        ap (λ (l : List Entry). l ++ grows.others) (b.whole ∙ sym (append_assoc b.before (b.opened ∷ []) within)) ∙ append_assoc base within grows.others in
+        subst (λ (l : List Entry). InRows g m (fed ++ piece ∷ []) (b.posted ++ packets) base l) (append_assoc b.looked b.ahead (grows.others ++ added))
+        (rows_next g m fed b.posted base within r grows.others added piece packets (strange_own m grows.others grows.strange) gives
+        (subst (λ (l : List Entry). Row g m l packets added) is row))

@@ -21,10 +21,10 @@ use Rattle.cts_trace.specs.Routing.{Routing, queue, spell}
 use Rattle.cts_trace.specs.Connections.{Carries, Blames, Fed, Left, NoneLate, Stay, Tail}
 use Rattle.cts_entry.specs.Room.{Capacity}
 use Rattle.cts_trace.specs.Lines.{Causes, Looked, IsLook, LastTwo, PutsAll, PostsNone, TellsWhy, looks}
-use Rattle.cts_trace.specs.Told.{Said}
 use Rattle.cts_trace.proofs.Looking.{looks_append, puts_all_map}
 use Rattle.cts_trace.proofs.Walks.{queue-append}
 use Rattle.cts_worker.specs.Lasts.{entry_of}
+use Rattle.cts_line.specs.Rows.{InRows, LookedInRows, SaidInRows}
 use Rattle.cts_line.specs.Talks.{Body, Holds, SoonBy}
 use Rattle.cts_line.proofs.Bodies.{inside, drop_whole}
 use Rattle.cts_line.proofs.Growing.{looks_all}
@@ -44,7 +44,8 @@ pub record Closing (g : Routing) (room : Capacity) (m : ℕ) (why : Why) (stages
   pub late : NoneLate (g.chain m) connection.pieces
   pub left_is : Left g m why fed body.posted left
   pub unposted_is : unposted ≡ capped (length left)
-  pub past : Said g room m found line.past body.before
+  pub rows : InRows g m fed body.posted (body.before ++ body.opened ∷ []) (body.looked ++ body.ahead)
+  pub past : SaidInRows g room m found line.past body.before
   pub place_is : place ≡ length body.before + 1 + length body.looked
   pub holds : Holds found (length body.before) (length history)
   pub soon : SoonBy 3 found (length body.before) history
@@ -74,7 +75,7 @@ closed_at g m time why stages place unsent unposted history = entry_of m time (C
 -- its stay is said then
 pub closes : (g : Routing) (room : Capacity) (m : ℕ) (time : Time) (why : Why) (stages : List Meaning) (place unsent unposted : ℕ) (found : List ℕ) (history : List Entry) (line : Line)
     → Closing g room m why stages place unsent unposted found history line
-    → Said g room m found (line.past ++ option_to_list line.now) (history ++ closed_at g m time why stages place unsent unposted history ∷ [])
+    → SaidInRows g room m found (line.past ++ option_to_list line.now) (history ++ closed_at g m time why stages place unsent unposted history ∷ [])
 closes g room m time why stages place unsent unposted found history line t =
     let b = t.body in
     let o : ℕ = length b.before in
@@ -155,6 +156,7 @@ closes g room m time why stages place unsent unposted found history line t =
           let n = length-append b.before (b.opened ∷ earlier) in
           subst (λ (k : ℕ). looks found (o + length earlier) k ≤ 3) long (t.soon front later (o + length earlier) is (omega (arith, n)) (omega arith) stop));
     } in
-    subst (λ (c : Option Connection). Said g room m found (line.past ++ option_to_list c) (history ++ closed ∷ [])) (sym t.stands)
-    (subst (λ (l : List Entry). Said g room m found (line.past ++ t.connection ∷ []) l) (sym whole)
-    (stays_snoc m (Looked g room m found) [] line.past b.before entries t.connection t.past looked))
+    let both : LookedInRows g room m found b.before t.connection entries = (looked, record { stay = stay; rows = t.rows }) in
+    subst (λ (c : Option Connection). SaidInRows g room m found (line.past ++ option_to_list c) (history ++ closed ∷ [])) (sym t.stands)
+    (subst (λ (l : List Entry). SaidInRows g room m found (line.past ++ t.connection ∷ []) l) (sym whole)
+    (stays_snoc m (LookedInRows g room m found) [] line.past b.before entries t.connection t.past both))

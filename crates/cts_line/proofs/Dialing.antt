@@ -26,8 +26,8 @@ use Rattle.cts_table.specs.declared.basis.Basis.{Basis}
 use Rattle.cts_entry.specs.Room.{Capacity}
 use Rattle.cts_trace.specs.Makers.{closes_for, faults_of, is_fault, of_maker}
 use Rattle.cts_trace.specs.Routing.{Routing}
-use Rattle.cts_trace.specs.Told.{HasFinished, Said, Settled, ToldBy, Unopened}
-use Rattle.cts_trace.proofs.Looking.{settles_told, stop_kept, unopened_more}
+use Rattle.cts_trace.specs.Told.{HasFinished, Unopened}
+use Rattle.cts_trace.proofs.Looking.{stop_kept, unopened_more}
 use Rattle.cts_trace.proofs.Others.{strange_own}
 use Rattle.cts_turn.specs.declared.rule.View.{View}
 use Rattle.cts_worker.specs.Counts.{RoseBy, RoseIf, one_if}
@@ -39,6 +39,7 @@ use Rattle.cts_worker.proofs.Lasting.{ended_onward, ended_seen}
 use Rattle.cts_line.specs.Doing.{OpensIn}
 use Rattle.cts_line.specs.Ending.{after_closed, reconnects, unless_again, CausesEnd, FaultsRise, IsUndialed, Keeps, fails, has_closed, has_stop, is_any, is_full, opened_in, refused, stops_all}
 use Rattle.cts_turn.specs.Lists.{climbs}
+use Rattle.cts_line.specs.Rows.{SaidInRows, SettledInRows, ToldInRows}
 use Rattle.cts_line.specs.Talks.{Begins, IsClosed, Talks, TalksAt, ToldSoFar, Waits, Went, room_of}
 use Rattle.cts_line.specs.declared.ending.LineWhy.{LineWhy}
 use Rattle.cts_line.specs.declared.ending.LineWhy.TheVariants.{Stopped, Finished, NoReconnect, DoorFailed, Full, NoMemory, Cancelled}
@@ -46,6 +47,7 @@ use Rattle.cts_line.specs.declared.opening.Opening.{Opening}
 use Rattle.cts_line.specs.declared.opening.Opening.TheVariants.{Opened, Stopped as StoppedThere, Full as NoRoom, NoMemory as NoMemoryThere}
 use Rattle.cts_chain.proofs.Anew.{anew}
 use Rattle.cts_line.proofs.Growing.{Grows, said_grown}
+use Rattle.cts_line.proofs.Rows.{settles_rows}
 use Rattle.cts_line.proofs.Keeping.{Quiet, closed_quiet, counted_none, faults_quiet, keeps_quiet, opened_quiet, quiet_none, quiet_others, stop_both, stop_opened, stop_strange}
 use Rattle.cts_line.proofs.Boarding.{quiet_stop}
 use Rattle.cts_line.proofs.Following.{filter_few, grows_by, look_grows, look_kept, look_stop, onward_by, quiet_keeps, stop_kept_by}
@@ -88,11 +90,11 @@ still_on m a b k on = k.on ∙ ap (λ (x : Bool). x && true) on
 -- ---- what is told between connections
 
 module _ (g : Routing) (room : Capacity) (m : ℕ) (found : List ℕ) (history added : List Entry) (found' : List ℕ) (history' : List Entry) (grows : Grows m found history added found' history') (none : has_own m added ≡ false) where
-  pub settled_hold : (told : Option Line) → Settled g room m found history told → Settled g room m found' history' told
+  pub settled_hold : (told : Option Line) → SettledInRows g room m found history told → SettledInRows g room m found' history' told
   settled_hold None t = tt
   settled_hold (Some line) t = (t.0, said_grown m found history added found' history' grows g room line.past none t.1)
 
-  pub told_hold : (told : Option Line) → ToldBy g room m found history told → ToldBy g room m found' history' told
+  pub told_hold : (told : Option Line) → ToldInRows g room m found history told → ToldInRows g room m found' history' told
   told_hold None t = tt
   told_hold (Some line) t = (
     t.0,
@@ -104,9 +106,9 @@ module _ (g : Routing) (room : Capacity) (m : ℕ) (found : List ℕ) (history a
   )
 
   -- a Stop stands then, so the connection could not be opened
-  pub unopened_hold : (old new : Option Line) → is_stopped history' ≡ true → new ≡ told_after hung_up old → Begins g room m found history old → ToldBy g room m found' history' new
-  unopened_hold None new stop e b = subst (λ (o : Option Line). ToldBy g room m found' history' o) (sym e) tt
-  unopened_hold (Some line) new stop e b = subst (λ (o : Option Line). ToldBy g room m found' history' o) (sym e) (
+  pub unopened_hold : (old new : Option Line) → is_stopped history' ≡ true → new ≡ told_after hung_up old → Begins g room m found history old → ToldInRows g room m found' history' new
+  unopened_hold None new stop e b = subst (λ (o : Option Line). ToldInRows g room m found' history' o) (sym e) tt
+  unopened_hold (Some line) new stop e b = subst (λ (o : Option Line). ToldInRows g room m found' history' o) (sym e) (
     line.past,
     fresh ∷ [],
     refl,
@@ -115,28 +117,28 @@ module _ (g : Routing) (room : Capacity) (m : ℕ) (found : List ℕ) (history a
     (refl, stop),
   )
 
-pub begins_linked : (g : Routing) (room : Capacity) (m : ℕ) (found : List ℕ) (history : List Entry) (old new : Option Line) → new ≡ told_after (after_dial Linked) old → Settled g room m found history old → Begins g room m found history new
+pub begins_linked : (g : Routing) (room : Capacity) (m : ℕ) (found : List ℕ) (history : List Entry) (old new : Option Line) → new ≡ told_after (after_dial Linked) old → SettledInRows g room m found history old → Begins g room m found history new
 begins_linked g room m found history None new e t = subst (λ (o : Option Line). Begins g room m found history o) (sym e) tt
 begins_linked g room m found history (Some line) new e t = subst (λ (o : Option Line). Begins g room m found history o) (sym e) (refl, t.1)
 
-pub finishes_settled : (g : Routing) (room : Capacity) (m : ℕ) (found : List ℕ) (history : List Entry) (old new : Option Line) → new ≡ told_after (after_dial FinishedDial) old → Settled g room m found history old → Settled g room m found history new × HasFinished new
-finishes_settled g room m found history None new e t = subst (λ (o : Option Line). Settled g room m found history o × HasFinished o) (sym e) (tt, tt)
-finishes_settled g room m found history (Some line) new e t = subst (λ (o : Option Line). Settled g room m found history o × HasFinished o) (sym e) (t, refl)
+pub finishes_settled : (g : Routing) (room : Capacity) (m : ℕ) (found : List ℕ) (history : List Entry) (old new : Option Line) → new ≡ told_after (after_dial FinishedDial) old → SettledInRows g room m found history old → SettledInRows g room m found history new × HasFinished new
+finishes_settled g room m found history None new e t = subst (λ (o : Option Line). SettledInRows g room m found history o × HasFinished o) (sym e) (tt, tt)
+finishes_settled g room m found history (Some line) new e t = subst (λ (o : Option Line). SettledInRows g room m found history o × HasFinished o) (sym e) (t, refl)
 
 same_told : (old : Option Line) → told_after (λ line. line) old ≡ old
 same_told None = refl
 same_told (Some line) = refl
 
-pub nothing_dialed : (g : Routing) (room : Capacity) (m : ℕ) (found : List ℕ) (history : List Entry) (old new : Option Line) → new ≡ told_after (λ line. line) old → Settled g room m found history old → Settled g room m found history new
-nothing_dialed g room m found history old new e t = subst (λ (o : Option Line). Settled g room m found history o) (sym (e ∙ same_told old)) t
+pub nothing_dialed : (g : Routing) (room : Capacity) (m : ℕ) (found : List ℕ) (history : List Entry) (old new : Option Line) → new ≡ told_after (λ line. line) old → SettledInRows g room m found history old → SettledInRows g room m found history new
+nothing_dialed g room m found history old new e t = subst (λ (o : Option Line). SettledInRows g room m found history o) (sym (e ∙ same_told old)) t
 
-pub hangs_up : {G : Type 0} (g : Routing) (room : Capacity) (m : ℕ) (v : View Entry G) (old new : Option Line) → new ≡ told_after hung_up old → IsClosed g room m v old → Settled g room m v.found v.seen new
-hangs_up g room m v None new e c = subst (λ (o : Option Line). Settled g room m v.found v.seen o) (sym e) tt
-hangs_up g room m v (Some line) new e c = subst (λ (o : Option Line). Settled g room m v.found v.seen o) (sym e) (refl, c)
+pub hangs_up : {G : Type 0} (g : Routing) (room : Capacity) (m : ℕ) (v : View Entry G) (old new : Option Line) → new ≡ told_after hung_up old → IsClosed g room m v old → SettledInRows g room m v.found v.seen new
+hangs_up g room m v None new e c = subst (λ (o : Option Line). SettledInRows g room m v.found v.seen o) (sym e) tt
+hangs_up g room m v (Some line) new e c = subst (λ (o : Option Line). SettledInRows g room m v.found v.seen o) (sym e) (refl, c)
 
-pub so_far : (g : Routing) (room : Capacity) (m : ℕ) (found : List ℕ) (history : List Entry) (told : Option Line) (end : Option LineWhy) → Settled g room m found history told → ToldSoFar g room m found history told end
+pub so_far : (g : Routing) (room : Capacity) (m : ℕ) (found : List ℕ) (history : List Entry) (told : Option Line) (end : Option LineWhy) → SettledInRows g room m found history told → ToldSoFar g room m found history told end
 so_far g room m found history told None t = t
-so_far g room m found history told (Some why) t = settles_told g room m found history told t
+so_far g room m found history told (Some why) t = settles_rows g room m found history told t
 
 -- ---- the Opened
 
@@ -187,7 +189,7 @@ pub record Refusal {G : Type 0} (base : Basis) (m : ℕ) (old new : View Entry G
   pub keeps : Keeps m old.seen new.seen None
   pub stop : stops_all why ≡ false → has_stop m new.seen ≡ has_stop m old.seen
   pub same : d ≡ c
-  pub told : (before now : Option Line) → now ≡ told_after hung_up before → Begins (site_routing base.site) (room_of base) m old.found old.seen before → ToldBy (site_routing base.site) (room_of base) m new.found new.seen now
+  pub told : (before now : Option Line) → now ≡ told_after hung_up before → Begins (site_routing base.site) (room_of base) m old.found old.seen before → ToldInRows (site_routing base.site) (room_of base) m new.found new.seen now
   pub cause : (told : Option Line) (before now : ℕ) → CausesEnd base.site base.entries m new.seen told before now why
 
 -- the connection is opened
@@ -292,13 +294,13 @@ module _ {G : Type 0} (base : Basis) (m : ℕ) (old new : View Entry G) (hold : 
   pub stop_same_look : has_stop m new.seen ≡ has_stop m old.seen
   stop_same_look = look_stop base m old new as_look
 
-  pub stop_settled : (told : Option Line) → Settled (site_routing base.site) (room_of base) m old.found old.seen told → Settled (site_routing base.site) (room_of base) m new.found new.seen told
+  pub stop_settled : (told : Option Line) → SettledInRows (site_routing base.site) (room_of base) m old.found old.seen told → SettledInRows (site_routing base.site) (room_of base) m new.found new.seen told
   stop_settled told t = settled_hold (site_routing base.site) (room_of base) m old.found old.seen [] new.found new.seen (look_grows base m old new as_look) refl told t
 
-pub so_far_none : (g : Routing) (room : Capacity) (m : ℕ) (found : List ℕ) (history : List Entry) (told : Option Line) (end : Option LineWhy) → end ≡ None → ToldSoFar g room m found history told end → Settled g room m found history told
+pub so_far_none : (g : Routing) (room : Capacity) (m : ℕ) (found : List ℕ) (history : List Entry) (told : Option Line) (end : Option LineWhy) → end ≡ None → ToldSoFar g room m found history told end → SettledInRows g room m found history told
 so_far_none g room m found history told end is t = subst (λ (x : Option LineWhy). ToldSoFar g room m found history told x) is t
 
-pub so_far_some : (g : Routing) (room : Capacity) (m : ℕ) (found : List ℕ) (history : List Entry) (told : Option Line) (end : Option LineWhy) (why : LineWhy) → end ≡ Some why → ToldSoFar g room m found history told end → ToldBy g room m found history told
+pub so_far_some : (g : Routing) (room : Capacity) (m : ℕ) (found : List ℕ) (history : List Entry) (told : Option Line) (end : Option LineWhy) (why : LineWhy) → end ≡ Some why → ToldSoFar g room m found history told end → ToldInRows g room m found history told
 so_far_some g room m found history told end why is t = subst (λ (x : Option LineWhy). ToldSoFar g room m found history told x) is t
 
 -- ---- before the first connection and after the last one
@@ -325,9 +327,9 @@ untouched m history none =
       quiet = strange_own m history none;
     }
 
-pub undialed_settled : (g : Routing) (room : Capacity) (m : ℕ) (found : List ℕ) (history : List Entry) (told : Option Line) → has_own m history ≡ false → IsUndialed told → Settled g room m found history told
+pub undialed_settled : (g : Routing) (room : Capacity) (m : ℕ) (found : List ℕ) (history : List Entry) (told : Option Line) → has_own m history ≡ false → IsUndialed told → SettledInRows g room m found history told
 undialed_settled g room m found history None none u = tt
-undialed_settled g room m found history (Some line) none u = (u.1, subst (λ (cs : List Connection). Said g room m found cs history) (sym u.0) none)
+undialed_settled g room m found history (Some line) none u = (u.1, subst (λ (cs : List Connection). SaidInRows g room m found cs history) (sym u.0) none)
 
 pub rose_from : (m : ℕ) (a b : List Entry) (f g : ℕ) → faults_of m a ≡ 0 → FaultsRise m a b f g → RoseBy (faults_of m b) f g
 rose_from m a b f g none r = let n : faults_of m b ≡ r.0 = (let x = r.1 in omega (arith, x, none)) in subst (λ (k : ℕ). RoseBy k f g) (sym n) r.2
@@ -382,7 +384,7 @@ module _ {G : Type 0} (m : ℕ) (old new : View Entry G) (stops : Bool) (time : 
   others_quiet : Quiet m ended.hold.others
   others_quiet = quiet_others m ended.hold.others ended.hold.strange
 
-  pub last_told : (g : Routing) (room : Capacity) (told : Option Line) → ToldBy g room m old.found old.seen told → ToldBy g room m new.found new.seen told
+  pub last_told : (g : Routing) (room : Capacity) (told : Option Line) → ToldInRows g room m old.found old.seen told → ToldInRows g room m new.found new.seen told
   last_told g room told t = told_hold g room m old.found old.seen last new.found new.seen last_grows (last_own _ m time) told t
 
   pub last_causes : (site : SiteData) (most : ℕ) (told : Option Line) (before now : ℕ) (why : LineWhy) → CausesEnd site most m old.seen told before now why → CausesEnd site most m new.seen told before now why

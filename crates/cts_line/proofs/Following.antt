@@ -33,11 +33,11 @@ use Rattle.cts_trace.specs.Connections.{Shows}
 use Rattle.cts_entry.specs.Room.{Capacity}
 use Rattle.cts_trace.specs.Lines.{LacksRoom}
 use Rattle.cts_trace.specs.Routing.{Routing, is_for, posted_entries, queue, said_of, spell, time_in}
-use Rattle.cts_trace.specs.Told.{Said}
 use Rattle.cts_turn.specs.declared.rule.View.{View}
 use Rattle.cts_line.specs.Doing.{ClosesTaken, ClosesUnfed, IsRefused, PostsIn}
 use Rattle.cts_line.specs.Ending.{Keeps, has_stop}
 use Rattle.cts_worker.specs.Holds.{Held, InHold, Onward}
+use Rattle.cts_line.specs.Rows.{Row, SaidInRows}
 use Rattle.cts_line.specs.Talks.{Caught, Ends, IsClosed, Puts, Suits, Takes, Talking, Talks, TalksAt, Waits, Went, after, closed_by, room_of, stopped_by}
 use Rattle.cts_line.specs.Telling.{SomeLine}
 use Rattle.cts_line.specs.declared.posting.Posting.{Posting}
@@ -47,6 +47,7 @@ use Rattle.cts_line.proofs.Closing.{Closing, closes}
 use Rattle.cts_line.proofs.Growing.{Grows}
 use Rattle.cts_line.proofs.Keeping.{Quiet, keeps_closed, keeps_quiet, packets_bytes, quiet_both, quiet_none, quiet_others, quiet_packets, stop_both, stop_closed, stop_packets, stop_same, stop_strange}
 use Rattle.cts_line.proofs.Pieces.{Feeds, blames_full, blames_memory, by_memory, by_room, goes_on, last_by, last_closing, refused_closing, takes_piece, unfed_closing}
+use Rattle.cts_line.proofs.Rows.{packets_row}
 use Rattle.cts_line.proofs.Steps.{ends_closing, looks_not, looks_talk, stopped_talks, takes_end, takes_failed, takes_nothing, talks_map, talks_step}
 
 -- ---- room
@@ -137,11 +138,11 @@ module _ {G : Type 0} (m : ℕ) (old new : View Entry G) (s t : Shown) (held : H
 
   -- a connection that was closed in the hold
   closed_told : (time : Time) (h : Shown) (c d : HeldConnection) (why : Why) (unposted : ℕ) (line : Line) → h.basis ≡ s.basis → Closes m time h c why unposted t d
-      → Closing (site_routing s.basis.site) (room_of s.basis) m why c.chain.stages c.cursor.place c.cursor.refused unposted new.found h.entries line → Said (site_routing s.basis.site) (room_of s.basis) m new.found (line.past ++ option_to_list line.now) new.seen
+      → Closing (site_routing s.basis.site) (room_of s.basis) m why c.chain.stages c.cursor.place c.cursor.refused unposted new.found h.entries line → SaidInRows (site_routing s.basis.site) (room_of s.basis) m new.found (line.past ++ option_to_list line.now) new.seen
   closed_told time h c d why unposted line same k closing =
       let entry : SiteData → Entry = λ site. record { by = m; time = time; what = Closed why (loss_in c.chain.stages) unposted (waiting site m h.entries c.cursor) } in
       let seen : new.seen ≡ h.entries ++ entry s.basis.site ∷ [] = held.seen ∙ (k.grown.entries ∙ ap (λ (b : Basis). h.entries ++ entry b.site ∷ []) same) in
-      subst (λ (l : List Entry). Said (site_routing s.basis.site) (room_of s.basis) m new.found (line.past ++ option_to_list line.now) l) (sym seen)
+      subst (λ (l : List Entry). SaidInRows (site_routing s.basis.site) (room_of s.basis) m new.found (line.past ++ option_to_list line.now) l) (sym seen)
       (closes (site_routing s.basis.site) (room_of s.basis) m time why c.chain.stages c.cursor.place c.cursor.refused unposted new.found h.entries line closing)
 
   pub close_follows : (time : Time) (c d : HeldConnection) (why : Why) → Suits s.basis.site m c.chain → Closes m time s c why 0 t d → (told : Option Line)
@@ -168,13 +169,16 @@ module _ {G : Type 0} (m : ℕ) (old new : View Entry G) (s t : Shown) (held : H
         subst (λ (h : List Entry). Posts m (Shows (site_routing s.basis.site) m) h entries packets) held.began
         (subst (λ (es : List Entry). Posts m (Shows (site_routing s.basis.site) m) s.entries es packets) (sym e) (packets_shown (site_routing s.basis.site) m s.entries time packets))
 
+    row : (entries : List Entry) (packets : List Output) → entries ≡ posted_entries (site_routing s.basis.site) s.entries time m packets → Row (site_routing s.basis.site) m (old.seen ++ held.others) packets entries
+    row entries packets e = packets_row (site_routing s.basis.site) m (old.seen ++ held.others) s.entries entries time packets e (shown entries packets e)
+
     posted_told : (mid d : HeldConnection) (entries : List Entry) (unposted : ℕ) (failed : Option Why) (k : TakesPiece s.basis.site s.entries m time c.chain piece entries unposted failed mid.chain) → mid.cursor ≡ c.cursor → end_of unposted failed ≡ None
         → t.entries ≡ s.entries ++ entries → d ≡ mid → TalksAt (site_routing s.basis.site) (room_of s.basis) m Waits d new (Some (at_now (after_take (Got n) buffer) line))
     posted_told mid d entries unposted failed k cursor none grown same =
         let g = site_routing s.basis.site in
         let goes = goes_on unposted failed k.lost (last_fault 1 mid.chain.stages) none k.why_is k.count in
         let fed = subst (λ (l : List Output). Feeds g m c.chain.stages mid.chain.stages piece l) (ap (λ (l : List Output). k.packets ++ l) goes.0 ∙ append-nil k.packets) (feeds mid entries unposted failed k) in
-        let talks = takes_piece g (room_of s.basis) m c.cursor.place c.cursor.refused c.chain.stages mid.chain.stages old.found new.found old.seen entries new.seen line (grows_by entries grown) x n buffer piece is k.packets fed goes.1 (shown entries k.packets k.entries_are) in
+        let talks = takes_piece g (room_of s.basis) m c.cursor.place c.cursor.refused c.chain.stages mid.chain.stages old.found new.found old.seen entries new.seen line (grows_by entries grown) x n buffer piece is k.packets fed goes.1 (shown entries k.packets k.entries_are) (row entries k.packets k.entries_are) in
         subst (λ (y : HeldConnection). TalksAt g (room_of s.basis) m Waits y new (Some (at_now (after_take (Got n) buffer) line))) (sym same)
         (subst (λ (y : HeldCursor). Talking g (room_of s.basis) m Waits mid.chain.stages y.place y.refused new.found new.seen (at_now (after_take (Got n) buffer) line)) (sym cursor) talks)
 
@@ -212,7 +216,7 @@ module _ {G : Type 0} (m : ℕ) (old new : View Entry G) (s t : Shown) (held : H
         let h : Shown = p.3.0 in
         let by = last_by (room_of s.basis) unposted failed end k.lost (last_fault 1 mid.chain.stages) p.1 k.why_is k.count in
         let closing = last_closing g (room_of s.basis) m c.cursor.place c.cursor.refused c.chain.stages mid.chain.stages old.found new.found old.seen entries h.entries line (grows_to h.entries entries p.3.1.entries) x n buffer piece is
-        end k.packets k.lost (feeds mid entries unposted failed k) by (shown entries k.packets k.entries_are) in
+        end k.packets k.lost (feeds mid entries unposted failed k) by (shown entries k.packets k.entries_are) (row entries k.packets k.entries_are) in
         closed_told time h mid d why end.unposted (at_now (after_take (Got n) buffer) line) p.3.1.basis p.3.2
         (cursor_closing mid why end.unposted h.entries (at_now (after_take (Got n) buffer) line) cursor
         (subst (λ (w : Why). Closing g (room_of s.basis) m w mid.chain.stages c.cursor.place c.cursor.refused end.unposted new.found h.entries (at_now (after_take (Got n) buffer) line)) (sym p.2) closing))

@@ -8,11 +8,11 @@ use Rattle.cts_entry.specs.Room.{Capacity}
 use Rattle.cts_trace.specs.Lines.{IsLook, is_within, looks}
 use Rattle.cts_trace.specs.Makers.{of_maker}
 use Rattle.cts_trace.specs.Routing.{Routing}
-use Rattle.cts_trace.specs.Told.{Said}
-use Rattle.cts_trace.proofs.Looking.{said_found, said_more}
 use Rattle.cts_trace.proofs.Others.{strange_own}
 use Rattle.cts_turn.specs.Lists.{climbs}
+use Rattle.cts_line.specs.Rows.{SaidInRows}
 use Rattle.cts_line.specs.Talks.{AllAtMost, AllWithin, Holds, IsAmong, IsLast}
+use Rattle.cts_line.proofs.Rows.{rows_found, rows_more}
 
 -- others had appended entries, none of them m's, when a hold began, and then these were added
 pub record Grows (m : ℕ) (found : List ℕ) (history : List Entry) (added : List Entry) (found' : List ℕ) (history' : List Entry) : Type 0 where
@@ -62,15 +62,15 @@ module _ (m : ℕ) (found : List ℕ) (history added : List Entry) (found' : Lis
   pub long_grown : length history' ≡ length (history ++ grows.others) + length added
   long_grown = ap length grows.seen ∙ length-append (history ++ grows.others) added
 
-  pub past_grown : (g : Routing) (room : Capacity) (past : List Connection) (before : List Entry) → Said g room m found past before → length before ≤ length history → Said g room m found' past before
-  past_grown g room past before s le = subst (λ (f : List ℕ). Said g room m f past before) (sym grows.found_is)
-      (said_found g room m found (length (history ++ grows.others)) past before (let e = others_long in omega arith) s)
+  pub past_grown : (g : Routing) (room : Capacity) (past : List Connection) (before : List Entry) → SaidInRows g room m found past before → length before ≤ length history → SaidInRows g room m found' past before
+  past_grown g room past before s le = subst (λ (f : List ℕ). SaidInRows g room m f past before) (sym grows.found_is)
+      (rows_found g room m found (length (history ++ grows.others)) past before (let e = others_long in omega arith) s)
 
   -- where nothing of a connection was added
-  pub said_grown : (g : Routing) (room : Capacity) (past : List Connection) → has_own m added ≡ false → Said g room m found past history → Said g room m found' past history'
+  pub said_grown : (g : Routing) (room : Capacity) (past : List Connection) → has_own m added ≡ false → SaidInRows g room m found past history → SaidInRows g room m found' past history'
   said_grown g room past none s =
-      let mid = said_more g room m found' past history grows.others (strange_own m grows.others grows.strange) (past_grown g room past history s (omega arith)) in
-      subst (λ (l : List Entry). Said g room m found' past l) (sym grows.seen) (said_more g room m found' past (history ++ grows.others) added none mid)
+      let mid = rows_more g room m found' past history grows.others (strange_own m grows.others grows.strange) (past_grown g room past history s (omega arith)) in
+      subst (λ (l : List Entry). SaidInRows g room m found' past l) (sym grows.seen) (rows_more g room m found' past (history ++ grows.others) added none mid)
 
   abbrev pub holds_grown : (o : ℕ) → o < length history → Holds found o (length history) → Holds found' o (length history')
   holds_grown o lt h = record {

@@ -1,3 +1,4 @@
+pub mod Rows
 pub mod Growing
 pub mod Soon
 pub mod Bodies
@@ -12,3 +13,4 @@ pub mod Chaining
 pub mod Dialing
 pub mod Telling
 pub mod Heeding
+pub mod Finishing

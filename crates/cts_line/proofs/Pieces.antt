@@ -13,6 +13,7 @@ use Rattle.cts_connection.specs.declared.end.End.{End}
 use Rattle.cts_entry.specs.declared.entry.Entry.{Entry}
 use Rattle.cts_entry.specs.declared.why.Why.{Why}
 use Rattle.cts_entry.specs.declared.why.Why.TheVariants.{BadFrame, Full, NoMemory}
+use Rattle.cts_entry.specs.Histories.{has_own}
 use Rattle.cts_entry.specs.Places.{Posts}
 use Rattle.cts_framing.specs.Cuts.{Ends as EndsCut}
 use Rattle.cts_framing.specs.Framing.{Framing, Output, plain}
@@ -28,8 +29,9 @@ use Rattle.cts_trace.proofs.Lateness.{late_more}
 use Rattle.cts_entry.specs.Room.{Capacity}
 use Rattle.cts_trace.specs.Lines.{Causes, Flags, PutsAll, PostsNone, Seen, TellsWhy}
 use Rattle.cts_trace.specs.Routing.{Routing}
+use Rattle.cts_line.specs.Rows.{Gives, InRows, Row}
 use Rattle.cts_line.specs.Talks.{Takes, Talking, Waits}
-use Rattle.cts_line.proofs.Bodies.{grown_body, inside}
+use Rattle.cts_line.proofs.Bodies.{grown_body, inside, rows_grown, rows_kept}
 use Rattle.cts_line.proofs.Closing.{Closing}
 use Rattle.cts_line.proofs.Growing.{Grows, among_or_none, holds_grown, last_grown, look_grown, past_grown}
 use Rattle.cts_line.proofs.Soon.{soon_grown, soon_more}
@@ -128,14 +130,22 @@ next_late g room m place unsent stages found history line t piece sound framings
     let are : AreOf stages t.connection.pieces t.body.posted = settled_gives_all stages t.connection.pieces t.body.posted t.settled t.fed in
     late_more (g.chain m) t.connection.pieces piece are.cuts t.body.posted sound (subst (λ (fs : List Framing). IsPackets fs t.connection.pieces are.cuts t.body.posted) framings are.packets_are) (sym are.fault_is ∙ t.sound)
 
+-- all that its pieces gave is posted
+gives_all : (g : Routing) (room : Capacity) (m place unsent : ℕ) (stages : List Meaning) (found : List ℕ) (history : List Entry) (line : Line) → (t : Talking g room m Takes stages place unsent found history line)
+    → framings_of stages ≡ g.chain m → Gives (g.chain m) t.connection.pieces t.body.posted
+gives_all g room m place unsent stages found history line t framings =
+    let are : AreOf stages t.connection.pieces t.body.posted = settled_gives_all stages t.connection.pieces t.body.posted t.settled t.fed in
+    (are.cuts, subst (λ (fs : List Framing). IsPackets fs t.connection.pieces are.cuts t.body.posted) framings are.packets_are)
+
 -- a connection of whose last piece some packets are posted, and the others left, is closed
 module _ (g : Routing) (room : Capacity) (m place unsent : ℕ) (why : Why) (stages stages' : List Meaning) (found found' : List ℕ) (history added history' : List Entry) (line : Line)
     (grows : Grows m found history added found' history') (t : Talking g room m Takes stages place unsent found history line) (n : ℕ) (buffer : List ℕ) where
-  pub piece_closing : AllSound (g.chain m) → framings_of stages ≡ g.chain m → (by : ByPiece why) (fed : List (List ℕ)) (packets left : List Output) (unposted : ℕ) → Posts m (Shows g m) (history ++ grows.others) added packets → Fed why (t.connection.pieces ++ take n buffer ∷ []) fed
+  pub piece_closing : AllSound (g.chain m) → framings_of stages ≡ g.chain m → (by : ByPiece why) (fed : List (List ℕ)) (packets left : List Output) (unposted : ℕ) → Posts m (Shows g m) (history ++ grows.others) added packets
+      → InRows g m fed (t.body.posted ++ packets) (t.body.before ++ t.body.opened ∷ []) (t.body.looked ++ (t.body.ahead ++ (grows.others ++ added))) → Fed why (t.connection.pieces ++ take n buffer ∷ []) fed
       → StagesStand stages' (map plain fed) ((t.body.posted ++ packets) ++ left) → AllSettled stages' → framings_of stages' ≡ g.chain m → Blames (last_fault 1 stages') why → Left g m why fed (t.body.posted ++ packets) left
       → unposted ≡ capped (length left) → Causes room why (record { connection = after_take (Got n) buffer t.connection; looked = t.body.before ++ t.body.opened ∷ t.body.looked; whole = history'; left = left })
       → Closing g room m why stages' place unsent unposted found' history' (at_now (after_take (Got n) buffer) line)
-  piece_closing sound was by fed packets left unposted shown fed_is chain settled framings blames left_is count causes =
+  piece_closing sound was by fed packets left unposted shown rows fed_is chain settled framings blames left_is count causes =
       let b = t.body in
       let grown = grown_body g m found history added found' history' grows b packets shown in
       let long = inside history b.before (b.looked ++ b.ahead) b.opened b.whole in
@@ -154,6 +164,7 @@ module _ (g : Routing) (room : Capacity) (m place unsent : ℕ) (why : Why) (sta
         late = next_late g room m place unsent stages found history line t (take n buffer) sound was;
         left_is = left_is;
         unposted_is = count;
+        rows = rows;
         past = past_grown m found history added found' history' grows g room line.past b.before t.past (omega arith);
         place_is = t.place_is;
         holds = holds_grown m found history added found' history' grows (length b.before) (omega arith) t.holds;
@@ -194,10 +205,16 @@ module _ (g : Routing) (room : Capacity) (m place unsent : ℕ) (stages stages' 
       let are : AreOf stages t.connection.pieces t.body.posted = settled_gives_all stages t.connection.pieces t.body.posted t.settled t.fed in
       inr (t.connection.pieces, take n buffer, are.cuts, t.body.posted, more, refl, subst (λ (fs : List Framing). IsPackets fs t.connection.pieces are.cuts t.body.posted) f.framings_old are.packets_are, refl, wants)
 
+  rows_by : (packets given : List Output) → Feeds g m stages stages' piece given → Row g m (history ++ grows.others) packets added
+      → InRows g m (t.connection.pieces ++ take n buffer ∷ []) (t.body.posted ++ packets) (t.body.before ++ t.body.opened ∷ []) (t.body.looked ++ (t.body.ahead ++ (grows.others ++ added)))
+  rows_by packets given feeds row =
+      rows_grown g m found history added found' history' grows t.body t.connection.pieces t.rows (take n buffer) packets
+      (gives_all g room m place unsent stages found history line t feeds.framings_old) row
+
   -- a piece was fed, and its packets are posted
   pub takes_piece : (packets : List Output) → Feeds g m stages stages' piece packets → last_fault 1 stages' ≡ None → Posts m (Shows g m) (history ++ grows.others) added packets
-      → Talking g room m Waits stages' place unsent found' history' (at_now (after_take (Got n) buffer) line)
-  takes_piece packets feeds sound shown =
+      → Row g m (history ++ grows.others) packets added → Talking g room m Waits stages' place unsent found' history' (at_now (after_take (Got n) buffer) line)
+  takes_piece packets feeds sound shown row =
       let b = t.body in
       let long = inside history b.before (b.looked ++ b.ahead) b.opened b.whole in
       let few = raised_few t.connection.takes (length t.holds.mine) t.looked_so.0 in
@@ -207,6 +224,7 @@ module _ (g : Routing) (room : Capacity) (m place unsent : ℕ) (stages stages' 
         stands = ap (option_map (after_take (Got n) buffer)) t.stands;
         body = grown_body g m found history added found' history' grows b packets shown;
         fed = fed_chain packets feeds;
+        rows = rows_by packets packets feeds row;
         settled = feeds.settled;
         sound = sound;
         past = past_grown m found history added found' history' grows g room line.past b.before t.past (omega arith);
@@ -233,9 +251,9 @@ module _ (g : Routing) (room : Capacity) (m place unsent : ℕ) (stages stages' 
 
   -- its packets are posted but for those that are lost, and the connection is closed
   pub last_closing : (end : End) (packets lost : List Output) → Feeds g m stages stages' piece (packets ++ lost) → LastBy room end lost (last_fault 1 stages') → Posts m (Shows g m) (history ++ grows.others) added packets
-      → Closing g room m end.why stages' place unsent end.unposted found' history' (at_now (after_take (Got n) buffer) line)
-  last_closing end packets lost feeds by shown =
-      piece_closing g room m place unsent end.why stages stages' found found' history added history' line grows t n buffer feeds.sound feeds.framings_old by.by (t.connection.pieces ++ take n buffer ∷ []) packets lost end.unposted shown (inl refl)
+      → Row g m (history ++ grows.others) packets added → Closing g room m end.why stages' place unsent end.unposted found' history' (at_now (after_take (Got n) buffer) line)
+  last_closing end packets lost feeds by shown row =
+      piece_closing g room m place unsent end.why stages stages' found found' history added history' line grows t n buffer feeds.sound feeds.framings_old by.by (t.connection.pieces ++ take n buffer ∷ []) packets lost end.unposted shown (rows_by packets (packets ++ lost) feeds row) (inl refl)
       (subst (λ (l : List Output). StagesStand stages' (map plain (t.connection.pieces ++ take n buffer ∷ [])) l) (sym (append_assoc t.body.posted packets lost)) (fed_chain (packets ++ lost) feeds))
       feeds.settled feeds.framings by.blames (left_so end.why (packets ++ lost) packets lost feeds (wants_memory lost packets end.why by.wants)) by.count (by.causes _)
 
@@ -244,7 +262,8 @@ module _ (g : Routing) (room : Capacity) (m place unsent : ℕ) (stages stages' 
       → ((s : Seen) → s.whole ≡ history' → s.left ≡ left → Causes room why s) → Closing g room m why stages' place unsent unposted found' history' (at_now (after_take (Got n) buffer) line)
   refused_closing why unposted left feeds by blames wants none count causes =
       piece_closing g room m place unsent why stages stages' found found' history added history' line grows t n buffer feeds.sound feeds.framings_old by (t.connection.pieces ++ take n buffer ∷ []) [] left unposted
-      (subst (λ (l : List Entry). Posts m (Shows g m) (history ++ grows.others) l []) (sym none) refl) (inl refl)
+      (subst (λ (l : List Entry). Posts m (Shows g m) (history ++ grows.others) l []) (sym none) refl)
+      (rows_by [] left feeds (subst (λ (l : List Entry). Row g m (history ++ grows.others) [] l) (sym none) refl)) (inl refl)
       (subst (λ (l : List Output). StagesStand stages' (map plain (t.connection.pieces ++ take n buffer ∷ [])) (l ++ left)) (sym (append-nil t.body.posted)) (fed_chain left feeds))
       feeds.settled feeds.framings blames (left_so why left [] left feeds (inr (wants_either [] why refl wants))) count (causes _ refl refl)
 
@@ -252,6 +271,7 @@ module _ (g : Routing) (room : Capacity) (m place unsent : ℕ) (stages stages' 
   pub unfed_closing : AllSound (g.chain m) → framings_of stages ≡ g.chain m → Reserved stages stages' → framings_of stages' ≡ g.chain m → added ≡ [] → Closing g room m NoMemory stages' place unsent 0 found' history' (at_now (after_take (Got n) buffer) line)
   unfed_closing sound was r framings none =
       piece_closing g room m place unsent NoMemory stages stages' found found' history added history' line grows t n buffer sound was by_memory t.connection.pieces [] [] 0
-      (subst (λ (l : List Entry). Posts m (Shows g m) (history ++ grows.others) l []) (sym none) refl) (inr (refl, (take n buffer, refl)))
+      (subst (λ (l : List Entry). Posts m (Shows g m) (history ++ grows.others) l []) (sym none) refl)
+      (rows_kept g m found history added found' history' grows t.body t.connection.pieces t.rows (ap (has_own m) none)) (inr (refl, (take n buffer, refl)))
       (subst (λ (l : List Output). StagesStand stages' (map plain t.connection.pieces) l) (sym (append-nil (t.body.posted ++ []) ∙ append-nil t.body.posted)) (reserved_stand stages stages' r (map plain t.connection.pieces) t.body.posted t.fed))
       (reserved_settled stages stages' r t.settled) framings (blames_memory (last_fault 1 stages')) (inl refl) refl tt

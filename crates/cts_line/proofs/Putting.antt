@@ -15,6 +15,7 @@ use Rattle.cts_entry.specs.Room.{Capacity}
 use Rattle.cts_trace.specs.Connections.{NoneLate}
 use Rattle.cts_trace.specs.Lines.{Flags}
 use Rattle.cts_trace.specs.Routing.{Routing, spell}
+use Rattle.cts_line.specs.Rows.{InRows}
 use Rattle.cts_line.specs.Talks.{Caught, Ends, Puts, Talking}
 use Rattle.cts_line.proofs.Bodies.{done_body}
 
@@ -53,6 +54,7 @@ module _ (g : Routing) (room : Capacity) (m place : ℕ) (stages : List Meaning)
         stands = ap (option_map f) t.stands;
         body = done_body g m history b r.0 r.1 r.2;
         fed = subst (λ (p : List (List ℕ)). Stood p b.posted) (sym pieces) t.fed;
+        rows = subst (λ (p : List (List ℕ)). InRows g m p b.posted (b.before ++ b.opened ∷ []) (b.looked ++ b.ahead)) (sym pieces) t.rows;
         settled = t.settled;
         sound = t.sound;
         past = t.past;
@@ -100,6 +102,7 @@ module _ (g : Routing) (room : Capacity) (m place : ℕ) (stages : List Meaning)
         stands = ap (option_map (with_failed_put (take n bytes))) t.stands;
         body = b;
         fed = t.fed;
+        rows = t.rows;
         settled = t.settled;
         sound = t.sound;
         past = t.past;
@@ -135,6 +138,7 @@ module _ (g : Routing) (room : Capacity) (m place unsent : ℕ) (stages : List M
         stands = t.stands;
         body = t.body;
         fed = t.fed;
+        rows = t.rows;
         settled = t.settled;
         sound = t.sound;
         past = t.past;

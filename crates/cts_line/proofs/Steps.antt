@@ -18,14 +18,15 @@ use Rattle.cts_trace.specs.Connections.{Blames, Says}
 use Rattle.cts_entry.specs.Room.{Capacity}
 use Rattle.cts_trace.specs.Lines.{Causes, PostsNone}
 use Rattle.cts_trace.specs.Routing.{Routing, queue, spell}
-use Rattle.cts_trace.specs.Told.{Said}
 use Rattle.cts_trace.proofs.Lateness.{late_blank}
-use Rattle.cts_trace.proofs.Looking.{posts_none_both, puts_all_map, said_found, said_more}
+use Rattle.cts_trace.proofs.Looking.{posts_none_both, puts_all_map}
 use Rattle.cts_trace.proofs.Others.{strange_own}
 use Rattle.cts_entry.proofs.Queuing.{any_append}
 use Rattle.cts_turn.specs.Lists.{climbs}
 use Rattle.cts_line.specs.Talks.{AllAtMost, Begins, Body, Ends, HasCause, IsLast, Phase, Caught, Puts, Takes, Talking, Talks, Waits, after, stopped_by}
-use Rattle.cts_line.proofs.Bodies.{drop_whole, inside, grown_body, seen_body}
+use Rattle.cts_line.specs.Rows.{InRows, SaidInRows}
+use Rattle.cts_line.proofs.Bodies.{drop_whole, inside, grown_body, rows_kept, seen_body}
+use Rattle.cts_line.proofs.Rows.{no_rows, rows_found, rows_more}
 use Rattle.cts_line.proofs.Closing.{Closing}
 use Rattle.cts_line.proofs.Soon.{soon_clear, soon_grown, soon_more, soon_opened}
 use Rattle.cts_line.proofs.Growing.{Grows, among_or_none, at_most_more, climbs_within, holds_grown, last_grown, look_grown, long_grown, past_grown}
@@ -75,8 +76,9 @@ opens_talk g room m place stages found found' history history' opened (Some line
       fed = blank;
       settled = settled;
       sound = sound;
-      past = subst (λ (f : List ℕ). Said g room m f line.past before) (sym grows.found_is)
-          (said_found g room m found (length before) line.past before (omega arith) (said_more g room m found line.past history grows.others (strange_own m grows.others grows.strange) b.1));
+      rows = no_rows g m (before ++ opened ∷ []);
+      past = subst (λ (f : List ℕ). SaidInRows g room m f line.past before) (sym grows.found_is)
+          (rows_found g room m found (length before) line.past before (omega arith) (rows_more g room m found line.past history grows.others (strange_own m grows.others grows.strange) b.1));
       place_is = omega arith;
       holds = record {
         earlier = found';
@@ -118,6 +120,8 @@ module _ (g : Routing) (room : Capacity) (m place unsent : ℕ) (stages : List M
         stands = t.stands;
         body = seen_body g m history' grown;
         fed = subst (λ (l : List Output). StagesStand stages (map plain t.connection.pieces) l) (sym (append-nil b.posted)) t.fed;
+        rows = subst (λ (l : List Entry). InRows g m t.connection.pieces (b.posted ++ []) (b.before ++ b.opened ∷ []) l) (sym (append-nil (b.looked ++ grown.ahead)))
+            (rows_kept g m found history [] found' history' grows b t.connection.pieces t.rows refl);
         settled = t.settled;
         sound = t.sound;
         past = past_grown m found history [] found' history' grows g room line.past b.before t.past (omega arith);
@@ -145,6 +149,7 @@ module _ (g : Routing) (room : Capacity) (m place unsent : ℕ) (stages : List M
         stands = t.stands;
         body = grown;
         fed = subst (λ (l : List Output). StagesStand stages (map plain t.connection.pieces) l) (sym (append-nil b.posted)) t.fed;
+        rows = rows_kept g m found history [] found' history' grows b t.connection.pieces t.rows refl;
         settled = t.settled;
         sound = t.sound;
         past = past_grown m found history [] found' history' grows g room line.past b.before t.past (omega arith);
@@ -180,6 +185,7 @@ module _ (g : Routing) (room : Capacity) (m place unsent : ℕ) (stages : List M
         stands = t.stands;
         body = b;
         fed = t.fed;
+        rows = t.rows;
         settled = t.settled;
         sound = t.sound;
         past = t.past;
@@ -204,6 +210,7 @@ module _ (g : Routing) (room : Capacity) (m place unsent : ℕ) (stages : List M
         stands = t.stands;
         body = t.body;
         fed = t.fed;
+        rows = t.rows;
         settled = t.settled;
         sound = t.sound;
         past = t.past;
@@ -229,6 +236,7 @@ module _ (g : Routing) (room : Capacity) (m place unsent : ℕ) (stages : List M
         stands = ap (option_map (after_take Nothing buffer)) t.stands;
         body = t.body;
         fed = t.fed;
+        rows = t.rows;
         settled = t.settled;
         sound = t.sound;
         past = t.past;
@@ -252,6 +260,7 @@ module _ (g : Routing) (room : Capacity) (m place unsent : ℕ) (stages : List M
         stands = ap (option_map (after_take End buffer)) t.stands;
         body = t.body;
         fed = t.fed;
+        rows = t.rows;
         settled = t.settled;
         sound = t.sound;
         past = t.past;
@@ -275,6 +284,7 @@ module _ (g : Routing) (room : Capacity) (m place unsent : ℕ) (stages : List M
         stands = ap (option_map (after_take Failed buffer)) t.stands;
         body = t.body;
         fed = t.fed;
+        rows = t.rows;
         settled = t.settled;
         sound = t.sound;
         past = t.past;
@@ -344,6 +354,7 @@ ends_closing g room m place unsent why stages found found' history history' line
       framings = framings;
       blames = subst (λ (f : Option Fault). Blames f why) (sym t.sound) (unblamed why t.connection (b.before ++ b.opened ∷ b.looked) t.saw_so);
       late = t.late;
+      rows = rows_kept g m found history [] found' history' grows b t.connection.pieces t.rows refl;
       left_is = inl refl;
       unposted_is = refl;
       past = past_grown m found history [] found' history' grows g room line.past b.before t.past (omega arith);

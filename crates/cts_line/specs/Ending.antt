@@ -12,9 +12,12 @@ use Rattle.cts_entry.specs.Legal.{has_ended}
 use Rattle.cts_entry.specs.Workers.{is_interface}
 use Rattle.cts_outside.specs.Causes.{Rose}
 use Rattle.cts_outside.specs.Lines.{Line}
+use Rattle.cts_outside.specs.Seen.{LineSeen}
 use Rattle.cts_trace.specs.Makers.{closes_for, faults_of, is_fault}
 use Rattle.cts_trace.specs.Told.{HasFinished}
+use Rattle.cts_framing.specs.Packets.{capped}
 use Rattle.cts_worker.specs.Counts.{RoseBy, one_if}
+use Rattle.cts_worker.specs.Lasts.{IsShut}
 use Rattle.cts_line.specs.declared.opening.Opening.{Opening}
 use Rattle.cts_line.specs.declared.opening.Opening.TheVariants.{Opened, Stopped as StoppedThere, Full as NoRoom, NoMemory as NoMemoryThere}
 use Rattle.cts_line.specs.declared.ending.LineWhy.{LineWhy}
@@ -126,6 +129,30 @@ CausesEnd site most m history told before now Full = (has_closed m is_full histo
 CausesEnd site most m history told before now NoMemory = Unit {0}
 CausesEnd site most m history told before now Cancelled = ⊥
 
+-- Whether a dialer has said that there will be no connection any more, before what a line did and after it: the line ends for the dial
+-- that says so, and no other dial has said it.
+abbrev pub FinishesFor : Option LineWhy → Bool → Bool → Type 0
+FinishesFor None before now = now ≡ before
+FinishesFor (Some Stopped) before now = now ≡ before
+FinishesFor (Some Finished) before now = now ≡ true
+FinishesFor (Some NoReconnect) before now = now ≡ before
+FinishesFor (Some DoorFailed) before now = now ≡ before
+FinishesFor (Some Full) before now = now ≡ before
+FinishesFor (Some NoMemory) before now = now ≡ before
+FinishesFor (Some Cancelled) before now = now ≡ before
+
+-- What a line leaves of its dialer's dials, where it ends for this reason, if it does: the count of those that failed has not fallen; a
+-- line that ends for a dial that failed has no other, where its kind ends for one; and it ends for the dial that says that it is the last.
+pub record DialsFor (site : SiteData) (by : ℕ) (end : Option LineWhy) (old new : LineSeen) : Type 0 where
+  pub count : old.failed_dials ≤ new.failed_dials
+  pub failed : (why : LineWhy) → after_failed site by ≡ Some why → (end ≡ Some why → ⊥) → new.failed_dials ≡ old.failed_dials
+  pub finished : FinishesFor end old.finished new.finished
+
+-- the same where no dial has failed
+pub record DialsNone (end : Option LineWhy) (old new : LineSeen) : Type 0 where
+  pub failed : new.failed_dials ≡ old.failed_dials
+  pub finished : FinishesFor end old.finished new.finished
+
 -- whether a line that ends for this reason stops the server
 abbrev pub stops_all : LineWhy → Bool
 stops_all Stopped = false
@@ -140,6 +167,33 @@ stops_all Cancelled = true
 abbrev pub stops_then : Option LineWhy → Bool
 stops_then None = false
 stops_then (Some why) = stops_all why
+
+-- ---- what a line says of its ends, some clauses at a time
+
+-- Between two connections: each Opened of the line has its Closed, and as many connections are counted as were opened.
+pub record IsBetween (m : ℕ) (connections : ℕ) (history : List Entry) : Type 0 where
+  pub shut : IsShut m history
+  pub count : connections ≡ capped (opened_in m history)
+
+-- A line that may go on, or ends for a reason that stops nobody, has appended no Stop, and what closed its connections is heeded.
+pub record Minds (m : ℕ) (old new : List Entry) (end : Option LineWhy) : Type 0 where
+  pub stop : stops_then end ≡ false → has_stop m new ≡ has_stop m old
+  pub heeds : Heeds m old new end
+
+-- One connection more was opened at most; and none where a line goes on that does not connect again.
+pub record OpensOne (site : SiteData) (m : ℕ) (old new : List Entry) (end : Option LineWhy) : Type 0 where
+  pub again : reconnects site m ≡ false → end ≡ None → opened_in m new ≡ opened_in m old
+  pub few : opened_in m new ≤ opened_in m old + 1
+
+-- Where a line ends for a reason that stops all, a Stop stands; and only there is it the line's own.
+pub record StopsFor (m : ℕ) (why : LineWhy) (history : List Entry) : Type 0 where
+  pub stood : stops_all why ≡ true → is_stopped history ≡ true
+  pub own : has_stop m history ≡ true → stops_all why ≡ true
+
+-- Where a connection was closed for want of room or of memory, the line has ended for that.
+pub record EndsFor (m : ℕ) (why : LineWhy) (history : List Entry) : Type 0 where
+  pub full : has_closed m is_full history ≡ true → why ≡ Full
+  pub memory : has_closed m is_no_memory history ≡ true → why ≡ NoMemory
 
 -- a dialer tells no connection so far
 abbrev pub IsUndialed : Option Line → Type 0

@@ -1,4 +1,5 @@
 pub mod Doing
+pub mod Rows
 pub mod Talks
 pub mod Putting
 pub mod Telling

@@ -24,11 +24,11 @@ use Rattle.cts_trace.specs.Routing.{Routing, queue, spell}
 use Rattle.cts_trace.specs.Connections.{NoneLate, Says, Shows, Tail}
 use Rattle.cts_entry.specs.Room.{Capacity}
 use Rattle.cts_trace.specs.Lines.{Flags, PutsAll, PostsNone, TellsWhy, looks}
-use Rattle.cts_trace.specs.Told.{Said, Settled, ToldBy}
 use Rattle.cts_turn.specs.Lists.{has}
 use Rattle.cts_turn.specs.declared.rule.View.{View}
 use Rattle.cts_worker.specs.Lasts.{IsShut}
 use Rattle.cts_line.specs.Ending.{opened_in}
+use Rattle.cts_line.specs.Rows.{InRows, SaidInRows, SettledInRows, ToldInRows}
 use Rattle.cts_line.specs.declared.ending.LineWhy.{LineWhy}
 use Rattle.cts_line.specs.declared.posting.Posting.{Posting}
 use Rattle.cts_line.specs.declared.posting.Posting.TheVariants.{Posted, Closed}
@@ -60,7 +60,7 @@ pub record IsReady {G : Type 0} (site : SiteData) (base : Basis) (by : ℕ) (cha
 -- all connections past are said, and a new one stands
 abbrev pub Begins : Routing → Capacity → ℕ → List ℕ → List Entry → Option Line → Type 0
 Begins g room m found history None = Unit {0}
-Begins g room m found history (Some line) = (line.now ≡ Some fresh) × Said g room m found line.past history
+Begins g room m found history (Some line) = (line.now ≡ Some fresh) × SaidInRows g room m found line.past history
 
 -- What the history has of the connection: where it was opened, what the last look saw and what came after it; the packets that were posted; and of
 -- its queue, as far as was looked, what is done and the rest.
@@ -178,17 +178,18 @@ late_holds Takes = 0
 late_holds (Ends why) = 2
 
 -- A connection that stands, of a line that has put, or is putting, what it saw up to a place, some of which were not put whole. All packets
--- of what was fed are posted, and no stage of its chain has failed.
+-- of what was fed are posted, in rows, and no stage of its chain has failed.
 pub record Talking (g : Routing) (room : Capacity) (m : ℕ) (phase : Phase) (stages : List Meaning) (place unsent : ℕ) (found : List ℕ)
     (history : List Entry) (line : Line) : Type 0 where
   pub connection : Connection
   pub stands : line.now ≡ Some connection
   pub body : Body g m history
   pub fed : StagesStand stages (map plain connection.pieces) body.posted
+  pub rows : InRows g m connection.pieces body.posted (body.before ++ body.opened ∷ []) (body.looked ++ body.ahead)
   pub settled : AllSettled stages
   pub sound : last_fault 1 stages ≡ None
   pub late : NoneLate (g.chain m) connection.pieces
-  pub past : Said g room m found line.past body.before
+  pub past : SaidInRows g room m found line.past body.before
   pub place_is : place ≡ length body.before + 1 + length body.looked
   pub holds : Holds found (length body.before) (length history)
   pub soon_so : SoonBy (late_holds phase) found (length body.before) history
@@ -226,7 +227,7 @@ stopped_by (Some why) stop = Some why
 -- the connection that stands was closed in the history
 abbrev pub IsClosed : {G : Type 0} → Routing → Capacity → ℕ → View Entry G → Option Line → Type 0
 IsClosed g room m v None = Unit {0}
-IsClosed g room m v (Some line) = Said g room m v.found (line.past ++ option_to_list line.now) v.seen
+IsClosed g room m v (Some line) = SaidInRows g room m v.found (line.past ++ option_to_list line.now) v.seen
 
 -- why the connection was closed, if it was, in the hold that was to post a piece
 abbrev pub closed_by : Posting → Option Why
@@ -240,5 +241,5 @@ Went g room m c v told (Some why) = IsClosed g room m v told
 
 -- what is told of all connections after one more dial: all of them are said, or the last one may have no entry, where the line ends
 abbrev pub ToldSoFar : Routing → Capacity → ℕ → List ℕ → List Entry → Option Line → Option LineWhy → Type 0
-ToldSoFar g room m found history told None = Settled g room m found history told
-ToldSoFar g room m found history told (Some why) = ToldBy g room m found history told
+ToldSoFar g room m found history told None = SettledInRows g room m found history told
+ToldSoFar g room m found history told (Some why) = ToldInRows g room m found history told

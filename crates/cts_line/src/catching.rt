@@ -56,6 +56,7 @@ pub(crate) fn catch_up<R: Wait, C: Framer, D: Dialer>(
     ensures stops { IfSome result.1 (λ why. StopsAfter (view result.0).seen why) }
     ensures cause { RoseIf (fails result.1) (D.seen dialer.old).faults (D.seen dialer.new).faults }
     ensures dials { (D.seen dialer.new).failed_dials ≡ (D.seen dialer.old).failed_dials }
+    ensures finished { (D.seen dialer.new).finished ≡ (D.seen dialer.old).finished }
     ensures stop { has_stop by (view result.0).seen ≡ has_stop by (view pass).seen }
     ensures retells { Retells (D.seen dialer.old).told (D.seen dialer.new).told }
     ensures talks { (k : ℕ) → TalksAt (site_routing (ground turn.now).site) (room_of (ground turn.now)) by Waits connection.old (view pass)

@@ -1,17 +1,14 @@
 // One connection of a line after another.
 ghost use Rattle.std.specs.Prelude.{◌≡◌, ◌≤◌, ◌<◌, ◌+◌, ℕ, None, Some, length, true, false, IfSome};
 ghost use Rattle.cts_chain.specs.Shapes.{IsSameChain};
-ghost use Rattle.cts_framing.specs.Packets.{capped};
 ghost use Rattle.cts_worker.specs.Grounds.{ground};
 ghost use Rattle.cts_turn.specs.Passes.{IsPassOf, view};
 ghost use Rattle.cts_connection.specs.Routings.{site_routing};
 ghost use Rattle.cts_entry.specs.Workers.{is_interface};
-ghost use Rattle.cts_trace.specs.Told.{Settled, ToldBy};
+ghost use Rattle.cts_line.specs.Rows.{SettledInRows, ToldInRows};
 ghost use Rattle.cts_worker.specs.Holds.{Onward};
-ghost use Rattle.cts_worker.specs.Lasts.{IsShut};
-ghost use Rattle.cts_line.specs.Ending.{CausesEnd, FaultsRise, Heeds, after_closed, after_failed, has_stop, opened_in, reconnects, refused};
-ghost use Rattle.cts_line.specs.Ending.{stops_all, stops_then};
-ghost use Rattle.cts_line.specs.declared.ending.LineWhy.{LineWhy as LineWhyData};
+ghost use Rattle.cts_line.specs.Ending.{CausesEnd, DialsFor, DialsNone, FaultsRise, IsBetween, Minds, OpensOne, after_closed, after_failed};
+ghost use Rattle.cts_line.specs.Ending.{opened_in, reconnects, refused};
 ghost use Rattle.cts_line.specs.Telling.{Has, Retells, SomeLine, since};
 ghost use Rattle.cts_line.specs.Talks.{Begins, IsReady, ToldSoFar, room_of};
 
@@ -83,7 +80,7 @@ fn after_failed(site: &Site, by: u32) -> Option<LineWhy>
 }
 
 // Serves the connection that stands, and hangs up. Says why the line has to end then, if it has to.
-fn serve<R: Wait, C: Framer, D: Dialer, K: Clock, G: Gate>(
+fn attend<R: Wait, C: Framer, D: Dialer, K: Clock, G: Gate>(
     hand: &AtHand<R, K, G>,
     pass: Pass<Hall>,
     connection: &mut Connection<C>,
@@ -100,13 +97,11 @@ fn serve<R: Wait, C: Framer, D: Dialer, K: Clock, G: Gate>(
     ensures idle { (D.seen dialer.new).linked ≡ false }
     ensures room { length buffer.new ≡ length buffer.old }
     ensures same { IsSameChain connection.old.chain connection.new.chain }
-    ensures shut { IsShut hand.now.by (view result.0).seen }
-    ensures count { connections.new ≡ capped (opened_in hand.now.by (view result.0).seen) }
+    ensures between { IsBetween hand.now.by connections.new (view result.0).seen }
     ensures faults { FaultsRise hand.now.by (view pass).seen (view result.0).seen (D.seen dialer.old).faults (D.seen dialer.new).faults }
     ensures retells { Retells (D.seen dialer.old).told (D.seen dialer.new).told }
-    ensures stop { stops_then result.1 ≡ false → has_stop hand.now.by (view result.0).seen ≡ has_stop hand.now.by (view pass).seen }
-    ensures dials { (D.seen dialer.new).failed_dials ≡ (D.seen dialer.old).failed_dials }
-    ensures heeds { Heeds hand.now.by (view pass).seen (view result.0).seen result.1 }
+    ensures dials { DialsNone result.1 (D.seen dialer.old) (D.seen dialer.new) }
+    ensures minds { Minds hand.now.by (view pass).seen (view result.0).seen result.1 }
     ensures again { result.1 ≡ None → reconnects hand.now.site.now hand.now.by ≡ true }
     ensures few { opened_in hand.now.by (view result.0).seen ≤ opened_in hand.now.by (view pass).seen + 1 }
     ensures told { (k : ℕ) → Has k (D.seen dialer.old).told → Begins (site_routing (ground hand.now.turn.now).site)
@@ -150,23 +145,17 @@ fn attempt<R: Wait, C: Framer, D: Dialer, K: Clock, G: Gate>(
     ensures idle { (D.seen dialer.new).linked ≡ false }
     ensures room { length buffer.new ≡ length buffer.old }
     ensures same { IsSameChain connection.old.chain connection.new.chain }
-    ensures shut { IsShut hand.now.by (view result.0).seen }
-    ensures count { connections.new ≡ capped (opened_in hand.now.by (view result.0).seen) }
+    ensures between { IsBetween hand.now.by connections.new (view result.0).seen }
     ensures faults { FaultsRise hand.now.by (view pass).seen (view result.0).seen (D.seen dialer.old).faults (D.seen dialer.new).faults }
     ensures retells { Retells (D.seen dialer.old).told (D.seen dialer.new).told }
-    ensures stop { stops_then result.1 ≡ false → has_stop hand.now.by (view result.0).seen ≡ has_stop hand.now.by (view pass).seen }
-    ensures dials { (D.seen dialer.old).failed_dials ≤ (D.seen dialer.new).failed_dials }
-    ensures failed { (why : LineWhyData) → after_failed hand.now.site.now hand.now.by ≡ Some why → (result.1 ≡ Some why → ⊥)
-        → (D.seen dialer.new).failed_dials ≡ (D.seen dialer.old).failed_dials }
-    ensures heeds { Heeds hand.now.by (view pass).seen (view result.0).seen result.1 }
-    ensures again { reconnects hand.now.site.now hand.now.by ≡ false → result.1 ≡ None → opened_in hand.now.by (view result.0).seen
-        ≡ opened_in hand.now.by (view pass).seen }
-    ensures few { opened_in hand.now.by (view result.0).seen ≤ opened_in hand.now.by (view pass).seen + 1 }
-    ensures told { (k : ℕ) → Has k (D.seen dialer.old).told → Settled (site_routing (ground hand.now.turn.now).site)
+    ensures dials { DialsFor hand.now.site.now hand.now.by result.1 (D.seen dialer.old) (D.seen dialer.new) }
+    ensures minds { Minds hand.now.by (view pass).seen (view result.0).seen result.1 }
+    ensures opens { OpensOne hand.now.site.now hand.now.by (view pass).seen (view result.0).seen result.1 }
+    ensures told { (k : ℕ) → Has k (D.seen dialer.old).told → SettledInRows (site_routing (ground hand.now.turn.now).site)
         (room_of (ground hand.now.turn.now)) hand.now.by (view pass).found (view pass).seen (since k (D.seen dialer.old).told)
         → ToldSoFar (site_routing (ground hand.now.turn.now).site) (room_of (ground hand.now.turn.now)) hand.now.by (view result.0).found
         (view result.0).seen (since k (D.seen dialer.new).told) result.1 }
-    ensures some { SomeLine (λ told. Settled (site_routing (ground hand.now.turn.now).site) (room_of (ground hand.now.turn.now)) hand.now.by
+    ensures some { SomeLine (λ told. SettledInRows (site_routing (ground hand.now.turn.now).site) (room_of (ground hand.now.turn.now)) hand.now.by
         (view pass).found (view pass).seen told)
         → SomeLine (λ told. ToldSoFar (site_routing (ground hand.now.turn.now).site) (room_of (ground hand.now.turn.now)) hand.now.by
         (view result.0).found (view result.0).seen told result.1) }
@@ -174,7 +163,7 @@ fn attempt<R: Wait, C: Framer, D: Dialer, K: Clock, G: Gate>(
         (view result.0).seen (D.seen dialer.new).told (D.seen dialer.old).failed_dials (D.seen dialer.new).failed_dials why) }
 {
     match dialer.dial() {
-        Dialed::Linked => serve(hand, pass, connection, dialer, buffer, connections),
+        Dialed::Linked => attend(hand, pass, connection, dialer, buffer, connections),
         Dialed::Later => (pass, None),
         Dialed::Finished => (pass, Some(LineWhy::Finished)),
         Dialed::Failed => (pass, after_failed(hand.site, hand.by)),
@@ -199,24 +188,20 @@ pub(crate) fn connect<R: Wait, C: Framer, D: Dialer, K: Clock, G: Gate>(
     ensures idle { (D.seen dialer.new).linked ≡ false }
     ensures room { length buffer.new ≡ length buffer.old }
     ensures same { IsSameChain connection.old.chain connection.new.chain }
-    ensures shut { IsShut hand.now.by (view result.0).seen }
-    ensures count { connections.new ≡ capped (opened_in hand.now.by (view result.0).seen) }
+    ensures between { IsBetween hand.now.by connections.new (view result.0).seen }
     ensures faults { FaultsRise hand.now.by (view pass).seen (view result.0).seen (D.seen dialer.old).faults (D.seen dialer.new).faults }
     ensures retells { Retells (D.seen dialer.old).told (D.seen dialer.new).told }
-    ensures stop { stops_all result.1 ≡ false → has_stop hand.now.by (view result.0).seen ≡ has_stop hand.now.by (view pass).seen }
-    ensures dials { (D.seen dialer.old).failed_dials ≤ (D.seen dialer.new).failed_dials }
-    ensures failed { (why : LineWhyData) → after_failed hand.now.site.now hand.now.by ≡ Some why → (result.1 ≡ why → ⊥)
-        → (D.seen dialer.new).failed_dials ≡ (D.seen dialer.old).failed_dials }
-    ensures heeds { Heeds hand.now.by (view pass).seen (view result.0).seen (Some result.1) }
+    ensures dials { DialsFor hand.now.site.now hand.now.by (Some result.1) (D.seen dialer.old) (D.seen dialer.new) }
+    ensures minds { Minds hand.now.by (view pass).seen (view result.0).seen (Some result.1) }
     ensures once { reconnects hand.now.site.now hand.now.by ≡ false
         → opened_in hand.now.by (view result.0).seen ≤ opened_in hand.now.by (view pass).seen + 1 }
-    ensures told { (k : ℕ) → Has k (D.seen dialer.old).told → Settled (site_routing (ground hand.now.turn.now).site)
+    ensures told { (k : ℕ) → Has k (D.seen dialer.old).told → SettledInRows (site_routing (ground hand.now.turn.now).site)
         (room_of (ground hand.now.turn.now)) hand.now.by (view pass).found (view pass).seen (since k (D.seen dialer.old).told)
-        → ToldBy (site_routing (ground hand.now.turn.now).site) (room_of (ground hand.now.turn.now)) hand.now.by (view result.0).found
+        → ToldInRows (site_routing (ground hand.now.turn.now).site) (room_of (ground hand.now.turn.now)) hand.now.by (view result.0).found
         (view result.0).seen (since k (D.seen dialer.new).told) }
-    ensures some { SomeLine (λ told. Settled (site_routing (ground hand.now.turn.now).site) (room_of (ground hand.now.turn.now)) hand.now.by
+    ensures some { SomeLine (λ told. SettledInRows (site_routing (ground hand.now.turn.now).site) (room_of (ground hand.now.turn.now)) hand.now.by
         (view pass).found (view pass).seen told)
-        → SomeLine (λ told. ToldBy (site_routing (ground hand.now.turn.now).site) (room_of (ground hand.now.turn.now)) hand.now.by
+        → SomeLine (λ told. ToldInRows (site_routing (ground hand.now.turn.now).site) (room_of (ground hand.now.turn.now)) hand.now.by
         (view result.0).found (view result.0).seen told) }
     ensures cause { CausesEnd (ground hand.now.turn.now).site (ground hand.now.turn.now).entries hand.now.by (view result.0).seen
         (D.seen dialer.new).told (D.seen dialer.old).failed_dials (D.seen dialer.new).failed_dials result.1 }

@@ -32,6 +32,7 @@ pub(crate) fn put_one<D: Dialer>(dialer: &mut D, spelling: &Option<Bytes>) -> Pu
     ensures linked { (D.seen dialer.new).linked ≡ true }
     ensures cause { PutCause result (D.seen dialer.old).faults (D.seen dialer.new).faults }
     ensures dials { (D.seen dialer.new).failed_dials ≡ (D.seen dialer.old).failed_dials }
+    ensures finished { (D.seen dialer.new).finished ≡ (D.seen dialer.old).finished }
 {
     match spelling {
         None => PutEnd::Refused,
@@ -53,6 +54,7 @@ pub(crate) fn put_all<D: Dialer>(
     ensures write { is_write result.1 ≡ true }
     ensures cause { RoseIf (fails result.1) (D.seen dialer.old).faults (D.seen dialer.new).faults }
     ensures dials { (D.seen dialer.new).failed_dials ≡ (D.seen dialer.old).failed_dials }
+    ensures finished { (D.seen dialer.new).finished ≡ (D.seen dialer.old).finished }
     ensures retells { Retells (D.seen dialer.old).told (D.seen dialer.new).told }
     ensures talks { (g : Routing) (room : Capacity) (m place unsent : ℕ) (stages : List Meaning) (found : List ℕ) (history : List Entry) (k : ℕ)
         → Talks g room m (Puts spellings.now) stages place unsent found history (since k (D.seen dialer.old).told)

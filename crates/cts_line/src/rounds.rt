@@ -136,6 +136,7 @@ pub(crate) fn round<R: Wait, C: Framer, D: Dialer, K: Clock, G: Gate>(
     ensures stop { has_stop hand.now.by (view result.0).seen ≡ has_stop hand.now.by (view pass).seen }
     ensures cause { RoseIf (fails result.1) (D.seen dialer.old).faults (D.seen dialer.new).faults }
     ensures dials { (D.seen dialer.new).failed_dials ≡ (D.seen dialer.old).failed_dials }
+    ensures finished { (D.seen dialer.new).finished ≡ (D.seen dialer.old).finished }
     ensures retells { Retells (D.seen dialer.old).told (D.seen dialer.new).told }
     ensures talks { (k : ℕ) → TalksAt (site_routing (ground hand.now.turn.now).site) (room_of (ground hand.now.turn.now)) hand.now.by Waits
         connection.old (view pass) (since k (D.seen dialer.old).told)
@@ -185,6 +186,7 @@ pub(crate) fn talk<R: Wait, C: Framer, D: Dialer, K: Clock, G: Gate>(
     ensures stop { has_stop hand.now.by (view result.0).seen ≡ has_stop hand.now.by (view pass).seen }
     ensures cause { RoseIf (is_fault result.1) (D.seen dialer.old).faults (D.seen dialer.new).faults }
     ensures dials { (D.seen dialer.new).failed_dials ≡ (D.seen dialer.old).failed_dials }
+    ensures finished { (D.seen dialer.new).finished ≡ (D.seen dialer.old).finished }
     ensures retells { Retells (D.seen dialer.old).told (D.seen dialer.new).told }
     ensures closed { (k : ℕ) → TalksAt (site_routing (ground hand.now.turn.now).site) (room_of (ground hand.now.turn.now)) hand.now.by Waits
         connection.old (view pass) (since k (D.seen dialer.old).told)

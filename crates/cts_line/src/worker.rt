@@ -12,14 +12,13 @@ ghost use Rattle.cts_connection.specs.LinePlaces.{is_line};
 ghost use Rattle.cts_connection.specs.Routings.{site_routing};
 ghost use Rattle.cts_outside.specs.Lines.{hung_up, told_after};
 ghost use Rattle.cts_trace.specs.Makers.{LastEnded, faults_of, of_maker};
-ghost use Rattle.cts_trace.specs.Told.{ToldBy};
+ghost use Rattle.cts_line.specs.Rows.{ToldInRows};
 ghost use Rattle.cts_line.specs.declared.ending.LineWhy.TheVariants.{Cancelled, Full, NoMemory};
-ghost use Rattle.cts_line.specs.declared.ending.LineWhy.{LineWhy as LineWhyData};
 ghost use Rattle.cts_worker.specs.Counts.{RoseBy};
 ghost use Rattle.cts_worker.specs.Grounds.{ground};
 ghost use Rattle.cts_worker.specs.Holds.{EndedHold, Onward};
 ghost use Rattle.cts_worker.specs.Lasts.{IsShut, MayEnd, first_moment, last_entries};
-ghost use Rattle.cts_line.specs.Ending.{CausesEnd, Heeds, IsUndialed, after_failed, has_closed, has_stop, is_full, is_no_memory};
+ghost use Rattle.cts_line.specs.Ending.{CausesEnd, DialsFor, EndsFor, Heeds, IsUndialed, StopsFor, has_stop};
 ghost use Rattle.cts_line.specs.Ending.{opened_in, reconnects, stops_all};
 ghost use Rattle.cts_line.specs.Telling.{Has, Retells, SomeLine, made_by, since};
 ghost use Rattle.cts_line.specs.Talks.{room_of};
@@ -49,9 +48,9 @@ pub struct LineWorker;
 
 impl LineWorker {
     /// Makes one connection after another, and posts what comes from each and puts what the history has for its peer, until a Stop stands, there
-    /// will be no connection any more, or the line has to end. What the history says of its connections is what its dialer tells of this call. Its
-    /// last entry is Ended. It takes the turn for each change of the history and for each look at it, and waits for no other reason but in the
-    /// dialer's calls.
+    /// will be no connection any more, or the line has to end. What the history says of its connections is what its dialer tells of this call,
+    /// and the entries of one piece stand side by side there. Its last entry is Ended. It takes the turn for each change of the history and for
+    /// each look at it, and waits for no other reason but in the dialer's calls.
     pub fn run<R: Wait, C: Framer, D: Dialer, K: Clock, G: Gate>(
         rt: &R,
         alloc: Global,
@@ -72,9 +71,9 @@ impl LineWorker {
         requires chain { IsFresh (uses_at site.now by) (C.shape chain) }
         ensures pass { IsPassOf turn.now result.pass }
         ensures onward { Onward (view pass) (view result.pass) }
-        ensures told { ToldBy (site_routing site.now) (room_of (ground turn.now)) by (view result.pass).found (view result.pass).seen
+        ensures told { ToldInRows (site_routing site.now) (room_of (ground turn.now)) by (view result.pass).found (view result.pass).seen
             (since (made_by (D.seen dialer.old).told) (D.seen dialer.new).told) }
-        ensures some { SomeLine (λ told. ToldBy (site_routing site.now) (room_of (ground turn.now)) by (view result.pass).found (view result.pass).seen
+        ensures some { SomeLine (λ told. ToldInRows (site_routing site.now) (room_of (ground turn.now)) by (view result.pass).found (view result.pass).seen
             told) }
         ensures retells { Retells (told_after hung_up (D.seen dialer.old).told) (D.seen dialer.new).told }
         ensures ended { LastEnded by (view result.pass).seen }
@@ -82,14 +81,10 @@ impl LineWorker {
         ensures once { reconnects site.now by ≡ false → result.connections ≤ 1 }
         ensures cause { CausesEnd site.now (ground turn.now).entries by (view result.pass).seen (D.seen dialer.new).told
             (D.seen dialer.old).failed_dials (D.seen dialer.new).failed_dials result.why }
-        ensures stops { stops_all result.why ≡ true → is_stopped (view result.pass).seen ≡ true }
-        ensures own_stop { has_stop by (view result.pass).seen ≡ true → stops_all result.why ≡ true }
+        ensures stops { StopsFor by result.why (view result.pass).seen }
         ensures faults { RoseBy (faults_of by (view result.pass).seen) (D.seen dialer.old).faults (D.seen dialer.new).faults }
-        ensures dials { (D.seen dialer.old).failed_dials ≤ (D.seen dialer.new).failed_dials }
-        ensures failed { (why : LineWhyData) → after_failed site.now by ≡ Some why → (result.why ≡ why → ⊥)
-            → (D.seen dialer.new).failed_dials ≡ (D.seen dialer.old).failed_dials }
-        ensures full { has_closed by is_full (view result.pass).seen ≡ true → result.why ≡ Full }
-        ensures memory { has_closed by is_no_memory (view result.pass).seen ≡ true → result.why ≡ NoMemory }
+        ensures dials { DialsFor site.now by (Some result.why) (D.seen dialer.old) (D.seen dialer.new) }
+        ensures closed { EndsFor by result.why (view result.pass).seen }
         ensures idle { (D.seen dialer.new).linked ≡ false }
     {
         gate.pass(rt, by, GateStage::Started);
@@ -104,7 +99,7 @@ impl LineWorker {
             gate,
         };
         let mut connections = 0;
-        let (pass, why) = work(&hand, pass, dialer, chain, &mut connections);
+        let (pass, why) = equip(&hand, pass, dialer, chain, &mut connections);
         let pass = finish(&hand, pass, why);
         gate.pass(rt, by, GateStage::Posted);
         LineEnd {
@@ -172,7 +167,7 @@ fn buffer_of(alloc: Global) -> Result<Vec<u8>, Memory>
 }
 
 // Makes the connections of a line, if there is memory for what is taken from them.
-fn work<R: Wait, C: Framer, D: Dialer, K: Clock, G: Gate>(
+fn equip<R: Wait, C: Framer, D: Dialer, K: Clock, G: Gate>(
     hand: &AtHand<R, K, G>,
     pass: Pass<Hall>,
     dialer: &mut D,
@@ -193,17 +188,15 @@ fn work<R: Wait, C: Framer, D: Dialer, K: Clock, G: Gate>(
     ensures shut { IsShut hand.now.by (view result.0).seen }
     ensures count { connections.new ≡ capped (opened_in hand.now.by (view result.0).seen) }
     ensures faults { RoseBy (faults_of hand.now.by (view result.0).seen) (D.seen dialer.old).faults (D.seen dialer.new).faults }
-    ensures dials { (D.seen dialer.old).failed_dials ≤ (D.seen dialer.new).failed_dials }
-    ensures failed { (why : LineWhyData) → after_failed hand.now.site.now hand.now.by ≡ Some why → (result.1 ≡ why → ⊥)
-        → (D.seen dialer.new).failed_dials ≡ (D.seen dialer.old).failed_dials }
+    ensures dials { DialsFor hand.now.site.now hand.now.by (Some result.1) (D.seen dialer.old) (D.seen dialer.new) }
     ensures heeds { Heeds hand.now.by (view pass).seen (view result.0).seen (Some result.1) }
     ensures retells { Retells (D.seen dialer.old).told (D.seen dialer.new).told }
     ensures stop { stops_all result.1 ≡ false → has_stop hand.now.by (view result.0).seen ≡ false }
     ensures once { reconnects hand.now.site.now hand.now.by ≡ false → opened_in hand.now.by (view result.0).seen ≤ 1 }
     ensures told { (k : ℕ) → Has k (D.seen dialer.old).told → IsUndialed (since k (D.seen dialer.old).told)
-        → ToldBy (site_routing hand.now.site.now) (room_of (ground hand.now.turn.now)) hand.now.by (view result.0).found (view result.0).seen
+        → ToldInRows (site_routing hand.now.site.now) (room_of (ground hand.now.turn.now)) hand.now.by (view result.0).found (view result.0).seen
         (since k (D.seen dialer.new).told) }
-    ensures some { SomeLine (λ told. ToldBy (site_routing hand.now.site.now) (room_of (ground hand.now.turn.now)) hand.now.by (view result.0).found
+    ensures some { SomeLine (λ told. ToldInRows (site_routing hand.now.site.now) (room_of (ground hand.now.turn.now)) hand.now.by (view result.0).found
         (view result.0).seen told) }
     ensures cause { CausesEnd hand.now.site.now (ground hand.now.turn.now).entries hand.now.by (view result.0).seen (D.seen dialer.new).told
         (D.seen dialer.old).failed_dials (D.seen dialer.new).failed_dials result.1 }

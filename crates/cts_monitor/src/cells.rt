@@ -57,12 +57,18 @@ fn first_limits(setup: &Option<LimitsSetup>) -> Option<Limits>
     }
 }
 
-// What counts for an item after the entry of this place, the last one, where this counted before it.
-fn setting_after<H: Stands>(
-    packet: &Packet,
-    item: &Item,
+// An item of a packet that has limits, and the numbers of both.
+#[derive(Clone, Copy)]
+struct WatchedItem<'a> {
+    packet: &'a Packet,
+    item: &'a Item,
     number: u32,
     index: u32,
+}
+
+// What counts for an item after the entry of this place, the last one, where this counted before it.
+fn setting_after<H: Stands>(
+    of: &WatchedItem<'_>,
     before: Setting,
     places: &Places,
     site: &Site,
@@ -71,19 +77,20 @@ fn setting_after<H: Stands>(
 ) -> Setting
     requires place { at + 1 ≡ length (H.list history.now) }
     requires places { PlacesTell site.now (H.list history.now) places.now }
-    requires before { before ≡ setting_of (watched packet.now item.now number index) (take at (H.list history.now)) }
-    ensures { result ≡ setting_of (watched packet.now item.now number index) (H.list history.now) }
+    requires before { before ≡ setting_of (watched of.now.packet.now of.now.item.now of.now.number of.now.index) (take at (H.list history.now)) }
+    ensures { result ≡ setting_of (watched of.now.packet.now of.now.item.now of.now.number of.now.index) (H.list history.now) }
 {
     let entry = lend(history, at);
-    if !may_set(entry, number, index) {
+    if !may_set(entry, of.number, of.index) {
         return before;
     }
+    let item = of.item;
     let current = places.current(site, history).as_slice();
-    let own = places.limits(&item.limits, number, index, current, history);
+    let own = places.limits(&item.limits, of.number, of.index, current, history);
     Setting {
-        limits: own.or(places.limits(&item.limits, number, index, DEFAULT, history)),
-        persistence: persistence_told(entry, number, index).unwrap_or(before.persistence),
-        enabled: enabling_told(entry, number, index).unwrap_or(before.enabled),
+        limits: own.or(places.limits(&item.limits, of.number, of.index, DEFAULT, history)),
+        persistence: persistence_told(entry, of.number, of.index).unwrap_or(before.persistence),
+        enabled: enabling_told(entry, of.number, of.index).unwrap_or(before.enabled),
     }
 }
 
@@ -105,10 +112,7 @@ impl Cell {
     // Keeps what counts after the entry of this place, the last one.
     fn reset<H: Stands>(
         &mut self,
-        packet: &Packet,
-        item: &Item,
-        number: u32,
-        index: u32,
+        of: &WatchedItem<'_>,
         places: &Places,
         site: &Site,
         history: &H,
@@ -116,20 +120,13 @@ impl Cell {
     )
         requires place { at + 1 ≡ length (H.list history.now) }
         requires places { PlacesTell site.now (H.list history.now) places.now }
-        requires before { self.old.setting ≡ setting_of (watched packet.now item.now number index) (take at (H.list history.now)) }
-        ensures { self.new ≡ record self.old { setting = setting_of (watched packet.now item.now number index) (H.list history.now) } }
+        requires before { self.old.setting ≡ setting_of (watched of.now.packet.now of.now.item.now of.now.number of.now.index) (take at (H.list history.now)) }
+        ensures { self.new ≡ record self.old {
+          setting
+              = setting_of (watched of.now.packet.now of.now.item.now of.now.number of.now.index) (H.list history.now);
+        } }
     {
-        self.setting = setting_after(
-            packet,
-            item,
-            number,
-            index,
-            self.setting,
-            places,
-            site,
-            history,
-            at,
-        );
+        self.setting = setting_after(of, self.setting, places, site, history, at);
     }
 
     /// Takes the packet's bytes, and tells the change of the state.
@@ -223,9 +220,13 @@ impl Cells {
     {
         let items = packet.items.as_slice();
         for i in 0..items.len() {
-            self.cells[i].reset(
-                packet, &items[i], number, i as u32, places, site, history, at,
-            );
+            let of = WatchedItem {
+                packet,
+                item: &items[i],
+                number,
+                index: i as u32,
+            };
+            self.cells[i].reset(&of, places, site, history, at);
         }
     }
 

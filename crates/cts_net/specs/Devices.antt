@@ -5,7 +5,7 @@ use Rattle.cts_outside.specs.Seen.{LineSeen}
 
 -- what a dialer shows that was not aimed yet, and of which no connection stands
 abbrev pub unused : LineSeen
-unused = record { told = None; linked = false; faults = 0; failed_dials = 0 }
+unused = record { told = None; linked = false; finished = false; faults = 0; failed_dials = 0 }
 
 -- a door stands in the place, and accepts its clients at this address of the machine
 abbrev pub AcceptsAt : {X : Type 0} → (X → List ℕ) → List ℕ → Option X → Type 0

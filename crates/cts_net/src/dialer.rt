@@ -1,7 +1,7 @@
 // Dialers over TCP.
 ghost use Rattle.std.specs.Prelude.{◌≡◌, ◌≢◌, ◌⊎◌, ◌<◌, ◌-◌, length, min, true, false, is_some, None, IfOk};
 ghost use Rattle.cts_outside.specs.Causes.{TakeCause, DialCause};
-ghost use Rattle.cts_outside.specs.Lines.{TakeFits, links};
+ghost use Rattle.cts_outside.specs.Lines.{FinishesBy, TakeFits, links};
 ghost use Rattle.cts_net.specs.Delays.{least_rest, millis_of, rest_after_fault, rest_after_hang_up};
 ghost use Rattle.cts_net.specs.Waits.{IsHeard};
 
@@ -146,7 +146,7 @@ impl<'a, R: Net<Listener = TcpListener, Stream = TcpStream> + Clock> TcpDialer<'
 }
 
 impl<'a, R: Net<Listener = TcpListener, Stream = TcpStream> + Clock> Link for TcpDialer<'a, R> {
-    ghost seen = { λ s. record { told = None; linked = is_some s.stream; faults = s.faults; failed_dials = s.failed_dials } };
+    ghost seen = { λ s. record { told = None; linked = is_some s.stream; finished = false; faults = s.faults; failed_dials = s.failed_dials } };
 
     fn take(&mut self, buffer: &mut [u8]) -> Taken
         requires linked { is_some self.old.stream ≡ true }
@@ -205,6 +205,7 @@ impl<'a, R: Net<Listener = TcpListener, Stream = TcpStream> + Clock> Dialer for 
     fn dial(&mut self) -> Dialed
         requires { is_some self.old.stream ≡ false }
         ensures linked { is_some self.new.stream ≡ links result }
+        ensures finished { FinishesBy result false false }
         ensures cause { DialCause result self.old.failed_dials self.new.failed_dials }
         ensures faults { self.new.faults ≡ self.old.faults }
 

@@ -90,5 +90,12 @@ links Later = false
 links Finished = false
 links DialFailed = false
 
+-- a dialer says from the dial on that answers Finished that there will be no connection any more, and at every other answer what it said
+abbrev pub FinishesBy : Dialed → Bool → Bool → Type 0
+FinishesBy Linked before now = now ≡ before
+FinishesBy Later before now = now ≡ before
+FinishesBy Finished before now = now ≡ true
+FinishesBy DialFailed before now = now ≡ before
+
 abbrev pub hung_up : Line → Line
 hung_up line = record line { past = line.past ++ option_to_list line.now; now = None }

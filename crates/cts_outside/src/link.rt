@@ -1,7 +1,7 @@
 // Links, and dialers that make them.
 ghost use Rattle.std.specs.Prelude.{◌≡◌, ◌<◌, length, true, false};
 ghost use Rattle.cts_outside.specs.Causes.{Cause, TakeCause, DialCause};
-ghost use Rattle.cts_outside.specs.Lines.{told_after, at_now, after_take, after_dial, aimed, hung_up, TakeFits, LinkPuts, links};
+ghost use Rattle.cts_outside.specs.Lines.{told_after, at_now, after_take, after_dial, aimed, hung_up, TakeFits, LinkPuts, FinishesBy, links};
 ghost use Rattle.cts_outside.specs.Seen.{LineSeen};
 
 use crate::PutFailed;
@@ -48,7 +48,8 @@ pub enum Dialed {
 
 /// A connection to a peer, from which bytes are taken in pieces and to which bytes are put.
 pub trait Link: Drop {
-    /// All connections so far, where they are told, whether one stands, and the counts of faults and of failed dials.
+    /// All connections so far, where they are told, whether one stands, whether there will be none any more, and the counts of faults and
+    /// of failed dials.
     ghost seen: { Self → LineSeen };
 
     /// Takes the next bytes that are ready into the front of the buffer.
@@ -59,6 +60,7 @@ pub trait Link: Drop {
         ensures fits { TakeFits result (length buffer.old) }
         ensures long { length buffer.new ≡ length buffer.old }
         ensures linked { (seen self.new).linked ≡ true }
+        ensures finished { (seen self.new).finished ≡ (seen self.old).finished }
         ensures cause { TakeCause result (seen self.old).faults (seen self.new).faults }
         ensures dials { (seen self.new).failed_dials ≡ (seen self.old).failed_dials };
 
@@ -67,6 +69,7 @@ pub trait Link: Drop {
         requires { (seen self.old).linked ≡ true }
         ensures content { LinkPuts (seen self.old).told (seen self.new).told bytes.now result }
         ensures linked { (seen self.new).linked ≡ true }
+        ensures finished { (seen self.new).finished ≡ (seen self.old).finished }
         ensures cause { Cause result (seen self.old).faults (seen self.new).faults }
         ensures dials { (seen self.new).failed_dials ≡ (seen self.old).failed_dials };
 }
@@ -77,6 +80,7 @@ pub trait Dialer: Link {
     fn aim(&mut self, aim: Aim)
         ensures content { (Self.seen self.new).told ≡ told_after (aimed aim) (Self.seen self.old).told }
         ensures linked { (Self.seen self.new).linked ≡ (Self.seen self.old).linked }
+        ensures finished { (Self.seen self.new).finished ≡ (Self.seen self.old).finished }
         ensures faults { (Self.seen self.new).faults ≡ (Self.seen self.old).faults }
         ensures dials { (Self.seen self.new).failed_dials ≡ (Self.seen self.old).failed_dials };
 
@@ -85,6 +89,7 @@ pub trait Dialer: Link {
         requires { (Self.seen self.old).linked ≡ false }
         ensures content { (Self.seen self.new).told ≡ told_after (after_dial result) (Self.seen self.old).told }
         ensures linked { (Self.seen self.new).linked ≡ links result }
+        ensures finished { FinishesBy result (Self.seen self.old).finished (Self.seen self.new).finished }
         ensures cause { DialCause result (Self.seen self.old).failed_dials (Self.seen self.new).failed_dials }
         ensures faults { (Self.seen self.new).faults ≡ (Self.seen self.old).faults };
 
@@ -92,6 +97,7 @@ pub trait Dialer: Link {
     fn hang_up(&mut self)
         ensures content { (Self.seen self.new).told ≡ told_after hung_up (Self.seen self.old).told }
         ensures linked { (Self.seen self.new).linked ≡ false }
+        ensures finished { (Self.seen self.new).finished ≡ (Self.seen self.old).finished }
         ensures faults { (Self.seen self.new).faults ≡ (Self.seen self.old).faults }
         ensures dials { (Self.seen self.new).failed_dials ≡ (Self.seen self.old).failed_dials };
 }

@@ -2,7 +2,8 @@
 ghost use Rattle.std.specs.Prelude.{◌≡◌, ◌+◌, ◌<◌, ◌≤◌, ◌∷◌, [], length, drop, map, true, false, Some, None, IsErr, OnErr, is_some, option_map, slice_get};
 ghost use Rattle.cts_outside.specs.Causes.{Cause, TakeCause, DialCause, raised};
 ghost use Rattle.cts_outside.specs.InMemory.{fails_at, faults_after};
-ghost use Rattle.cts_outside.specs.Lines.{at_now, after_take, after_dial, aimed, hung_up, with_failed_put, LinkPuts, TakeFits, links};
+ghost use Rattle.cts_outside.specs.Lines.{at_now, after_take, after_dial, aimed, hung_up, with_failed_put, LinkPuts, TakeFits};
+ghost use Rattle.cts_outside.specs.Lines.{FinishesBy, links};
 ghost use Rattle.cts_outside.specs.Dialers.{dialer_at_first, GivesBy, DialsBy, WantsMemory, WantsRoom, faults_after_take, failed_after_dial};
 ghost use Rattle.cts_outside.specs.Dialers.{piece_bytes, bytes_put, pieces_after, passed, Reaches};
 
@@ -157,7 +158,7 @@ impl MemDialer {
 }
 
 impl Link for MemDialer {
-    ghost seen = { λ d. record { told = Some d.line; linked = is_some d.line.now; faults = d.faults; failed_dials = d.failed_dials } };
+    ghost seen = { λ d. record { told = Some d.line; linked = is_some d.line.now; finished = d.line.finished; faults = d.faults; failed_dials = d.failed_dials } };
 
     fn take(&mut self, buffer: &mut [u8]) -> Taken
         requires linked { is_some self.old.line.now ≡ true }
@@ -166,6 +167,7 @@ impl Link for MemDialer {
         ensures fits { TakeFits result (length buffer.old) }
         ensures long { length buffer.new ≡ length buffer.old }
         ensures linked { is_some self.new.line.now ≡ true }
+        ensures finished { self.new.line.finished ≡ self.old.line.finished }
         ensures cause { TakeCause result self.old.faults self.new.faults }
         ensures dials { self.new.failed_dials ≡ self.old.failed_dials }
 
@@ -199,6 +201,7 @@ impl Link for MemDialer {
         requires { is_some self.old.line.now ≡ true }
         ensures content { LinkPuts (Some self.old.line) (Some self.new.line) bytes.now result }
         ensures linked { is_some self.new.line.now ≡ true }
+        ensures finished { self.new.line.finished ≡ self.old.line.finished }
         ensures cause { Cause result self.old.faults self.new.faults }
         ensures dials { self.new.failed_dials ≡ self.old.failed_dials }
 
@@ -235,6 +238,7 @@ impl Dialer for MemDialer {
     fn aim(&mut self, aim: Aim)
         ensures content { self.new.line ≡ aimed aim self.old.line }
         ensures linked { is_some self.new.line.now ≡ is_some self.old.line.now }
+        ensures finished { self.new.line.finished ≡ self.old.line.finished }
         ensures faults { self.new.faults ≡ self.old.faults }
         ensures dials { self.new.failed_dials ≡ self.old.failed_dials }
         ensures rest { self.new ≡ record self.old { line = aimed aim self.old.line } }
@@ -246,6 +250,7 @@ impl Dialer for MemDialer {
         requires { is_some self.old.line.now ≡ false }
         ensures content { self.new.line ≡ after_dial result self.old.line }
         ensures linked { is_some self.new.line.now ≡ links result }
+        ensures finished { FinishesBy result self.old.line.finished self.new.line.finished }
         ensures cause { DialCause result self.old.failed_dials self.new.failed_dials }
         ensures faults { self.new.faults ≡ self.old.faults }
 
@@ -271,6 +276,7 @@ impl Dialer for MemDialer {
     fn hang_up(&mut self)
         ensures content { self.new.line ≡ hung_up self.old.line }
         ensures linked { is_some self.new.line.now ≡ false }
+        ensures finished { self.new.line.finished ≡ self.old.line.finished }
         ensures faults { self.new.faults ≡ self.old.faults }
         ensures dials { self.new.failed_dials ≡ self.old.failed_dials }
         ensures rest { self.new ≡ record self.old { line = hung_up self.old.line; room = 0 } }

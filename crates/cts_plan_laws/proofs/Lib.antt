@@ -5,4 +5,4 @@ mod Readings
 mod Opened
 mod Heads
 pub mod SoundSites
-mod SiteSaid
+pub mod SiteSaid

@@ -52,7 +52,8 @@ pub record HaveRoom (packets : List Entry) : Type 0 where
 -- Where the pieces are these entries, laid out one after another, all is done where a history has room for the packets.
 abbrev pub LogFilesEnd : Type 0
 LogFilesEnd = (layout : ℕ) (site : SiteData) (history : List Entry) (file : List ℕ) (kind : LogKind) (flagged : Bool) (entries : List Logged) (place : ℕ)
-    (pieces : List (List ℕ)) (times : List Time) (dids : List Did) (ending : Ending) → IsLogOf layout site history file → IsLogRead file kind flagged entries place
+    (pieces : List (List ℕ)) (times : List Time) (dids : List Did) (ending : Ending)
+    → IsLogOf layout site history file → IsLogRead file kind flagged entries place
     → joined pieces ≡ flat_map (entry_bytes (has_flags layout)) entries → MayCome pieces → MayBeSet times → HaveRoom (logged_packets site history)
     → Runs (site_environment (played layout site)) opening (hearing 0 pieces times) dids ending → ending ≡ Finished
 

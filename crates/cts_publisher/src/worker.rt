@@ -21,7 +21,7 @@ use cts_worker::{Progress, nap};
 use std::sync::Wait;
 
 // One look, and a publication outside of it. Says why the publisher ends, if it does.
-fn attempt<W: Wait, J: Grounds, T: Replicates<J>, R: Wait + Drop>(
+fn round<W: Wait, J: Grounds, T: Replicates<J>, R: Wait + Drop>(
     rt: &W,
     turn: &Turn<Hall>,
     pass: Pass<Hall>,
@@ -86,7 +86,7 @@ impl Publisher {
     {
         let mut progress = Progress::begin();
         'looks: for _ in rt.forever() {
-            let (next, end) = attempt(rt, turn, pass, writer, &mut progress);
+            let (next, end) = round(rt, turn, pass, writer, &mut progress);
             pass = next;
             if let Some(why) = end {
                 writer.is_writing();

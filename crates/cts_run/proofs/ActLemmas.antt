@@ -101,6 +101,8 @@ all_then old mid new xs ys due (Err (halt.ShelfEmpty kind needed stocked)) p d =
 all_then old mid new xs ys due (Err (halt.HistoryFull entries bytes)) p d = (d.0, done_then old mid new xs ys p d.1)
 all_then old mid new xs ys due (Err (halt.LogRefused place)) p d = (d.0, done_then old mid new xs ys p d.1)
 all_then old mid new xs ys due (Err (halt.UnknownName name)) p d = (d.0, done_then old mid new xs ys p d.1)
+all_then old mid new xs ys due (Err (halt.HubRefused cause)) p d = (d.0, done_then old mid new xs ys p d.1)
+all_then old mid new xs ys due (Err halt.Misused) p d = (d.0, done_then old mid new xs ys p d.1)
 
 -- acts in front that were not all done
 pub all_first : (old new : Outside) (xs ys : List Act) (due : Result (Unit {0}) Halt) (why : Undone) → DoesActs xs (Err why) old new → DoesAll (xs ++ ys) due (put_answer (Err why)) old new
@@ -274,6 +276,8 @@ sink_of acts due (Err (halt.ShelfEmpty kind needed stocked)) old new k = (done_c
 sink_of acts due (Err (halt.HistoryFull entries bytes)) old new k = (done_counts acts old new k.1).0
 sink_of acts due (Err (halt.LogRefused place)) old new k = (done_counts acts old new k.1).0
 sink_of acts due (Err (halt.UnknownName name)) old new k = (done_counts acts old new k.1).0
+sink_of acts due (Err (halt.HubRefused cause)) old new k = (done_counts acts old new k.1).0
+sink_of acts due (Err halt.Misused) old new k = (done_counts acts old new k.1).0
 
 pub vault_of : (acts : List Act) (due answer : Result (Unit {0}) Halt) (old new : Outside) → DoesAll acts due answer old new → VaultCounts answer old.vault new.vault
 vault_of acts due (Ok done) old new k = (done_counts acts old new k.1).1
@@ -287,3 +291,5 @@ vault_of acts due (Err (halt.ShelfEmpty kind needed stocked)) old new k = (done_
 vault_of acts due (Err (halt.HistoryFull entries bytes)) old new k = (done_counts acts old new k.1).1
 vault_of acts due (Err (halt.LogRefused place)) old new k = (done_counts acts old new k.1).1
 vault_of acts due (Err (halt.UnknownName name)) old new k = (done_counts acts old new k.1).1
+vault_of acts due (Err (halt.HubRefused cause)) old new k = (done_counts acts old new k.1).1
+vault_of acts due (Err halt.Misused) old new k = (done_counts acts old new k.1).1

@@ -21,7 +21,7 @@ use Rattle.cts_proto.specs.Stock.{stocked}
 use Rattle.cts_rehearsal.specs.Generated.{generated}
 use Rattle.cts_run.specs.Acts.{Act, AreDone, DoesAll, EndsWith, LogFails, Outside, PutFails, outside, puts}
 use Rattle.cts_run.specs.Causes.{chain_halt, put_answer}
-use Rattle.cts_run.specs.Command.{Answers, CommandLeaves, Completes, DoesFor, DoesOf, DumpsFile, IsDone, IsDueOf, IsReadFirst, IsReadIn, LeavesShelf, Outcome, Performs, PerformsOf, PerformsScript, ShelfAfter, ShelfAt, ShelfBy, first_phases, misused, outcome_of, phases}
+use Rattle.cts_run.specs.Command.{Answers, CommandKeeps, CommandLeaves, Completes, DoesFor, DoesOf, DumpsFile, IsDone, IsDueOf, IsReadFirst, IsReadIn, Keeps, HubKeepsBy, LeavesShelf, Outcome, Performs, PerformsOf, PerformsScript, ShelfAfter, ShelfAt, ShelfBy, HalfTaken, HalfTakenAt, first_phases, misused, outcome_of, phases}
 use Rattle.cts_run.specs.Demo.{definitions_name, demo_files, demo_site, site_name}
 use Rattle.cts_run.specs.Dump.{IsDump, PutsFile, dump_answer, other_head}
 use Rattle.cts_run.specs.Endings.{Ends, EndsHalted, halt_line, halt_status, refused_as}
@@ -31,6 +31,8 @@ use Rattle.cts_run.specs.Load.Files.{GivesBytes, log_limit}
 use Rattle.cts_run.specs.Phases.{FileCounts, HaltsAt, HaltsIn, IsFound, Phase, Takes, TakesAt, answer_seen, first_halt, is_fault}
 use Rattle.cts_play.specs.Played.{played}
 use Rattle.cts_run.specs.Play.{play_phases}
+use Rattle.cts_run.specs.Hub.{HubKeptOf, ends_of, joint, tied_phases}
+use Rattle.cts_run.specs.declared.hub.ends.Ends.{Ends as HubEnds}
 use Rattle.cts_run.specs.Putting.{Printed, PutsText, SinkCounts, VaultCounts}
 use Rattle.cts_run.specs.Rehearsal.{IsRehearsal, Rehearses, rehearsal_acts, rehearsal_answer}
 use Rattle.cts_run.specs.Replay.{IsReplay, Replays, replay_acts, replay_answer}
@@ -45,11 +47,13 @@ use Rattle.cts_run.specs.declared.halt.status.Status.{Status}
 use Rattle.cts_run.specs.declared.halt.status.Status.TheVariants as is
 use Rattle.cts_run.specs.declared.putting.Undone.{Undone}
 use Rattle.cts_run.specs.declared.words.Command.{Command}
-use Rattle.cts_run.specs.declared.words.Command.TheVariants.{Check, Replay, Rehearse, Dump, Play, Extract}
+use Rattle.cts_run.specs.declared.words.Command.TheVariants.{Check, Replay, Rehearse, Dump, Play, Extract, Hub}
 use Rattle.cts_run.proofs.ActLemmas.{all_of, put_done, sink_of, vault_of}
 use Rattle.cts_run.proofs.DumpedLemmas.{IsFileDue, another_head, file_dumped, same_head, some_dumped}
 use Rattle.cts_run.proofs.EndingLemmas.{ends_with, fails_still}
 use Rattle.cts_run.proofs.ExtractLemmas.{some_table}
+use Rattle.cts_run.proofs.EndsLemmas.{ends_fit}
+use Rattle.cts_run.proofs.HubLemmas.{some_hub_of}
 use Rattle.cts_run.proofs.LoadLemmas.{site_asked_sound}
 use Rattle.cts_run.proofs.LogLemmas.{replay_is}
 use Rattle.cts_run.proofs.PlayedLemmas.{some_play}
@@ -90,6 +94,8 @@ halts_here ps done some (halt.ShelfEmpty kind needed stocked) o k = record { act
 halts_here ps done some (halt.HistoryFull entries bytes) o k = record { acts = []; due = Err (halt.HistoryFull entries bytes); is = halts_so ps done (halt.HistoryFull entries bytes) k; does = (refl, refl) }
 halts_here ps done some (halt.LogRefused place) o k = record { acts = []; due = Err (halt.LogRefused place); is = halts_so ps done (halt.LogRefused place) k; does = (refl, refl) }
 halts_here ps done some (halt.UnknownName name) o k = record { acts = []; due = Err (halt.UnknownName name); is = halts_so ps done (halt.UnknownName name) k; does = (refl, refl) }
+halts_here ps done some (halt.HubRefused cause) o k = record { acts = []; due = Err (halt.HubRefused cause); is = halts_so ps done (halt.HubRefused cause) k; does = (refl, refl) }
+halts_here ps done some halt.Misused o k = record { acts = []; due = Err halt.Misused; is = halts_so ps done halt.Misused k; does = (refl, refl) }
 
 -- phases in front that have no reason to halt
 does_past : (ps qs : List Phase) (acts : List Act) (due answer : Result (Unit {0}) Halt) (old new : Outside) → first_halt ps ≡ None → DoesOf (IsReadFirst qs) acts due answer old new → DoesOf (IsReadFirst (ps ++ qs)) acts due answer old new
@@ -104,6 +110,8 @@ does_past ps qs acts due (Err (halt.ShelfEmpty kind needed stocked)) old new e k
 does_past ps qs acts due (Err (halt.HistoryFull entries bytes)) old new e k = k
 does_past ps qs acts due (Err (halt.LogRefused place)) old new e k = k
 does_past ps qs acts due (Err (halt.UnknownName name)) old new e k = k
+does_past ps qs acts due (Err (halt.HubRefused cause)) old new e k = k
+does_past ps qs acts due (Err halt.Misused) old new e k = k
 
 pub due_past : (ps qs : List Phase) (done : List Act → Result (Unit {0}) Halt → Type 0) (acts : List Act) (due : Result (Unit {0}) Halt) → first_halt ps ≡ None → IsDueOf qs done acts due → IsDueOf (ps ++ qs) done acts due
 due_past ps qs done acts due e k = subst (λ (o : Option Halt). MatchOption o (done acts due) (λ x. (acts ≡ []) × (due ≡ Err x))) (sym (first_past ps qs e)) k
@@ -142,6 +150,8 @@ does_of reads acts due (Err (halt.ShelfEmpty kind needed stocked)) old new own k
 does_of reads acts due (Err (halt.HistoryFull entries bytes)) old new own k = k
 does_of reads acts due (Err (halt.LogRefused place)) old new own k = k
 does_of reads acts due (Err (halt.UnknownName name)) old new own k = k
+does_of reads acts due (Err (halt.HubRefused cause)) old new own k = k
+does_of reads acts due (Err halt.Misused) old new own k = k
 
 pub counts_of : (acts : List Act) (due answer : Result (Unit {0}) Halt) (old new : Outside) (files files' : FilesSeen) → OfNoFile due → DoesAll acts due answer old new → IsFound files files' → FileCounts answer files files'
 counts_of acts due (Ok done) old new files files' own k f = f
@@ -155,6 +165,8 @@ counts_of acts due (Err (halt.ShelfEmpty kind needed stocked)) old new files fil
 counts_of acts due (Err (halt.HistoryFull entries bytes)) old new files files' own k f = f
 counts_of acts due (Err (halt.LogRefused place)) old new files files' own k f = f
 counts_of acts due (Err (halt.UnknownName name)) old new files files' own k f = f
+counts_of acts due (Err (halt.HubRefused cause)) old new files files' own k f = f
+counts_of acts due (Err halt.Misused) old new files files' own k f = f
 
 -- ---- a check
 
@@ -412,6 +424,11 @@ some_outcome stock files (Play definitions site log) =
     some_due (phases stock files (Play definitions site log)) (IsDone files (Play definitions site log)) (some_play (site_asked files definitions site) (bytes_of (files log)))
 some_outcome stock files (Extract definitions log wanted) =
     some_due (phases stock files (Extract definitions log wanted)) (IsDone files (Extract definitions log wanted)) (some_table (definitions_asked files definitions) wanted (bytes_of (files log)))
+some_outcome stock files (Hub definitions site script below tie) =
+    let above = site_asked files definitions site in
+    let lower = site_asked files definitions below in
+    some_due (phases stock files (Hub definitions site script below tie)) (IsDone files (Hub definitions site script below tie))
+    (some_hub_of above lower script (events_asked files above script) (ends_of above lower tie) (ends_fit above lower tie))
 
 -- ---- the status of what was done, and what is put with its last line
 
@@ -467,16 +484,85 @@ module _ (stock : List Meaning) (files : List ℕ → Option (List ℕ)) (comman
   answered acts due (Err (halt.HistoryFull entries bytes)) status old mid new p h v = halted (halt.HistoryFull entries bytes) (λ a o n k. (refl, k)) acts due status old mid new p h v
   answered acts due (Err (halt.LogRefused place)) status old mid new p h v = halted (halt.LogRefused place) (λ a o n k. (refl, k)) acts due status old mid new p h v
   answered acts due (Err (halt.UnknownName name)) status old mid new p h v = halted (halt.UnknownName name) (λ a o n k. (refl, k)) acts due status old mid new p h v
+  answered acts due (Err (halt.HubRefused cause)) status old mid new p h v = halted (halt.HubRefused cause) (λ a o n k. (refl, k)) acts due status old mid new p h v
+  answered acts due (Err halt.Misused) status old mid new p h v = halted halt.Misused (λ a o n k. (refl, k)) acts due status old mid new p h v
+
+-- ---- what is kept besides
+
+-- by the status of each reason to halt
+halt_keeps : (above below : SiteData) (events : List (ℕ × Event)) (o : Option HubEnds) (h : Halt) → HubKeptOf above below events o (Err h) → HubKeepsBy above below events o (halt_status h)
+halt_keeps above below events None h k = tt
+halt_keeps above below events (Some ends) (halt.HistoryFull entries bytes) k = k
+halt_keeps above below events (Some ends) halt.Memory k = tt
+halt_keeps above below events (Some ends) (halt.ReadFault name) k = tt
+halt_keeps above below events (Some ends) (halt.Absent name) k = tt
+halt_keeps above below events (Some ends) halt.WriteFault k = tt
+halt_keeps above below events (Some ends) halt.LogFault k = tt
+halt_keeps above below events (Some ends) (halt.Refused name Configuration line cause) k = tt
+halt_keeps above below events (Some ends) (halt.Refused name Script line cause) k = tt
+halt_keeps above below events (Some ends) (halt.ShelfEmpty kind needed stocked) k = tt
+halt_keeps above below events (Some ends) (halt.LogRefused place) k = tt
+halt_keeps above below events (Some ends) (halt.UnknownName name) k = tt
+halt_keeps above below events (Some ends) (halt.HubRefused cause) k = tt
+halt_keeps above below events (Some ends) halt.Misused k = tt
+
+memory_keeps : (above below : SiteData) (events : List (ℕ × Event)) (o : Option HubEnds) → HubKeepsBy above below events o is.Memory
+memory_keeps above below events None = tt
+memory_keeps above below events (Some ends) = tt
+
+done_keeps : (above below : SiteData) (events : List (ℕ × Event)) (o : Option HubEnds) → HubKeptOf above below events o (Ok tt) → HubKeepsBy above below events o is.Ok
+done_keeps above below events None k = tt
+done_keeps above below events (Some ends) k = k
+
+hub_keeps : (above below : SiteData) (events : List (ℕ × Event)) (o : Option HubEnds) (answer : Result (Unit {0}) Halt) (status : Status) (out out' : SinkSeen) → HubKeptOf above below events o answer → Ends answer status out out' → HubKeepsBy above below events o status
+hub_keeps above below events o (Ok done) status out out' k h = rw h.0 (done_keeps above below events o k)
+hub_keeps above below events o (Err why) status out out' k (inl h) = rw h.0 (halt_keeps above below events o why k)
+hub_keeps above below events o (Err why) status out out' k (inr h) = rw h.1 (memory_keeps above below events o)
+
+module _ (files : List ℕ → Option (List ℕ)) (definitions site log : List ℕ) where
+  play_halts : (h : Halt) → Keeps files (Some (Play definitions site log)) (halt_status h)
+  play_halts halt.Memory = tt
+  play_halts (halt.ReadFault name) = tt
+  play_halts (halt.Absent name) = tt
+  play_halts halt.WriteFault = tt
+  play_halts halt.LogFault = tt
+  play_halts (halt.Refused name Configuration line cause) = tt
+  play_halts (halt.Refused name Script line cause) = tt
+  play_halts (halt.ShelfEmpty kind needed stocked) = tt
+  play_halts (halt.HistoryFull entries bytes) = tt
+  play_halts (halt.LogRefused place) = tt
+  play_halts (halt.UnknownName name) = tt
+  play_halts (halt.HubRefused cause) = tt
+  play_halts halt.Misused = tt
+
+  play_keeps : (answer : Result (Unit {0}) Halt) (status : Status) (out out' : SinkSeen) → CommandKeeps files (Play definitions site log) answer → Ends answer status out out' → Keeps files (Some (Play definitions site log)) status
+  play_keeps (Ok done) status out out' k h = rw h.0 k
+  play_keeps (Err why) status out out' k (inl h) = rw h.0 (play_halts why)
+  play_keeps (Err why) status out out' k (inr h) = rw h.1 tt
+
+command_keeps : (files : List ℕ → Option (List ℕ)) (command : Command) (answer : Result (Unit {0}) Halt) (status : Status) (out out' : SinkSeen) → CommandKeeps files command answer → Ends answer status out out' → Keeps files (Some command) status
+command_keeps files (Check definitions site) answer status out out' k h = tt
+command_keeps files (Replay definitions site script) answer status out out' k h = tt
+command_keeps files (Rehearse n) answer status out out' k h = tt
+command_keeps files (Dump logs) answer status out out' k h = tt
+command_keeps files (Extract definitions log wanted) answer status out out' k h = tt
+command_keeps files (Play definitions site log) answer status out out' k h = play_keeps files definitions site log answer status out out' k h
+command_keeps files (Hub definitions site script below tie) answer status out out' k h =
+    let above = site_asked files definitions site in
+    let lower = site_asked files definitions below in
+    hub_keeps above lower (events_asked files above script) (ends_of above lower tie) answer status out out' k h
 
 -- what a command performed, with its last line, is its answer
 pub answers : (stock : List Meaning) (told : Option (List ℕ → Option (List ℕ))) (command : Command) (asked : Option Command) (answer : Result (Unit {0}) Halt) (status : Status) (old mid new : Outside) → asked ≡ Some command
-    → IfSome told (λ all. Performs stock all command answer old mid) → Ends answer status mid.out new.out → new.vault ≡ mid.vault → IfSome told (λ all. Answers stock all asked status old new)
-answers stock None command asked answer status old mid new e p h v = tt
-answers stock (Some all) command asked answer status old mid new e p h v =
+    → IfSome told (λ all. Performs stock all command answer old mid) → IfSome told (λ all. CommandKeeps all command answer) → Ends answer status mid.out new.out → new.vault ≡ mid.vault
+    → IfSome told (λ all. Answers stock all asked status old new)
+answers stock None command asked answer status old mid new e p k h v = tt
+answers stock (Some all) command asked answer status old mid new e p k h v =
     subst (λ (c : Option Command). Answers stock all c status old new) (sym e) (record {
       outcome = outcome_of p.acts p.due;
       is = record { acts = p.acts; due = p.due; is = p.is; outcome = refl };
       does = answered stock all command p.acts p.due answer status old mid new p.does h v;
+      keeps = command_keeps all command answer status mid.out new.out k h;
     })
 
 pub misused_answers : (stock : List Meaning) (told : Option (List ℕ → Option (List ℕ))) (asked : Option Command) (status : Status) (old new : Outside) → asked ≡ None → status ≡ is.Usage → Printed old.out new.out usage_line → new.vault ≡ old.vault
@@ -484,7 +570,7 @@ pub misused_answers : (stock : List Meaning) (told : Option (List ℕ → Option
 misused_answers stock None asked status old new e u h v = tt
 misused_answers stock (Some all) asked status old new e u h v =
     subst (λ (c : Option Command). Answers stock all c status old new) (sym e)
-    (subst (λ (st : Status). Answers stock all None st old new) (sym u) (record { outcome = misused; is = refl; does = (refl, ends_with [] usage_line old old new refl h v) }))
+    (subst (λ (st : Status). Answers stock all None st old new) (sym u) (record { outcome = misused; is = refl; does = (refl, ends_with [] usage_line old old new refl h v); keeps = tt }))
 
 -- ---- where no count rose, the status is the outcome's
 
@@ -505,6 +591,7 @@ status_of stock files asked o is.LogRefused old new a b c h = inl (sym h.0)
 status_of stock files asked o is.NoWorker old new a b c h = inl (sym h.0)
 status_of stock files asked o is.DoorFault old new a b c h = inl (sym h.0)
 status_of stock files asked o is.UnknownName old new a b c h = inl (sym h.0)
+status_of stock files asked o is.HubRefused old new a b c h = inl (sym h.0)
 
 pub steady_rose : (before now : ℕ) → Steady before now → Rose before now → ⊥
 steady_rose before now s r = omega (arith, s, r.1)
@@ -535,6 +622,8 @@ begun_shelf site (Err (halt.ShelfEmpty kind needed stocked)) old new t = t
 begun_shelf site (Err (halt.HistoryFull entries bytes)) old new t = t
 begun_shelf site (Err (halt.LogRefused place)) old new t = t
 begun_shelf site (Err (halt.UnknownName name)) old new t = t
+begun_shelf site (Err (halt.HubRefused cause)) old new t = t
+begun_shelf site (Err halt.Misused) old new t = t
 
 pub never_some : {A : Type 0} (ps : List Phase) (h : Halt) → first_halt ps ≡ None → first_halt ps ≡ Some h → A
 never_some ps h e k = absurd (cc (sym e ∙ k))
@@ -552,6 +641,8 @@ unbegun_by site ps (halt.ShelfEmpty kind needed stocked) None old new e k same =
 unbegun_by site ps (halt.HistoryFull entries bytes) None old new e k same = never_some ps (halt.HistoryFull entries bytes) e k
 unbegun_by site ps (halt.LogRefused place) None old new e k same = never_some ps (halt.LogRefused place) e k
 unbegun_by site ps (halt.UnknownName name) None old new e k same = never_some ps (halt.UnknownName name) e k
+unbegun_by site ps (halt.HubRefused cause) None old new e k same = never_some ps (halt.HubRefused cause) e k
+unbegun_by site ps halt.Misused None old new e k same = never_some ps halt.Misused e k
 
 module _ (stock new : List Meaning) (definitions site : List ℕ) where
   pub unloaded_shelf : (told : Option (List ℕ → Option (List ℕ))) (h : Halt) → IfSome told (λ all. TakesSite all definitions site (Err h)) → new ≡ stock → IfSome told (λ all. LeavesShelf all definitions site (Err h) stock new)
@@ -599,8 +690,35 @@ shelf_status site None (Err (halt.HistoryFull entries bytes)) status old new out
 shelf_status site None (Err (halt.HistoryFull entries bytes)) status old new out out' k (inr h) = rw h.1 (inr k)
 shelf_status site None (Err (halt.LogRefused place)) status old new out out' k (inl h) = rw h.0 k
 shelf_status site None (Err (halt.UnknownName name)) status old new out out' k (inl h) = rw h.0 k
+shelf_status site None (Err (halt.HubRefused cause)) status old new out out' k (inl h) = rw h.0 k
+shelf_status site None (Err halt.Misused) status old new out out' k (inl h) = rw h.0 k
 shelf_status site None (Err (halt.LogRefused place)) status old new out out' k (inr h) = rw h.1 (inr k)
 shelf_status site None (Err (halt.UnknownName name)) status old new out out' k (inr h) = rw h.1 (inr k)
+shelf_status site None (Err (halt.HubRefused cause)) status old new out out' k (inr h) = rw h.1 (inr k)
+shelf_status site None (Err halt.Misused) status old new out out' k (inr h) = rw h.1 (inr k)
+
+-- of a hub, which may have taken the boxes of the world above alone
+half_status : (above : SiteData) (first : Option Halt) (answer : Result (Unit {0}) Halt) (status : Status) (old new : List Meaning) (out out' : SinkSeen) → HalfTaken above first answer old new → Ends answer status out out' → HalfTakenAt above first status old new
+half_status above None (Err halt.Memory) status old new out out' k (inl h) = rw h.0 k
+half_status above None (Err halt.Memory) status old new out out' k (inr h) = rw h.1 k
+half_status above None (Ok done) status old new out out' k h = absurd k
+half_status above None (Err (halt.ReadFault name)) status old new out out' k h = absurd k
+half_status above None (Err (halt.Absent name)) status old new out out' k h = absurd k
+half_status above None (Err halt.WriteFault) status old new out out' k h = absurd k
+half_status above None (Err halt.LogFault) status old new out out' k h = absurd k
+half_status above None (Err (halt.Refused name kind line cause)) status old new out out' k h = absurd k
+half_status above None (Err (halt.ShelfEmpty kind needed stocked)) status old new out out' k h = absurd k
+half_status above None (Err (halt.HistoryFull entries bytes)) status old new out out' k h = absurd k
+half_status above None (Err (halt.LogRefused place)) status old new out out' k h = absurd k
+half_status above None (Err (halt.UnknownName name)) status old new out out' k h = absurd k
+half_status above None (Err (halt.HubRefused cause)) status old new out out' k h = absurd k
+half_status above None (Err halt.Misused) status old new out out' k h = absurd k
+half_status above (Some x) answer status old new out out' k h = absurd k
+
+hub_status : (above below : SiteData) (first : Option Halt) (answer : Result (Unit {0}) Halt) (status : Status) (old new : List Meaning) (out out' : SinkSeen) → ShelfBy (joint above below) first answer old new ⊎ HalfTaken above first answer old new → Ends answer status out out'
+    → ShelfAt (joint above below) first status old new ⊎ HalfTakenAt above first status old new
+hub_status above below first answer status old new out out' (inl k) h = inl (shelf_status (joint above below) first answer status old new out out' k h)
+hub_status above below first answer status old new out out' (inr k) h = inr (half_status above first answer status old new out out' k h)
 
 pub command_shelf : (told : Option (List ℕ → Option (List ℕ))) (command : Command) (asked : Option Command) (answer : Result (Unit {0}) Halt) (status : Status) (old new : List Meaning) (out out' : SinkSeen) → asked ≡ Some command
     → IfSome told (λ all. CommandLeaves all command answer old new) → Ends answer status out out' → IfSome told (λ all. ShelfAfter all asked status old new)
@@ -611,6 +729,8 @@ command_shelf (Some all) command asked answer status old new out out' e k h = su
     by_command (Check definitions site) k = k
     by_command (Dump logs) k = k
     by_command (Extract definitions log wanted) k = k
+    by_command (Hub definitions site script below tie) k =
+        hub_status (site_asked all definitions site) (site_asked all definitions below) (first_halt (tied_phases old all definitions site below tie)) answer status old new out out' k h
     by_command (Play definitions site log) k = shelf_status (played 2 (site_asked all definitions site)) (first_halt (play_phases old all definitions site log)) answer status old new out out' k h
     by_command (Rehearse n) k = shelf_status demo_site (first_halt (first_phases old demo_files definitions_name site_name)) answer status old new out out' k h
     by_command (Replay definitions site script) k = shelf_status (site_asked all definitions site) (first_halt (first_phases old all definitions site)) answer status old new out out' k h

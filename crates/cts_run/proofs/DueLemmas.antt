@@ -5,12 +5,13 @@ use Rattle.cts_proto.specs.Meaning.{Meaning}
 use Rattle.cts_run.specs.Acts.{Outside}
 use Rattle.cts_run.specs.Command.{Answers, Completes, DoesFor, IsOutcome, Outcome}
 use Rattle.cts_run.specs.Due.{AreDue, ComesExactly}
-use Rattle.cts_run.specs.Laws.{IsRefused, IsShort, IsUnknownName}
+use Rattle.cts_run.specs.Laws.{IsMisused, IsRefused, IsShort, IsUnknownName, IsUntied}
 use Rattle.cts_run.specs.declared.halt.status.Status.{Status}
 use Rattle.cts_run.specs.declared.halt.status.Status.TheVariants as is
 use Rattle.cts_run.specs.declared.words.Command.{Command}
 use Rattle.cts_run.proofs.LawLemmas.{short_exactly}
 use Rattle.cts_run.proofs.RefusedLemmas.{refused_exactly, unknown_exactly}
+use Rattle.cts_run.proofs.UntiedLemmas.{misused_exactly, untied_exactly}
 
 module _ (stock : List Meaning) (files : List ℕ → Option (List ℕ)) (asked : Option Command) (nothing_failed : Type 0) (status : Status) (old new : Outside) where
   -- an outcome has this status exactly where its cause stands, and is the answer's own where that has it
@@ -38,6 +39,8 @@ module _ (stock : List Meaning) (files : List ℕ → Option (List ℕ)) (asked 
     short = comes is.ShelfEmpty (IsShort stock files asked) (λ o d. d.0) (short_exactly stock files asked) a c;
     refused = comes is.LogRefused (IsRefused stock files asked) (λ o d. d.0) (refused_exactly stock files asked) a c;
     unknown = comes is.UnknownName (IsUnknownName files asked) (λ o d. d.0) (unknown_exactly stock files asked) a c;
+    untied = comes is.HubRefused (IsUntied files asked) (λ o d. d.0) (untied_exactly stock files asked) a c;
+    misused = comes is.Usage (IsMisused files asked) (λ o d. d.0) (misused_exactly stock files asked) a c;
   }
 
 pub due_answer : (stock : List Meaning) (told : Option (List ℕ → Option (List ℕ))) (asked : Option Command) (status : Status) (old new : Outside) (nothing_failed : Type 0)

@@ -89,6 +89,8 @@ module _ (files : List ℕ → Option (List ℕ)) where
   file_fails head log (halt.HistoryFull entries bytes) o k = record { acts = []; due = Err (halt.HistoryFull entries bytes); is = file_halts head log (halt.HistoryFull entries bytes) k; does = (refl, refl) }
   file_fails head log (halt.LogRefused place) o k = record { acts = []; due = Err (halt.LogRefused place); is = file_halts head log (halt.LogRefused place) k; does = (refl, refl) }
   file_fails head log (halt.UnknownName name) o k = record { acts = []; due = Err (halt.UnknownName name); is = file_halts head log (halt.UnknownName name) k; does = (refl, refl) }
+  file_fails head log (halt.HubRefused cause) o k = record { acts = []; due = Err (halt.HubRefused cause); is = file_halts head log (halt.HubRefused cause) k; does = (refl, refl) }
+  file_fails head log halt.Misused o k = record { acts = []; due = Err halt.Misused; is = file_halts head log halt.Misused k; does = (refl, refl) }
 
   -- ---- no file, a file that ended well and those after it, and one that did not
 
@@ -118,6 +120,8 @@ module _ (files : List ℕ → Option (List ℕ)) where
     does_then old mid new xs ys due (Err (halt.HistoryFull entries bytes)) f d k = all_then old mid new xs ys due (Err (halt.HistoryFull entries bytes)) d k
     does_then old mid new xs ys due (Err (halt.LogRefused place)) f d k = all_then old mid new xs ys due (Err (halt.LogRefused place)) d k
     does_then old mid new xs ys due (Err (halt.UnknownName name)) f d k = all_then old mid new xs ys due (Err (halt.UnknownName name)) d k
+    does_then old mid new xs ys due (Err (halt.HubRefused cause)) f d k = all_then old mid new xs ys due (Err (halt.HubRefused cause)) d k
+    does_then old mid new xs ys due (Err halt.Misused) f d k = all_then old mid new xs ys due (Err halt.Misused) d k
 
     pub dumps_then : (answer : Result (Unit {0}) Halt) (old mid new : Outside) → DumpsFile files head log (Ok tt) old mid → Dumps files after logs answer mid new → Dumps files head (log ∷ logs) answer old new
     dumps_then answer old mid new f k =
@@ -140,6 +144,8 @@ module _ (files : List ℕ → Option (List ℕ)) where
     does_own acts due (Err (halt.HistoryFull entries bytes)) old new k = k
     does_own acts due (Err (halt.LogRefused place)) old new k = k
     does_own acts due (Err (halt.UnknownName name)) old new k = k
+    does_own acts due (Err (halt.HubRefused cause)) old new k = k
+    does_own acts due (Err halt.Misused) old new k = k
 
     -- and where more would have been done, had it been done
     abbrev halted : Halt → Result (Unit {0}) Halt
@@ -159,6 +165,8 @@ module _ (files : List ℕ → Option (List ℕ)) where
     does_less acts more due (halt.HistoryFull entries bytes) old new k = never (halt.HistoryFull entries bytes) k.0
     does_less acts more due (halt.LogRefused place) old new k = never (halt.LogRefused place) k.0
     does_less acts more due (halt.UnknownName name) old new k = never (halt.UnknownName name) k.0
+    does_less acts more due (halt.HubRefused cause) old new k = never (halt.HubRefused cause) k.0
+    does_less acts more due halt.Misused old new k = never halt.Misused k.0
 
     first_by : (acts : List Act) (due : Result (Unit {0}) Halt) (h : Halt) (old new : Outside) → IsFileDump files head log acts due → DoesOf Own acts due (Err h) old new → Dumps files head (log ∷ logs) (Err h) old new
     first_by acts (Err w) h old new f k = record { acts = acts; due = Err w; is = (acts, Err w, f, (refl, refl)); does = does_own acts (Err w) (Err h) old new k }
@@ -241,3 +249,5 @@ sink_after (Err h) old mid new e k = by_halt h k
     by_halt (halt.HistoryFull entries bytes) k = k ∙ e
     by_halt (halt.LogRefused place) k = k ∙ e
     by_halt (halt.UnknownName name) k = k ∙ e
+    by_halt (halt.HubRefused cause) k = k ∙ e
+    by_halt halt.Misused k = k ∙ e

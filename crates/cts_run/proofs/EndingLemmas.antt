@@ -82,6 +82,8 @@ module _ (files files' : FilesSeen) (out mid out' : SinkSeen) (vault vault' : Va
   later_of (halt.HistoryFull entries bytes) f k p v = found_later f k p v
   later_of (halt.LogRefused place) f k p v = found_later f k p v
   later_of (halt.UnknownName name) f k p v = found_later f k p v
+  later_of (halt.HubRefused cause) f k p v = found_later f k p v
+  later_of halt.Misused f k p v = found_later f k p v
 
   refused : (kind : FileKind) → Later → Caused (refused_as kind)
   refused Configuration later = plain is.ConfigRefused (λ e. absurd (cc)) (λ e. absurd (cc)) (λ e. absurd (cc)) (λ e. absurd (cc)) (λ e. absurd (cc)) later
@@ -98,6 +100,8 @@ module _ (files files' : FilesSeen) (out mid out' : SinkSeen) (vault vault' : Va
   own (halt.HistoryFull entries bytes) f k p v later = plain is.HistoryFull (λ e. absurd (cc)) (λ e. absurd (cc)) (λ e. absurd (cc)) (λ e. absurd (cc)) (λ e. absurd (cc)) later
   own (halt.LogRefused place) f k p v later = plain is.LogRefused (λ e. absurd (cc)) (λ e. absurd (cc)) (λ e. absurd (cc)) (λ e. absurd (cc)) (λ e. absurd (cc)) later
   own (halt.UnknownName name) f k p v later = plain is.UnknownName (λ e. absurd (cc)) (λ e. absurd (cc)) (λ e. absurd (cc)) (λ e. absurd (cc)) (λ e. absurd (cc)) later
+  own (halt.HubRefused cause) f k p v later = plain is.HubRefused (λ e. absurd (cc)) (λ e. absurd (cc)) (λ e. absurd (cc)) (λ e. absurd (cc)) (λ e. absurd (cc)) later
+  own halt.Misused f k p v later = plain is.Usage (λ e. absurd (cc)) (λ e. absurd (cc)) (λ e. absurd (cc)) (λ e. absurd (cc)) (λ e. absurd (cc)) later
 
   pub caused : (answer : Result (Unit {0}) Halt) (status : Status) → FileCounts answer files files' → SinkCounts answer out mid → VaultCounts answer vault vault' → Ends answer status mid out' → Caused status
   caused (Ok done) status f k v h =
@@ -111,22 +115,3 @@ pub misused_caused : (files : FilesSeen) (out out' : SinkSeen) (vault : VaultSee
 misused_caused files out out' vault status e p =
     let later : IsLater files files out out' vault vault = record { read = omega arith; absent = omega arith; put = p.later; kept = omega arith } in
     rw e (plain files files out out out' vault vault is.Usage (λ e. absurd (cc)) (λ e. absurd (cc)) (λ e. absurd (cc)) (λ e. absurd (cc)) (λ e. absurd (cc)) later)
-
--- no command that the words fit ends as one that they don't
-no_usage : (h : Halt) → halt_status h ≢ is.Usage
-no_usage halt.Memory = λ e. absurd (cc)
-no_usage (halt.ReadFault name) = λ e. absurd (cc)
-no_usage (halt.Absent name) = λ e. absurd (cc)
-no_usage halt.WriteFault = λ e. absurd (cc)
-no_usage halt.LogFault = λ e. absurd (cc)
-no_usage (halt.Refused name Configuration line cause) = λ e. absurd (cc)
-no_usage (halt.Refused name Script line cause) = λ e. absurd (cc)
-no_usage (halt.ShelfEmpty kind needed stocked) = λ e. absurd (cc)
-no_usage (halt.HistoryFull entries bytes) = λ e. absurd (cc)
-no_usage (halt.LogRefused place) = λ e. absurd (cc)
-no_usage (halt.UnknownName name) = λ e. absurd (cc)
-
-pub never_usage : (answer : Result (Unit {0}) Halt) (status : Status) (old new : SinkSeen) → Ends answer status old new → status ≢ is.Usage
-never_usage (Ok done) status old new h = λ e. absurd (cc (sym h.0 ∙ e))
-never_usage (Err why) status old new (inl h) = λ e. no_usage why (sym h.0 ∙ e)
-never_usage (Err why) status old new (inr h) = λ e. absurd (cc (sym h.1 ∙ e))

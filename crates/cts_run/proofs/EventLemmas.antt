@@ -44,7 +44,7 @@ one_cut cut one (x ∷ p) (y ∷ q) l m wp wq a b e =
     let long : length x ≡ length y = wp.0 ∙ sym wq.0 in
     ap₂ ◌∷◌ (first_same x y (joined p ++ l) (joined q ++ m) long same) (one_cut cut one p q l m wp.1 wq.1 a b (later_same x y (joined p ++ l) (joined q ++ m) long same))
 
-one_pieces : (by cut : ℕ) (bytes : List ℕ) (xs ys : List Event) → 1 ≤ cut → ArePieces by cut bytes xs → ArePieces by cut bytes ys → xs ≡ ys
+pub one_pieces : (by cut : ℕ) (bytes : List ℕ) (xs ys : List Event) → 1 ≤ cut → ArePieces by cut bytes xs → ArePieces by cut bytes ys → xs ≡ ys
 one_pieces by cut bytes xs ys one a b =
     a.events_are ∙ (ap (map (Piece by)) (one_cut cut one a.pieces b.pieces a.last b.last a.whole b.whole a.rest b.rest (a.all ∙ sym b.all)) ∙ sym b.events_are)
 
@@ -74,7 +74,7 @@ some_cut cut (suc n) one bytes h = by_size (nat_le (length bytes) cut) refl (λ 
           rest = r.rest;
         }
 
-some_pieces : (by cut : ℕ) (bytes : List ℕ) → 1 ≤ cut → (events : List Event) × ArePieces by cut bytes events
+pub some_pieces : (by cut : ℕ) (bytes : List ℕ) → 1 ≤ cut → (events : List Event) × ArePieces by cut bytes events
 some_pieces by cut bytes one =
     let r = some_cut cut (length bytes) one bytes (omega arith) in
     (map (Piece by) (r.pieces ++ last_piece r.last), record { pieces = r.pieces; last = r.last; events_are = refl; all = r.all; whole = r.whole; rest = r.rest })
@@ -104,22 +104,22 @@ one_more fl es e xs own a b = events_then fl es (e ∷ []) xs own a (own, [], b,
 
 -- ---- they are pieces that may come
 
-all_append : {X : Type 0} (P : X → Type 0) (xs ys : List X) → AllByRecursion P xs → AllByRecursion P ys → AllByRecursion P (xs ++ ys)
+pub all_append : {X : Type 0} (P : X → Type 0) (xs ys : List X) → AllByRecursion P xs → AllByRecursion P ys → AllByRecursion P (xs ++ ys)
 all_append P [] ys a b = b
 all_append P (x ∷ xs) ys a b = (a.0, all_append P xs ys a.1 b)
 
-piece_is : (p : List ℕ) → 1 ≤ length p → length p ≤ 65536 → is_piece p ≡ true
+pub piece_is : (p : List ℕ) → 1 ≤ length p → length p ≤ 65536 → is_piece p ≡ true
 piece_is p h k = rw (le_test 1 (length p) h, le_test (length p) 65536 k) refl
 
 whole_come : (pieces : List (List ℕ)) → AreWhole 65536 pieces → MayCome pieces
 whole_come [] all = tt
 whole_come (p ∷ pieces) all = (piece_is p (omega (arith, all.0)) (omega (arith, all.0)), whole_come pieces all.1)
 
-last_comes : (last : List ℕ) → length last ≤ 65536 → MayCome (last_piece last)
+pub last_comes : (last : List ℕ) → length last ≤ 65536 → MayCome (last_piece last)
 last_comes [] h = tt
 last_comes (b ∷ last) h = (piece_is (b ∷ last) (omega arith) h, tt)
 
-last_joined : (last : List ℕ) → joined (last_piece last) ≡ last
+pub last_joined : (last : List ℕ) → joined (last_piece last) ≡ last
 last_joined [] = refl
 last_joined (b ∷ last) = append-nil (b ∷ last)
 

@@ -32,6 +32,7 @@ use Rattle.cts_run.specs.Play.{log_phases}
 use Rattle.cts_run.specs.Rehearsal.{IsRehearsal, rehearsal_acts, rehearsal_answer}
 use Rattle.cts_run.specs.Replay.{IsReplay, replay_acts, replay_answer}
 use Rattle.cts_run.specs.Start.{shelf_phase, short_halt, short_kind}
+use Rattle.cts_run.specs.Tie.{TieData}
 use Rattle.cts_run.specs.Transcript.{events_of}
 use Rattle.cts_run.specs.declared.halt.Halt.{Halt}
 use Rattle.cts_run.specs.declared.halt.Halt.TheVariants as halt
@@ -39,8 +40,12 @@ use Rattle.cts_run.specs.declared.halt.file_kind.FileKind.TheVariants.{Configura
 use Rattle.cts_run.specs.declared.halt.status.Status.{Status}
 use Rattle.cts_run.specs.declared.halt.status.Status.TheVariants as is
 use Rattle.cts_run.specs.declared.words.Command.{Command}
-use Rattle.cts_run.specs.declared.words.Command.TheVariants.{Check, Replay, Rehearse, Dump, Play, Extract}
+use Rattle.cts_run.specs.declared.words.Command.TheVariants.{Check, Replay, Rehearse, Dump, Play, Extract, Hub}
 use Rattle.cts_run.proofs.CommandLemmas.{some_outcome}
+use Rattle.cts_run.proofs.EndsLemmas.{ends_fit}
+use Rattle.cts_run.proofs.HubLemmas.{one_hub_of}
+use Rattle.cts_run.proofs.HubLawLemmas.{hub_other, short_hub_so, short_hub_where}
+use Rattle.cts_run.specs.Hub.{ends_of}
 use Rattle.cts_run.proofs.DumpedLemmas.{IsFileDue, another_head, same_head}
 use Rattle.cts_run.proofs.StatusLemmas.{Other, has_status, log_is_other, of_check, of_file, of_phases, of_rehearsal, of_replay, of_script, of_site, other_or, outcome_status, shelf_is_other, status_alone}
 use Rattle.cts_run.proofs.TableLawLemmas.{extract_other, one_table}
@@ -111,6 +116,10 @@ one_done files (Rehearse n) acts other due answer h k = one_rehearsal demo_site 
 one_done files (Dump logs) acts other due answer h k = one_dumped files [] logs acts other due answer h k
 one_done files (Play definitions site log) acts other due answer h k = one_play (site_asked files definitions site) (bytes_of (files log)) acts other due answer h k
 one_done files (Extract definitions log w) acts other due answer h k = one_table (definitions_asked files definitions) w (bytes_of (files log)) acts other due answer h k
+one_done files (Hub definitions site script below tie) acts other due answer h k =
+    let above = site_asked files definitions site in
+    let lower = site_asked files definitions below in
+    one_hub_of above lower script (events_asked files above script) (ends_of above lower tie) (ends_fit above lower tie) acts other due answer h k
 
 one_by : (h : Option Halt) (files : List ℕ → Option (List ℕ)) (command : Command) (acts other : List Act) (due answer : Result (Unit {0}) Halt)
     → MatchOption h (IsDone files command acts due) (λ x. (acts ≡ []) × (due ≡ Err x)) → MatchOption h (IsDone files command other answer) (λ x. (other ≡ []) × (answer ≡ Err x)) → Same acts other due answer
@@ -330,6 +339,10 @@ short_exactly stock files (Some (Rehearse n)) o h =
       λ e. short_where stock demo_files definitions_name site_name (site_asked demo_files definitions_name site_name) [] done (rehearsal_never files n) h.acts h.due h.is (has_status is.ShelfEmpty shelf_is_other h.acts h.due o h.outcome e),
       λ s. short_told stock demo_files definitions_name site_name (site_asked demo_files definitions_name site_name) [] done (rehearsal_never files n) h.acts h.due o h.outcome h.is s,
     )
+short_exactly stock files (Some (Hub definitions site script below tie)) o h = (
+  λ e. short_hub_where stock files definitions site script below tie h.acts h.due h.is (has_status is.ShelfEmpty shelf_is_other h.acts h.due o h.outcome e),
+  λ s. short_hub_so stock files definitions site script below tie h.acts h.due o h.outcome h.is s,
+)
 
 -- ---- a log that is refused
 
@@ -396,6 +409,9 @@ replay_not_log stock files definitions site script acts due m =
     (other_or s other (shelf_phase stock y).halts _ (no_log_short stock y (short_kind stock y)) (of_script s other files definitions site y script))))
     (λ d e. of_replay s other (digest_asked files definitions) y script (events_asked files y script) acts due d e) m
 
+no_log_hub : (a b c d : List ℕ) (t : TieData) (e : List (List ℕ)) → Some (Hub a b c d t) ≡ Some (Dump e) → ⊥
+no_log_hub a b c d t e same = absurd (cc same)
+
 no_log_rehearsed : (n : ℕ) (d : List (List ℕ)) → Some (Rehearse n) ≡ Some (Dump d) → ⊥
 no_log_rehearsed n d same = absurd (cc same)
 
@@ -436,3 +452,7 @@ dumps_refused stock files (Some (Dump logs)) o h = (
 )
 dumps_refused stock files (Some (Extract definitions log w)) o h = tt
 dumps_refused stock files (Some (Play definitions site log)) o h = tt
+dumps_refused stock files (Some (Hub definitions site script below tie)) o h = (
+  λ e. absurd (hub_other stock files definitions site script below tie is.LogRefused log_is_other (λ k. absurd (cc k)) (λ k. absurd (cc k)) (λ k. absurd (cc k)) h.acts h.due h.is (has_status is.LogRefused log_is_other h.acts h.due o h.outcome e)),
+  λ b. absurd (no_log_hub definitions site script below tie b.logs b.asked_is),
+)

@@ -1,5 +1,5 @@
 -- What is read of the files, and what it means for the command.
-use Rattle.std.proofs.Common.{◌≡◌, ℕ, ◌≤◌, false, List, [], ◌∷◌, length, take, Option, Some, None, Result, Ok, Err, IfSome, refl, sym, ◌∙◌, ap, ap₂, subst, arith}
+use Rattle.std.proofs.Common.{◌≡◌, ℕ, ◌≤◌, false, List, [], ◌∷◌, length, take, Option, Some, None, Result, Ok, Err, IfOk, IfSome, refl, sym, ◌∙◌, ap, ap₂, subst, arith}
 use Rattle.std.specs.Prelude.{nat_lt, IsSomeAnd}
 use Rattle.std.specs.Result.{result_unwrap_or}
 use Rattle.std.proofs.lemmas.Bool.Decides.{nat_tests}
@@ -8,25 +8,28 @@ use Rattle.cts_def.specs.Sites.{IsSoundSite, SiteData}
 use Rattle.cts_defstatement.specs.declared.cause.DefCause.{DefCause}
 use Rattle.cts_defread.specs.Definitions.{definitions_of}
 use Rattle.cts_entry.specs.declared.event.Event.{Event}
+use Rattle.cts_outside.specs.Seen.{FilesSeen}
 use Rattle.cts_plan.proofs.Kept.{at_start}
 use Rattle.cts_plan.specs.declared.fault.SiteCause.{SiteCause}
 use Rattle.cts_plan.specs.SiteFiles.{site_of}
+use Rattle.cts_plan_laws.proofs.SiteSaid.{sites_are_of_their_statements}
 use Rattle.cts_plan_laws.proofs.SoundSites.{sites_are_sound}
 use Rattle.cts_scriptread.specs.Scripts.{events_of}
 use Rattle.cts_scriptread.specs.declared.cause.ScriptCause.{ScriptCause}
 use Rattle.md5.specs.Md5.{md5}
 use Rattle.cts_words.specs.declared.statement.Statement.{Statement}
 use Rattle.cts_words.specs.Statements.{said}
+use Rattle.cts_run.specs.Hub.{pair_phases}
 use Rattle.cts_run.specs.Load.{bytes_of, definitions_asked, definitions_phase, definitions_read, digest_asked, no_definitions, no_site, or_cause, read_in, script_read, site_asked, site_asked_over, site_phase, site_phases, site_read, statements_in}
-use Rattle.cts_run.specs.Load.Files.{GivesBytes, GivesDigested, GivesStatements, IsReason, ReadsAs, Says, file_limit, judge, judge_said, too_large, verdict}
-use Rattle.cts_run.specs.Phases.{HaltsAt, Phase, Takes, TakesAt, file_halt, is_fault, reading}
+use Rattle.cts_run.specs.Load.Files.{GivesBytes, GivesDigested, GivesStatements, IsReason, ReadsAs, ReadsTwice, Says, file_limit, judge, judge_said, too_large, verdict}
+use Rattle.cts_run.specs.Phases.{HaltsAt, IsFound, LoadCounts, Phase, Takes, TakesAt, file_halt, is_fault, reading}
 use Rattle.cts_run.specs.declared.halt.Halt.{Halt}
 use Rattle.cts_run.specs.declared.halt.Halt.TheVariants as halt
 use Rattle.cts_run.specs.declared.halt.cause.Cause.{Cause}
 use Rattle.cts_run.specs.declared.halt.cause.Cause.TheVariants as cause
 use Rattle.cts_run.specs.declared.halt.file_kind.FileKind.{FileKind}
 use Rattle.cts_run.specs.declared.halt.file_kind.FileKind.TheVariants.{Configuration}
-use Rattle.cts_run.proofs.PhaseLemmas.{here, none_both, past, none_alone}
+use Rattle.cts_run.proofs.PhaseLemmas.{first_past, load_stays, here, none_both, past, none_alone}
 
 -- what was read so far is how the file begins
 abbrev pub Begins : Option (List ℕ) → List ℕ → Type 0
@@ -57,6 +60,8 @@ halts_at p reason (halt.ShelfEmpty kind needed stocked) e f k = e ∙ k
 halts_at p reason (halt.HistoryFull entries bytes) e f k = absurd (cc f)
 halts_at p reason (halt.LogRefused place) e f k = e ∙ k
 halts_at p reason (halt.UnknownName name) e f k = e ∙ k
+halts_at p reason (halt.HubRefused cause) e f k = e ∙ k
+halts_at p reason halt.Misused e f k = e ∙ k
 
 -- a file that was read, and whose statements are refused
 pub said_fail : (told : Option (List ℕ → Option (List ℕ))) (kind : FileKind) (name bytes : List ℕ) (h : Halt)
@@ -203,6 +208,102 @@ module _ (told second : Option (List ℕ → Option (List ℕ))) (definitions si
           )
 
 -- ---- what the readers give
+
+-- ---- two sites over the same definitions
+
+abbrev TakesTwice : (List ℕ → Option (List ℕ)) → List ℕ → Result (DefinitionsData × DefinitionsData) Halt → Type 0
+TakesTwice all name answer = TakesAt (definitions_phase all name) (definitions_asked all name, definitions_asked all name) answer
+
+abbrev TakesPair : (List ℕ → Option (List ℕ)) → List ℕ → List ℕ → List ℕ → Result (SiteData × SiteData) Halt → Type 0
+TakesPair all definitions site below answer = Takes (pair_phases all definitions site below) (site_asked all definitions site, site_asked all definitions below) answer
+
+pub twice_given : (told : Option (List ℕ → Option (List ℕ))) (name digest : List ℕ) (statements : List Statement) (both : DefinitionsData × DefinitionsData)
+    → IfSome told (λ all. GivesDigested Configuration name (all name) (Ok (statements, digest))) → definitions_read statements ≡ Ok both.0 → definitions_read statements ≡ Ok both.1 → IfSome told (λ all. TakesTwice all name (Ok both))
+twice_given told name digest statements both given e f = by_told told (definitions_given told name digest statements given both.0 e) (definitions_given told name digest statements given both.1 f)
+  where
+    by_told : (t : Option (List ℕ → Option (List ℕ))) → IfSome t (λ all. TakesDefinitions all name (Ok (both.0, digest))) → IfSome t (λ all. TakesDefinitions all name (Ok (both.1, digest))) → IfSome t (λ all. TakesTwice all name (Ok both))
+    by_told None a b = tt
+    by_told (Some all) a b = (a.0, ap₂ (λ (x y : DefinitionsData). (x, y)) (ap (λ (t : DefinitionsData × List ℕ). t.0) a.1) (ap (λ (t : DefinitionsData × List ℕ). t.0) b.1))
+
+pub twice_halts : (told : Option (List ℕ → Option (List ℕ))) (name digest : List ℕ) (statements : List Statement) (h : Halt)
+    → IfSome told (λ all. GivesDigested Configuration name (all name) (Ok (statements, digest))) → ReadsAs {X = DefinitionsData} Configuration name (definitions_read statements) (Err h) → IfSome told (λ all. TakesTwice all name (Err h))
+twice_halts told name digest statements h given k = by_told told (definitions_halt told name digest statements h given k)
+  where
+    by_told : (t : Option (List ℕ → Option (List ℕ))) → IfSome t (λ all. TakesDefinitions all name (Err h)) → IfSome t (λ all. TakesTwice all name (Err h))
+    by_told None a = tt
+    by_told (Some all) a = a
+
+pub twice_answer : (told : Option (List ℕ → Option (List ℕ))) (name digest : List ℕ) (statements : List Statement) (answer : Result (DefinitionsData × DefinitionsData) Halt)
+    → IfSome told (λ all. GivesDigested Configuration name (all name) (Ok (statements, digest))) → ReadsTwice Configuration name (definitions_read statements) answer → IfSome told (λ all. TakesTwice all name answer)
+twice_answer told name digest statements (Ok both) given k = twice_given told name digest statements both given k.0 k.1
+twice_answer told name digest statements (Err h) given k = twice_halts told name digest statements h given k
+
+pub twice_unread : (told : Option (List ℕ → Option (List ℕ))) (name : List ℕ) (h : Halt) → IfSome told (λ all. GivesDigested Configuration name (all name) (Err h)) → IfSome told (λ all. TakesTwice all name (Err h))
+twice_unread None name h k = tt
+twice_unread (Some all) name h k = k (λ statements. verdict Configuration name (definitions_read statements))
+
+-- both are the same
+pub twice_same : (name : List ℕ) (read : Result DefinitionsData (ℕ × Cause)) (answer : Result (DefinitionsData × DefinitionsData) Halt) → ReadsTwice Configuration name read answer → IfOk answer (λ both. both.0 ≡ both.1)
+twice_same name read (Ok both) k = cc (sym k.0 ∙ k.1)
+twice_same name read (Err h) k = tt
+
+pub twice_counts : (name : List ℕ) (read : Result DefinitionsData (ℕ × Cause)) (answer : Result (DefinitionsData × DefinitionsData) Halt) (files files' : FilesSeen) → ReadsTwice Configuration name read answer → IsFound files files' → LoadCounts answer files files'
+twice_counts name read (Ok both) files files' k f = f
+twice_counts name read (Err h) files files' k f = load_stays h files files' k.1 f
+
+pub twice_fails : (told : Option (List ℕ → Option (List ℕ))) (definitions site below : List ℕ) (h : Halt) → IfSome told (λ all. TakesTwice all definitions (Err h)) → IfSome told (λ all. TakesPair all definitions site below (Err h))
+twice_fails None definitions site below h k = tt
+twice_fails (Some all) definitions site below h k =
+    here (definitions_phase all definitions) (site_phase all (definitions_asked all definitions) site ∷ site_phase all (definitions_asked all definitions) below ∷ []) h k
+
+module _ (told second third : Option (List ℕ → Option (List ℕ))) (definitions site below : List ℕ) (both : DefinitionsData × DefinitionsData) (same : second ≡ told) (again : third ≡ second)
+    (ds : IfSome told (λ all. TakesTwice all definitions (Ok both))) where
+  pub first_fails : (h : Halt) → IfSome second (λ all. TakesPlan all both.0 site (Err h)) → IfSome told (λ all. TakesPair all definitions site below (Err h))
+  first_fails h k = by_told told ds (subst (λ (t : Option (List ℕ → Option (List ℕ))). IfSome t (λ all. TakesPlan all both.0 site (Err h))) same k)
+    where
+      by_told : (t : Option (List ℕ → Option (List ℕ))) → IfSome t (λ all. TakesTwice all definitions (Ok both)) → IfSome t (λ all. TakesPlan all both.0 site (Err h)) → IfSome t (λ all. TakesPair all definitions site below (Err h))
+      by_told None ds k = tt
+      by_told (Some all) ds k =
+          let k' = subst (λ (x : DefinitionsData × DefinitionsData). TakesPlan all x.0 site (Err h)) ds.1 k in
+          past (definitions_phase all definitions ∷ []) (site_phase all (definitions_asked all definitions) site ∷ site_phase all (definitions_asked all definitions) below ∷ []) h (none_alone (definitions_phase all definitions) ds.0)
+          (here (site_phase all (definitions_asked all definitions) site) (site_phase all (definitions_asked all definitions) below ∷ []) h k')
+
+  module _ (x : SiteData) (first : IfSome second (λ all. TakesPlan all both.0 site (Ok x))) where
+    pub second_fails : (h : Halt) → IfSome third (λ all. TakesPlan all both.1 below (Err h)) → IfSome told (λ all. TakesPair all definitions site below (Err h))
+    second_fails h k =
+        by_told told ds (subst (λ (t : Option (List ℕ → Option (List ℕ))). IfSome t (λ all. TakesPlan all both.0 site (Ok x))) same first)
+        (subst (λ (t : Option (List ℕ → Option (List ℕ))). IfSome t (λ all. TakesPlan all both.1 below (Err h))) (again ∙ same) k)
+      where
+        by_told : (t : Option (List ℕ → Option (List ℕ))) → IfSome t (λ all. TakesTwice all definitions (Ok both)) → IfSome t (λ all. TakesPlan all both.0 site (Ok x)) → IfSome t (λ all. TakesPlan all both.1 below (Err h))
+            → IfSome t (λ all. TakesPair all definitions site below (Err h))
+        by_told None ds f k = tt
+        by_told (Some all) ds f k =
+            let d = definitions_asked all definitions in
+            let f' = subst (λ (y : DefinitionsData × DefinitionsData). TakesPlan all y.0 site (Ok x)) ds.1 f in
+            let k' = subst (λ (y : DefinitionsData × DefinitionsData). TakesPlan all y.1 below (Err h)) ds.1 k in
+            past (definitions_phase all definitions ∷ site_phase all d site ∷ []) (site_phase all d below ∷ []) h (none_both (definitions_phase all definitions) (site_phase all d site) ds.0 f'.0)
+            (here (site_phase all d below) [] h k')
+
+    pub pair_taken : (y : SiteData) → IfSome third (λ all. TakesPlan all both.1 below (Ok y)) → IfSome told (λ all. TakesPair all definitions site below (Ok (x, y)))
+    pair_taken y k =
+        by_told told ds (subst (λ (t : Option (List ℕ → Option (List ℕ))). IfSome t (λ all. TakesPlan all both.0 site (Ok x))) same first)
+        (subst (λ (t : Option (List ℕ → Option (List ℕ))). IfSome t (λ all. TakesPlan all both.1 below (Ok y))) (again ∙ same) k)
+      where
+        by_told : (t : Option (List ℕ → Option (List ℕ))) → IfSome t (λ all. TakesTwice all definitions (Ok both)) → IfSome t (λ all. TakesPlan all both.0 site (Ok x)) → IfSome t (λ all. TakesPlan all both.1 below (Ok y))
+            → IfSome t (λ all. TakesPair all definitions site below (Ok (x, y)))
+        by_told None ds f k = tt
+        by_told (Some all) ds f k =
+            let d = definitions_asked all definitions in
+            let f' = subst (λ (z : DefinitionsData × DefinitionsData). TakesPlan all z.0 site (Ok x)) ds.1 f in
+            let k' = subst (λ (z : DefinitionsData × DefinitionsData). TakesPlan all z.1 below (Ok y)) ds.1 k in (
+              first_past (definitions_phase all definitions ∷ site_phase all d site ∷ []) (site_phase all d below ∷ []) (none_both (definitions_phase all definitions) (site_phase all d site) ds.0 f'.0)
+                  ∙ none_alone (site_phase all d below) k'.0,
+              ap₂ (λ (s t : SiteData). (s, t)) f'.1 k'.1,
+            )
+
+-- the definitions of a site are those over which it is read
+pub over_definitions : (d : DefinitionsData) (statements : List Statement) (site : SiteData) → site_of d statements ≡ Ok site → site.definitions ≡ d
+over_definitions d statements site e = (sites_are_of_their_statements d statements site e).definitions
 
 pub definitions_ok : (statements : List Statement) (d : DefinitionsData) → definitions_of statements ≡ Ok d → definitions_read statements ≡ Ok d
 unfolding definitions_read

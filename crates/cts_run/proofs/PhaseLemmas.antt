@@ -25,6 +25,8 @@ here p ps (halt.ShelfEmpty kind needed stocked) k = first_here p ps (halt.ShelfE
 here p ps (halt.HistoryFull entries bytes) k = first_here p ps (halt.HistoryFull entries bytes) k
 here p ps (halt.LogRefused place) k = first_here p ps (halt.LogRefused place) k
 here p ps (halt.UnknownName name) k = first_here p ps (halt.UnknownName name) k
+here p ps (halt.HubRefused cause) k = first_here p ps (halt.HubRefused cause) k
+here p ps halt.Misused k = first_here p ps halt.Misused k
 
 -- ---- phases in front of others
 
@@ -71,6 +73,8 @@ front ps qs (halt.ShelfEmpty kind needed stocked) k = first_front ps qs (halt.Sh
 front ps qs (halt.HistoryFull entries bytes) k = first_front ps qs (halt.HistoryFull entries bytes) k
 front ps qs (halt.LogRefused place) k = first_front ps qs (halt.LogRefused place) k
 front ps qs (halt.UnknownName name) k = first_front ps qs (halt.UnknownName name) k
+front ps qs (halt.HubRefused cause) k = first_front ps qs (halt.HubRefused cause) k
+front ps qs halt.Misused k = first_front ps qs halt.Misused k
 
 -- a command that halts after phases that have no reason to
 pub past : (ps qs : List Phase) (h : Halt) → first_halt ps ≡ None → HaltsIn qs h → HaltsIn (ps ++ qs) h
@@ -84,6 +88,8 @@ past ps qs (halt.ShelfEmpty kind needed stocked) e k = first_past ps qs e ∙ k
 past ps qs (halt.HistoryFull entries bytes) e k = first_past ps qs e ∙ k
 past ps qs (halt.LogRefused place) e k = first_past ps qs e ∙ k
 past ps qs (halt.UnknownName name) e k = first_past ps qs e ∙ k
+past ps qs (halt.HubRefused cause) e k = first_past ps qs e ∙ k
+past ps qs halt.Misused e k = first_past ps qs e ∙ k
 
 -- one phase that has none
 pub none_alone : (p : Phase) → p.halts ≡ None → first_halt (p ∷ []) ≡ None
@@ -105,6 +111,8 @@ halt_after (halt.ShelfEmpty kind needed stocked) files mid files' f k = (k.0 ∙
 halt_after (halt.HistoryFull entries bytes) files mid files' f k = (k.0 ∙ f.0, k.1 ∙ f.1)
 halt_after (halt.LogRefused place) files mid files' f k = (k.0 ∙ f.0, k.1 ∙ f.1)
 halt_after (halt.UnknownName name) files mid files' f k = (k.0 ∙ f.0, k.1 ∙ f.1)
+halt_after (halt.HubRefused cause) files mid files' f k = (k.0 ∙ f.0, k.1 ∙ f.1)
+halt_after halt.Misused files mid files' f k = (k.0 ∙ f.0, k.1 ∙ f.1)
 
 -- files that were found, and then the counts of what came after
 pub counts_after : {T : Type 0} (answer : Result T Halt) (files mid files' : FilesSeen) → IsFound files mid → FileCounts answer mid files' → FileCounts answer files files'
@@ -122,6 +130,8 @@ load_after (halt.ShelfEmpty kind needed stocked) files mid files' f k = (k.0 ∙
 load_after (halt.HistoryFull entries bytes) files mid files' f k = absurd k
 load_after (halt.LogRefused place) files mid files' f k = (k.0 ∙ f.0, k.1 ∙ f.1)
 load_after (halt.UnknownName name) files mid files' f k = (k.0 ∙ f.0, k.1 ∙ f.1)
+load_after (halt.HubRefused cause) files mid files' f k = absurd k
+load_after halt.Misused files mid files' f k = absurd k
 
 pub loads_after : {T : Type 0} (answer : Result T Halt) (files mid files' : FilesSeen) → IsFound files mid → LoadCounts answer mid files' → LoadCounts answer files files'
 loads_after (Ok x) files mid files' f k = (k.0 ∙ f.0, k.1 ∙ f.1)
@@ -139,6 +149,8 @@ load_counts (halt.ShelfEmpty kind needed stocked) files files' k = k
 load_counts (halt.HistoryFull entries bytes) files files' k = absurd k
 load_counts (halt.LogRefused place) files files' k = k
 load_counts (halt.UnknownName name) files files' k = k
+load_counts (halt.HubRefused cause) files files' k = absurd k
+load_counts halt.Misused files files' k = absurd k
 
 pub load_faults : (h : Halt) (files files' : FilesSeen) (out : SinkSeen) → LoadHalts h files files' → HaltFaults h out out
 load_faults halt.Memory files files' out k = refl
@@ -151,6 +163,8 @@ load_faults (halt.ShelfEmpty kind needed stocked) files files' out k = refl
 load_faults (halt.HistoryFull entries bytes) files files' out k = absurd k
 load_faults (halt.LogRefused place) files files' out k = refl
 load_faults (halt.UnknownName name) files files' out k = refl
+load_faults (halt.HubRefused cause) files files' out k = absurd k
+load_faults halt.Misused files files' out k = absurd k
 
 pub load_logs : (h : Halt) (files files' : FilesSeen) (vault : VaultSeen) → LoadHalts h files files' → HaltLogs h vault vault
 load_logs halt.Memory files files' vault k = refl
@@ -163,6 +177,8 @@ load_logs (halt.ShelfEmpty kind needed stocked) files files' vault k = refl
 load_logs (halt.HistoryFull entries bytes) files files' vault k = absurd k
 load_logs (halt.LogRefused place) files files' vault k = refl
 load_logs (halt.UnknownName name) files files' vault k = refl
+load_logs (halt.HubRefused cause) files files' vault k = absurd k
+load_logs halt.Misused files files' vault k = absurd k
 
 -- files that never fail and have every name
 pub sure_counts : (h : Halt) (told : Option (List ℕ → Option (List ℕ))) (files : FilesSeen) → LoadHalts h (record { told = told; faults = 0; absences = 0 }) (record { told = told; faults = 0; absences = 0 }) → HaltCounts h files files
@@ -176,6 +192,8 @@ sure_counts (halt.ShelfEmpty kind needed stocked) told files k = (refl, refl)
 sure_counts (halt.HistoryFull entries bytes) told files k = absurd k
 sure_counts (halt.LogRefused place) told files k = (refl, refl)
 sure_counts (halt.UnknownName name) told files k = (refl, refl)
+sure_counts (halt.HubRefused cause) told files k = absurd k
+sure_counts halt.Misused told files k = absurd k
 
 -- what is no fault of the outside leaves all counts
 pub load_stays : (h : Halt) (files mid : FilesSeen) → is_fault h ≡ false → IsFound files mid → LoadHalts h files mid
@@ -189,6 +207,8 @@ load_stays (halt.ShelfEmpty kind needed stocked) files mid f k = k
 load_stays (halt.HistoryFull entries bytes) files mid f k = absurd (cc f)
 load_stays (halt.LogRefused place) files mid f k = k
 load_stays (halt.UnknownName name) files mid f k = k
+load_stays (halt.HubRefused cause) files mid f k = absurd (cc f)
+load_stays halt.Misused files mid f k = absurd (cc f)
 
 pub faults_stay : (h : Halt) (out : SinkSeen) → is_fault h ≡ false → HaltFaults h out out
 faults_stay halt.Memory out f = refl
@@ -201,6 +221,8 @@ faults_stay (halt.ShelfEmpty kind needed stocked) out f = refl
 faults_stay (halt.HistoryFull entries bytes) out f = absurd (cc f)
 faults_stay (halt.LogRefused place) out f = refl
 faults_stay (halt.UnknownName name) out f = refl
+faults_stay (halt.HubRefused cause) out f = absurd (cc f)
+faults_stay halt.Misused out f = absurd (cc f)
 
 pub logs_stay : (h : Halt) (vault : VaultSeen) → is_fault h ≡ false → HaltLogs h vault vault
 logs_stay halt.Memory vault f = refl
@@ -213,3 +235,5 @@ logs_stay (halt.ShelfEmpty kind needed stocked) vault f = refl
 logs_stay (halt.HistoryFull entries bytes) vault f = absurd (cc f)
 logs_stay (halt.LogRefused place) vault f = refl
 logs_stay (halt.UnknownName name) vault f = refl
+logs_stay (halt.HubRefused cause) vault f = absurd (cc f)
+logs_stay halt.Misused vault f = absurd (cc f)

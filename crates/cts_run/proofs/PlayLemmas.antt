@@ -103,6 +103,8 @@ stops_on site events more (halt.Refused name kind line why) old new s = absurd s
 stops_on site events more (halt.ShelfEmpty kind needed stocked) old new s = absurd s
 stops_on site events more (halt.LogRefused place) old new s = absurd s
 stops_on site events more (halt.UnknownName name) old new s = absurd s
+stops_on site events more (halt.HubRefused cause) old new s = absurd s
+stops_on site events more halt.Misused old new s = absurd s
 
 -- there is a run, whatever comes
 some_run : (site : SiteData) (events : List Event) (over : Bool) (w : StoryData) (old new : Outside) (p : IsPlaying site events over w old new) (later : List Event)
@@ -228,10 +230,12 @@ halt_does site whole due events later (halt.Refused name kind line why) old new 
 halt_does site whole due events later (halt.ShelfEmpty kind needed stocked) old new s = absurd s
 halt_does site whole due events later (halt.LogRefused place) old new s = absurd s
 halt_does site whole due events later (halt.UnknownName name) old new s = absurd s
+halt_does site whole due events later (halt.HubRefused cause) old new s = absurd s
+halt_does site whole due events later halt.Misused old new s = absurd s
 
 -- ---- where no more events come
 
-record IsEnded (site : SiteData) (events : List Event) (s : State) (old new : Outside) : Type 0 where
+pub record IsEnded (site : SiteData) (events : List Event) (s : State) (old new : Outside) : Type 0 where
   pub dids : List Did
   pub ending : Ending
   pub runs : Runs (site_environment site) opening (events ++ []) dids ending
@@ -240,7 +244,7 @@ record IsEnded (site : SiteData) (events : List Event) (s : State) (old new : Ou
   pub due_is : (due : Result (Unit {0}) Halt) → play_answer due dids ending ≡ due
   pub last_is : (whole : Bool) → end_acts whole dids ending ≡ number_acts whole dids
 
-ended : (site : SiteData) (events : List Event) (over : Bool) (w : StoryData) (old new : Outside) (p : IsPlaying site events over w old new) → IsEnded site events p.state old new
+pub ended : (site : SiteData) (events : List Event) (over : Bool) (w : StoryData) (old new : Outside) (p : IsPlaying site events over w old new) → IsEnded site events p.state old new
 ended site events false w old new p = record {
   dids = p.prior ++ [];
   ending = Finished;

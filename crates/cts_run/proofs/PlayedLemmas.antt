@@ -52,7 +52,7 @@ texts_are site history (did ∷ dids) =
     flat_map-append put_by (puts (event_text site history did)) (text_acts site (history ++ did.entries) dids)
     ∙ ap₂ ◌++◌ (text_puts (event_text site history did)) (texts_are site (history ++ did.entries) dids)
 
-all_text : (site : SiteData) (whole : Bool) (dids : List Did) (ending : Ending) → text_of (play_acts site whole dids ending) ≡ transcript site [] dids ++ text_of (end_acts whole dids ending)
+pub all_text : (site : SiteData) (whole : Bool) (dids : List Did) (ending : Ending) → text_of (play_acts site whole dids ending) ≡ transcript site [] dids ++ text_of (end_acts whole dids ending)
 all_text site whole dids ending =
     flat_map-append put_by (text_acts site [] dids) (end_acts whole dids ending) ∙ ap (λ (t : List ℕ). t ++ text_of (end_acts whole dids ending)) (texts_are site [] dids)
 

@@ -21,7 +21,8 @@ use Rattle.cts_play.specs.Played.{play_interface, played}
 use Rattle.cts_proto.specs.Meaning.{Meaning}
 use Rattle.cts_run.specs.Acts.{Act, DoesAll, Outside}
 use Rattle.cts_run.specs.Causes.{chain_halt}
-use Rattle.cts_run.specs.Command.{CommandLeaves, IsDone, IsDueOf, IsReadFirst, Performs, PerformsOf, ShelfBy}
+use Rattle.cts_ident_laws.specs.Named.{HaveNames}
+use Rattle.cts_run.specs.Command.{CommandKeeps, CommandLeaves, IsDone, IsDueOf, IsReadFirst, Performs, PerformsOf, ShelfBy}
 use Rattle.cts_run.specs.Dump.{dump_answer}
 use Rattle.cts_run.specs.Extract.{columns_phase}
 use Rattle.cts_run.specs.Load.{bytes_of, site_asked, site_phases}
@@ -160,6 +161,8 @@ only_memory stock site (halt.ShelfEmpty kind needed stocked) e k = never_some (s
 only_memory stock site (halt.HistoryFull entries bytes) e k = never_some (shelf_phase stock site ∷ []) (halt.HistoryFull entries bytes) (world_made stock site e) k
 only_memory stock site (halt.LogRefused place) e k = never_some (shelf_phase stock site ∷ []) (halt.LogRefused place) (world_made stock site e) k
 only_memory stock site (halt.UnknownName name) e k = never_some (shelf_phase stock site ∷ []) (halt.UnknownName name) (world_made stock site e) k
+only_memory stock site (halt.HubRefused cause) e k = never_some (shelf_phase stock site ∷ []) (halt.HubRefused cause) (world_made stock site e) k
+only_memory stock site halt.Misused e k = never_some (shelf_phase stock site ∷ []) halt.Misused (world_made stock site e) k
 
 pub unmade_play : (stock : List Meaning) (first site on : SiteData) (layout : ℕ) (file : List ℕ) (h : Halt) (o : Outside) → first ≡ played 2 site → on ≡ played layout first → short_kind stock first ≡ None → HaltsIn (shelf_phase stock on ∷ []) h
     → PutsPlay site file (Err h) o o
@@ -301,3 +304,13 @@ module _ (stock : List Meaning) (definitions site log : List ℕ) where
   pub wants_leaves : (told : Option (List ℕ → Option (List ℕ))) → IfSome told (λ all. CommandLeaves all command (Err halt.Memory) stock stock)
   wants_leaves None = tt
   wants_leaves (Some all) = unbegun_by (played 2 (of all)) (play_phases stock all definitions site log) halt.Memory (first_halt (play_phases stock all definitions site log)) stock stock refl tt refl
+
+  -- the definitions of the site have such names
+  pub play_keeps : (told : Option (List ℕ → Option (List ℕ))) (x : SiteData × List ℕ) (answer : Result (Unit {0}) Halt) → IfSome told (λ all. TakesSite all definitions site (Ok x)) → HaveNames x.0.definitions → IfSome told (λ all. CommandKeeps all (Play definitions site log) answer)
+  play_keeps None x answer s names = tt
+  play_keeps (Some all) x (Ok done) s names = subst (λ (y : SiteData × List ℕ). HaveNames y.0.definitions) s.1 names
+  play_keeps (Some all) x (Err h) s names = tt
+
+  pub fails_keep : (told : Option (List ℕ → Option (List ℕ))) (h : Halt) → IfSome told (λ all. CommandKeeps all (Play definitions site log) (Err h))
+  fails_keep None h = tt
+  fails_keep (Some all) h = tt

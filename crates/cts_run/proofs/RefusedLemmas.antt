@@ -21,8 +21,9 @@ use Rattle.cts_run.specs.declared.halt.Halt.TheVariants as halt
 use Rattle.cts_run.specs.declared.halt.file_kind.FileKind.TheVariants.{Configuration}
 use Rattle.cts_run.specs.declared.halt.status.Status.{Status}
 use Rattle.cts_run.specs.declared.halt.status.Status.TheVariants as is
-use Rattle.cts_run.specs.declared.words.Command.TheVariants.{Check, Replay, Rehearse, Dump, Play, Extract}
+use Rattle.cts_run.specs.declared.words.Command.TheVariants.{Check, Replay, Rehearse, Dump, Play, Extract, Hub}
 use Rattle.cts_run.proofs.LawLemmas.{FileEnds, dumps_refused, file_ends, never_going, status_by}
+use Rattle.cts_run.proofs.HubLawLemmas.{hub_other}
 use Rattle.cts_run.proofs.PlayLawLemmas.{SamePlay, bad_of, bad_refused, play_bad, play_other, same_play}
 use Rattle.cts_run.proofs.StatusLemmas.{Has, IsOther, Other, has_status, log_is_other, name_is_other, of_check, of_file, of_phases, of_rehearsal, of_replay, of_script, other_or, status_alone}
 use Rattle.cts_run.proofs.TableLawLemmas.{SameAsked, are_taken, past_definitions, same_asked, table_bad, table_named, table_refused_so, table_unknown_so}
@@ -47,6 +48,7 @@ refused_exactly stock files (Some (Check definitions site)) o h = either (dumps_
 refused_exactly stock files (Some (Replay definitions site script)) o h = either (dumps_refused stock files (Some (Replay definitions site script)) o h) (neither (λ b. absurd (cc (b.asked_is))) (λ b. absurd (cc (b.asked_is))))
 refused_exactly stock files (Some (Rehearse n)) o h = either (dumps_refused stock files (Some (Rehearse n)) o h) (neither (λ b. absurd (cc (b.asked_is))) (λ b. absurd (cc (b.asked_is))))
 refused_exactly stock files (Some (Dump log)) o h = either (dumps_refused stock files (Some (Dump log)) o h) (neither (λ b. absurd (cc (b.asked_is))) (λ b. absurd (cc (b.asked_is))))
+refused_exactly stock files (Some (Hub definitions site script below tie)) o h = either (dumps_refused stock files (Some (Hub definitions site script below tie)) o h) (neither (λ b. absurd (cc (b.asked_is))) (λ b. absurd (cc (b.asked_is))))
 refused_exactly stock files (Some (Extract definitions log w)) o h = (
   λ e. inr (inl (refused_table (has_status is.LogRefused log_is_other h.acts h.due o h.outcome e))),
   λ b. by_bad b,
@@ -101,7 +103,7 @@ module _ (s : Status) (other : IsOther s) (shelf_other : is.ShelfEmpty ≢ s) wh
   no_shelf_short stock site None = tt
   no_shelf_short stock site (Some kind) = shelf_other
 
-  replay_other : (stock : List Meaning) (files : List ℕ → Option (List ℕ)) (definitions site script : List ℕ) (acts : List Act) (due : Result (Unit {0}) Halt)
+  pub replay_other : (stock : List Meaning) (files : List ℕ → Option (List ℕ)) (definitions site script : List ℕ) (acts : List Act) (due : Result (Unit {0}) Halt)
       → IsDueOf (phases stock files (Replay definitions site script)) (IsDone files (Replay definitions site script)) acts due → Has s other due → ⊥
   replay_other stock files definitions site script acts due m h =
       let y = site_asked files definitions site in
@@ -111,7 +113,7 @@ module _ (s : Status) (other : IsOther s) (shelf_other : is.ShelfEmpty ≢ s) wh
       (other_or s other (shelf_phase stock y).halts _ (no_shelf_short stock y (short_kind stock y)) (of_script s other files definitions site y script))))
       (λ d e. of_replay s other (digest_asked files definitions) y script (events_asked files y script) acts due d e) m h
 
-  rehearsal_other : (stock : List Meaning) (files : List ℕ → Option (List ℕ)) (n : ℕ) (acts : List Act) (due : Result (Unit {0}) Halt)
+  pub rehearsal_other : (stock : List Meaning) (files : List ℕ → Option (List ℕ)) (n : ℕ) (acts : List Act) (due : Result (Unit {0}) Halt)
       → IsDueOf (phases stock files (Rehearse n)) (IsDone files (Rehearse n)) acts due → Has s other due → ⊥
   rehearsal_other stock files n acts due m h =
       of_phases s other (first_halt (phases stock files (Rehearse n))) (IsDone files (Rehearse n) acts due) acts due
@@ -140,6 +142,10 @@ unknown_exactly stock files (Some (Dump log)) o h = (
 )
 unknown_exactly stock files (Some (Play definitions site log)) o h = (
   λ e. absurd (play_other is.UnknownName name_is_other (λ k. absurd (cc k)) (λ k. absurd (cc k)) stock files definitions site log h.acts h.due h.is (has_status is.UnknownName name_is_other h.acts h.due o h.outcome e)),
+  λ b. absurd (cc (b.asked_is)),
+)
+unknown_exactly stock files (Some (Hub definitions site script below tie)) o h = (
+  λ e. absurd (hub_other stock files definitions site script below tie is.UnknownName name_is_other (λ k. absurd (cc k)) (λ k. absurd (cc k)) (λ k. absurd (cc k)) h.acts h.due h.is (has_status is.UnknownName name_is_other h.acts h.due o h.outcome e)),
   λ b. absurd (cc (b.asked_is)),
 )
 unknown_exactly stock files (Some (Extract definitions log w)) o h = (

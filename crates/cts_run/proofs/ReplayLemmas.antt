@@ -174,6 +174,8 @@ halts site script events rest x w stopped acts p old mid new (halt.Absent name) 
 halts site script events rest x w stopped acts p old mid new (halt.ShelfEmpty kind needed stocked) m d = absurd d
 halts site script events rest x w stopped acts p old mid new (halt.LogRefused place) m d = absurd d
 halts site script events rest x w stopped acts p old mid new (halt.UnknownName name) m d = absurd d
+halts site script events rest x w stopped acts p old mid new (halt.HubRefused cause) m d = absurd d
+halts site script events rest x w stopped acts p old mid new halt.Misused m d = absurd d
 
 -- ---- all events were done
 

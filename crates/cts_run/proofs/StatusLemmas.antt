@@ -34,7 +34,6 @@ pub record IsOther (s : Status) : Type 0 where
   pub ok : is.Ok ≢ s
   pub memory : is.Memory ≢ s
   pub absent : is.Absent ≢ s
-  pub usage : is.Usage ≢ s
   pub config_refused : is.ConfigRefused ≢ s
   pub script_refused : is.ScriptRefused ≢ s
   pub history_full : is.HistoryFull ≢ s
@@ -44,7 +43,6 @@ shelf_is_other = record {
   ok = λ e. absurd (cc);
   memory = λ e. absurd (cc);
   absent = λ e. absurd (cc);
-  usage = λ e. absurd (cc);
   config_refused = λ e. absurd (cc);
   script_refused = λ e. absurd (cc);
   history_full = λ e. absurd (cc);
@@ -55,7 +53,6 @@ log_is_other = record {
   ok = λ e. absurd (cc);
   memory = λ e. absurd (cc);
   absent = λ e. absurd (cc);
-  usage = λ e. absurd (cc);
   config_refused = λ e. absurd (cc);
   script_refused = λ e. absurd (cc);
   history_full = λ e. absurd (cc);
@@ -66,7 +63,26 @@ name_is_other = record {
   ok = λ e. absurd (cc);
   memory = λ e. absurd (cc);
   absent = λ e. absurd (cc);
-  usage = λ e. absurd (cc);
+  config_refused = λ e. absurd (cc);
+  script_refused = λ e. absurd (cc);
+  history_full = λ e. absurd (cc);
+}
+
+pub hub_is_other : IsOther is.HubRefused
+hub_is_other = record {
+  ok = λ e. absurd (cc);
+  memory = λ e. absurd (cc);
+  absent = λ e. absurd (cc);
+  config_refused = λ e. absurd (cc);
+  script_refused = λ e. absurd (cc);
+  history_full = λ e. absurd (cc);
+}
+
+pub usage_is_other : IsOther is.Usage
+usage_is_other = record {
+  ok = λ e. absurd (cc);
+  memory = λ e. absurd (cc);
+  absent = λ e. absurd (cc);
   config_refused = λ e. absurd (cc);
   script_refused = λ e. absurd (cc);
   history_full = λ e. absurd (cc);
@@ -131,7 +147,7 @@ module _ (s : Status) (other : IsOther s) where
   status_alone acts (Ok done) = refl
   status_alone acts (Err h) = refl
 
-  of_run : (script : List ℕ) (events : List (ℕ × Event)) (dids : List Did) (ending : Ending) → Has (replay_answer script events dids ending) → ⊥
+  pub of_run : (script : List ℕ) (events : List (ℕ × Event)) (dids : List Did) (ending : Ending) → Has (replay_answer script events dids ending) → ⊥
   of_run script events dids Finished h = other.ok h
   of_run script events dids NotEnabled h = other.script_refused h
   of_run script events dids HistoryFull h = other.history_full h

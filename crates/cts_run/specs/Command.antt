@@ -5,11 +5,15 @@ use Rattle.cts_connection.specs.LineChains.{line_uses}
 use Rattle.cts_outside.specs.Causes.{Rose}
 use Rattle.cts_outside.specs.Seen.{FilesSeen, SinkSeen, VaultSeen}
 use Rattle.cts_def.specs.Sites.{SiteData}
+use Rattle.cts_entry.specs.declared.event.Event.{Event}
+use Rattle.cts_ident_laws.specs.Named.{HaveNames}
+use Rattle.cts_run.specs.declared.hub.ends.Ends.{Ends}
 use Rattle.cts_proto.specs.Meaning.{Meaning}
 use Rattle.cts_run.specs.Demo.{definitions_name, demo_files, demo_site, site_name}
 use Rattle.cts_run.specs.Dump.{AreDumped, IsFileDump, IsReadAfter}
 use Rattle.cts_run.specs.Endings.{halt_line, halt_status}
 use Rattle.cts_run.specs.Extract.{IsExtract, extract_phases}
+use Rattle.cts_run.specs.Hub.{HubKeeps, FillsAbove, IsHubOf, HubKeptOf, ends_of, hub_phases, joint, tied_phases}
 use Rattle.cts_run.specs.Acts.{Act, AreDone, DoesAll, EndsWith, LogFails, Outside, PutFails, puts}
 use Rattle.cts_run.specs.Lines.{log_fault_line, memory_line, read_fault_line, counts_line, usage_line}
 use Rattle.cts_run.specs.Load.{bytes_of, definitions_asked, digest_asked, events_asked, script_phase, site_asked, site_phases}
@@ -22,9 +26,9 @@ use Rattle.cts_run.specs.Start.{shelf_phase}
 use Rattle.cts_run.specs.declared.halt.Halt.{Halt}
 use Rattle.cts_run.specs.declared.halt.Halt.TheVariants as halt
 use Rattle.cts_run.specs.declared.halt.status.Status.{Status}
-use Rattle.cts_run.specs.declared.halt.status.Status.TheVariants.{Ok as Fine, Memory, Usage, ReadFault, Absent, WriteFault, LogFault}
+use Rattle.cts_run.specs.declared.halt.status.Status.TheVariants.{Ok as Fine, Memory, Usage, ReadFault, Absent, WriteFault, HistoryFull, LogFault}
 use Rattle.cts_run.specs.declared.words.Command.{Command}
-use Rattle.cts_run.specs.declared.words.Command.TheVariants.{Check, Replay, Rehearse, Dump, Play, Extract}
+use Rattle.cts_run.specs.declared.words.Command.TheVariants.{Check, Replay, Rehearse, Dump, Play, Extract, Hub}
 
 -- ---- the phases of each command, in order, and what is done where it halts at none of them
 
@@ -43,6 +47,7 @@ phases stock files (Rehearse number) = first_phases stock demo_files definitions
 phases stock files (Dump logs) = []
 phases stock files (Play definitions site log) = play_phases stock files definitions site log
 phases stock files (Extract definitions log wanted) = extract_phases files definitions log wanted
+phases stock files (Hub definitions site script below tie) = hub_phases stock files definitions site script below tie
 
 -- what a command does outside before its last line, and how it ends
 abbrev pub IsDone : (List ℕ → Option (List ℕ)) → Command → List Act → Result (Unit {0}) Halt → Type 0
@@ -54,6 +59,9 @@ IsDone files (Rehearse number) acts due = IsRehearsal demo_site number acts due
 IsDone files (Dump logs) acts due = AreDumped files [] logs acts due
 IsDone files (Play definitions site log) acts due = IsPlay (site_asked files definitions site) (bytes_of (files log)) acts due
 IsDone files (Extract definitions log wanted) acts due = IsExtract (definitions_asked files definitions) wanted (bytes_of (files log)) acts due
+IsDone files (Hub definitions site script below tie) acts due =
+    IsHubOf (site_asked files definitions site) (site_asked files definitions below) script (events_asked files (site_asked files definitions site) script)
+    (ends_of (site_asked files definitions site) (site_asked files definitions below) tie) acts due
 
 -- a file of this name is read at one of these phases, before anything is done
 abbrev pub IsReadFirst : List Phase → List Act → List ℕ → Type 0
@@ -149,11 +157,37 @@ DoesFor stock files asked o WriteFault old new = PutFails o.acts old new
 DoesFor stock files asked o LogFault old new = (mid : Outside) × LogFails o.acts old mid × EndsWith [] log_fault_line mid new
 DoesFor stock files asked o status old new = (o.status ≡ status) × EndsWith o.acts o.last old new
 
--- The command's outcome, and what was done for it.
+-- ---- what is kept besides
+
+-- Where all was done, the files are as the laws of playback and of hubs want them, so that what the outcome says of them needs no condition; and
+-- where a hub finds the history full, it is that of the world above.
+abbrev pub CommandKeeps : (List ℕ → Option (List ℕ)) → Command → Result (Unit {0}) Halt → Type 0
+CommandKeeps files (Play definitions site log) (Ok done) = HaveNames (site_asked files definitions site).definitions
+CommandKeeps files (Hub definitions site script below tie) answer =
+    HubKeptOf (site_asked files definitions site) (site_asked files definitions below) (events_asked files (site_asked files definitions site) script)
+    (ends_of (site_asked files definitions site) (site_asked files definitions below) tie) answer
+CommandKeeps files command answer = Unit {0}
+
+-- the same by the status
+abbrev pub HubKeepsBy : SiteData → SiteData → List (ℕ × Event) → Option Ends → Status → Type 0
+HubKeepsBy above below events None status = Unit {0}
+HubKeepsBy above below events (Some ends) Fine = HubKeeps above below ends events
+HubKeepsBy above below events (Some ends) HistoryFull = FillsAbove above events
+HubKeepsBy above below events (Some ends) status = Unit {0}
+
+abbrev pub Keeps : (List ℕ → Option (List ℕ)) → Option Command → Status → Type 0
+Keeps files (Some (Play definitions site log)) Fine = HaveNames (site_asked files definitions site).definitions
+Keeps files (Some (Hub definitions site script below tie)) status =
+    HubKeepsBy (site_asked files definitions site) (site_asked files definitions below) (events_asked files (site_asked files definitions site) script)
+    (ends_of (site_asked files definitions site) (site_asked files definitions below) tie) status
+Keeps files asked status = Unit {0}
+
+-- The command's outcome, what was done for it, and what is kept besides.
 pub record Answers (stock : List Meaning) (files : List ℕ → Option (List ℕ)) (asked : Option Command) (status : Status) (old new : Outside) : Type 0 where
   pub outcome : Outcome
   pub is : IsOutcome stock files asked outcome
   pub does : DoesFor stock files asked outcome status old new
+  pub keeps : Keeps files asked status
 
 -- The outcome's status was answered, or want of memory.
 pub record Completes (stock : List Meaning) (files : List ℕ → Option (List ℕ)) (asked : Option Command) (status : Status) : Type 0 where
@@ -200,7 +234,16 @@ abbrev pub LeavesShelf : (List ℕ → Option (List ℕ)) → List ℕ → List 
 LeavesShelf files definitions site answer old new = ShelfBy (site_asked files definitions site) (first_halt (first_phases old files definitions site))
     answer old new
 
--- only a replay, a rehearsal and a playback take boxes
+-- A hub takes the boxes of both worlds. Memory may run out when those of the world above are taken.
+abbrev pub HalfTaken : SiteData → Option Halt → Result (Unit {0}) Halt → List Meaning → List Meaning → Type 0
+HalfTaken above None (Err halt.Memory) old new = Taken old (line_uses above) new
+HalfTaken above first answer old new = ⊥
+
+abbrev pub HalfTakenAt : SiteData → Option Halt → Status → List Meaning → List Meaning → Type 0
+HalfTakenAt above None Memory old new = Taken old (line_uses above) new
+HalfTakenAt above first status old new = ⊥
+
+-- only a replay, a rehearsal, a playback and a hub take boxes
 abbrev pub CommandLeaves : (List ℕ → Option (List ℕ)) → Command → Result (Unit {0}) Halt → List Meaning → List Meaning → Type 0
 CommandLeaves files (Check definitions site) answer old new = new ≡ old
 CommandLeaves files (Replay definitions site script) answer old new = LeavesShelf files definitions site answer old new
@@ -209,6 +252,10 @@ CommandLeaves files (Dump logs) answer old new = new ≡ old
 CommandLeaves files (Play definitions site log) answer old new = ShelfBy (played 2 (site_asked files definitions site))
     (first_halt (play_phases old files definitions site log)) answer old new
 CommandLeaves files (Extract definitions log wanted) answer old new = new ≡ old
+CommandLeaves files (Hub definitions site script below tie) answer old new =
+    ShelfBy (joint (site_asked files definitions site) (site_asked files definitions below))
+    (first_halt (tied_phases old files definitions site below tie)) answer old new
+    ⊎ HalfTaken (site_asked files definitions site) (first_halt (tied_phases old files definitions site below tie)) answer old new
 
 abbrev pub ShelfAfter : (List ℕ → Option (List ℕ)) → Option Command → Status → List Meaning → List Meaning → Type 0
 ShelfAfter files (Some (Replay definitions site script)) status old new = ShelfAt (site_asked files definitions site)
@@ -217,6 +264,10 @@ ShelfAfter files (Some (Rehearse number)) status old new = ShelfAt demo_site (fi
     status old new
 ShelfAfter files (Some (Play definitions site log)) status old new = ShelfAt (played 2 (site_asked files definitions site))
     (first_halt (play_phases old files definitions site log)) status old new
+ShelfAfter files (Some (Hub definitions site script below tie)) status old new =
+    ShelfAt (joint (site_asked files definitions site) (site_asked files definitions below))
+    (first_halt (tied_phases old files definitions site below tie)) status old new
+    ⊎ HalfTakenAt (site_asked files definitions site) (first_halt (tied_phases old files definitions site below tie)) status old new
 ShelfAfter files asked status old new = new ≡ old
 
 -- a command makes a world
@@ -224,6 +275,7 @@ abbrev pub makes_world : Option Command → Bool
 makes_world (Some (Replay definitions site script)) = true
 makes_world (Some (Rehearse number)) = true
 makes_world (Some (Play definitions site log)) = true
+makes_world (Some (Hub definitions site script below tie)) = true
 makes_world asked = false
 
 -- a command keeps packet logs

@@ -2,11 +2,12 @@
 use Rattle.std.specs.Prelude.{◌≡◌, ℕ, Bool, true, false, List, [], ◌⊎◌, Result, Ok, Err}
 use Rattle.cts_outside.specs.Seen.{SinkSeen}
 use Rattle.cts_run.specs.Causes.{cause_text}
-use Rattle.cts_run.specs.Lines.{memory_line, read_fault_line, absent_line, log_fault_line, refused_line, shelf_line, full_line, log_line, unknown_line}
+use Rattle.cts_run.specs.Lines.{memory_line, read_fault_line, absent_line, log_fault_line, refused_line, shelf_line}
+use Rattle.cts_run.specs.Lines.{full_line, log_line, unknown_line, hub_line, usage_line}
 use Rattle.cts_run.specs.Putting.{Printed}
 use Rattle.cts_run.specs.declared.halt.Halt.{Halt}
 use Rattle.cts_run.specs.declared.halt.Halt.TheVariants.{Memory, ReadFault, Absent, WriteFault, Refused, ShelfEmpty, HistoryFull, LogFault}
-use Rattle.cts_run.specs.declared.halt.Halt.TheVariants.{LogRefused, UnknownName}
+use Rattle.cts_run.specs.declared.halt.Halt.TheVariants.{LogRefused, UnknownName, HubRefused, Misused}
 use Rattle.cts_run.specs.declared.halt.ending.LastLine.{LastLine}
 use Rattle.cts_run.specs.declared.halt.ending.LastLine.TheVariants.{Known, Made}
 use Rattle.cts_run.specs.declared.halt.file_kind.FileKind.{FileKind}
@@ -31,6 +32,8 @@ halt_status (HistoryFull entries bytes) = is.HistoryFull
 halt_status LogFault = is.LogFault
 halt_status (LogRefused place) = is.LogRefused
 halt_status (UnknownName name) = is.UnknownName
+halt_status (HubRefused cause) = is.HubRefused
+halt_status Misused = is.Usage
 
 -- the table of last lines; after a put that failed there is none
 abbrev pub halt_line : Halt → List ℕ
@@ -44,12 +47,16 @@ halt_line (HistoryFull entries bytes) = full_line entries bytes
 halt_line LogFault = log_fault_line
 halt_line (LogRefused place) = log_line place
 halt_line (UnknownName name) = unknown_line name
+halt_line (HubRefused cause) = hub_line cause
+halt_line Misused = usage_line
 
 -- the last line has to be made, so that want of memory may be told in its place
 abbrev pub takes_memory : Halt → Bool
 takes_memory Memory = false
 takes_memory WriteFault = false
 takes_memory LogFault = false
+takes_memory (HubRefused cause) = false
+takes_memory Misused = false
 takes_memory halt = true
 
 abbrev pub line_text : LastLine → List ℕ

@@ -24,15 +24,19 @@ use Rattle.cts_run.specs.Command.{Outcome, IsOutcome}
 use Rattle.cts_run.specs.Demo.{definitions_name, demo_files, site_name}
 use Rattle.cts_run.specs.Dump.{AreDumped, AreLines, head_after}
 use Rattle.cts_run.specs.Extract.{unknown_word}
+use Rattle.cts_run.specs.Hub.{ends_of, joint, pair_phases, tie_cause, tie_phases}
+use Rattle.cts_run.specs.Tie.{TieData}
+use Rattle.cts_run.specs.declared.halt.hub_cause.HubCause.{HubCause}
+use Rattle.cts_run.specs.declared.hub.ends.Ends.{Ends}
 use Rattle.cts_run.specs.Load.{bytes_of, definitions_asked, definitions_phase, site_asked, site_phases}
 use Rattle.cts_run.specs.Load.Files.{log_limit}
 use Rattle.cts_run.specs.Phases.{first_halt}
 use Rattle.cts_run.specs.Play.{IsPlayed}
 use Rattle.cts_run.specs.Start.{short_kind}
 use Rattle.cts_run.specs.declared.halt.Halt.{Halt}
-use Rattle.cts_run.specs.declared.halt.status.Status.TheVariants.{LogRefused, ShelfEmpty, UnknownName}
+use Rattle.cts_run.specs.declared.halt.status.Status.TheVariants.{HubRefused, LogRefused, ShelfEmpty, UnknownName, Usage}
 use Rattle.cts_run.specs.declared.words.Command.{Command}
-use Rattle.cts_run.specs.declared.words.Command.TheVariants.{Dump, Extract, Play, Rehearse, Replay}
+use Rattle.cts_run.specs.declared.words.Command.TheVariants.{Dump, Extract, Hub, Play, Rehearse, Replay}
 use Rattle.cts_run.specs.Wanted.{WantedData}
 
 -- a command has one outcome, for a shelf with these boxes and files with this content
@@ -54,11 +58,20 @@ pub record IsShortFor (stock : List Meaning) (files : List ℕ → Option (List 
 abbrev pub IsShortOf : List Meaning → (List ℕ → Option (List ℕ)) → List ℕ → List ℕ → Type 0
 IsShortOf stock files definitions site = IsShortFor stock files definitions site (site_asked files definitions site)
 
--- A replay of such a site is asked for; or a playback, and the site that plays logs is such; or a rehearsal, and the demo's site is such.
+-- Definitions and two sites are taken and tied, and their worlds together need more boxes of a kind than there are.
+pub record IsShortHub (stock : List Meaning) (files : List ℕ → Option (List ℕ)) (definitions site below : List ℕ) (tie : TieData) : Type 0 where
+  pub taken : first_halt (pair_phases files definitions site below) ≡ None
+  pub tied : first_halt (tie_phases (site_asked files definitions site) (site_asked files definitions below) tie) ≡ None
+  pub kind : Kind
+  pub short : short_kind stock (joint (site_asked files definitions site) (site_asked files definitions below)) ≡ Some kind
+
+-- A replay of such a site is asked for; or a hub of two such sites; or a playback, and the site that plays logs is such; or a rehearsal, and
+-- the demo's site is such.
 abbrev pub IsShort : List Meaning → (List ℕ → Option (List ℕ)) → Option Command → Type 0
 IsShort stock files (Some (Replay definitions site script)) = IsShortOf stock files definitions site
 IsShort stock files (Some (Rehearse number)) = IsShortOf stock demo_files definitions_name site_name
 IsShort stock files (Some (Play definitions site log)) = IsShortFor stock files definitions site (played 2 (site_asked files definitions site))
+IsShort stock files (Some (Hub definitions site script below tie)) = IsShortHub stock files definitions site below tie
 IsShort stock files asked = ⊥
 
 -- the outcome has the status of a shelf that is short exactly there
@@ -151,6 +164,40 @@ UnknownExactly = (stock : List Meaning) (files : List ℕ → Option (List ℕ))
 abbrev pub RefusedExactly : Type 0
 RefusedExactly = (stock : List Meaning) (files : List ℕ → Option (List ℕ)) (asked : Option Command) (o : Outcome) → IsOutcome stock files asked o
     → (o.status ≡ LogRefused) ↔ IsRefused stock files asked
+
+-- ---- a hub
+
+-- Definitions and two sites are taken, and one of the words names nothing in them, or is no size of pieces.
+pub record HasMisnamed (files : List ℕ → Option (List ℕ)) (definitions site below : List ℕ) (tie : TieData) : Type 0 where
+  pub taken : first_halt (pair_phases files definitions site below) ≡ None
+  pub none : ends_of (site_asked files definitions site) (site_asked files definitions below) tie ≡ None
+
+-- the words fit no command, or a hub with such words
+abbrev pub IsMisused : (List ℕ → Option (List ℕ)) → Option Command → Type 0
+IsMisused files None = Unit {0}
+IsMisused files (Some (Hub definitions site script below tie)) = HasMisnamed files definitions site below tie
+IsMisused files asked = ⊥
+
+-- Definitions and two sites are taken, and what the words name can't be tied.
+pub record HasUntied (files : List ℕ → Option (List ℕ)) (definitions site below : List ℕ) (tie : TieData) : Type 0 where
+  pub taken : first_halt (pair_phases files definitions site below) ≡ None
+  pub ends : Ends
+  pub named : ends_of (site_asked files definitions site) (site_asked files definitions below) tie ≡ Some ends
+  pub cause : HubCause
+  pub why : tie_cause (site_asked files definitions site) (site_asked files definitions below) ends ≡ Some cause
+
+abbrev pub IsUntied : (List ℕ → Option (List ℕ)) → Option Command → Type 0
+IsUntied files (Some (Hub definitions site script below tie)) = HasUntied files definitions site below tie
+IsUntied files asked = ⊥
+
+-- the outcome has the status of words that fit no command, and that of a hub that is refused, exactly there
+abbrev pub MisusedExactly : Type 0
+MisusedExactly = (stock : List Meaning) (files : List ℕ → Option (List ℕ)) (asked : Option Command) (o : Outcome) → IsOutcome stock files asked o
+    → (o.status ≡ Usage) ↔ IsMisused files asked
+
+abbrev pub UntiedExactly : Type 0
+UntiedExactly = (stock : List Meaning) (files : List ℕ → Option (List ℕ)) (asked : Option Command) (o : Outcome) → IsOutcome stock files asked o
+    → (o.status ≡ HubRefused) ↔ IsUntied files asked
 
 -- ---- the parts of a log
 

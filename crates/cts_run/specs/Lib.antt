@@ -1,4 +1,5 @@
 pub mod Wanted
+pub mod Tie
 pub mod Words
 pub mod Lines
 pub mod Statuses
@@ -17,8 +18,10 @@ pub mod Rehearsal
 pub mod Dump
 pub mod Play
 pub mod Extract
+pub mod Hub
 pub mod Command
 pub mod Extracting
 pub mod Playing
+pub mod Hubbing
 pub mod Laws
 pub mod Due

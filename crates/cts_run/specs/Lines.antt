@@ -5,9 +5,11 @@ use Rattle.cts_def.specs.declared.proto_spec.Kind.{Kind}
 use Rattle.cts_def.specs.declared.proto_spec.Kind.TheVariants as kind
 use Rattle.cts_def.specs.Packets.{items_in}
 use Rattle.cts_def.specs.Sites.{SiteData}
+use Rattle.cts_run.specs.declared.halt.hub_cause.HubCause.{HubCause}
+use Rattle.cts_run.specs.declared.halt.hub_cause.HubCause.TheVariants as hub
 
 abbrev pub usage_line : List ℕ
-usage_line = codes "usage: check DEFS SITE | replay DEFS SITE SCRIPT | rehearse N | dump LOG | serve DEFS SITE | play DEFS SITE LOG | extract DEFS LOG TARGET PACKET KIND ITEMS\n"
+usage_line = codes "usage: check DEFS SITE | replay DEFS SITE SCRIPT | rehearse N | dump LOG | serve DEFS SITE | play DEFS SITE LOG | extract DEFS LOG TARGET PACKET KIND ITEMS | hub DEFS SITE SCRIPT SITE2 WHO NAME CUT\n"
 
 abbrev pub memory_line : List ℕ
 memory_line = codes "out of memory\n"
@@ -47,6 +49,11 @@ log_line place = codes "log refused at " ++ decimal place ++ 10 ∷ []
 -- a word that names nothing that is defined
 abbrev pub unknown_line : List ℕ → List ℕ
 unknown_line name = codes "unknown: " ++ name ++ 10 ∷ []
+
+-- why a router can't be tied to an interface
+abbrev pub hub_line : HubCause → List ℕ
+hub_line hub.Chain = codes "hub refused: Chain\n"
+hub_line hub.Target = codes "hub refused: Target\n"
 
 -- how many entries the history has at the end
 abbrev pub end_line : ℕ → List ℕ

@@ -4,7 +4,7 @@ use Rattle.std.specs.Option.{option_or}
 use Rattle.cts_outside.specs.Causes.{Rose}
 use Rattle.cts_outside.specs.Seen.{FilesSeen}
 use Rattle.cts_run.specs.declared.halt.Halt.{Halt}
-use Rattle.cts_run.specs.declared.halt.Halt.TheVariants.{Memory, ReadFault, Absent, WriteFault, LogFault, HistoryFull}
+use Rattle.cts_run.specs.declared.halt.Halt.TheVariants.{Memory, ReadFault, Absent, WriteFault, LogFault, HistoryFull, HubRefused, Misused}
 
 -- A phase: the file that it reads, if it reads one, and why the command halts at it, if it does.
 pub record Phase : Type 0 where
@@ -60,13 +60,16 @@ abbrev pub Takes : {T : Type 0} → List Phase → T → Result T Halt → Type 
 Takes phases x (Ok y) = (first_halt phases ≡ None) × (y ≡ x)
 Takes phases x (Err halt) = HaltsIn phases halt
 
--- what only running meets: a fault of a file, of what is put or of a log, and a full history
+-- what neither a file that is there nor the shelf is a reason for: a fault of a file, of what is put or of a log, a full history, and what a
+-- hub is asked for
 abbrev pub is_fault : Halt → Bool
 is_fault (ReadFault name) = true
 is_fault (Absent name) = true
 is_fault WriteFault = true
 is_fault LogFault = true
 is_fault (HistoryFull entries bytes) = true
+is_fault (HubRefused cause) = true
+is_fault Misused = true
 is_fault halt = false
 
 -- These phases, in which no file is read, give a value of which this holds, or halt.
@@ -96,11 +99,13 @@ abbrev pub FileCounts : {T : Type 0} → Result T Halt → FilesSeen → FilesSe
 FileCounts (Ok x) old new = IsFound old new
 FileCounts (Err halt) old new = HaltCounts halt old new
 
--- the same where nothing is put, no log gets anything and there is no history
+-- the same where nothing is put, no log gets anything, there is no history and no hub is asked for
 abbrev pub LoadHalts : Halt → FilesSeen → FilesSeen → Type 0
 LoadHalts WriteFault old new = ⊥
 LoadHalts LogFault old new = ⊥
 LoadHalts (HistoryFull entries bytes) old new = ⊥
+LoadHalts (HubRefused cause) old new = ⊥
+LoadHalts Misused old new = ⊥
 LoadHalts halt old new = HaltCounts halt old new
 
 abbrev pub LoadCounts : {T : Type 0} → Result T Halt → FilesSeen → FilesSeen → Type 0

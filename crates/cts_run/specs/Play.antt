@@ -212,11 +212,11 @@ fault_over (fault.Full entries bytes) = Err (halt.HistoryFull entries bytes)
 fault_over fault.Memory = Err halt.Memory
 
 -- The events of one more entry came.
-pub record PlaysEntry (flagged : Bool) (e : Logged) (site : SiteData) (events : List Event) (answer : Result Bool Halt) (w : StoryData) (old new : Outside) : Type 0
-  where
-    pub own : List Event
-    pub own_are : ArePieces 0 65536 (entry_bytes flagged e) own
-    pub plays : Plays site (events ++ own) answer w old new
+pub record PlaysEntry (flagged : Bool) (e : Logged) (site : SiteData) (events : List Event) (answer : Result Bool Halt) (w : StoryData)
+    (old new : Outside) : Type 0 where
+  pub own : List Event
+  pub own_are : ArePieces 0 65536 (entry_bytes flagged e) own
+  pub plays : Plays site (events ++ own) answer w old new
 
 -- The clock was set, the peer has ended, and the number of entries was put.
 pub record PlaysEnd (site : SiteData) (events : List Event) (times : List Time) (answer : Result (Unit {0}) Halt) (old new : Outside) : Type 0 where

@@ -2,7 +2,8 @@
 use Rattle.std.specs.Prelude.{ℕ}
 use Rattle.cts_run.specs.declared.halt.status.Status.{Status}
 use Rattle.cts_run.specs.declared.halt.status.Status.TheVariants.{Ok as Fine, Memory, Usage, ReadFault, Absent, WriteFault, ConfigRefused, ShelfEmpty}
-use Rattle.cts_run.specs.declared.halt.status.Status.TheVariants.{ScriptRefused, HistoryFull, LogFault, LogRefused, NoWorker, DoorFault, UnknownName}
+use Rattle.cts_run.specs.declared.halt.status.Status.TheVariants.{ScriptRefused, HistoryFull, LogFault, LogRefused}
+use Rattle.cts_run.specs.declared.halt.status.Status.TheVariants.{NoWorker, DoorFault, UnknownName, HubRefused}
 
 abbrev pub exit_status : Status → ℕ
 exit_status Fine = 0
@@ -20,3 +21,4 @@ exit_status LogRefused = 10
 exit_status NoWorker = 11
 exit_status DoorFault = 12
 exit_status UnknownName = 14
+exit_status HubRefused = 15

@@ -4,7 +4,7 @@ use Rattle.std.specs.Prelude.{Option, Some, None, option_map, ℤ, pos, negsuc, 
 use Rattle.cts_base.specs.Wholes.{whole_of}
 use Rattle.std.specs.Cmp.Lexicographic.{pointwise}
 use Rattle.cts_run.specs.declared.words.Command.{Command}
-use Rattle.cts_run.specs.declared.words.Command.TheVariants.{Check, Replay, Rehearse, Dump, Play, Extract}
+use Rattle.cts_run.specs.declared.words.Command.TheVariants.{Check, Replay, Rehearse, Dump, Play, Extract, Hub}
 use Rattle.cts_extract.specs.Words.{kind_named}
 use Rattle.cts_run.specs.Wanted.{wanted_of}
 
@@ -33,6 +33,12 @@ extract_asked (definitions ∷ log ∷ target ∷ packet ∷ kind ∷ items ∷ 
     option_map (Extract definitions log) (wanted_of target packet items (kind_named kind))
 extract_asked words = None
 
+-- a hub, where the words are as many
+abbrev pub hub_asked : List (List ℕ) → Option Command
+hub_asked (definitions ∷ site ∷ script ∷ below ∷ who ∷ name ∷ cut ∷ []) =
+    Some (Hub definitions site script below (record { who = who; name = name; cut = cut }))
+hub_asked words = None
+
 -- the greatest number of files of a dump
 abbrev pub most_logs : ℕ
 most_logs = 64
@@ -59,4 +65,5 @@ abbrev pub asked : List (List ℕ) → Option Command
 asked [] = None
 asked (command ∷ words) =
     if is_word command (codes "dump") then dump_asked words
-    else if is_word command (codes "extract") then extract_asked words else asked_of command words
+    else if is_word command (codes "extract") then extract_asked words
+    else if is_word command (codes "hub") then hub_asked words else asked_of command words

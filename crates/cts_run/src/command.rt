@@ -1,7 +1,7 @@
 // The top call.
-ghost use Rattle.std.specs.Prelude.{◌≡◌, ◌↔◌, false, map, IfSome, None, Some};
+ghost use Rattle.std.specs.Prelude.{◌≡◌, false, map, IfSome, None, Some};
 ghost use Rattle.cts_run.specs.Acts.{outside};
-ghost use Rattle.cts_run.specs.Command.{Answers, CommandLeaves, Completes, IsCaused, Performs, ShelfAfter, keeps_logs, makes_world};
+ghost use Rattle.cts_run.specs.Command.{Answers, CommandKeeps, CommandLeaves, Completes, IsCaused, Performs, ShelfAfter, keeps_logs, makes_world};
 ghost use Rattle.cts_run.specs.Due.{AreDue, NoneRose};
 ghost use Rattle.cts_run.specs.Lines.{usage_line};
 ghost use Rattle.cts_run.specs.Phases.{FileCounts};
@@ -14,12 +14,14 @@ use crate::extract::extract;
 use crate::halt::Halt;
 use crate::halt::ending::{end, end_misused};
 use crate::halt::status::Status;
+use crate::hub::boxes::Counted;
+use crate::hub::hub;
+use crate::hub::sources::Sources;
 use crate::play::play;
 use crate::rehearse::rehearse;
 use crate::replay::replay;
 use crate::words::{Command, read_words};
 use cts_chain::Framer;
-use cts_connection::Supplier;
 use cts_outside::{Files, Sink, Vault};
 use std::alloc::Global;
 
@@ -31,11 +33,12 @@ use std::alloc::Global;
 /// `rehearse N` does the events that are made from a number from 1 to 1,000,000 in the world of the demo's site, and puts eight lines
 /// of what they were; `dump LOG LOG ..` puts the entries of 1 to 64 log files with one head, each before the next one is read;
 /// `extract DEFS LOG TARGET PACKET KIND ITEMS` puts columns of one; `play DEFS SITE LOG` brings the packets of one to an interface of the site
-/// that plays it. Other words are `Usage`. The boxes of the protocols of all chains of a
+/// that plays it; `hub DEFS SITE SCRIPT SITE2 WHO NAME CUT` brings what the slot WHO of SITE put on its last connection, in the events of a
+/// script, to the interface NAME of SITE2 in pieces of CUT bytes. Other words are `Usage`. The boxes of the protocols of all chains of a
 /// site whose world is made are taken from the shelf, before a script is read. The program's chains and shelf are `Chain` of `cts_chain`
 /// and `Shelf` of
 /// `cts_proto`; it is written over any, since a function that is lent boxes may not make a world of them.
-pub fn run<C: Framer, B: Supplier<C>, F: Files, O: Sink, V: Vault>(
+pub fn run<C: Framer, B: Counted<C>, F: Files, O: Sink, V: Vault>(
     alloc: Global,
     words: &[&str],
     shelf: &mut B,
@@ -43,8 +46,8 @@ pub fn run<C: Framer, B: Supplier<C>, F: Files, O: Sink, V: Vault>(
     out: &mut O,
     vault: &mut V,
 ) -> Status
-    // Exactly where the words fit no command.
-    ensures usage { result ≡ Status.Usage ↔ (asked (map (λ w. w.now) words.now) ≡ None) }
+    // Where the words fit no command.
+    ensures usage { asked (map (λ w. w.now) words.now) ≡ None → result ≡ Status.Usage }
     // A fault comes only where its count rose in this call, and all is done only where none did. No count falls.
     ensures causes { IsCaused result (F.seen files.old) (F.seen files.new) (O.seen out.old) (O.seen out.new) (V.seen vault.old) (V.seen vault.new) }
     // The files stay.
@@ -76,7 +79,7 @@ pub fn run<C: Framer, B: Supplier<C>, F: Files, O: Sink, V: Vault>(
 }
 
 // Does a command in its room, until all is done or it halts.
-fn perform<'a, C: Framer, B: Supplier<C>, F: Files, O: Sink, V: Vault>(
+fn perform<'a, C: Framer, B: Counted<C>, F: Files, O: Sink, V: Vault>(
     alloc: Global,
     command: &Command<'a>,
     shelf: &mut B,
@@ -93,6 +96,7 @@ fn perform<'a, C: Framer, B: Supplier<C>, F: Files, O: Sink, V: Vault>(
     ensures untouched { makes_world (Some command.now) ≡ false → B.stock shelf.new ≡ B.stock shelf.old }
     ensures idle { keeps_logs (Some command.now) ≡ false → V.seen vault.new ≡ V.seen vault.old }
     ensures boxes { IfSome (F.seen files.old).told (λ all. CommandLeaves all command.now result (B.stock shelf.old) (B.stock shelf.new)) }
+    ensures keeps { IfSome (F.seen files.old).told (λ all. CommandKeeps all command.now result) }
 {
     match command {
         Command::Check { definitions, site } => check(alloc, definitions, site, files, out),
@@ -113,5 +117,20 @@ fn perform<'a, C: Framer, B: Supplier<C>, F: Files, O: Sink, V: Vault>(
             log,
             wanted,
         } => extract(alloc, definitions, log, wanted, files, out),
+        Command::Hub {
+            definitions,
+            site,
+            script,
+            below,
+            tie,
+        } => {
+            let sources = Sources {
+                definitions,
+                site,
+                script,
+                below,
+            };
+            hub::<C, B, F, O>(alloc, &sources, tie, shelf, files, out)
+        }
     }
 }

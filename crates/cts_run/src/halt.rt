@@ -6,6 +6,7 @@ ghost use Rattle.cts_run.specs.declared.halt.Halt.TheVariants.{Memory as NoMemor
 pub mod cause;
 pub mod ending;
 pub mod file_kind;
+pub mod hub_cause;
 pub mod lines;
 pub mod status;
 
@@ -16,6 +17,7 @@ use cts_base::{Bytes, Memory};
 use cts_chain::ChainFault;
 use cts_def::Kind;
 use file_kind::FileKind;
+use hub_cause::HubCause;
 
 /// Why a command halts before all is done. A fault of a file carries the file's name.
 #[derive(Drop)]
@@ -60,6 +62,12 @@ pub enum Halt<'a> {
     UnknownName {
         name: Bytes,
     },
+    /// A router of the one site can't be tied to an interface of the other.
+    HubRefused {
+        cause: HubCause,
+    },
+    /// A word names nothing in the sites that were read, or is no size of pieces: the words fit no command after all.
+    Misused,
 }
 
 impl<'a> From<Memory> for Halt<'a> {

@@ -11,7 +11,7 @@ ghost use Rattle.cts_log.specs.declared.kind.LogKind.TheVariants.{Tlm};
 ghost use Rattle.cts_outside.specs.Seen.{VaultSeen};
 ghost use Rattle.cts_play.specs.Played.{played};
 ghost use Rattle.cts_run.specs.Acts.{Outside, outside};
-ghost use Rattle.cts_run.specs.Command.{CommandLeaves, Performs, ShelfBy};
+ghost use Rattle.cts_run.specs.Command.{CommandKeeps, CommandLeaves, Performs, ShelfBy};
 ghost use Rattle.cts_run.specs.Phases.{FileCounts};
 ghost use Rattle.cts_run.specs.Play.{IsPlaying, Plays, PlaysEnd, PlaysEntry, PlaysLog, fault_over, later_time, packets_halt, put_over};
 ghost use Rattle.cts_run.specs.Playing.{LeavesPlay, PerformsPlay, PutsPlay};
@@ -34,6 +34,7 @@ use cts_connection::Supplier;
 use cts_core::{World, WorldFault};
 use cts_def::{Site, Time};
 use cts_entry::{Event, Why};
+use cts_ident_laws::names_are_kept;
 use cts_log::{LogEntry, LogFault, LogKind, LogReader};
 use cts_outside::{Files, Sink};
 use cts_play::{play_events, play_site};
@@ -62,12 +63,16 @@ pub fn play<'a, C: Framer, B: Supplier<C>, F: Files, O: Sink>(
         (Play definitions.now site.now log.now) result (outside (O.seen out.old) vault) (outside (O.seen out.new) vault)) }
     ensures boxes { IfSome (F.seen files.old).told (λ all. CommandLeaves all (Play definitions.now site.now log.now) result
         (B.stock shelf.old) (B.stock shelf.new)) }
+    ensures keeps { IfSome (F.seen files.old).told (λ all. CommandKeeps all (Play definitions.now site.now log.now) result) }
 {
     match load_site(alloc, files, definitions, site) {
-        Ok((plan, _digest)) => match play_site(alloc, plan, 2) {
-            Ok(first) => play_on::<C, B, F, O>(alloc, first, log, shelf, files, out),
-            Err(Memory) => Err(Halt::Memory),
-        },
+        Ok((plan, _digest)) => {
+            names_are_kept(&plan.definitions);
+            match play_site(alloc, plan, 2) {
+                Ok(first) => play_on::<C, B, F, O>(alloc, first, log, shelf, files, out),
+                Err(Memory) => Err(Halt::Memory),
+            }
+        }
         Err(halt) => Err(halt),
     }
 }
@@ -287,8 +292,8 @@ fn play_entry<'a, C: Framer, O: Sink>(
     }
 }
 
-// Does events one after another, until the connection is over.
-fn do_events<'a, C: Framer, O: Sink>(
+/// Does events one after another, until the connection is over.
+pub(crate) fn do_events<'a, C: Framer, O: Sink>(
     alloc: Global,
     events: &[Event],
     story: &mut Story<C>,
@@ -313,8 +318,8 @@ fn do_events<'a, C: Framer, O: Sink>(
     Ok(over)
 }
 
-// Does an event that is made for this.
-fn do_made<'a, C: Framer, O: Sink>(
+/// Does an event that is made for this.
+pub(crate) fn do_made<'a, C: Framer, O: Sink>(
     alloc: Global,
     event: Event,
     over: bool,

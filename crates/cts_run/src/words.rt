@@ -2,10 +2,11 @@
 ghost use Rattle.std.specs.Prelude.{◌≡◌, map, option_map};
 ghost use Rattle.cts_extract.specs.Words.{kind_named};
 ghost use Rattle.cts_run.specs.Wanted.{wanted_of};
-ghost use Rattle.cts_run.specs.Words.{asked, asked_of, dump_asked, extract_asked, rehearsal_number, sited_asked};
+ghost use Rattle.cts_run.specs.Words.{asked, asked_of, dump_asked, extract_asked, hub_asked, rehearsal_number, sited_asked};
 ghost use Rattle.cts_run.specs.declared.words.Command.TheVariants.{Rehearse};
 
 use crate::file_name::{FileName, FileNames};
+use crate::tie::Tie;
 use crate::wanted::Wanted;
 use cts_base::read_whole;
 use cts_extract::{has_few_texts, kind_named};
@@ -44,6 +45,14 @@ pub enum Command<'a> {
         log: FileName<'a>,
         wanted: Wanted<'a>,
     },
+    /// Hands what a slot of the one site puts in the events of a script to an interface of the other site.
+    Hub {
+        definitions: FileName<'a>,
+        site: FileName<'a>,
+        script: FileName<'a>,
+        below: FileName<'a>,
+        tie: Tie<'a>,
+    },
 }
 
 // How many files a dump takes at most.
@@ -61,6 +70,9 @@ pub fn read_words<'a>(words: &'a [&'a str]) -> Option<Command<'a>>
     }
     if *command == "extract" {
         return read_extract(words);
+    }
+    if *command == "hub" {
+        return read_hub(words);
     }
     read_named(*command, words)
 }
@@ -115,6 +127,22 @@ fn read_extract<'a>(words: &[&'a str]) -> Option<Command<'a>>
             definitions: FileName::of(*definitions),
             log: FileName::of(*log),
             wanted: wanted_of(*target, *packet, *kind, *items)?,
+        }),
+        _ => None,
+    }
+}
+
+// A hub, where the words are as many.
+fn read_hub<'a>(words: &[&'a str]) -> Option<Command<'a>>
+    ensures { result ≡ hub_asked (map (λ w. w.now) words.now) }
+{
+    match words {
+        [definitions, site, script, below, who, name, cut] => Some(Command::Hub {
+            definitions: FileName::of(*definitions),
+            site: FileName::of(*site),
+            script: FileName::of(*script),
+            below: FileName::of(*below),
+            tie: Tie::of(*who, *name, *cut),
         }),
         _ => None,
     }

@@ -51,7 +51,7 @@ pub(crate) fn begin_logs<V: Vault>(
 }
 
 // One look, and the logs after it. Says why the scribe ends, if it does.
-fn attempt<R: Wait, V: Vault>(
+fn round<R: Wait, V: Vault>(
     rt: &R,
     alloc: Global,
     site: &Site,
@@ -124,7 +124,7 @@ pub(crate) fn follow<R: Wait, V: Vault>(
     ensures cause { CausesEnd (V.seen vault.old).faults (V.seen vault.new).faults result.1 }
 {
     'looks: for _ in rt.forever() {
-        let (next, end) = attempt(rt, alloc, site, by, turn, follower, heads, vault);
+        let (next, end) = round(rt, alloc, site, by, turn, follower, heads, vault);
         follower = next;
         if let Some(why) = end {
             return (follower, why);

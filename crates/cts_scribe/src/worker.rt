@@ -68,7 +68,7 @@ impl Scribe {
             progress: Progress::begin(),
             cycles: Cycles::begin(site),
         };
-        let (follower, why) = work(rt, alloc, site, by, turn, follower, digest, vault);
+        let (follower, why) = equip(rt, alloc, site, by, turn, follower, digest, vault);
         let Follower { pass, progress, .. } = follower;
         ScribeEnd {
             pass,
@@ -101,7 +101,7 @@ impl Scribe {
 }
 
 // Puts the heads, and follows the history.
-fn work<R: Wait, V: Vault>(
+fn equip<R: Wait, V: Vault>(
     rt: &R,
     alloc: Global,
     site: &Site,

@@ -17,4 +17,5 @@ pub use laws::{
     events_are_of_their_lines, first_line_is_refused, names_are_those_of_the_site,
     numbers_are_written_within_their_bounds,
 };
+pub use makers::{interface_named, slot_named};
 pub use reading::{read_events, read_script};

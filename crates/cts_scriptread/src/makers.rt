@@ -27,7 +27,7 @@ fn router_place(routers: &[Router], word: &[u8]) -> Option<usize>
 }
 
 /// The number of the interface of this name, in any case.
-pub(crate) fn interface_named(site: &Site, word: &[u8]) -> Option<u32>
+pub fn interface_named(site: &Site, word: &[u8]) -> Option<u32>
     ensures { result ≡ interface_named site.now word.now }
 {
     let place = interface_place(site.interfaces.as_slice(), word)?;
@@ -57,7 +57,7 @@ fn side_of(end: &[u8]) -> Option<u32>
 
 /// The number of the slot that a word names: a router's name in any case, and `/0` or `/1`.
 #[tactic(auto, unfolding(crate::specs::Makers::slot_named))]
-pub(crate) fn slot_named(site: &Site, word: &[u8]) -> Option<u32>
+pub fn slot_named(site: &Site, word: &[u8]) -> Option<u32>
     ensures { result ≡ slot_named site.now word.now }
 {
     let (name, end) = word.split_at(word.len().saturating_sub(2));

@@ -1,5 +1,5 @@
 -- A server up to the end of its workers: its phases, its counts and its shelf.
-use Rattle.std.proofs.Common.{◌≡◌, ℕ, zero, suc, false, List, [], ◌∷◌, take, Option, Some, None, IfSome, Result, Ok, Err, refl, sym, ◌∙◌, ap, subst, inl, inr}
+use Rattle.std.proofs.Common.{◌≡◌, ◌≢◌, ℕ, zero, suc, false, List, [], ◌∷◌, take, Option, Some, None, IfSome, Result, Ok, Err, refl, sym, ◌∙◌, ap, subst, inl, inr}
 use Rattle.std.specs.Prelude.{IfErr, IfOk, OnOk, OnErr}
 use Rattle.std.specs.List.{AllByRecursion}
 use Rattle.cts_chain.specs.Builds.{Taken}
@@ -22,6 +22,7 @@ use Rattle.cts_run.specs.declared.halt.Halt.{Halt}
 use Rattle.cts_run.specs.declared.halt.Halt.TheVariants as halt
 use Rattle.cts_run.specs.declared.halt.file_kind.FileKind.TheVariants.{Configuration, Script}
 use Rattle.cts_run.specs.declared.halt.status.Status.{Status}
+use Rattle.cts_run.specs.declared.halt.status.Status.TheVariants as is
 use Rattle.cts_run.proofs.CommandLemmas.{TakesSite, begun_shelf, made_shelf, no_vault, unmade_shelf}
 use Rattle.cts_run.proofs.PhaseLemmas.{first_past, front, load_stays, past}
 
@@ -84,6 +85,8 @@ module _ (stock : List Meaning) (definitions site : List ℕ) where
       early ps (halt.HistoryFull entries bytes) k = (k, refl)
       early ps (halt.LogRefused place) k = (k, refl)
       early ps (halt.UnknownName name) k = (k, refl)
+      early ps (halt.HubRefused cause) k = (k, refl)
+      early ps halt.Misused k = (k, refl)
 
 pub plan_counts : {T : Type 0} (result : Result T Halt) (ps : List Phase) (holds : T → Type 0) (files mid : FilesSeen) → Gives ps holds result
     → IsFound files mid → LoadCounts result files mid
@@ -120,6 +123,8 @@ work_counts (halt.ShelfEmpty kind needed stocked) old new files files' u f = f
 work_counts (halt.HistoryFull entries bytes) old new files files' u f = f
 work_counts (halt.LogRefused place) old new files files' u f = f
 work_counts (halt.UnknownName name) old new files files' u f = f
+work_counts (halt.HubRefused cause) old new files files' u f = f
+work_counts halt.Misused old new files files' u f = f
 
 pub halts_late : (ps : List Phase) (h : Halt) (old new : SinkSeen) → first_halt ps ≡ None → UnstartedBy [] h old new → UnstartedBy ps h old new
 halts_late ps halt.Memory old new e u = u
@@ -132,6 +137,8 @@ halts_late ps (halt.ShelfEmpty kind needed stocked) old new e u = none_some (hal
 halts_late ps (halt.HistoryFull entries bytes) old new e u = none_some (halt.HistoryFull entries bytes) u.0
 halts_late ps (halt.LogRefused place) old new e u = none_some (halt.LogRefused place) u.0
 halts_late ps (halt.UnknownName name) old new e u = none_some (halt.UnknownName name) u.0
+halts_late ps (halt.HubRefused cause) old new e u = none_some (halt.HubRefused cause) u.0
+halts_late ps halt.Misused old new e u = none_some halt.Misused u.0
 
 pub halts_late_told : (stock : List Meaning) (definitions site : List ℕ) (told : Option (List ℕ → Option (List ℕ))) (h : Halt) (old new : SinkSeen)
     → IfSome told (λ all. first_halt (first_phases stock all definitions site) ≡ None) → UnstartedBy [] h old new
@@ -172,6 +179,28 @@ load_unserved (halt.ShelfEmpty kind needed stocked) files files' k = refl
 load_unserved (halt.HistoryFull entries bytes) files files' k = absurd k
 load_unserved (halt.LogRefused place) files files' k = refl
 load_unserved (halt.UnknownName name) files files' k = refl
+load_unserved (halt.HubRefused cause) files files' k = absurd k
+load_unserved halt.Misused files files' k = absurd k
+
+-- nor that the words fit no command
+pub load_fits : (h : Halt) (files files' : FilesSeen) → LoadHalts h files files' → halt_status h ≢ is.Usage
+load_fits halt.Memory files files' k = λ e. absurd (cc e)
+load_fits (halt.ReadFault name) files files' k = λ e. absurd (cc e)
+load_fits (halt.Absent name) files files' k = λ e. absurd (cc e)
+load_fits halt.WriteFault files files' k = absurd k
+load_fits halt.LogFault files files' k = absurd k
+load_fits (halt.Refused name Configuration line cause) files files' k = λ e. absurd (cc e)
+load_fits (halt.Refused name Script line cause) files files' k = λ e. absurd (cc e)
+load_fits (halt.ShelfEmpty kind needed stocked) files files' k = λ e. absurd (cc e)
+load_fits (halt.HistoryFull entries bytes) files files' k = absurd k
+load_fits (halt.LogRefused place) files files' k = λ e. absurd (cc e)
+load_fits (halt.UnknownName name) files files' k = λ e. absurd (cc e)
+load_fits (halt.HubRefused cause) files files' k = absurd k
+load_fits halt.Misused files files' k = absurd k
+
+pub fitting_status : (h : Halt) (status : Status) (old new : SinkSeen) → halt_status h ≢ is.Usage → EndsHalted h status old new → status ≢ is.Usage
+fitting_status h status old new n (inl k) = λ e. n (sym k.0 ∙ e)
+fitting_status h status old new n (inr k) = λ e. absurd (cc (sym k.1 ∙ e))
 
 -- no vault failed
 pub unserved_logs : (h : Halt) → serves_on (halt_status h) ≡ false → HaltLogs h no_vault no_vault
@@ -185,6 +214,8 @@ unserved_logs (halt.ShelfEmpty kind needed stocked) e = refl
 unserved_logs (halt.HistoryFull entries bytes) e = refl
 unserved_logs (halt.LogRefused place) e = refl
 unserved_logs (halt.UnknownName name) e = refl
+unserved_logs (halt.HubRefused cause) e = refl
+unserved_logs halt.Misused e = refl
 
 pub unserved_status : (h : Halt) (status : Status) (old new : SinkSeen) → serves_on (halt_status h) ≡ false → EndsHalted h status old new
     → serves_on status ≡ false
@@ -238,6 +269,11 @@ module _ {T : Type 0} where
   site_unserved (Err unstarted.Memory) = refl
   site_unserved (Err unstarted.WriteFault) = refl
 
+  site_fits : (served : Result T NotStarted) → IfErr (answered served) (λ h. halt_status h ≢ is.Usage)
+  site_fits (Ok w) = tt
+  site_fits (Err unstarted.Memory) = λ e. absurd (cc e)
+  site_fits (Err unstarted.WriteFault) = λ e. absurd (cc e)
+
   site_ready : (served : Result T NotStarted) (old new : SinkSeen) → PutsReady old new served → OnOk (answered served) (IsPut ready_line old new)
   site_ready (Ok w) old new p = p
   site_ready (Err unstarted.Memory) old new p = tt
@@ -262,6 +298,9 @@ module _ {T : Type 0} where
 
     pub host_unserved : IfErr result (λ h. serves_on (halt_status h) ≡ false)
     host_unserved = subst (λ (r : Result T Halt). IfErr r (λ h. serves_on (halt_status h) ≡ false)) (sym same) (site_unserved served)
+
+    pub host_fits : IfErr result (λ h. halt_status h ≢ is.Usage)
+    host_fits = subst (λ (r : Result T Halt). IfErr r (λ h. halt_status h ≢ is.Usage)) (sym same) (site_fits served)
 
     pub host_ready : (old new : SinkSeen) → PutsReady old new served → OnOk result (IsPut ready_line old new)
     host_ready old new p = subst (λ (r : Result T Halt). OnOk r (IsPut ready_line old new)) (sym same) (site_ready served old new p)

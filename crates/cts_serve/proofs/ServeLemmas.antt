@@ -50,6 +50,8 @@ module _ (ps : List Phase) (status : Status) (old new : SinkSeen) (k : HaltsServ
   by_phase (halt.HistoryFull entries bytes) mid u (inl e) m r w = (halt.HistoryFull entries bytes, u.0, e.0)
   by_phase (halt.LogRefused place) mid u (inl e) m r w = (halt.LogRefused place, u.0, e.0)
   by_phase (halt.UnknownName name) mid u (inl e) m r w = (halt.UnknownName name, u.0, e.0)
+  by_phase (halt.HubRefused cause) mid u (inl e) m r w = (halt.HubRefused cause, u.0, e.0)
+  by_phase halt.Misused mid u (inl e) m r w = (halt.Misused, u.0, e.0)
 
   pub phase_status : status ≢ is.Memory → status ≢ is.ReadFault → status ≢ is.WriteFault → (f : Halt) × (first_halt ps ≡ Some f) × (status ≡ halt_status f)
   phase_status m r w = by_phase k.halt k.mid k.halts k.ends m r w
@@ -71,6 +73,8 @@ module _ (ps : List Phase) (status : Status) (old new : SinkSeen) (k : HaltsServ
   by_reason f (halt.HistoryFull entries bytes) mid e u (inl t) r = inl (t.0 ∙ same_status (halt.HistoryFull entries bytes) f u.0 e)
   by_reason f (halt.LogRefused place) mid e u (inl t) r = inl (t.0 ∙ same_status (halt.LogRefused place) f u.0 e)
   by_reason f (halt.UnknownName name) mid e u (inl t) r = inl (t.0 ∙ same_status (halt.UnknownName name) f u.0 e)
+  by_reason f (halt.HubRefused cause) mid e u (inl t) r = inl (t.0 ∙ same_status (halt.HubRefused cause) f u.0 e)
+  by_reason f halt.Misused mid e u (inl t) r = inl (t.0 ∙ same_status halt.Misused f u.0 e)
 
   pub reason_status : (f : Halt) → first_halt ps ≡ Some f → status ≢ is.ReadFault → (status ≡ halt_status f) ⊎ (status ≡ is.Memory)
   reason_status f e r = by_reason f k.halt k.mid e k.halts k.ends r
@@ -89,6 +93,8 @@ module _ (ps : List Phase) (status : Status) (old new : SinkSeen) (k : HaltsServ
   by_none (halt.HistoryFull entries bytes) mid e u (inl t) r w = never_some ps (halt.HistoryFull entries bytes) e u.0
   by_none (halt.LogRefused place) mid e u (inl t) r w = never_some ps (halt.LogRefused place) e u.0
   by_none (halt.UnknownName name) mid e u (inl t) r w = never_some ps (halt.UnknownName name) e u.0
+  by_none (halt.HubRefused cause) mid e u (inl t) r w = never_some ps (halt.HubRefused cause) e u.0
+  by_none halt.Misused mid e u (inl t) r w = never_some ps halt.Misused e u.0
 
   pub none_status : first_halt ps ≡ None → status ≢ is.ReadFault → status ≢ is.WriteFault → status ≡ is.Memory
   none_status e r w = by_none k.halt k.mid e k.halts k.ends r w
@@ -133,6 +139,7 @@ shelf_started site None is.LogRefused old new e k = k
 shelf_started site None is.NoWorker old new e k = k
 shelf_started site None is.DoorFault old new e k = k
 shelf_started site None is.UnknownName old new e k = k
+shelf_started site None is.HubRefused old new e k = k
 
 -- ---- it was started, and nothing failed
 

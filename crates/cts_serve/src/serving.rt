@@ -30,7 +30,7 @@ use cts_connection::Supplier;
 use cts_outside::{Clock, Crew, Dialer, Files, Gate, Sink, Vault};
 use cts_run::{Status, end, end_misused};
 use ended::Ended;
-use host::host;
+use host::{Means, host};
 use std::alloc::Global;
 use std::sync::Wait;
 use std::thread::Threads;
@@ -126,21 +126,15 @@ pub fn serve<
 {
     match read_serving(words) {
         Some((definitions, site)) => {
-            match host(
+            let means = Means {
                 rt,
                 alloc,
-                &definitions,
-                &site,
-                shelf,
-                files,
-                out,
-                lines,
-                doors,
-                vault,
+                definitions: &definitions,
+                site: &site,
                 clock,
-                crew,
                 gate,
-            ) {
+            };
+            match host(&means, shelf, files, out, lines, doors, vault, crew) {
                 Ok(worked) => finish(worked, out),
                 Err(halt) => Ended::unstarted(alloc, end(alloc, Err(halt), out)),
             }

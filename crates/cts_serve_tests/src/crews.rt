@@ -13,7 +13,7 @@ use std::thread::Threads;
 
 /// How often a worker that is held yields before it gives up: on threads so often that only a worker that does not run lets it give up, and where workers
 /// take turns, which makes all of it in vain, not often.
-const ON_THREADS: u64 = 10_000_000;
+pub const ON_THREADS: u64 = 10_000_000;
 
 const IN_TURN: u64 = 1_000;
 

@@ -35,10 +35,14 @@ pub fn failing(alloc: Global, words: &str, name: &str) -> Result<Vec<u64>, Fail>
     Ok(found)
 }
 
-/// One connection with these pieces; none where there are none.
-fn one_connection(alloc: Global, pieces: Vec<MemPiece>) -> Result<Vec<MemConnection>, Fail> {
+/// One connection with these pieces; none where there are none, unless it is one without pieces.
+fn one_connection(
+    alloc: Global,
+    pieces: Vec<MemPiece>,
+    bare: bool,
+) -> Result<Vec<MemConnection>, Fail> {
     let mut out = Vec::with_capacity(alloc, 1)?;
-    if !pieces.is_empty() {
+    if bare || !pieces.is_empty() {
         out.push_reserved(MemConnection { later: 0, pieces });
     }
     Ok(out)
@@ -51,11 +55,16 @@ fn piece(alloc: Global, word: &str) -> Result<MemPiece, Fail> {
     Ok(MemPiece::Bytes(Bytes::of(bytes_of(alloc, word)?)))
 }
 
+/// What stands for a connection without pieces.
+pub const BARE: &str = "=";
+
 /// The pieces of words of digits, in which a dash finds nothing.
 fn pieces_by_digits(alloc: Global, digits: &str) -> Result<Vec<MemPiece>, Fail> {
     let mut out = Vec::new(alloc);
     for word in digits.split_ascii_whitespace() {
-        out.push(piece(alloc, word)?)?;
+        if word != BARE {
+            out.push(piece(alloc, word)?)?;
+        }
     }
     Ok(out)
 }
@@ -70,7 +79,7 @@ fn pieces_by_calls(alloc: Global, calls: &str) -> Result<Vec<MemPiece>, Fail> {
     Ok(out)
 }
 
-/// What devices give: each interface's in digits, with a comma after each, and each slot's client; the bodies of the requests of the first desk's client,
+/// What devices give: each interface's in digits, with a comma after each, and each slot's client, `=` for one that gives nothing; the bodies of the requests of the first desk's client,
 /// each in a line; and which of their calls fail.
 #[derive(Clone, Copy)]
 pub struct Gives<'a> {
@@ -112,7 +121,8 @@ fn dialer_at(
     let kind = if serves { 'd' } else { 'l' };
     let name = format!(in alloc; "{kind}{place}")?;
     let failing = failing(alloc, gives.failing, &name)?;
-    let connections = one_connection(alloc, pieces_at(alloc, gives, serves, place)?)?;
+    let bare = serves && gives.slots.split(',').nth(place) == Some(BARE);
+    let connections = one_connection(alloc, pieces_at(alloc, gives, serves, place)?, bare)?;
     Ok(MemDialer::new(alloc, connections, failing))
 }
 

@@ -117,7 +117,7 @@ fn a_last_line_that_fails_leaves_the_status(rt: HostRuntime) -> Result<(), Fail>
     )
 }
 
-const STATUSES: [Status; 13] = [
+const STATUSES: [Status; 14] = [
     Status::Ok,
     Status::Memory,
     Status::Usage,
@@ -131,6 +131,7 @@ const STATUSES: [Status; 13] = [
     Status::LogFault,
     Status::LogRefused,
     Status::UnknownName,
+    Status::HubRefused,
 ];
 
 fn show_status(alloc: Global, out: &mut String, status: Status) -> Result<(), Fail> {
@@ -139,7 +140,7 @@ fn show_status(alloc: Global, out: &mut String, status: Status) -> Result<(), Fa
 }
 
 const CODES: &str =
-    "Ok 0;Memory 1;Usage 2;ReadFault 3;Absent 3;WriteFault 4;ConfigRefused 5;ShelfEmpty 6;ScriptRefused 7;HistoryFull 8;LogFault 9;LogRefused 10;UnknownName 14;";
+    "Ok 0;Memory 1;Usage 2;ReadFault 3;Absent 3;WriteFault 4;ConfigRefused 5;ShelfEmpty 6;ScriptRefused 7;HistoryFull 8;LogFault 9;LogRefused 10;UnknownName 14;HubRefused 15;";
 
 #[test]
 fn exit_statuses(rt: HostRuntime) -> Result<(), Fail> {

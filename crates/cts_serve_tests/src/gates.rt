@@ -1,7 +1,7 @@
 // Gates that hold workers until others have done something, and a vault that tells a gate of its first append.
 ghost use Rattle.std.specs.Prelude.{None};
 
-use cts_def::FIRST_DESK;
+use cts_def::{FIRST_DESK, FIRST_SLOT};
 use cts_outside::{Gate, GateStage, LogKind, MemVault, PutFailed, Vault};
 use std::sync::Wait;
 use std::sync::atomic::{AtomicBool, AtomicU64, Ordering};
@@ -120,6 +120,75 @@ impl<'a> Gate for UntilStarted<'a> {
         if stage == GateStage::Started {
             let _ = self.started.fetch_add(1, Ordering::SeqCst);
             self.hold();
+        }
+    }
+}
+
+/// A gate that holds the first interface once it has taken a piece, until the first slot has told of its connection, and that slot there until the
+/// interface has told of its own and of a packet.
+pub struct UntilRouted {
+    yields: u64,
+    opened: AtomicBool,
+    told: AtomicU64,
+    gave_up: AtomicBool,
+}
+
+impl Drop for UntilRouted {
+    fn drop(self) {
+        let Self {
+            yields: _,
+            opened: _,
+            told: _,
+            gave_up: _,
+        } = self;
+    }
+}
+
+impl UntilRouted {
+    /// One that yields so often at most before it gives up.
+    pub fn new(yields: u64) -> UntilRouted {
+        UntilRouted {
+            yields,
+            opened: AtomicBool::new(false),
+            told: AtomicU64::new(0),
+            gave_up: AtomicBool::new(false),
+        }
+    }
+
+    /// Whether it has given up.
+    pub fn gave_up(&self) -> bool {
+        self.gave_up.load(Ordering::SeqCst)
+    }
+
+    fn lets_on(&self, by: u32) -> bool {
+        if by == 0 {
+            return self.opened.load(Ordering::SeqCst);
+        }
+        self.told.load(Ordering::SeqCst) >= 2
+    }
+
+    fn hold(&self, by: u32) {
+        for _ in 0..self.yields {
+            if self.lets_on(by) {
+                return;
+            }
+            yield_now();
+        }
+        self.gave_up.store(true, Ordering::SeqCst);
+    }
+}
+
+impl Gate for UntilRouted {
+    fn pass<R: Wait>(&self, _rt: &R, by: u32, stage: GateStage) {
+        if by == 0 && stage == GateStage::Posted {
+            let _ = self.told.fetch_add(1, Ordering::SeqCst);
+        }
+        if by == 0 && stage == GateStage::Took {
+            self.hold(by);
+        }
+        if by == FIRST_SLOT && stage == GateStage::Posted {
+            self.opened.store(true, Ordering::SeqCst);
+            self.hold(by);
         }
     }
 }

@@ -29,6 +29,8 @@ mod faults;
 #[cfg(test)]
 mod gates;
 #[cfg(test)]
+mod hubs;
+#[cfg(test)]
 mod instrument;
 #[cfg(test)]
 mod laid_out;
@@ -62,3 +64,5 @@ mod statuses;
 mod table;
 #[cfg(test)]
 mod told;
+#[cfg(test)]
+mod two_servers;

@@ -51,7 +51,7 @@ pub fn stocked(alloc: Global) -> Result<Shelf, Fail> {
 const SHORT: &str = "\
 a replay that needs a box which is not there|replay d s c||INTERFACE I tcpip_client_interface.rb h 1 1 nil nil LENGTH 0 16 0 1|OPEN I|ShelfEmpty shelf empty: LENGTH needed 1 stocked 0;
 a check takes none|check d s||INTERFACE I tcpip_client_interface.rb h 1 1 nil nil LENGTH 0 16 0 1||Ok telemetry 0 commands 0 items 0 interfaces 1 routers 0;
-words come first|replay d s|||x|Usage usage: check DEFS SITE | replay DEFS SITE SCRIPT | rehearse N | dump LOG | serve DEFS SITE | play DEFS SITE LOG | extract DEFS LOG TARGET PACKET KIND ITEMS;
+words come first|replay d s|||x|Usage usage: check DEFS SITE | replay DEFS SITE SCRIPT | rehearse N | dump LOG | serve DEFS SITE | play DEFS SITE LOG | extract DEFS LOG TARGET PACKET KIND ITEMS | hub DEFS SITE SCRIPT SITE2 WHO NAME CUT;
 definitions come first|replay d s c|x|INTERFACE I tcpip_client_interface.rb h 1 1 nil nil LENGTH 0 16 0 1|-|ConfigRefused refused: d line 1: UnknownKeyword;
 the site comes first|replay d s c||INTERFACE I tcpip_client_interface.rb h 1 1 nil nil LENGTH 0 16 0 1;x|-|ConfigRefused refused: s line 2: UnknownKeyword;
 both slots of a router count, and the first kind is told|replay d s c||INTERFACE I tcpip_client_interface.rb h 1 1 nil nil LENGTH 0 16 0 1;ROUTER R tcpip_server_interface.rb 2 2 nil nil BURST|-|ShelfEmpty shelf empty: BURST needed 2 stocked 1;

@@ -159,7 +159,7 @@ fn the_demo_is_served(rt: HostRuntime) -> Result<(), Fail> {
 /// The words, the calls that fail, and how the server ends. Calls are `f` of the files, `o` of the output, `v` of the vault, `c` of the crew, `l0` of the first
 /// dialer and `d0` of the first door, each with its number; where the shelf is to be so, `empty`.
 const STATUSES: &str = "\
-serve d||Usage usage: check DEFS SITE | replay DEFS SITE SCRIPT | rehearse N | dump LOG | serve DEFS SITE | play DEFS SITE LOG | extract DEFS LOG TARGET PACKET KIND ITEMS; [] None 0/0 0/0 idle
+serve d||Usage usage: check DEFS SITE | replay DEFS SITE SCRIPT | rehearse N | dump LOG | serve DEFS SITE | play DEFS SITE LOG | extract DEFS LOG TARGET PACKET KIND ITEMS | hub DEFS SITE SCRIPT SITE2 WHO NAME CUT; [] None 0/0 0/0 idle
 serve x s||Absent absent: x; [] None 0/0 0/0 idle
 serve d x||Absent absent: x; [] None 0/0 0/0 idle
 serve s s||ConfigRefused refused: s line 1: UnknownKeyword; [] None 0/0 0/0 idle

@@ -21,6 +21,7 @@ use Rattle.cts_entry.proofs.Appending.{stopped-append}
 use Rattle.cts_framing.specs.Packets.{fault_of}
 use Rattle.cts_http.specs.Requests.{Closed as LastClosed, Waiting, Refused as RefusedWith}
 use Rattle.cts_line.specs.Talks.{room_of}
+use Rattle.cts_line.proofs.Rows.{told_of_rows}
 use Rattle.cts_line.specs.Telling.{made_by, since}
 use Rattle.cts_line.specs.declared.ending.LineWhy.{LineWhy}
 use Rattle.cts_outside.specs.Lines.{Connection, Line, aimed, hung_up, told_after}
@@ -191,7 +192,7 @@ line_runs_out seen site history calm by aim before now why (found, connections, 
     let b = server_basis site in
     let told : ToldBy (site_routing site) (room_of b) by found history (since (made_by (aimed_at aim (seen before)).told) (seen now).told) =
     elim owes [
-      | inl r ↦ r.told
+      | inl r ↦ told_of_rows (site_routing site) (room_of b) by found history _ r.told
       | inr u ↦ (let stop : is_stopped history ≡ true = u.unstarted.stopped in let f : true ≡ false = sym stop ∙ calm in absurd cc)
     ] in (
       found,

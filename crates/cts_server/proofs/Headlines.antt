@@ -17,9 +17,11 @@ use Rattle.cts_framing.specs.Laws.{AllSound}
 use Rattle.cts_framing.specs.Packets.{capped}
 use Rattle.cts_framing.proofs.Stagings.{however_cut}
 use Rattle.cts_framing.proofs.Sound.{chains_are_sound}
+use Rattle.cts_line.specs.Rows.{InRows, LookedInRows, ToldInRows}
 use Rattle.cts_line.specs.Talks.{room_of}
 use Rattle.cts_line.specs.Telling.{SomeLine, made_by, since}
 use Rattle.cts_line.specs.declared.ending.LineWhy.{LineWhy}
+use Rattle.cts_line.proofs.Rows.{said_of_rows}
 use Rattle.cts_monitor.specs.Events.{events, events_at}
 use Rattle.cts_monitor.specs.Gathered.{gathered_from}
 use Rattle.cts_monitor.proofs.Placed.{at_place, events_here, gathered_join}
@@ -32,9 +34,7 @@ use Rattle.cts_scribe.specs.Laws.{IsAfterStop}
 use Rattle.cts_scribe.specs.Vaults.{AreBlank}
 use Rattle.cts_table.specs.declared.basis.Basis.{Basis}
 use Rattle.cts_trace.specs.Connections.{Fed, Left, Stay}
-use Rattle.cts_trace.specs.Lines.{Looked}
 use Rattle.cts_trace.specs.Routing.{Routing, spell}
-use Rattle.cts_trace.specs.Told.{ToldBy}
 use Rattle.cts_trace_laws.specs.Stretches.{PutsStretch, sent}
 use Rattle.cts_trace_laws.proofs.Stretching.{interfaces_are_sent_commands, lines_put_stretches, slots_are_sent_routed}
 use Rattle.cts_server.specs.Aims.{aimed_at, desk_aims, line_aims, slot_aims}
@@ -72,8 +72,9 @@ none_left g m why fed posted left plain (inr (earlier, last, cuts, given, more, 
 ]
 
 module _ (g : Routing) (m : ℕ) (sound : AllSound (g.chain m)) where
-  stay_holds : (before : List Entry) (c : Connection) (entries : List Entry) → Stay g m before c.pieces c.put entries → HoldsPackets g m before c entries
-  stay_holds before c entries s = record {
+  stay_holds : (before : List Entry) (c : Connection) (entries : List Entry) (s : Stay g m before c.pieces c.put entries)
+      → InRows g m s.fed s.carries.posted (before ++ s.opened ∷ []) s.between → HoldsPackets g m before c entries
+  stay_holds before c entries s rows = record {
     opened = s.opened;
     between = s.between;
     closed = s.closed;
@@ -87,6 +88,7 @@ module _ (g : Routing) (m : ℕ) (sound : AllSound (g.chain m)) where
     opens = s.opens;
     given = s.carries.packets;
     each = s.carries.posts;
+    rows = rows;
     closes = s.closes;
     whole = λ plain. (fed_whole s.why c.pieces s.fed plain s.fed_is, none_left g m s.why s.fed s.carries.posted s.left plain s.left_is);
     however = λ bytes others ducts more same is.
@@ -103,19 +105,20 @@ module _ (g : Routing) (m : ℕ) (sound : AllSound (g.chain m)) where
       tail_is = p.tail_is;
     }
 
-    line_said : (room : Capacity) (found : List ℕ) (line : Line) → ToldBy g room m found history (Some line) → HoldsLine g m stream history line
+    line_said : (room : Capacity) (found : List ℕ) (line : Line) → ToldInRows g room m found history (Some line) → HoldsLine g m stream history line
     line_said room found line (said, last, none, past, are, unopened) = record {
       said = said;
       last = last;
       past_is = past;
-      packets = stays_map m (Looked g room m found) (HoldsPackets g m) (λ before c entries l. stay_holds before c entries l.stay) [] said history are;
+      packets = stays_map m (LookedInRows g room m found) (HoldsPackets g m) (λ before c entries l. stay_holds before c entries l.1.stay l.1.rows) []
+          said history are;
       puts = stays_map m (PutsStretch g m history) (PutsPart g m stream) puts_part [] said history
-          (lines_put_stretches g room m found said history are);
+          (lines_put_stretches g room m found said history (said_of_rows g room m found said history are));
       unopened = unopened;
     }
 
-    line_told : (room : Capacity) (found : List ℕ) (told : Option Line) → ToldBy g room m found history told
-        → SomeLine (λ (o : Option Line). ToldBy g room m found history o) → OfToldOrSome told (λ (line : Line). HoldsLine g m stream history line)
+    line_told : (room : Capacity) (found : List ℕ) (told : Option Line) → ToldInRows g room m found history told
+        → SomeLine (λ (o : Option Line). ToldInRows g room m found history o) → OfToldOrSome told (λ (line : Line). HoldsLine g m stream history line)
     line_told room found None t some = (some.0, line_said room found some.0 some.1)
     line_told room found (Some line) t some = line_said room found line t
 

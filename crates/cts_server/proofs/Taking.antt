@@ -112,20 +112,22 @@ rest_is n all cs ds c is cut = ap (drop 1) (sym cut ∙ is) ∙ drop-drop 1 n al
 
 -- a dialer that was aimed shows nothing else
 pub aim_shows : (aim : Aim) (before now : LineSeen) → now.told ≡ told_after (aimed aim) before.told → now.linked ≡ before.linked
-    → now.faults ≡ before.faults → now.failed_dials ≡ before.failed_dials → now ≡ aimed_at aim before
-aim_shows aim before now told linked faults dials =
+    → now.finished ≡ before.finished → now.faults ≡ before.faults → now.failed_dials ≡ before.failed_dials → now ≡ aimed_at aim before
+aim_shows aim before now told linked finished faults dials =
     ap (λ (t : Option Line). record now { told = t }) told
-    ∙ ap (λ (b : Bool). record { told = told_after (aimed aim) before.told; linked = b; faults = now.faults; failed_dials = now.failed_dials }) linked
-    ∙ ap (λ (n : ℕ). record { told = told_after (aimed aim) before.told; linked = before.linked; faults = n; failed_dials = now.failed_dials }) faults
-    ∙ ap (λ (n : ℕ). record { told = told_after (aimed aim) before.told; linked = before.linked; faults = before.faults; failed_dials = n }) dials
+    ∙ ap (λ (b : Bool). record now { told = told_after (aimed aim) before.told; linked = b }) linked
+    ∙ ap (λ (b : Bool). record now { told = told_after (aimed aim) before.told; linked = before.linked; finished = b }) finished
+    ∙ ap (λ (n : ℕ). record before { told = told_after (aimed aim) before.told; faults = n; failed_dials = now.failed_dials }) faults
+    ∙ ap (λ (n : ℕ). record before { told = told_after (aimed aim) before.told; failed_dials = n }) dials
 
 pub line_ready : (site : SiteData) (by : ℕ) (aim : Aim) (before now : LineSeen) (chain : ChainData) → FitsLine site by chain → now
     ≡ aimed_at aim before → ReadyLine site by aim before now chain
 line_ready site by aim before now chain fit is = record { aimed = is; can = record { same = refl; line = fit.0; fresh = fit.1 } }
 
 pub desk_ready : (site : SiteData) (by : ℕ) (aim : Aim) (before now : LineSeen) → is_desk site by ≡ true → now.told ≡ told_after (aimed aim) before.told
-    → now.linked ≡ before.linked → now.faults ≡ before.faults → now.failed_dials ≡ before.failed_dials → ReadyDesk site by aim before now
-desk_ready site by aim before now is told linked faults dials = record { aimed = aim_shows aim before now told linked faults dials; can = is }
+    → now.linked ≡ before.linked → now.finished ≡ before.finished → now.faults ≡ before.faults → now.failed_dials ≡ before.failed_dials
+    → ReadyDesk site by aim before now
+desk_ready site by aim before now is told linked finished faults dials = record { aimed = aim_shows aim before now told linked finished faults dials; can = is }
 
 pub door_more : {A X : Type 0} (Fits : ℕ → Option X → Type 0) (by place : ℕ) (left rest : List A) (new newer : List (Option X)) (a : A) (x : X)
     → AreFit Fits by left (drop place new) → left ≡ a ∷ rest → drop place new ≡ Some x ∷ drop (place + 1) new → drop (place + 1) newer ≡ drop (place + 1) new

@@ -11,7 +11,7 @@ use Rattle.cts_server.specs.declared.serving.Begun.{Begun}
 
 -- The turn stands over the site, which is sound, with a server's limits, and its one pass has all makers and has seen nothing; the aims are
 -- the site's; and there is room for what each line and each desk leaves.
-pub record IsBegun (site : SiteData) (begun : Begun) : Type 0 where
+pub record IsBegun {C : Type 0} (site : SiteData) (begun : Begun C) : Type 0 where
   pub pass : IsPassOf begun.turn begun.pass
   pub makers : (view begun.pass).makers ≡ makers_from 0
   pub seen : (view begun.pass).seen ≡ []

@@ -12,6 +12,7 @@ use Rattle.cts_framing.specs.Cuts.{Pieces}
 use Rattle.cts_framing.specs.Framing.{Output}
 use Rattle.cts_framing.specs.Laws.{CutsBytes}
 use Rattle.cts_framing.specs.Packets.{IsPackets, capped, joined, loss_of}
+use Rattle.cts_line.specs.Rows.{InRows}
 use Rattle.cts_line.specs.Telling.{made_by, since}
 use Rattle.cts_line.specs.declared.ending.LineWhy.{LineWhy}
 use Rattle.cts_monitor.specs.Events.{events, events_at}
@@ -50,8 +51,8 @@ WantsNothing why = (why ≢ Full) × (why ≢ NoMemory)
 module _ (g : Routing) (m : ℕ) where
   -- The entries are those of a connection, from its Opened to its Closed. Between them its maker has exactly the packets that its chain
   -- gives for the pieces that were taken, each once and in order, however their bytes were cut, unless the first protocol follows the
-  -- pieces. The Closed counts, stage by stage, the bytes that are in no finished frame. Where memory or room wanted, the last packets may
-  -- be missing, and it counts them.
+  -- pieces; those of one piece stand side by side. The Closed counts, stage by stage, the bytes that are in no finished frame. Where memory
+  -- or room wanted, the last packets may be missing, and it counts them.
   pub record HoldsPackets (before : List Entry) (c : Connection) (entries : List Entry) : Type 0 where
     pub opened : Entry
     pub between : List Entry
@@ -66,6 +67,7 @@ module _ (g : Routing) (m : ℕ) where
     pub opens : Says m opened Opened
     pub given : IsPackets (g.chain m) fed cuts (packets ++ missing)
     pub each : Posts m (Shows g m) (before ++ opened ∷ []) between packets
+    pub rows : InRows g m fed packets (before ++ opened ∷ []) between
     pub closes : Says m closed (Closed why (loss_of cuts) (capped (length missing)) unsent)
     pub whole : WantsNothing why → (fed ≡ c.pieces) × (missing ≡ [])
     pub however : CutsBytes (g.chain m) → (others : List (List ℕ)) (ducts : List Pieces) (more : List Output) → joined fed ≡ joined others
@@ -125,10 +127,10 @@ module _ {X : Type 0} (seen : X → LineSeen) (site : SiteData) (history : List 
 -- ---- all of it
 
 -- The history is legal, and has one Ended of each worker. Of each interface it has exactly the packets that the definition gives for the
--- bytes of each connection, each once and in order, and the device was given the commands to it; of each slot of a router the same, and
--- its client was given what is routed to it; each reply of a desk is the definition's at a point of it; the logs of a drained scribe are
--- those of it, and what a stop leaves of a log is read as the entries of a beginning of it; and its limits events are the definition's:
--- those at each entry by what stands before it, and what a client was told of them at a point stays.
+-- bytes of each connection, each once and in order, those of one piece side by side, and the device was given the commands to it; of each
+-- slot of a router the same, and its client was given what is routed to it; each reply of a desk is the definition's at a point of it; the
+-- logs of a drained scribe are those of it, and what a stop leaves of a log is read as the entries of a beginning of it; and its limits
+-- events are the definition's: those at each entry by what stands before it, and what a client was told of them at a point stays.
 pub record Headline {D Q V : Type 0} (line_seen : D → LineSeen) (door_seen : Q → LineSeen) (vault_seen : V → VaultSeen) (site : SiteData)
     (digest : List ℕ) (w : Worked) (dialers dialers' : List (Option D)) (doors doors' : List (Option Q)) (vault' : Option V) : Type 0 where
   pub legal : IsKept (server_basis site) w.history

@@ -8,7 +8,8 @@ use Rattle.cts_def.specs.Sites.{SiteData}
 use Rattle.cts_entry.specs.declared.entry.Entry.{Entry}
 use Rattle.cts_entry.specs.Histories.{is_stopped}
 use Rattle.cts_framing.specs.Chains.{uses_at}
-use Rattle.cts_line.specs.Ending.{CausesEnd, after_failed, has_closed, has_stop, is_full, is_no_memory, opened_in, reconnects, stops_all}
+use Rattle.cts_line.specs.Ending.{CausesEnd, DialsFor, has_closed, has_stop, is_full, is_no_memory, opened_in, reconnects, stops_all}
+use Rattle.cts_line.specs.Rows.{ToldInRows}
 use Rattle.cts_line.specs.Talks.{room_of}
 use Rattle.cts_line.specs.Telling.{Retells, SomeLine, made_by, since}
 use Rattle.cts_line.specs.declared.ending.LineWhy.{LineWhy}
@@ -17,7 +18,6 @@ use Rattle.cts_outside.specs.Lines.{hung_up, told_after}
 use Rattle.cts_outside.specs.Seen.{LineSeen}
 use Rattle.cts_table.specs.declared.basis.Basis.{Basis}
 use Rattle.cts_trace.specs.Makers.{LastEnded, faults_of}
-use Rattle.cts_trace.specs.Told.{ToldBy}
 use Rattle.cts_worker.specs.Counts.{RoseBy}
 use Rattle.cts_server.specs.Workers.{IsUnstarted, LastLook}
 
@@ -37,14 +37,14 @@ is_cancelled NoMemory = false
 is_cancelled Cancelled = true
 
 -- What a line that ran leaves, by what its dialer showed before and shows now. What the history says of its connections is what its dialer
--- tells of this run, as what it saw at its last look did, and of a dialer that tells nothing it says some connections; its last entry is
--- its Ended. Why it ended has its cause in that look, since others may stop the server later.
+-- tells of this run, with the packets of each piece side by side, as what it saw at its last look did, and of a dialer that tells nothing
+-- it says some connections; its last entry is its Ended. Why it ended has its cause in that look, since others may stop the server later.
 pub record RanLine (basis : Basis) (by : ℕ) (found : List ℕ) (history : List Entry) (old new : LineSeen) (connections : ℕ) (why : LineWhy) : Type 0 where
   pub seen : List Entry
   pub look : LastLook by seen history
-  pub looked : ToldBy (site_routing basis.site) (room_of basis) by found seen (since (made_by old.told) new.told)
-  pub told : ToldBy (site_routing basis.site) (room_of basis) by found history (since (made_by old.told) new.told)
-  pub some : SomeLine (λ told. ToldBy (site_routing basis.site) (room_of basis) by found history told)
+  pub looked : ToldInRows (site_routing basis.site) (room_of basis) by found seen (since (made_by old.told) new.told)
+  pub told : ToldInRows (site_routing basis.site) (room_of basis) by found history (since (made_by old.told) new.told)
+  pub some : SomeLine (λ told. ToldInRows (site_routing basis.site) (room_of basis) by found history told)
   pub retells : Retells (told_after hung_up old.told) new.told
   pub ended : LastEnded by history
   pub opened : connections ≡ opened_in by history
@@ -53,8 +53,7 @@ pub record RanLine (basis : Basis) (by : ℕ) (found : List ℕ) (history : List
   pub stops : stops_all why ≡ true → is_stopped seen ≡ true
   pub own_stop : has_stop by history ≡ true → stops_all why ≡ true
   pub faults : RoseBy (faults_of by history) old.faults new.faults
-  pub dials : old.failed_dials ≤ new.failed_dials
-  pub failed : (for_it : LineWhy) → after_failed basis.site by ≡ Some for_it → (why ≡ for_it → ⊥) → new.failed_dials ≡ old.failed_dials
+  pub dials : DialsFor basis.site by (Some why) old new
   pub full : has_closed by is_full history ≡ true → why ≡ Full
   pub memory : has_closed by is_no_memory history ≡ true → why ≡ NoMemory
   pub idle : new.linked ≡ false

@@ -46,10 +46,11 @@ pub fn served_stops_leave_logs<D: Dialer, Q: Dialer, V: Vault>()
 {}
 
 /// The headline in one place. Where the workers of a site worked over a vault that was blank, their one history holds, of each interface,
-/// exactly the packets that its chain gives for the bytes of each connection, each once and in order, however cut, and the device was
-/// given the commands to it; of each slot of a router the same, and its client was given what is routed to it, out of stretches of the
-/// history; each reply of a desk is the definition's at a point of the history, and these points never fall; the logs are those of it, and
-/// what a stop leaves of them is read as those of a beginning; and the limits events at each entry are the definition's.
+/// exactly the packets that its chain gives for the bytes of each connection, each once and in order, however cut, those of one piece side
+/// by side, and the device was given the commands to it; of each slot of a router the same, and its client was given what is routed to it,
+/// out of stretches of the history; each reply of a desk is the definition's at a point of the history, and these points never fall; the
+/// logs are those of it, and what a stop leaves of them is read as those of a beginning; and the limits events at each entry are the
+/// definition's.
 pub fn headline_holds<D: Dialer, Q: Dialer, V: Vault>()
     ensures { HeadlineHolds D.seen Q.seen V.seen }
 {}

@@ -98,13 +98,15 @@ pub fn serve_site<
     ensures ready { PutsReady (O.seen out.old) (O.seen out.new) result }
     ensures back { AreThere most_interfaces lines.new.items × AreThere most_doors doors.new.items × IsSome vault.new }
 {
-    let begun = begin(shared.alloc, &site)?;
+    let begun = begin(shared.alloc, &site, chains)?;
     let (slots, desks) = doors.as_mut_slice().split_at_mut(MOST_SLOTS);
-    run_site(
+    let of = SiteOf {
         shared,
-        &site,
+        site: &site,
+    };
+    run_site(
+        &of,
         begun,
-        chains,
         out,
         lines.as_mut_slice(),
         slots,
@@ -114,22 +116,32 @@ pub fn serve_site<
     )
 }
 
-/// What is made before a device leaves its place: the turn with the pass of all makers, the aims, and the rooms for what the workers leave.
+// A site, and what all its workers are handed.
 #[derive(Drop)]
-struct Begun {
+struct SiteOf<'a, 'b, R, K, G> {
+    shared: &'a Shared<'b, R, K, G>,
+    site: &'a Site,
+}
+
+/// What there is before a device leaves its place: the turn with the pass of all makers, the aims, the chains, and the rooms for what the
+/// workers leave.
+#[derive(Drop)]
+struct Begun<C: Drop> {
     turn: Turn<Hall>,
     pass: Pass<Hall>,
     aims: Aims,
+    chains: Vec<C>,
     whys: Vec<LineWhy>,
     left: Vec<DeskNote>,
 }
 
 // All but the tasks that wants memory.
-fn begin(alloc: Global, site: &Arc<Site>) -> Result<Begun, Memory>
+fn begin<C: Framer>(alloc: Global, site: &Arc<Site>, chains: Vec<C>) -> Result<Begun<C>, Memory>
     ensures pass { IfOk result (λ b. IsPassOf b.turn b.pass × ((view b.pass).makers ≡ makers_from 0) × ((view b.pass).seen ≡ [])) }
     ensures ground { IfOk result (λ b. (ground b.turn ≡ server_basis (arc_value site.now)) × IsSoundSite (arc_value site.now)) }
     ensures aims { IfOk result (λ b. (b.aims.lines.items ≡ line_aims (arc_value site.now)) × (b.aims.slots.items ≡ slot_aims (arc_value site.now))
         × (b.aims.desks.items ≡ desk_aims (arc_value site.now))) }
+    ensures chains { IfOk result (λ b. b.chains.items ≡ chains.items) }
     ensures whys { IfOk result (λ b. (b.whys.items ≡ []) × (most_lines ≤ vec_capacity b.whys)) }
     ensures left { IfOk result (λ b. (b.left.items ≡ []) × (most_desks ≤ vec_capacity b.left)) }
 {
@@ -143,6 +155,7 @@ fn begin(alloc: Global, site: &Arc<Site>) -> Result<Begun, Memory>
         turn,
         pass,
         aims,
+        chains,
         whys,
         left,
     })
@@ -171,10 +184,8 @@ fn run_site<
     G: Gate + Sync,
     W: Crew,
 >(
-    shared: &Shared<'_, R, K, G>,
-    site: &Site,
-    begun: Begun,
-    chains: Vec<C>,
+    of: &SiteOf<'_, '_, R, K, G>,
+    begun: Begun<C>,
     out: &mut O,
     lines: &mut [Option<D>],
     slots: &mut [Option<Q>],
@@ -182,13 +193,13 @@ fn run_site<
     vault: &mut Option<V>,
     crew: &mut W,
 ) -> Result<Worked, NotStarted>
-    requires begun { IsBegun site.now begun }
-    requires chains { AreFresh (line_chains site.now) (map C.shape chains.items) }
+    requires begun { IsBegun of.now.site.now begun }
+    requires chains { AreFresh (line_chains of.now.site.now) (map C.shape begun.chains.items) }
     requires there { AreThere most_interfaces lines.old × AreThere most_slots slots.old × AreThere most_desks desks.old × IsSomeAnd vault.old
         (λ v. AreBlank (V.seen v).told) }
-    ensures served { IfOk result (λ w. ServedParts D.seen Q.seen V.seen site.now shared.now.digest.now w
+    ensures served { IfOk result (λ w. ServedParts D.seen Q.seen V.seen of.now.site.now of.now.shared.now.digest.now w
         lines.old lines.new slots.old slots.new desks.old desks.new vault.old vault.new (W.seen crew.old) (W.seen crew.new)) }
-    ensures idle { OnErr result (IdledParts D.seen Q.seen V.seen site.now
+    ensures idle { OnErr result (IdledParts D.seen Q.seen V.seen of.now.site.now
         lines.old lines.new slots.old slots.new desks.old desks.new vault.old vault.new (W.seen crew.old) (W.seen crew.new)) }
     ensures ready { PutsReady (O.seen out.old) (O.seen out.new) result }
     ensures back { AreThere most_interfaces lines.new × AreThere most_slots slots.new × AreThere most_desks desks.new × IsSome vault.new }
@@ -197,9 +208,12 @@ fn run_site<
         turn,
         pass,
         aims,
+        chains,
         mut whys,
         mut left,
     } = begun;
+    let shared = of.shared;
+    let site = of.site;
     let Ok(mut tasks) = Vec::with_capacity(shared.alloc, MOST_WORKERS) else {
         return Err(NotStarted::Memory);
     };

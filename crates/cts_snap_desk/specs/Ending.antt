@@ -15,7 +15,12 @@ use Rattle.cts_desk.specs.Exchanges.{Among, fronts_of}
 use Rattle.cts_desk.specs.Told.{Settled}
 use Rattle.cts_snap_desk.specs.Given.{Given, OnlyLooks, Place, SnapExchanges, exchanges_of, held_fronts, start}
 use Rattle.cts_snap_desk.specs.declared.ending.SnapWhy.{SnapWhy}
-use Rattle.cts_snap_desk.specs.declared.ending.SnapWhy.TheVariants.{Stopped as SnapStopped, Finished as SnapFinished, DoorFailed as SnapDoorFailed, Cancelled as SnapCancelled}
+use Rattle.cts_snap_desk.specs.declared.ending.SnapWhy.TheVariants.{
+  Stopped as SnapStopped,
+  Finished as SnapFinished,
+  DoorFailed as SnapDoorFailed,
+  Cancelled as SnapCancelled,
+}
 
 -- the reason of a desk that has the same name
 abbrev pub of_desk : DeskWhy → SnapWhy
@@ -33,8 +38,8 @@ desk_why SnapCancelled = Cancelled
 -- What a desk did: the exchanges with these fronts stand in what it has seen and in its pane's list, and are those of its connections; last are
 -- the entries that it made besides. The fronts never fall, and those of holds stand among the places at which its holds began. Where no request
 -- may append and the pane was not refused since the desk began, no front is beyond the pane's list.
-pub record SnapTold (b : Basis) (by : ℕ) (pane : Basis) (list : List Entry) (began refused : ℕ) (fronts found : List ℕ) (seen last : List Entry) (was : List Connection)
-    (told : Option Line) : Type 0 where
+pub record SnapTold (b : Basis) (by : ℕ) (pane : Basis) (list : List Entry) (began refused : ℕ) (fronts found : List ℕ)
+    (seen last : List Entry) (was : List Connection) (told : Option Line) : Type 0 where
   pub given : List Given
   pub end : Place
   pub fronts_are : fronts ≡ fronts_of (exchanges_of given)
@@ -46,8 +51,8 @@ pub record SnapTold (b : Basis) (by : ℕ) (pane : Basis) (list : List Entry) (b
   pub quiet : OnlyLooks (exchanges_of given) → Steady began refused → climbs 0 fronts (length list) ≡ true
 
 -- A desk's exchanges stand in what it has seen, and then its last entries, the last of all.
-pub record SnapEnds (b : Basis) (by : ℕ) (stops : Bool) (pane : Basis) (list : List Entry) (began refused : ℕ) (fronts : List ℕ) (v : View Entry Basis) (was : List Connection)
-    (told : Option Line) : Type 0 where
+pub record SnapEnds (b : Basis) (by : ℕ) (stops : Bool) (pane : Basis) (list : List Entry) (began refused : ℕ) (fronts : List ℕ)
+    (v : View Entry Basis) (was : List Connection) (told : Option Line) : Type 0 where
   pub time : Time
   pub before : List Entry
   pub seen : v.seen ≡ before ++ last_entries stops by time before

@@ -13,7 +13,8 @@ use Rattle.cts_snap_desk.specs.Given.{Given, ByHold, ByRead, Lacks, Place, SnapE
 use Rattle.cts_snap_desk.specs.Reading.{SnapGoing}
 
 -- more entries after them, and which of those are the desk's
-pub snap_more : (b : Basis) (by : ℕ) (pane : Basis) (list : List Entry) (at : Place) (before : List Entry) (gs : List Given) (end : Place) (last rest new : List Entry)
+pub snap_more : (b : Basis) (by : ℕ) (pane : Basis) (list : List Entry) (at : Place) (before : List Entry) (gs : List Given) (end : Place)
+    (last rest new : List Entry)
     → SnapExchanges b by pane list at before gs end last rest → SnapExchanges b by pane list at before gs end (last ++ of_maker by new) (rest ++ new)
 snap_more b by pane list at before [] end last rest new s = (s.0, s.1, of_maker_append by rest new ∙ ap (λ l. l ++ of_maker by new) s.2)
 snap_more b by pane list at before (ByHold x ∷ gs) end last rest new s = (
@@ -28,10 +29,12 @@ snap_more b by pane list at before (ByHold x ∷ gs) end last rest new s = (
   snap_more b by pane list (held_at x.front (length (before ++ (s.1 ++ s.2)))) (before ++ (s.1 ++ s.2)) gs end last s.3 new s.8,
 )
 snap_more b by pane list at before (ByRead x ∷ gs) end last rest new s = (s.0, s.1, snap_more b by pane list (read_at x.front) before gs end last rest new s.2)
-snap_more b by pane list at before (Lacks x ∷ gs) end last rest new s = (s.0, s.1, snap_more b by pane list (lacks_at x.front at) before gs end last rest new s.2)
+snap_more b by pane list at before (Lacks x ∷ gs) end last rest new s =
+    (s.0, s.1, snap_more b by pane list (lacks_at x.front at) before gs end last rest new s.2)
 
 -- a look
-pub going_seen : (pane : Basis) (list : List Entry) (refused floor began : ℕ) (b : Basis) (m : ℕ) (fronts : List ℕ) (old new : View Entry Basis) (xs : List Exchange)
+pub going_seen : (pane : Basis) (list : List Entry) (refused floor began : ℕ) (b : Basis) (m : ℕ) (fronts : List ℕ)
+    (old new : View Entry Basis) (xs : List Exchange)
     → Hold m old new [] → SnapGoing pane list refused floor began b m fronts old xs → SnapGoing pane list refused floor began b m fronts new xs
 going_seen pane list refused floor began b m fronts old new xs hold g =
     let end : Place = held_at (last_front fronts) floor in record {
@@ -40,7 +43,8 @@ going_seen pane list refused floor began b m fronts old new xs hold g =
       fronts_are = g.fronts_are;
       among = subst (Among (held_fronts g.given)) (sym hold.found) (among_more (held_fronts g.given) old.found (length (old.seen ++ hold.others) ∷ []) g.among);
       stand = subst (λ l. SnapExchanges b m pane list start [] g.given end [] l) (sym (hold.seen ∙ ap (λ l. old.seen ++ l) (append-nil hold.others)))
-          (subst (λ l. SnapExchanges b m pane list start [] g.given end l (old.seen ++ hold.others)) hold.strange (snap_more b m pane list start [] g.given end [] old.seen hold.others g.stand));
+          (subst (λ l. SnapExchanges b m pane list start [] g.given end l (old.seen ++ hold.others)) hold.strange
+          (snap_more b m pane list start [] g.given end [] old.seen hold.others g.stand));
       rises = g.rises;
       quiet = g.quiet;
     }

@@ -17,7 +17,8 @@ use Rattle.cts_snap_desk.specs.declared.course.Course.TheVariants.{Give, Hold, L
 
 -- The exchanges of a desk, where its pane has this basis, this list and this count of refusals now, and no later read may have a front below the
 -- floor. The count was `began` when the desk began. Where no request may append and the pane was not refused since, the floor is in the list.
-pub record SnapGoing (pane : Basis) (list : List Entry) (refused floor began : ℕ) (b : Basis) (by : ℕ) (fronts : List ℕ) (v : View Entry Basis) (xs : List Exchange) : Type 0 where
+pub record SnapGoing (pane : Basis) (list : List Entry) (refused floor began : ℕ) (b : Basis) (by : ℕ)
+    (fronts : List ℕ) (v : View Entry Basis) (xs : List Exchange) : Type 0 where
   pub given : List Given
   pub are : xs ≡ exchanges_of given
   pub fronts_are : fronts ≡ fronts_of xs

@@ -94,3 +94,8 @@ Says kind name text (Err halt) = (is_fault halt ≡ false) × ((verdicts : List 
 abbrev pub ReadsAs : {X : Type 0} → FileKind → List ℕ → Result X (ℕ × Cause) → Result X Halt → Type 0
 ReadsAs kind name read (Ok x) = read ≡ Ok x
 ReadsAs kind name read (Err halt) = IsReason (verdict kind name read) halt × (is_fault halt ≡ false)
+
+-- the same twice
+abbrev pub ReadsTwice : {X : Type 0} → FileKind → List ℕ → Result X (ℕ × Cause) → Result (X × X) Halt → Type 0
+ReadsTwice kind name read (Ok both) = (read ≡ Ok both.0) × (read ≡ Ok both.1)
+ReadsTwice kind name read (Err halt) = IsReason (verdict kind name read) halt × (is_fault halt ≡ false)

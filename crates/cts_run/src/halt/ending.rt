@@ -60,6 +60,8 @@ fn status_of(halt: &Halt<'_>) -> Status
         Halt::LogFault => Status::LogFault,
         Halt::LogRefused { .. } => Status::LogRefused,
         Halt::UnknownName { .. } => Status::UnknownName,
+        Halt::HubRefused { .. } => Status::HubRefused,
+        Halt::Misused => Status::Usage,
     }
 }
 
@@ -102,6 +104,8 @@ fn last_line(alloc: Global, halt: &Halt<'_>) -> Result<LastLine, Memory>
         Halt::Memory => Ok(LastLine::Known(lines::memory_text())),
         Halt::WriteFault => Ok(LastLine::Known(b"")),
         Halt::LogFault => Ok(LastLine::Known(lines::log_fault_text())),
+        Halt::HubRefused { cause } => Ok(LastLine::Known(cause.line())),
+        Halt::Misused => Ok(LastLine::Known(lines::usage_text())),
         Halt::ReadFault { name } => Ok(LastLine::Made(lines::read_fault(alloc, name.text())?)),
         Halt::Absent { name } => Ok(LastLine::Made(lines::absent(alloc, name.text())?)),
         Halt::Refused {

@@ -8,7 +8,7 @@ pub enum Status {
     Ok,
     /// Memory ran out.
     Memory,
-    /// The words fit no command.
+    /// The words fit no command, or name nothing in the sites that were read.
     Usage,
     /// A file could not be read.
     ReadFault,
@@ -34,6 +34,8 @@ pub enum Status {
     DoorFault,
     /// A target, a packet or an item that is asked for is not defined.
     UnknownName,
+    /// A router of the one site can't be tied to an interface of the other.
+    HubRefused,
 }
 
 impl Status {
@@ -59,6 +61,7 @@ impl Status {
             Status::NoWorker => 11,
             Status::DoorFault => 12,
             Status::UnknownName => 14,
+            Status::HubRefused => 15,
         }
     }
 }

@@ -1,5 +1,5 @@
 // A server up to the end of its workers.
-ghost use Rattle.std.specs.Prelude.{◌≡◌, ◌∷◌, [], false, map, IfErr, IfOk, IfSome, IsSome, IsSomeAnd, None, OnErr, OnOk, Some};
+ghost use Rattle.std.specs.Prelude.{◌≡◌, ◌≢◌, ◌∷◌, [], false, map, IfErr, IfOk, IfSome, IsSome, IsSomeAnd, None, OnErr, OnOk, Some};
 ghost use Rattle.std.specs.Arc.{arc_value};
 ghost use Rattle.cts_chain.specs.Builds.{AreFresh, Taken};
 ghost use Rattle.cts_connection.specs.LineChains.{line_chains, line_uses};
@@ -17,6 +17,7 @@ ghost use Rattle.cts_serve.specs.Served.{serves_on};
 ghost use Rattle.cts_serve.specs.Serving.{Finds, IsPlanned, UnstartedBy, answered, done_as};
 ghost use Rattle.cts_run.specs.Start.{shelf_phase};
 ghost use Rattle.cts_run.specs.Endings.{halt_status};
+ghost use Rattle.cts_run.specs.declared.halt.status.Status.TheVariants.{Usage};
 
 use cts_chain::Framer;
 use cts_connection::{Supplier, build_chains};
@@ -37,6 +38,17 @@ struct Plan<C> {
     chains: Vec<C>,
 }
 
+/// What a server is started with that no call of it changes: the runtime, its memory, the names of both files, the clock and the gate.
+#[derive(Drop)]
+pub(crate) struct Means<'h, 'a, R, K, G> {
+    pub rt: &'h R,
+    pub alloc: Global,
+    pub definitions: &'h FileName<'a>,
+    pub site: &'h FileName<'a>,
+    pub clock: &'h K,
+    pub gate: &'h G,
+}
+
 /// Reads definitions and a site, takes the boxes of its chains from the shelf, and lets the workers of the site work.
 pub(crate) fn host<
     'a,
@@ -52,19 +64,14 @@ pub(crate) fn host<
     W: Crew,
     G: Gate + Sync,
 >(
-    rt: &R,
-    alloc: Global,
-    definitions: &FileName<'a>,
-    site: &FileName<'a>,
+    means: &Means<'_, 'a, R, K, G>,
     shelf: &mut B,
     files: &mut F,
     out: &mut O,
     lines: &mut Vec<Option<D>>,
     doors: &mut Vec<Option<Q>>,
     vault: &mut Option<V>,
-    clock: &K,
     crew: &mut W,
-    gate: &G,
 ) -> Result<Worked, Halt<'a>>
     requires lines { AreThere most_interfaces lines.old.items }
     requires doors { AreThere most_doors doors.old.items }
@@ -73,20 +80,25 @@ pub(crate) fn host<
     ensures files { FileCounts result (F.seen files.old) (F.seen files.new) }
     ensures sink { SinkCounts result (O.seen out.old) (O.seen out.new) }
     ensures halts { IfErr result (λ h. IfSome (F.seen files.old).told
-        (λ all. UnstartedBy (first_phases (B.stock shelf.old) all definitions.now site.now) h (O.seen out.old) (O.seen out.new))) }
+        (λ all. UnstartedBy (first_phases (B.stock shelf.old) all means.now.definitions.now means.now.site.now) h (O.seen out.old) (O.seen out.new))) }
     ensures unserved { IfErr result (λ h. serves_on (halt_status h) ≡ false) }
-    ensures idle { OnErr result ((s : SiteData) × (digest : _) × IsPlanned (F.seen files.old).told (Some (definitions.now, site.now)) s digest
+    ensures fits { IfErr result (λ h. halt_status h ≢ Usage) }
+    ensures idle { OnErr result ((s : SiteData) × (digest : _)
+        × IsPlanned (F.seen files.old).told (Some (means.now.definitions.now, means.now.site.now)) s digest
         × HasIdled D.seen Q.seen V.seen s lines.old.items lines.new.items doors.old.items doors.new.items vault.old vault.new (W.seen crew.old)
         (W.seen crew.new)) }
-    ensures planned { OnOk result (IfSome (F.seen files.old).told (λ all. first_halt (first_phases (B.stock shelf.old) all definitions.now site.now) ≡ None)) }
+    ensures planned { OnOk result (IfSome (F.seen files.old).told
+        (λ all. first_halt (first_phases (B.stock shelf.old) all means.now.definitions.now means.now.site.now) ≡ None)) }
     ensures ready { OnOk result (IsPut ready_line (O.seen out.old) (O.seen out.new)) }
-    ensures served { IfOk result (λ w. (s : SiteData) × (digest : _) × IsPlanned (F.seen files.old).told (Some (definitions.now, site.now)) s digest
+    ensures served { IfOk result (λ w. (s : SiteData) × (digest : _)
+        × IsPlanned (F.seen files.old).told (Some (means.now.definitions.now, means.now.site.now)) s digest
         × HasServed D.seen Q.seen V.seen s digest w lines.old.items lines.new.items doors.old.items doors.new.items vault.old vault.new
         (W.seen crew.old) (W.seen crew.new)) }
-    ensures boxes { IfSome (F.seen files.old).told (λ all. LeavesShelf all definitions.now site.now (done_as result) (B.stock shelf.old) (B.stock shelf.new)) }
+    ensures boxes { IfSome (F.seen files.old).told
+        (λ all. LeavesShelf all means.now.definitions.now means.now.site.now (done_as result) (B.stock shelf.old) (B.stock shelf.new)) }
     ensures back { AreThere most_interfaces lines.new.items × AreThere most_doors doors.new.items × IsSome vault.new }
 {
-    match prepare(alloc, definitions, site, shelf, files) {
+    match prepare(means.alloc, means.definitions, means.site, shelf, files) {
         Ok(plan) => {
             let Plan {
                 site: own,
@@ -94,11 +106,11 @@ pub(crate) fn host<
                 chains,
             } = plan;
             let shared = Shared {
-                rt,
-                alloc,
+                rt: means.rt,
+                alloc: means.alloc,
                 digest: digest.bytes(),
-                clock,
-                gate,
+                clock: means.clock,
+                gate: means.gate,
             };
             answered(serve_site(&shared, own, chains, out, lines, doors, vault, crew))
         }

@@ -13,10 +13,10 @@ use Rattle.cts_desk.proofs.dials.attempt.Goals as goal
 pub returns-in-Linked-clause-serves : goal.returns-in-Linked-clause-serves
 returns-in-Linked-clause-serves g c = λ n was s.
     let b = ground c.args.hand.now.turn.now in
-    let w = view c.serve-talk.result.0.pass in
+    let w = view c.attend-talk.result.0.pass in
     let begins = linked_begins (g.S.Source.going c.args.talk.source n b c.args.hand.now.by) was c.args.talk.fronts.items (view c.args.talk.pass) (g.R.Link.seen c.args.door.now).told (g.R.Link.seen c.dial.new.self).told c.in-Linked.ensures.content s in
-    subst (λ (x : Bool). Resting (g.S.Source.going c.serve-talk.result.0.source n b c.args.hand.now.by) was x c.serve-talk.result.0.fronts.items w (g.R.Link.seen c.serve-talk.new.door).told)
-    (cut_for c.serve-talk.result.1 c.stop_if.result w.seen c.stop_if.ensures c.serve-talk.ensures.stop) (c.serve-talk.ensures.serves n was begins)
+    subst (λ (x : Bool). Resting (g.S.Source.going c.attend-talk.result.0.source n b c.args.hand.now.by) was x c.attend-talk.result.0.fronts.items w (g.R.Link.seen c.attend-talk.new.door).told)
+    (cut_for c.attend-talk.result.1 c.stop_if.result w.seen c.stop_if.ensures c.attend-talk.ensures.stop) (c.attend-talk.ensures.serves n was begins)
 
 pub returns-in-Later-clause-serves : goal.returns-in-Later-clause-serves
 returns-in-Later-clause-serves g c = λ n was s.
@@ -40,7 +40,7 @@ returns-in-Failed-clause-serves g c = λ n was s.
     failed_rests (g.S.Source.going c.args.talk.source n (ground c.args.hand.now.turn.now) c.args.hand.now.by) was c.args.talk.fronts.items (is_stopped v.seen) v _ (g.R.Link.seen c.dial.new.self).told c.in-Failed.ensures.content s
 
 pub returns-in-Linked-clause-faults : goal.returns-in-Linked-clause-faults
-returns-in-Linked-clause-faults g c = rise_then (g.R.Link.seen c.args.door.now) (g.R.Link.seen c.dial.new.self) (g.R.Link.seen c.serve-talk.new.door) (dial_rises Linked (g.R.Link.seen c.args.door.now) (g.R.Link.seen c.dial.new.self) c.in-Linked.ensures.content c.in-Linked.ensures.faults) c.serve-talk.ensures.faults
+returns-in-Linked-clause-faults g c = rise_then (g.R.Link.seen c.args.door.now) (g.R.Link.seen c.dial.new.self) (g.R.Link.seen c.attend-talk.new.door) (dial_rises Linked (g.R.Link.seen c.args.door.now) (g.R.Link.seen c.dial.new.self) c.in-Linked.ensures.content c.in-Linked.ensures.faults) c.attend-talk.ensures.faults
 
 pub returns-in-Later-clause-faults : goal.returns-in-Later-clause-faults
 returns-in-Later-clause-faults g c = dial_rises Later (g.R.Link.seen c.args.door.now) (g.R.Link.seen c.dial.new.self) c.in-Later.ensures.content c.in-Later.ensures.faults
@@ -52,7 +52,7 @@ pub returns-in-Failed-clause-faults : goal.returns-in-Failed-clause-faults
 returns-in-Failed-clause-faults g c = dial_rises Failed (g.R.Link.seen c.args.door.now) (g.R.Link.seen c.dial.new.self) c.in-Failed.ensures.content c.in-Failed.ensures.faults
 
 pub returns-in-Linked-clause-aim : goal.returns-in-Linked-clause-aim
-returns-in-Linked-clause-aim g c = c.serve-talk.ensures.aim ∙ aim_dial Linked _ _ c.in-Linked.ensures.content
+returns-in-Linked-clause-aim g c = c.attend-talk.ensures.aim ∙ aim_dial Linked _ _ c.in-Linked.ensures.content
 
 pub returns-in-Later-clause-aim : goal.returns-in-Later-clause-aim
 returns-in-Later-clause-aim g c = aim_dial Later _ _ c.in-Later.ensures.content

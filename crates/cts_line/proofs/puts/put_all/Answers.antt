@@ -15,6 +15,7 @@ puts-init g c = record {
   linked = c.requires.linked;
   faults = refl;
   dials = refl;
+  finished = refl;
   few = omega arith;
   retells = retells_same _;
   talks = λ r room m place unsent stages found history k t. subst (λ n. Talks r room m (Puts c.args.spellings.now) stages place n found history (since k (g.D.Link.seen c.args.dialer.now).told)) (omega arith) t;
@@ -44,6 +45,7 @@ puts-preserved-in-Whole g c =
       linked = c.put_one.ensures.linked;
       faults = c.in-Whole.ensures.cause ∙ c.puts.invariant.faults;
       dials = c.put_one.ensures.dials ∙ c.puts.invariant.dials;
+      finished = c.put_one.ensures.finished ∙ c.puts.invariant.finished;
       few = (let n = ap length is in let f = c.puts.invariant.few in omega (arith, n, f));
       retells = retells_then _ _ _ c.puts.invariant.retells (retells_now (with_put put.0) _ _ put.2);
       talks = λ r room m place unsent stages found history k t.
@@ -67,6 +69,7 @@ puts-preserved g c =
       linked = c.put_one.ensures.linked;
       faults = c.in-Refused.ensures.cause ∙ c.puts.invariant.faults;
       dials = c.put_one.ensures.dials ∙ c.puts.invariant.dials;
+      finished = c.put_one.ensures.finished ∙ c.puts.invariant.finished;
       few = (let n = ap length is in let f = c.puts.invariant.few in omega (arith, n, f));
       retells = subst (λ o. Retells (g.D.Link.seen c.args.dialer.now).told o) (sym put.1) c.puts.invariant.retells;
       talks = λ r room m place unsent stages found history k t.

@@ -12,6 +12,7 @@ invariant-puts g l = record {
   linked : (g.D.Link.seen l.dialer).linked ≡ true;
   faults : (g.D.Link.seen l.dialer).faults ≡ (g.D.Link.seen l.initial.dialer).faults;
   dials : (g.D.Link.seen l.dialer).failed_dials ≡ (g.D.Link.seen l.initial.dialer).failed_dials;
+  finished : (g.D.Link.seen l.dialer).finished ≡ (g.D.Link.seen l.initial.dialer).finished;
   few : l.unsent + length l.left ≤ length l.spellings;
   retells : Retells (g.D.Link.seen l.initial.dialer).told (g.D.Link.seen l.dialer).told;
   talks : (r : Routing) (room : Capacity) (m place unsent : ℕ) (stages : List Meaning) (found : List ℕ) (history : List Entry) (k : ℕ) → Talks r room m (Puts l.spellings) stages place unsent found history (since k (g.D.Link.seen l.initial.dialer).told)

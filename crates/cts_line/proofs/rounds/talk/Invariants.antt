@@ -26,6 +26,7 @@ invariant-rounds g l = record {
   keeps : Keeps l.hand.by (view l.initial.pass).seen (view l.pass).seen None;
   faults : (g.D.Link.seen l.dialer).faults ≡ (g.D.Link.seen l.initial.dialer).faults;
   dials : (g.D.Link.seen l.dialer).failed_dials ≡ (g.D.Link.seen l.initial.dialer).failed_dials;
+  finished : (g.D.Link.seen l.dialer).finished ≡ (g.D.Link.seen l.initial.dialer).finished;
   stop : has_stop l.hand.by (view l.pass).seen ≡ has_stop l.hand.by (view l.initial.pass).seen;
   retells : Retells (g.D.Link.seen l.initial.dialer).told (g.D.Link.seen l.dialer).told;
   talks : (k : ℕ) → TalksAt (site_routing (basis_of hall.basis l.hand.turn.now).site) (room_of (basis_of hall.basis l.hand.turn.now)) l.hand.by Waits l.initial.connection (view l.initial.pass) (since k (g.D.Link.seen l.initial.dialer).told)

@@ -30,3 +30,33 @@ returns-in-Play-clause-performs g c = rw c.in-Play.is (c.play.ensures.performs (
 
 pub returns-in-Play-clause-vault : goal.returns-in-Play-clause-vault
 returns-in-Play-clause-vault g c = c.play.ensures.vault (g.V.Vault.seen c.args.vault.now)
+
+pub returns-in-Hub-clause-performs : goal.returns-in-Hub-clause-performs
+returns-in-Hub-clause-performs g c = rw c.in-Hub.is (c.hub.ensures.performs (g.V.Vault.seen c.args.vault.now))
+
+pub returns-in-Hub-clause-vault : goal.returns-in-Hub-clause-vault
+returns-in-Hub-clause-vault g c = c.hub.ensures.vault (g.V.Vault.seen c.args.vault.now)
+
+pub returns-in-Hub-clause-keeps : goal.returns-in-Hub-clause-keeps
+returns-in-Hub-clause-keeps g c = rw c.in-Hub.is c.hub.ensures.keeps
+
+pub returns-in-Hub-clause-boxes : goal.returns-in-Hub-clause-boxes
+returns-in-Hub-clause-boxes g c = rw c.in-Hub.is c.hub.ensures.boxes
+
+pub returns-in-Play-clause-keeps : goal.returns-in-Play-clause-keeps
+returns-in-Play-clause-keeps g c = rw c.in-Play.is c.play.ensures.keeps
+
+pub returns-in-Check-clause-keeps : goal.returns-in-Check-clause-keeps
+returns-in-Check-clause-keeps g c = rw c.in-Check.is (of_told (g.F.Files.seen c.args.files.now).told _ (λ all. tt))
+
+pub returns-in-Replay-clause-keeps : goal.returns-in-Replay-clause-keeps
+returns-in-Replay-clause-keeps g c = rw c.in-Replay.is (of_told (g.F.Files.seen c.args.files.now).told _ (λ all. tt))
+
+pub returns-in-Rehearse-clause-keeps : goal.returns-in-Rehearse-clause-keeps
+returns-in-Rehearse-clause-keeps g c = rw c.in-Rehearse.is (of_told (g.F.Files.seen c.args.files.now).told _ (λ all. tt))
+
+pub returns-in-Dump-clause-keeps : goal.returns-in-Dump-clause-keeps
+returns-in-Dump-clause-keeps g c = rw c.in-Dump.is (of_told (g.F.Files.seen c.args.files.now).told _ (λ all. tt))
+
+pub returns-in-Extract-clause-keeps : goal.returns-in-Extract-clause-keeps
+returns-in-Extract-clause-keeps g c = rw c.in-Extract.is (of_told (g.F.Files.seen c.args.files.now).told _ (λ all. tt))

@@ -2,7 +2,7 @@ use Rattle.std.proofs.Common.{refl, sym, ◌∙◌}
 use Rattle.cts_run.specs.Acts.{outside}
 use Rattle.cts_run.proofs.CommandLemmas.{answers, command_shelf, completes, misused_answers}
 use Rattle.cts_run.proofs.DueLemmas.{due_answer}
-use Rattle.cts_run.proofs.EndingLemmas.{caused, misused_caused, never_usage}
+use Rattle.cts_run.proofs.EndingLemmas.{caused, misused_caused}
 use Rattle.cts_run.proofs.command.run.Goals as goal
 
 -- ---- the words fit no command
@@ -24,7 +24,7 @@ returns-in-None-clause-due g c = due_answer _ _ _ _ (outside _ _) (outside _ _) 
 -- ---- a command
 
 pub returns-in-Some-clause-usage : goal.returns-in-Some-clause-usage
-returns-in-Some-clause-usage g c = (λ e. absurd (never_usage c.perform-done.result _ _ _ c.end.ensures e), λ e. absurd (cc (c.in-Some.ensures ∙ e)))
+returns-in-Some-clause-usage g c = λ e. absurd (cc (c.in-Some.ensures ∙ e))
 
 pub returns-in-Some-clause-causes : goal.returns-in-Some-clause-causes
 returns-in-Some-clause-causes g c = caused _ _ _ _ _ _ _ c.perform-done.result _ c.perform-done.ensures.files c.perform-done.ensures.sink c.perform-done.ensures.vault c.end.ensures
@@ -33,7 +33,7 @@ pub returns-in-Some-clause-misused : goal.returns-in-Some-clause-misused
 returns-in-Some-clause-misused g c = λ e. absurd (cc (c.in-Some.ensures ∙ e))
 
 pub returns-in-Some-clause-transcript : goal.returns-in-Some-clause-transcript
-returns-in-Some-clause-transcript g c = answers _ _ c.in-Some.command _ c.perform-done.result _ (outside _ _) (outside _ _) (outside _ _) (sym c.in-Some.ensures) c.perform-done.ensures.performs c.end.ensures refl
+returns-in-Some-clause-transcript g c = answers _ _ c.in-Some.command _ c.perform-done.result _ (outside _ _) (outside _ _) (outside _ _) (sym c.in-Some.ensures) c.perform-done.ensures.performs c.perform-done.ensures.keeps c.end.ensures refl
 
 pub returns-in-Some-clause-complete : goal.returns-in-Some-clause-complete
 returns-in-Some-clause-complete g c =

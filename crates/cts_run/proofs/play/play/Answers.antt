@@ -1,5 +1,9 @@
+use Rattle.std.proofs.Common.{subst}
+use Rattle.cts_def.specs.Sites.{SiteData}
+use Rattle.cts_ident_laws.specs.Named.{HaveNames}
+use Rattle.cts_run.specs.declared.halt.Halt.TheVariants as halt
 use Rattle.cts_run.proofs.PhaseLemmas.{counts_after, load_counts, load_faults, load_logs}
-use Rattle.cts_run.proofs.PlayingLemmas.{play_leaves, play_performs, play_unloaded, play_wants, unloaded_leaves, wants_leaves}
+use Rattle.cts_run.proofs.PlayingLemmas.{fails_keep, play_keeps, play_leaves, play_performs, play_unloaded, play_wants, unloaded_leaves, wants_leaves}
 use Rattle.cts_run.proofs.play.play.Goals as goal
 
 pub play_on-requires : goal.play_on-requires
@@ -38,3 +42,14 @@ returns-in-Err-clause-sink g c = load_faults c.in-Err.halt _ _ _ c.in-Err.ensure
 
 pub returns-in-Err-clause-vault : goal.returns-in-Err-clause-vault
 returns-in-Err-clause-vault g c = λ vault. load_logs c.in-Err.halt _ _ vault c.in-Err.ensures.counts
+
+pub returns-in-Ok-play_site-clause-keeps : goal.returns-in-Ok-play_site-clause-keeps
+returns-in-Ok-play_site-clause-keeps g c =
+    play_keeps (g.B.Stocked.stock c.args.shelf.now) c.args.definitions.now c.args.site.now c.args.log.now (g.F.Files.seen c.args.files.now).told (c.in-Ok.plan, c.in-Ok._digest) c.play_on.result c.in-Ok.ensures.content
+    (subst (λ (s : SiteData). HaveNames s.definitions) c.plan.view_is c.names_are_kept.ensures)
+
+pub returns-in-Err-play_site-clause-keeps : goal.returns-in-Err-play_site-clause-keeps
+returns-in-Err-play_site-clause-keeps g c = fails_keep (g.B.Stocked.stock c.args.shelf.now) c.args.definitions.now c.args.site.now c.args.log.now (g.F.Files.seen c.args.files.now).told halt.Memory
+
+pub returns-in-Err-clause-keeps : goal.returns-in-Err-clause-keeps
+returns-in-Err-clause-keeps g c = fails_keep (g.B.Stocked.stock c.args.shelf.now) c.args.definitions.now c.args.site.now c.args.log.now (g.F.Files.seen c.args.files.now).told c.in-Err.halt

@@ -7,17 +7,17 @@ use Rattle.cts_scribe.proofs.following.follow.Goals as goal
 
 pub returns-in-Some-end-clause-logs : goal.returns-in-Some-end-clause-logs
 returns-in-Some-end-clause-logs g c = λ digest are whole.
-    let x = c.attempt-next.result.0 in
-    let told = (g.V.Vault.seen c.attempt-next.new.vault).told in
+    let x = c.round-next.result.0 in
+    let told = (g.V.Vault.seen c.round-next.new.vault).told in
     subst (λ o. LogsEndIf c.args.site.now digest (take x.progress.place (view x.pass).seen) o told) c.in-Some-end.is
-    (c.attempt-next.ensures.logs digest are (c.looks.invariant.logs digest are whole))
+    (c.round-next.ensures.logs digest are (c.looks.invariant.logs digest are whole))
 
 pub looks-preserved : goal.looks-preserved
 looks-preserved g c =
-    let e = c.attempt-next.ensures in
+    let e = c.round-next.ensures in
     let i = c.looks.invariant in
-    let x = c.attempt-next.result.0 in
-    let told = (g.V.Vault.seen c.attempt-next.new.vault).told in
+    let x = c.round-next.result.0 in
+    let told = (g.V.Vault.seen c.round-next.new.vault).told in
     let none = c.in_default.is in
     record {
       pass = e.pass;
@@ -27,7 +27,7 @@ looks-preserved g c =
       onward = onward_then _ _ _ i.onward e.onward;
       logs = λ digest are whole. subst (λ o. LogsEndIf c.args.site.now digest (take x.progress.place (view x.pass).seen) o told) none
           (e.logs digest are (i.logs digest are whole));
-      faults = subst (λ o. CausesEndIf (g.V.Vault.seen c.looks.vault).faults (g.V.Vault.seen c.attempt-next.new.vault).faults o) none e.cause ∙ i.faults;
+      faults = subst (λ o. CausesEndIf (g.V.Vault.seen c.looks.vault).faults (g.V.Vault.seen c.round-next.new.vault).faults o) none e.cause ∙ i.faults;
     }
 
 pub looks-init : goal.looks-init
@@ -42,4 +42,4 @@ looks-init g c = record {
 }
 
 pub returns-in-Some-end-clause-onward : goal.returns-in-Some-end-clause-onward
-returns-in-Some-end-clause-onward g c = onward_then _ _ _ c.looks.invariant.onward c.attempt-next.ensures.onward
+returns-in-Some-end-clause-onward g c = onward_then _ _ _ c.looks.invariant.onward c.round-next.ensures.onward

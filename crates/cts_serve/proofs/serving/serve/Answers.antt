@@ -24,8 +24,8 @@ use Rattle.cts_serve.specs.Words.{asked_to_serve}
 use Rattle.cts_run.specs.declared.halt.status.Status.{Status}
 use Rattle.cts_run.specs.declared.halt.status.Status.TheVariants as status
 use Rattle.cts_run.proofs.CommandLemmas.{never_some, no_vault, shelf_status, steady_rose}
-use Rattle.cts_run.proofs.EndingLemmas.{caused, never_usage}
-use Rattle.cts_serve.proofs.HostLemmas.{some_plan, unserved_logs, unserved_status}
+use Rattle.cts_run.proofs.EndingLemmas.{caused}
+use Rattle.cts_serve.proofs.HostLemmas.{fitting_status, some_plan, unserved_logs, unserved_status}
 use Rattle.cts_serve.proofs.ServeLemmas.{asked_not, complete_by, halts_serving, in_if, in_none, in_there, none_status, phase_status, reason_status}
 use Rattle.cts_serve.proofs.ServeLemmas.{shelf_started, short_by, short_reason, told_asked, told_both, told_is_asked, told_one, told_unasked, un_full}
 use Rattle.cts_serve.proofs.ServeLemmas.{un_if, un_started, un_status, un_there}
@@ -280,7 +280,7 @@ pub returns-in-Err-clause-usage : goal.returns-in-Err-clause-usage
 returns-in-Err-clause-usage g c = record {
   exact =
       let same = sym c.in-Some.ensures in (
-        λ e. absurd (never_usage (Err c.in-Err.halt) _ _ _ c.end.ensures (sym c.unstarted.ensures.status ∙ e)),
+        λ e. absurd (fitting_status c.in-Err.halt _ _ _ c.in-Err.ensures.fits c.end.ensures (sym c.unstarted.ensures.status ∙ e)),
         λ none. asked_not None
             (asked_to_serve (map (λ w. w.now) c.args.words.now)) (c.in-Some.definitions, c.in-Some.site) same none,
       );

@@ -1,9 +1,9 @@
-use Rattle.std.proofs.Common.{◌∙◌, ap, subst, inl}
+use Rattle.std.proofs.Common.{◌∙◌, Some, ap, subst, inl}
 use Rattle.cts_connection.specs.Routings.{site_routing}
-use Rattle.cts_line.specs.Ending.{CausesEnd, after_failed, reconnects}
+use Rattle.cts_line.specs.Ending.{CausesEnd, DialsFor, reconnects}
+use Rattle.cts_line.specs.Rows.{ToldInRows}
 use Rattle.cts_line.specs.Talks.{room_of}
 use Rattle.cts_line.specs.Telling.{SomeLine, made_by, since}
-use Rattle.cts_trace.specs.Told.{ToldBy}
 use Rattle.cts_turn.specs.Lists.{has}
 use Rattle.cts_turn.specs.Passes.{view}
 use Rattle.cts_worker.specs.Grounds.{ground}
@@ -26,8 +26,8 @@ returns-clause-owes g c =
     let v = view c.run-end.result.pass in
     let old = g.D.Link.seen c.args.line.device in
     let new = g.D.Link.seen c.run-end.new.dialer in
-    let some = subst (λ s. SomeLine (λ told. ToldBy (site_routing s) (room_of basis) c.args.by v.found v.seen told)) same e.some in
-    let told = subst (λ s. ToldBy (site_routing s) (room_of basis) c.args.by v.found v.seen (since (made_by old.told) new.told)) same e.told in (
+    let some = subst (λ s. SomeLine (λ told. ToldInRows (site_routing s) (room_of basis) c.args.by v.found v.seen told)) same e.some in
+    let told = subst (λ s. ToldInRows (site_routing s) (room_of basis) c.args.by v.found v.seen (since (made_by old.told) new.told)) same e.told in (
       c.run-end.result.connections,
       inl (record {
         seen = v.seen;
@@ -40,13 +40,12 @@ returns-clause-owes g c =
         opened = e.connections;
         once = λ h. e.once (ap (λ s. reconnects s c.args.by) same ∙ h);
         cause = subst (λ s. CausesEnd s basis.entries c.args.by v.seen new.told old.failed_dials new.failed_dials c.run-end.result.why) same e.cause;
-        stops = e.stops;
-        own_stop = e.own_stop;
+        stops = e.stops.stood;
+        own_stop = e.stops.own;
         faults = e.faults;
-        dials = e.dials;
-        failed = λ why is. e.failed why (ap (λ s. after_failed s c.args.by) same ∙ is);
-        full = e.full;
-        memory = e.memory;
+        dials = subst (λ s. DialsFor s c.args.by (Some c.run-end.result.why) old new) same e.dials;
+        full = e.closed.full;
+        memory = e.closed.memory;
         idle = e.idle;
       }),
     )

@@ -1,4 +1,4 @@
-use Rattle.std.proofs.Common.{arith, ◌≡◌, ◌++◌, length, map, sym, ◌∙◌, ap, subst, length-append}
+use Rattle.std.proofs.Common.{List, arith, ◌≡◌, ◌++◌, length, map, sym, ◌∙◌, ap, subst, length-append}
 use Rattle.std.specs.Arc.{arc_value}
 use Rattle.cts_chain.specs.Builds.{AreFresh}
 use Rattle.cts_connection.specs.LineChains.{line_chains}
@@ -29,7 +29,8 @@ run_site-requires-clause-begun g c κs within =
 
 pub run_site-requires-clause-chains : goal.run_site-requires-clause-chains
 run_site-requires-clause-chains g c κs within =
-    subst (λ s. AreFresh (line_chains s) (map g.C.Chained.shape c.args.chains.items)) (sym c.deref.ensures) c.requires.chains
+    subst (λ (xs : List g.row.C.Denot). AreFresh (line_chains c.deref.result.now) (map g.C.Chained.shape xs)) (sym c.in_ok-begun.ensures.chains)
+    (subst (λ s. AreFresh (line_chains s) (map g.C.Chained.shape c.args.chains.items)) (sym c.deref.ensures) c.requires.chains)
 
 pub run_site-requires-clause-there : goal.run_site-requires-clause-there
 run_site-requires-clause-there g c κs within =

@@ -32,7 +32,7 @@ desks-preserved g c =
           c.desks.tasks.items _ place (first_desk + place)
           c.take_first-aim.result c.take_at-door.result _ kept.taking aim at.stood at.others at.long c.push_reserved.ensures.items (omega arith) refl
           (desk_ready c.args.site.now (first_desk + place) c.take_first-aim.result (g.Q.Link.seen c.take_at-door.result) (g.Q.Link.seen c.aim.new.self)
-          fit.0 c.aim.ensures.content c.aim.ensures.linked c.aim.ensures.faults c.aim.ensures.dials);
+          fit.0 c.aim.ensures.content c.aim.ensures.linked c.aim.ensures.finished c.aim.ensures.faults c.aim.ensures.dials);
       there = there_more place c.desks.places c.take_at-door.new.places c.take_at-door.result kept.there at.stood at.others;
       many = grind (arith, common_steps);
       long = at.long ∙ kept.long;

@@ -6,5 +6,5 @@ returns-clause-device g c = (
   c.take_at-device.result,
   c.take_at-device.ensures.stood,
   aim_shows c.args.aim (g.D.Link.seen c.take_at-device.result) (g.D.Link.seen c.aim.new.self) c.aim.ensures.content c.aim.ensures.linked
-      c.aim.ensures.faults c.aim.ensures.dials,
+      c.aim.ensures.finished c.aim.ensures.faults c.aim.ensures.dials,
 )

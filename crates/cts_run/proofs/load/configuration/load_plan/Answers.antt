@@ -2,7 +2,7 @@ use Rattle.std.proofs.lemmas.Result.{err_from_is_err_and}
 use Rattle.cts_run.specs.Load.{no_site, site_read}
 use Rattle.cts_run.specs.declared.halt.cause.Cause.TheVariants.{Site}
 use Rattle.cts_run.specs.declared.halt.file_kind.FileKind.TheVariants.{Configuration as OfKind}
-use Rattle.cts_run.proofs.LoadLemmas.{site_err, site_ok, not_stated, refuses, takes}
+use Rattle.cts_run.proofs.LoadLemmas.{over_definitions, site_err, site_ok, not_stated, refuses, takes}
 use Rattle.cts_run.proofs.load.configuration.load_plan.Goals as goal
 
 pub returns-in_err-found-clause-content : goal.returns-in_err-found-clause-content
@@ -13,6 +13,9 @@ returns-in_err-found-clause-content g c =
 pub returns-in-Ok-clause-content : goal.returns-in-Ok-clause-content
 returns-in-Ok-clause-content g c =
     takes OfKind c.args.name.now (site_read c.args.definitions) no_site _ c.in_ok-found.found.items c.in-Ok.site c.in_ok-found.ensures.content (site_ok c.args.definitions _ c.in-Ok.site (rw c.deref.ensures.value at c.in-Ok.ensures.said))
+
+pub returns-in-Ok-clause-over : goal.returns-in-Ok-clause-over
+returns-in-Ok-clause-over g c = over_definitions c.args.definitions c.in_ok-found.found.items c.in-Ok.site (rw c.deref.ensures.value at c.in-Ok.ensures.said)
 
 pub returns-in-Err-Refused-clause-content : goal.returns-in-Err-Refused-clause-content
 returns-in-Err-Refused-clause-content g c =

@@ -1,0 +1,4 @@
+pub mod Over
+pub mod ReadBack
+pub mod Endings
+pub mod Lasts

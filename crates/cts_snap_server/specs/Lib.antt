@@ -1,0 +1,4 @@
+pub mod Replied
+pub mod SnapDesks
+pub mod Publishers
+pub mod Lasting
