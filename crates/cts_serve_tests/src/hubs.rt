@@ -27,7 +27,12 @@ impl Answers for Hubs {
 /// The definitions, both sites and the script, by the names `d`, `s`, `b` and `c`.
 fn files_of(alloc: Global, below: &str, script: &str) -> Result<MemFiles, Fail> {
     let mut held = Vec::new(alloc);
-    hold_bytes(alloc, &mut held, "d", bytes_by_number(alloc, INSTRUMENT_DEFINITIONS)?)?;
+    hold_bytes(
+        alloc,
+        &mut held,
+        "d",
+        bytes_by_number(alloc, INSTRUMENT_DEFINITIONS)?,
+    )?;
     hold_bytes(alloc, &mut held, "s", bytes_by_number(alloc, ROUTED_SITE)?)?;
     hold_bytes(alloc, &mut held, "b", bytes_by_number(alloc, below)?)?;
     hold_bytes(alloc, &mut held, "c", bytes_by_number(alloc, script)?)?;
