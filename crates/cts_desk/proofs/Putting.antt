@@ -1,5 +1,6 @@
 -- Puts one after the other.
 use Rattle.std.proofs.Common.{◌≡◌, ℕ, ◌+◌, ◌≤◌, List, [], ◌∷◌, ◌++◌, length, take, drop, suc, zero, true, sym, refl, ap, ◌∙◌, arith, length-append, append_assoc, Option, Some, None, option_map, Result, Ok, Err}
+use Rattle.std.proofs.Math.Seq.{take-append-add, take-append_seam}
 use Rattle.cts_http.specs.Texts.{Writes}
 use Rattle.cts_outside.specs.Lines.{Connection, Line, told_after, at_now, with_put, with_failed_put, LinkPuts}
 
@@ -49,6 +50,20 @@ puts_part a b old new puts = (
 take_all : (xs : List ℕ) → take (length xs) xs ≡ xs
 take_all [] = refl
 take_all (x ∷ xs) = ap (λ l. x ∷ l) (take_all xs)
+
+-- a text that was written over the first bytes, and another one after it
+written_both : (a b w x : List ℕ) → take (length a + length b) (take (length a) (a ++ w) ++ (b ++ x)) ≡ a ++ b
+written_both a b w x =
+    ap (λ (l : List ℕ). take (length a + length b) (l ++ (b ++ x))) (take-append_seam a w)
+    ∙ take-append-add a (b ++ x) (length b) ∙ ap (λ (l : List ℕ). a ++ l) (take-append_seam b x)
+
+pub joined : (a b w x mid new : List ℕ) (middle end : ℕ) → mid ≡ a ++ w → middle ≡ 0 + length a → new ≡ take middle mid ++ (b ++ x)
+    → end ≡ middle + length b → take end new ≡ a ++ b
+joined a b w x mid new middle end first from second ends =
+    let at : middle ≡ length a = omega (arith, from) in
+    ap (λ (n : ℕ). take n new) (ends ∙ ap (λ (n : ℕ). n + length b) at)
+    ∙ ap (take (length a + length b)) (second ∙ ap (λ (n : ℕ). take n mid ++ (b ++ x)) at ∙ ap (λ (l : List ℕ). take (length a) l ++ (b ++ x)) first)
+    ∙ written_both a b w x
 
 -- the bytes that were written
 pub text_written : (text old new : List ℕ) (count : ℕ) → Writes text old new count → take count new ≡ text

@@ -1,5 +1,5 @@
 // What a desk puts.
-ghost use Rattle.std.specs.Prelude.{◌≡◌, ◌++◌, true, Option, Some, IsTrue, option_map};
+ghost use Rattle.std.specs.Prelude.{◌≡◌, ◌≤◌, ◌+◌, ◌++◌, drop, length, take, true, Option, Some, IsTrue, option_map};
 ghost use Rattle.cts_outside.specs.Lines.{LinkPuts};
 ghost use Rattle.cts_http.specs.Texts.{is_refusal, refusal_text};
 ghost use Rattle.cts_desk.specs.Faults.{FaultsRise};
@@ -10,6 +10,9 @@ ghost use Rattle.cts_desk.specs.Streams.{last_front};
 use cts_http::{refusal, response};
 use cts_outside::{Dialer, PutFailed};
 
+/// How many bytes of a response are put in one call at most: a short one is then one segment for its client, who is woken once.
+const AT_ONCE: usize = 2_048;
+
 // What is said where no memory was found.
 #[tactic(auto, unfolding(crate::specs::Exchanges::out_of_memory))]
 pub(crate) fn out_of_memory() -> &'static [u8]
@@ -19,7 +22,7 @@ pub(crate) fn out_of_memory() -> &'static [u8]
 }
 
 // Puts a text and then another one.
-fn put_both<R: Dialer>(door: &mut R, first: &[u8], second: &[u8]) -> Result<(), PutFailed>
+fn put_in_turn<R: Dialer>(door: &mut R, first: &[u8], second: &[u8]) -> Result<(), PutFailed>
     requires linked { (R.seen door.old).linked ≡ true }
     ensures content { LinkPuts (R.seen door.old).told (R.seen door.new).told (first.now ++ second.now) result }
     ensures linked { (R.seen door.new).linked ≡ true }
@@ -30,6 +33,43 @@ fn put_both<R: Dialer>(door: &mut R, first: &[u8], second: &[u8]) -> Result<(), 
         Ok(()) => door.put(second),
         Err(fault) => Err(fault),
     }
+}
+
+// Puts a text and another one after it, in one call where they are short.
+fn put_both<R: Dialer>(door: &mut R, first: &[u8], second: &[u8]) -> Result<(), PutFailed>
+    requires linked { (R.seen door.old).linked ≡ true }
+    ensures content { LinkPuts (R.seen door.old).told (R.seen door.new).told (first.now ++ second.now) result }
+    ensures linked { (R.seen door.new).linked ≡ true }
+    ensures dials { (R.seen door.new).failed_dials ≡ (R.seen door.old).failed_dials }
+    ensures faults { FaultsRise (R.seen door.old) (R.seen door.new) }
+{
+    let mut whole = [0u8; AT_ONCE];
+    if first.len() > AT_ONCE || second.len() > AT_ONCE - first.len() {
+        return put_in_turn(door, first, second);
+    }
+    let end = join(first, second, &mut whole);
+    door.put(&whole[..end])
+}
+
+// Writes a text and another one after it, and answers how many bytes they are.
+fn join(first: &[u8], second: &[u8], whole: &mut [u8; AT_ONCE]) -> usize
+    requires room { length first.now + length second.now ≤ 2048 }
+    ensures joined { take result whole.new ≡ first.now ++ second.now }
+    ensures end { result ≤ 2048 }
+{
+    let middle = write_at(first, 0, whole);
+    write_at(second, middle, whole)
+}
+
+// Writes a text from this place on, and answers where it ends.
+fn write_at(text: &[u8], at: usize, whole: &mut [u8; AT_ONCE]) -> usize
+    requires room { at + length text.now ≤ 2048 }
+    ensures written { whole.new ≡ take at whole.old ++ (text.now ++ drop (at + length text.now) whole.old) }
+    ensures end { result ≡ at + length text.now }
+{
+    let end = at + text.len();
+    whole[at..end].copy_from_slice(text);
+    end
 }
 
 /// Puts a whole response.

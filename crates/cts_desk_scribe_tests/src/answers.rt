@@ -140,24 +140,23 @@ fn a_desk_ends_for_a_stop(rt: HostRuntime) -> Result<(), Fail> {
     Ok(())
 }
 
-/// The number of the door's call that fails, what clients ask, and what is put. The dials of a client are the calls 0 and 1, and the first take is 2. A
-/// client that reads nothing is one to which a put fails.
+/// The number of the door's call that fails, what clients ask, and what is put. The dials of a client are the calls 0 and 1, the first take is 2, and
+/// the response to what it brought, which is short, is one put. A client that reads nothing is one to which a put fails.
 const FAULTS: &str = r#"0>$|&(DoorFailed, [], 2)
 1>$|&(DoorFailed, [], 2)
 2>$|&(Finished, [], 1)
 3>$|&(Finished, [0], 1)
-4>$|HTTP/1.1 200 OK;Content-Type: application/json-rpc;Content-Length: 43;X-Cts-Front: 0;;&(Finished, [0], 1)
+4>$|HTTP/1.1 200 OK;Content-Type: application/json-rpc;Content-Length: 43;X-Cts-Front: 0;;{"id":1,"jsonrpc":"2.0","result":"DEFAULT"}&(Finished, [0], 1)
 5>$|HTTP/1.1 200 OK;Content-Type: application/json-rpc;Content-Length: 43;X-Cts-Front: 0;;{"id":1,"jsonrpc":"2.0","result":"DEFAULT"}&(Finished, [0], 1)
-6>$|HTTP/1.1 200 OK;Content-Type: application/json-rpc;Content-Length: 43;X-Cts-Front: 0;;{"id":1,"jsonrpc":"2.0","result":"DEFAULT"}&(Finished, [0], 1)
-7>$|HTTP/1.1 200 OK;Content-Type: application/json-rpc;Content-Length: 43;X-Cts-Front: 0;;{"id":1,"jsonrpc":"2.0","result":"DEFAULT"}&(DoorFailed, [0], 2)
+6>$|HTTP/1.1 200 OK;Content-Type: application/json-rpc;Content-Length: 43;X-Cts-Front: 0;;{"id":1,"jsonrpc":"2.0","result":"DEFAULT"}&(DoorFailed, [0], 2)
 3>$$$|&(Finished, [0], 1)
-5>$$$|HTTP/1.1 200 OK;Content-Type: application/json-rpc;Content-Length: 43;X-Cts-Front: 0;;{"id":1,"jsonrpc":"2.0","result":"DEFAULT"}&(Finished, [0, 0], 1)
-6>$$$|HTTP/1.1 200 OK;Content-Type: application/json-rpc;Content-Length: 43;X-Cts-Front: 0;;{"id":1,"jsonrpc":"2.0","result":"DEFAULT"}HTTP/1.1 200 OK;Content-Type: application/json-rpc;Content-Length: 43;X-Cts-Front: 0;;&(Finished, [0, 0], 1)
+4>$$$|HTTP/1.1 200 OK;Content-Type: application/json-rpc;Content-Length: 43;X-Cts-Front: 0;;{"id":1,"jsonrpc":"2.0","result":"DEFAULT"}&(Finished, [0, 0], 1)
+5>$$$|HTTP/1.1 200 OK;Content-Type: application/json-rpc;Content-Length: 43;X-Cts-Front: 0;;{"id":1,"jsonrpc":"2.0","result":"DEFAULT"}HTTP/1.1 200 OK;Content-Type: application/json-rpc;Content-Length: 43;X-Cts-Front: 0;;{"id":1,"jsonrpc":"2.0","result":"DEFAULT"}&(Finished, [0, 0, 0], 1)
 3>GET / HTTP/1.1;;|&(Finished, [], 1)
 3>@|&(Finished, [0], 1)
 3>$&$|&HTTP/1.1 200 OK;Content-Type: application/json-rpc;Content-Length: 43;X-Cts-Front: 0;;{"id":1,"jsonrpc":"2.0","result":"DEFAULT"}&(Finished, [0, 0], 1)
-5>$&$|HTTP/1.1 200 OK;Content-Type: application/json-rpc;Content-Length: 43;X-Cts-Front: 0;;{"id":1,"jsonrpc":"2.0","result":"DEFAULT"}&HTTP/1.1 200 OK;Content-Type: application/json-rpc;Content-Length: 43;X-Cts-Front: 0;;{"id":1,"jsonrpc":"2.0","result":"DEFAULT"}&(Finished, [0, 0], 1)
-7>$&$|HTTP/1.1 200 OK;Content-Type: application/json-rpc;Content-Length: 43;X-Cts-Front: 0;;{"id":1,"jsonrpc":"2.0","result":"DEFAULT"}&&(DoorFailed, [0], 2)"#;
+4>$&$|HTTP/1.1 200 OK;Content-Type: application/json-rpc;Content-Length: 43;X-Cts-Front: 0;;{"id":1,"jsonrpc":"2.0","result":"DEFAULT"}&HTTP/1.1 200 OK;Content-Type: application/json-rpc;Content-Length: 43;X-Cts-Front: 0;;{"id":1,"jsonrpc":"2.0","result":"DEFAULT"}&(Finished, [0, 0], 1)
+6>$&$|HTTP/1.1 200 OK;Content-Type: application/json-rpc;Content-Length: 43;X-Cts-Front: 0;;{"id":1,"jsonrpc":"2.0","result":"DEFAULT"}&&(DoorFailed, [0], 2)"#;
 
 fn fault_holds<W: Wait>(rt: &W, alloc: Global, row: &str) -> Result<(), Fail> {
     let (failing, rest) = cut(row, '>')?;

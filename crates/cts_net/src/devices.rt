@@ -34,9 +34,9 @@ const SLOT: Patience = Patience {
 /// all, once nothing more is there to take: so clients that are idle, or send a byte now and then, do not keep others out for good.
 /// It leaves nothing in the history, and goes on with the next client at once.
 const DESK: Patience = Patience {
-    take: 10,
-    in_row: 6_000,
-    in_all: 60_000,
+    take: 100,
+    in_row: 600,
+    in_all: 6_000,
     rest: 0,
 };
 

@@ -31,6 +31,10 @@ pub(crate) struct Waits<'a> {
     bell: Option<&'a Bell>,
     // How many milliseconds a take waits.
     take: u64,
+    // Whether the last read took all that was there, so that the system tells of what comes next: the next read waits before it asks.
+    drained: bool,
+    // Whether the system told that the peer sends no more: it tells so once, maybe together with the last bytes.
+    closing: bool,
 }
 
 /// Reads and writes wait in sets of their own, so that neither uses up what is told of the other; the bell ends waits of reads.
@@ -51,6 +55,8 @@ impl<'a> Waits<'a> {
             events: Events::with_capacity(alloc, EVENTS)?,
             bell,
             take,
+            drained: false,
+            closing: false,
         })
     }
 
@@ -80,6 +86,8 @@ impl<'a> Waits<'a> {
         sets.writes
             .registry()
             .register(&mut stream, STREAM, Interest::WRITABLE)?;
+        self.drained = false;
+        self.closing = false;
         Ok(stream)
     }
 
@@ -100,6 +108,15 @@ impl<'a> Waits<'a> {
         };
         bell.end_wait();
         waited
+    }
+
+    // Keeps what the last wait told of the peer's end.
+    fn note_end(&mut self) {
+        for event in self.events.iter() {
+            if event.token() == STREAM && event.is_read_closed() {
+                self.closing = true;
+            }
+        }
     }
 
     // Waits a moment for what a peer still sends before its connection is closed.
@@ -132,13 +149,30 @@ pub(crate) struct Wire<'b, 'a> {
 impl Read for Wire<'_, '_> {
     fn read(&mut self, buffer: &mut [u8]) -> io::Result<usize> {
         let mut peer = self.stream;
-        match peer.read(buffer) {
-            Err(error) if error.kind() == ErrorKind::WouldBlock => {
-                self.waits.before_read()?;
-                peer.read(buffer)
-            }
-            read => read,
+        let mut read = Err(io::Error::from(ErrorKind::WouldBlock));
+        if !self.waits.drained {
+            read = peer.read(buffer);
         }
+        if would_block(&read) {
+            self.waits.before_read()?;
+            self.waits.note_end();
+            read = peer.read(buffer);
+        }
+        self.waits.drained = !self.waits.closing && takes_all(&read, buffer.len());
+        read
+    }
+}
+
+// Whether there was nothing to read yet.
+fn would_block(read: &io::Result<usize>) -> bool {
+    matches!(read, Err(error) if error.kind() == ErrorKind::WouldBlock)
+}
+
+// Whether a read into so much room left nothing: it gave less than that, or there was nothing.
+fn takes_all(read: &io::Result<usize>, room: usize) -> bool {
+    match read {
+        Ok(count) => *count < room,
+        Err(error) => error.kind() == ErrorKind::WouldBlock,
     }
 }
 

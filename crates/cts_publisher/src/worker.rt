@@ -20,6 +20,9 @@ use cts_turn::{Pass, Turn};
 use cts_worker::{Progress, nap};
 use std::sync::Wait;
 
+/// How many milliseconds a publisher sleeps where nothing was new: so few that a reply from a snapshot is hardly older than its request.
+const NAP: u64 = 5;
+
 // One look, and a publication outside of it. Says why the publisher ends, if it does.
 fn round<W: Wait, J: Grounds, T: Replicates<J>, R: Wait + Drop>(
     rt: &W,
@@ -51,7 +54,7 @@ fn round<W: Wait, J: Grounds, T: Replicates<J>, R: Wait + Drop>(
     match sight {
         Sight::More => (pass, None),
         Sight::Still => {
-            nap(rt);
+            nap(rt, NAP);
             (pass, None)
         }
         Sight::Over => (pass, Some(PublisherWhy::Ended)),

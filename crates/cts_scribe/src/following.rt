@@ -23,6 +23,10 @@ use cts_worker::nap;
 use std::alloc::Global;
 use std::sync::Wait;
 
+/// How many milliseconds a scribe sleeps where nothing was new: so few that the logs follow the history closely, and so many that a server at
+/// rest leaves its processors to others.
+const NAP: u64 = 20;
+
 /// Puts the heads of both logs, which are in the site's layout and have the digest of the definitions, and returns them for the parts to come.
 ///
 /// # Errors
@@ -87,7 +91,7 @@ fn round<R: Wait, V: Vault>(
             }
         },
         Ok(Sight::Still) => {
-            nap(rt);
+            nap(rt, NAP);
             (follower, None)
         }
         Ok(Sight::Drained) => (follower, Some(ScribeWhy::Drained)),
