@@ -290,18 +290,14 @@ d8:0|DoorFault READY;END 19;door fault; [Finished, Finished, Finished, Finished]
 d8:1|Ok READY;END 18; [Finished, Finished, Finished, Finished] Finished[] Finished[] Finished[] Finished[] Some(Drained) 199/199 128/128 aimed
 d8:2|Ok READY;END 19; [Finished, Finished, Finished, Finished] Finished[13] Finished[] Finished[] Finished[] Some(Drained) 199/199 128/128 aimed
 d8:3|Ok READY;END 19; [Finished, Finished, Finished, Finished] Finished[13] Finished[] Finished[] Finished[] Some(Drained) 199/199 128/128 aimed
-d8:4|Ok READY;END 19; [Finished, Finished, Finished, Finished] Finished[13] Finished[] Finished[] Finished[] Some(Drained) 199/199 128/128 aimed
+d8:4|Ok READY;END 19; [Finished, Finished, Finished, Finished] Finished[13, 14] Finished[] Finished[] Finished[] Some(Drained) 199/199 128/128 aimed
 d8:5|Ok READY;END 19; [Finished, Finished, Finished, Finished] Finished[13, 14] Finished[] Finished[] Finished[] Some(Drained) 199/199 128/128 aimed
-d8:6|Ok READY;END 19; [Finished, Finished, Finished, Finished] Finished[13, 14] Finished[] Finished[] Finished[] Some(Drained) 199/199 128/128 aimed
-d8:7|Ok READY;END 19; [Finished, Finished, Finished, Finished] Finished[13, 14] Finished[] Finished[] Finished[] Some(Drained) 199/199 128/128 aimed
-d8:8|Ok READY;END 19; [Finished, Finished, Finished, Finished] Finished[13, 14, 14] Finished[] Finished[] Finished[] Some(Drained) 199/199 128/128 aimed
-d8:9|Ok READY;END 19; [Finished, Finished, Finished, Finished] Finished[13, 14, 14] Finished[] Finished[] Finished[] Some(Drained) 199/199 128/128 aimed
-d8:10|Ok READY;END 19; [Finished, Finished, Finished, Finished] Finished[13, 14, 14] Finished[] Finished[] Finished[] Some(Drained) 199/199 128/128 aimed
+d8:6|Ok READY;END 19; [Finished, Finished, Finished, Finished] Finished[13, 14, 14] Finished[] Finished[] Finished[] Some(Drained) 199/199 128/128 aimed
+d8:7|Ok READY;END 19; [Finished, Finished, Finished, Finished] Finished[13, 14, 14] Finished[] Finished[] Finished[] Some(Drained) 199/199 128/128 aimed
+d8:8|=
+d8:9|=
+d8:10|DoorFault READY;END 20;door fault; [Finished, Finished, Finished, Finished] DoorFailed[13, 14, 14, 14] Finished[] Finished[] Finished[] Some(Drained) 199/199 128/128 aimed
 d8:11|=
-d8:12|=
-d8:13|=
-d8:14|DoorFault READY;END 20;door fault; [Finished, Finished, Finished, Finished] DoorFailed[13, 14, 14, 14] Finished[] Finished[] Finished[] Some(Drained) 199/199 128/128 aimed
-d8:15|=
 d9:0|DoorFault READY;END 20;door fault; [Finished, Finished, Finished, Finished] Finished[13, 14, 14, 14] DoorFailed[] Finished[] Finished[] Some(Drained) 199/199 128/128 aimed";
 
 #[test]
