@@ -20,6 +20,7 @@ use Rattle.cts_outside.specs.declared.link.Aim.{Aim}
 use Rattle.cts_scribe.specs.Ending.{stops_all as scribe_stops}
 use Rattle.cts_scribe.specs.declared.ending.ScribeWhy.{ScribeWhy}
 use Rattle.cts_server.specs.Aims.{aimed_at, desk_aims, line_aims, slot_aims}
+use Rattle.cts_server.proofs.Returned.{all_left}
 use Rattle.cts_server.specs.Owed.{DeskOwes, LineOwes, ScribeOwes, server_basis}
 use Rattle.cts_server.specs.Places.{CameBack}
 use Rattle.cts_server.specs.declared.worked.DeskNote.{DeskNote}
@@ -308,19 +309,6 @@ asked_for site w l ls ds s plain (inr (inr (inr a))) = a
 
 -- ---- where nobody stopped the server
 
--- what holds of each of what workers left
-module _ {X N : Type 0} (Owes : ℕ → Aim → X → X → N → Type 0) (P : N → Type 0)
-    (tells : (n : ℕ) (a : Aim) (x y : X) (w : N) → Owes n a x y w → P w) where
-  each : (by : ℕ) (aims : List Aim) (old new : List (Option X)) (notes : List N) → CameBack Owes by aims old new notes → AllByRecursion P notes
-  each by [] old new [] b = tt
-  each by [] old new (w ∷ notes) b = absurd b
-  each by (a ∷ aims) [] new notes b = absurd b
-  each by (a ∷ aims) (None ∷ old) new notes b = absurd b
-  each by (a ∷ aims) (Some x ∷ old) [] notes b = absurd b
-  each by (a ∷ aims) (Some x ∷ old) (None ∷ new) notes b = absurd b
-  each by (a ∷ aims) (Some x ∷ old) (Some y ∷ new) [] b = absurd b
-  each by (a ∷ aims) (Some x ∷ old) (Some y ∷ new) (w ∷ notes) b = (tells by a x y w b.0, each (by + 1) aims old new notes b.1)
-
 all_parts : {N : Type 0} (P : N → Type 0) (xs ys : List N) → AllByRecursion P xs → AllByRecursion P ys → AllByRecursion P (xs ++ ys)
 all_parts P [] ys p q = q
 all_parts P (x ∷ xs) ys p q = (p.0, all_parts P xs ys p.1 q)
@@ -407,11 +395,11 @@ plain_ends_are_caused line_seen door_seen vault_seen site digest w dialers diale
       lines = all_both (λ why. is_plain_line why ≡ true) (λ why. is_left_line why ≡ true) (λ why. is_gone_line why ≡ true) gone_line w.lines plain.lines
           (subst (λ l. AllByRecursion (λ why. is_left_line why ≡ true) l) (take-append-drop (length site.interfaces) w.lines)
           (all_parts (λ why. is_left_line why ≡ true) (take (length site.interfaces) w.lines) (drop (length site.interfaces) w.lines)
-          (each (LineOwes line_seen site w.history) (λ why. is_left_line why ≡ true) (line_left site w.history none line_seen) _ _ _ _ _ served.interfaces)
-          (each (LineOwes door_seen site w.history) (λ why. is_left_line why ≡ true) (line_left site w.history none door_seen) _ _ _ _ _ served.slots)));
+          (all_left (LineOwes line_seen site w.history) (λ why. is_left_line why ≡ true) (line_left site w.history none line_seen) _ _ _ _ _ served.interfaces)
+          (all_left (LineOwes door_seen site w.history) (λ why. is_left_line why ≡ true) (line_left site w.history none door_seen) _ _ _ _ _ served.slots)));
       desks = all_both (λ n. is_plain_desk n.why ≡ true) (λ n. is_left_desk n.why ≡ true) (λ n. is_gone_desk n.why ≡ true) (λ n. gone_desk n.why)
           w.desks plain.desks
-          (each (DeskOwes door_seen site w.history) (λ n. is_left_desk n.why ≡ true) (desk_left site w.history none door_seen) _ _ _ _ _ served.desks);
+          (all_left (DeskOwes door_seen site w.history) (λ n. is_left_desk n.why ≡ true) (desk_left site w.history none door_seen) _ _ _ _ _ served.desks);
     }
 
     by_stop : (b : Bool) → is_stopped w.history ≡ b → ((is_stopped w.history ≡ true) × IsAsked site w.history) ⊎ ((is_stopped w.history ≡ false) × HaveGone w)

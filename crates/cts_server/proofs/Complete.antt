@@ -1,5 +1,5 @@
 -- Each desk answers all that it is asked, and lines take each connection to its end where nobody stops the server.
-use Rattle.std.proofs.Common.{◌≡◌, ℕ, ◌+◌, Bool, true, false, ◌||◌, List, [], ◌∷◌, ◌++◌, length, take, drop, Option, Some, None, IfSome, refl, sym}
+use Rattle.std.proofs.Common.{◌≡◌, ℕ, Bool, true, false, ◌||◌, List, [], ◌∷◌, ◌++◌, length, take, drop, Option, Some, None, IfSome, refl, sym}
 use Rattle.std.proofs.Common.{◌∙◌, ap, subst, append-nil, append_assoc, inl, inr}
 use Rattle.std.specs.List.{list_any}
 use Rattle.cts_connection.specs.Routings.{site_routing}
@@ -39,6 +39,7 @@ use Rattle.cts_server.specs.Aims.{aimed_at, desk_aims, line_aims, slot_aims}
 use Rattle.cts_server.specs.Complete.{AnswersAll, AreServed, DeskAnswers, HasRunOut, IsComplete, IsServed, LineRunsOut, RunOut, RunsOut, Unstopped}
 use Rattle.cts_server.specs.Complete.{cut_before, is_stopped_why}
 use Rattle.cts_server.specs.Desks.{is_cancelled}
+use Rattle.cts_server.proofs.Returned.{came_all}
 use Rattle.cts_server.specs.Owed.{DeskOwes, LineOwes, ScribeOwes, server_basis}
 use Rattle.cts_server.specs.Places.{CameBack}
 use Rattle.cts_server.specs.declared.worked.DeskNote.{DeskNote}
@@ -234,17 +235,6 @@ none_cut r before (e ∷ es) calm all =
     ap (λ (b : Bool). b || list_any (λ (x : Entry). closes_for is_stopped_why x.what) es) head ∙ rest
 
 -- ---- those of a site
-
-module _ {X N : Type 0} (Owes Says : ℕ → Aim → X → X → N → Type 0) (tells : (n : ℕ) (a : Aim) (x y : X) (w : N) → Owes n a x y w → Says n a x y w) where
-  pub came_all : (by : ℕ) (aims : List Aim) (old new : List (Option X)) (notes : List N) → CameBack Owes by aims old new notes → CameBack Says by aims old new notes
-  came_all by [] old new [] b = b
-  came_all by [] old new (w ∷ notes) b = absurd b
-  came_all by (a ∷ aims) [] new notes b = absurd b
-  came_all by (a ∷ aims) (None ∷ old) new notes b = absurd b
-  came_all by (a ∷ aims) (Some x ∷ old) [] notes b = absurd b
-  came_all by (a ∷ aims) (Some x ∷ old) (None ∷ new) notes b = absurd b
-  came_all by (a ∷ aims) (Some x ∷ old) (Some y ∷ new) [] b = absurd b
-  came_all by (a ∷ aims) (Some x ∷ old) (Some y ∷ new) (w ∷ notes) b = (tells by a x y w b.0, came_all (by + 1) aims old new notes b.1)
 
 module _ {D Q V : Type 0} (line_seen : D → LineSeen) (door_seen : Q → LineSeen) (vault_seen : V → VaultSeen) (site : SiteData) (digest : List ℕ)
     (dialers dialers' : List (Option D)) (doors doors' : List (Option Q)) (vault vault' : Option V) where

@@ -47,7 +47,8 @@ use Rattle.cts_server.specs.ServedLogs.{LeavesLog}
 use Rattle.cts_server.specs.Serving.{HasServed}
 use Rattle.cts_server.specs.declared.worked.DeskNote.{DeskNote}
 use Rattle.cts_server.specs.declared.worked.Worked.{Worked}
-use Rattle.cts_server.proofs.Complete.{came_all, completes, desk_answers, made_aimed}
+use Rattle.cts_server.proofs.Complete.{completes, desk_answers, made_aimed}
+use Rattle.cts_server.proofs.Returned.{came_all}
 use Rattle.cts_server.proofs.Fits.{interface_tells, line_aims_count, no_interface}
 use Rattle.cts_server.proofs.Leaving.{served_stops_leave_logs}
 

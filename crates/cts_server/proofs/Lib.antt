@@ -1,7 +1,6 @@
 mod Steps
 mod Endings
 mod Whys
-mod Keeping
 mod Closed
 mod Taking
 mod Homing
@@ -13,6 +12,7 @@ mod Fits
 mod Parts
 mod Owing
 mod Site
+mod Plain
 mod Once
 mod Complete
 mod Causing

@@ -21,16 +21,17 @@ use Rattle.cts_trace.specs.Makers.{of_maker}
 use Rattle.cts_turn.specs.Lists.{StartsWith, has}
 use Rattle.cts_server.specs.Aims.{aimed_at, desk_aims, line_aims, slot_aims}
 use Rattle.cts_server.specs.Cancelled.{cancellations, is_set, worker_count}
-use Rattle.cts_server.specs.Desks.{OwesDesk, is_cancelled as is_cancelled_desk}
-use Rattle.cts_server.specs.Homes.{CameHome, last_of}
+use Rattle.cts_server.specs.Desks.{DeskLasts, DeskRule, is_cancelled as is_cancelled_desk}
+use Rattle.cts_server.specs.Begun.{IsRoom, IsStaff}
+use Rattle.cts_server.specs.Homes.{CameHome, FindHome, HaveCome, last_of}
 use Rattle.cts_server.specs.Kinds.{IsDesk, IsInterface, IsScribe, IsSlot, both_of, desk_note, line_why, note_of, the_desk, the_interface, the_scribe, the_slot}
 use Rattle.cts_server.specs.Lines.{MayRunLine, OwesLine, is_cancelled}
 use Rattle.cts_server.specs.Making.{ReadyDesk, ReadyLine, ReadyScribe, Staffed}
-use Rattle.cts_server.specs.Owed.{DeskOwes, LineOwes, ScribeOwes, server_basis}
+use Rattle.cts_server.specs.Owed.{DeskDid, LineOwes, ScribeOwes, server_basis}
 use Rattle.cts_server.specs.Desks.{MayRunDesk}
-use Rattle.cts_server.specs.Owing.{MayWork, WorkOwes, was_cancelled}
+use Rattle.cts_server.specs.Owing.{MayWork, WorkOwesBy, was_cancelled}
 use Rattle.cts_server.specs.Places.{AreAimed, AreThere, CameBack, IsThere, filled}
-use Rattle.cts_server.specs.Serving.{HasIdled, HasServed, IdledParts, ServedParts}
+use Rattle.cts_server.specs.Serving.{HasIdled, HasServed, IdledParts, ServedBy, ServedParts}
 use Rattle.cts_server.specs.Scribes.{MayRunScribe, OwesScribe, is_cancelled as is_cancelled_scribe}
 use Rattle.cts_server.specs.Tasks.{Did, Holds, Rising}
 use Rattle.cts_server.specs.declared.kinds.ByKind.{ByKind}
@@ -40,15 +41,16 @@ use Rattle.cts_server.specs.declared.kinds.Line.{Line}
 use Rattle.cts_server.specs.declared.kinds.LineLeft.{LineLeft}
 use Rattle.cts_server.specs.declared.kinds.ScribeLeft.{ScribeLeft}
 use Rattle.cts_server.specs.declared.running.Task.{Task}
+use Rattle.cts_server.specs.declared.staging.Room.{Room}
 use Rattle.cts_server.specs.declared.worked.DeskNote.{DeskNote}
 use Rattle.cts_server.specs.declared.worked.Worked.{Worked}
 use Rattle.cts_server.proofs.Fits.{desk_aims_count, line_aims_count, slot_aims_count}
-use Rattle.cts_server.proofs.Keeping.{work_lasts}
+use Rattle.cts_server.specs.WorkLaws.{work_lasts}
 use Rattle.cts_server.proofs.Owing.{owes_desk, owes_line}
 use Rattle.cts_server.proofs.Parts.{desk_left, desk_made, interface_left, interface_made, scribe_left, scribe_made, slot_left, slot_made}
 use Rattle.cts_server.proofs.Returned.{aimed_there, came_aimed, came_there, same_zip}
 use Rattle.cts_server.proofs.Sorting.{AllSorted, all_of, all_sorted, desks_are, lines_are, none_of, scribe_is, slots_are, taken}
-use Rattle.cts_server.proofs.Steps.{cancelled_map, count_map, did_all, kept}
+use Rattle.cts_server.proofs.Steps.{did_all, kept}
 use Rattle.cts_server.proofs.Whole.{staff_all, staff_count, staff_rises}
 
 map_map : {X Y Z : Type 0} (f : Y → Z) (g : X → Y) (xs : List X) → map f (map g xs) ≡ map (λ (x : X). f (g x)) xs
@@ -58,11 +60,7 @@ map_map {Z} f g (x ∷ xs) = ap (λ (l : List Z). f (g x) ∷ l) (map_map f g xs
 some_is : {A : Type 0} (a b : A) → Some a ≡ Some b → a ≡ b
 some_is {A} a b e = ap (λ (o : Option A). unwrap_or o a) e
 
-all_tied : {X : Type 0} (xs : List (DeskLeft X)) → AllByRecursion (λ (n : DeskNote). n.tied ≡ true) (map note_of xs)
-all_tied [] = tt
-all_tied (x ∷ xs) = (refl, all_tied xs)
-
--- The devices of a server and what they show, and its chains.
+-- The devices of a server and what they show, its chains, and what its desks owe.
 pub record Outfit : Type 1 where
   pub D : Type 0
   pub Q : Type 0
@@ -72,6 +70,8 @@ pub record Outfit : Type 1 where
   pub door_seen : Q → LineSeen
   pub vault_seen : V → VaultSeen
   pub shape : C → ChainData
+  pub rule : DeskRule
+  pub keeps : DeskLasts rule
 
 module _ (o : Outfit) (site : SiteData) (digest : List ℕ) where
   abbrev SiteWork : Type 0
@@ -105,7 +105,7 @@ module _ (o : Outfit) (site : SiteData) (digest : List ℕ) where
   slot_owes by basis found history l n = (connections : ℕ) × OwesLine basis by found history (o.door_seen l.device) (o.door_seen n.device) connections n.why
 
   abbrev desk_owes : ℕ → Basis → List ℕ → List Entry → o.Q → DeskLeft o.Q → Type 0
-  desk_owes by basis found history d n = OwesDesk basis by found history (o.door_seen d) (o.door_seen n.door) n.fronts n.why
+  desk_owes by basis found history d n = o.rule basis by found history (o.door_seen d) (o.door_seen n.door) (note_of n)
 
   abbrev scribe_owes : ℕ → Basis → List ℕ → List Entry → o.V → ScribeLeft o.V → Type 0
   scribe_owes by basis found history v n = (cursor : ℕ) × OwesScribe basis.site digest by history (o.vault_seen v) (o.vault_seen n.vault) cursor n.why
@@ -115,8 +115,11 @@ module _ (o : Outfit) (site : SiteData) (digest : List ℕ) where
       both_of (interface_owes by basis found history) (slot_owes by basis found history) (desk_owes by basis found history)
       (scribe_owes by basis found history) work left
 
+  abbrev owes : SiteWork → ℕ → Basis → List ℕ → List Entry → SiteLeft → Type 0
+  owes = WorkOwesBy {C = o.C} o.rule o.line_seen o.door_seen o.vault_seen digest
+
   abbrev site_did : Basis → List Entry → Task SiteWork → SiteLeft → Type 0
-  site_did basis history = Did (WorkOwes {C = o.C} o.line_seen o.door_seen o.vault_seen digest) basis history
+  site_did basis history = Did owes basis history
 
   abbrev site_can : Basis → Task SiteWork → Type 0
   site_can basis t = MayWork o.line_seen o.door_seen o.vault_seen o.shape site t.work t.by basis
@@ -125,11 +128,11 @@ module _ (o : Outfit) (site : SiteData) (digest : List ℕ) where
   pub closed_did : (basis : Basis) (makers : List ℕ) (seen history : List Entry) (tasks : List (Task SiteWork)) (lefts : List SiteLeft)
       → StartsWith history seen
       → ((m : ℕ) → has m makers ≡ true → of_maker m history ≡ of_maker m seen)
-      → AllZip (Holds (WorkOwes {C = o.C} o.line_seen o.door_seen o.vault_seen digest) basis makers seen) tasks lefts
+      → AllZip (Holds owes basis makers seen) tasks lefts
       → AllZip (site_did basis history) tasks lefts
   closed_did basis makers seen history tasks lefts begins own z =
-      did_all (WorkOwes {C = o.C} o.line_seen o.door_seen o.vault_seen digest) basis makers history tasks lefts
-      (kept (WorkOwes {C = o.C} o.line_seen o.door_seen o.vault_seen digest) basis (work_lasts {C = o.C} o.line_seen o.door_seen o.vault_seen digest)
+      did_all owes basis makers history tasks lefts
+      (kept owes basis (work_lasts {C = o.C} o.rule o.keeps o.line_seen o.door_seen o.vault_seen digest)
       makers makers seen history (λ m h. h) begins own tasks lefts z)
 
   -- ---- what each kind may do
@@ -308,7 +311,7 @@ module _ (o : Outfit) (site : SiteData) (digest : List ℕ) where
           )
 
       desk_did : (n : ℕ) (a : Aim) (x : o.Q) (t : Task SiteWork) (i : SiteLeft) → t.by ≡ n → IsDesk desk_of n a x t.work → site_did basis history t i
-          → (p : DeskLeft o.Q) × (i ≡ Desk p) × DeskOwes o.door_seen site history n a x p.door (note_of p)
+          → (p : DeskLeft o.Q) × (i ≡ Desk p) × DeskDid o.door_seen site history o.rule n a x p.door (note_of p)
       desk_did n a x t i at of did =
           let m = desk_made desk_of n a x t.work of in
           let owes : site_owes t.by basis did.0 history (Desk m.0) i = subst (λ (w : SiteWork). site_owes t.by basis did.0 history w i) m.1 did.1 in
@@ -318,8 +321,8 @@ module _ (o : Outfit) (site : SiteData) (digest : List ℕ) where
             q.1,
             (
               did.0,
-              owes_desk basis (server_basis site) t.by n did.0 history (o.door_seen m.0) (aimed_at a (o.door_seen x))
-                  (o.door_seen q.0.door) q.0.fronts q.0.why is at m.2.aimed q.2,
+              owes_desk o.rule basis (server_basis site) t.by n did.0 history (o.door_seen m.0) (aimed_at a (o.door_seen x))
+                  (o.door_seen q.0.door) (note_of q.0) is at m.2.aimed q.2,
             ),
           )
 
@@ -340,11 +343,11 @@ module _ (o : Outfit) (site : SiteData) (digest : List ℕ) where
       noted : AllSorted la sa da lp lq sp sq dp dq (λ (n : SiteLeft). n) (λ (n : LineLeft o.D). n.device) (λ (n : LineLeft o.Q). n.device)
           (λ (n : DeskLeft o.Q). n.door)
           (λ (n : LineLeft o.D). n.why) (λ (n : LineLeft o.Q). n.why) (note_of {X = o.Q})
-          (LineOwes o.line_seen site history) (LineOwes o.door_seen site history) (DeskOwes o.door_seen site history) ScribeDid notes
+          (LineOwes o.line_seen site history) (LineOwes o.door_seen site history) (DeskDid o.door_seen site history o.rule) ScribeDid notes
       noted = all_sorted la sa da lp lq sp sq dp dq (λ (n : SiteLeft). n) (λ (n : LineLeft o.D). n.device) (λ (n : LineLeft o.Q). n.device)
           (λ (n : DeskLeft o.Q). n.door)
           (λ (n : LineLeft o.D). n.why) (λ (n : LineLeft o.Q). n.why) (note_of {X = o.Q})
-          (LineOwes o.line_seen site history) (LineOwes o.door_seen site history) (DeskOwes o.door_seen site history) ScribeDid
+          (LineOwes o.line_seen site history) (LineOwes o.door_seen site history) (DeskDid o.door_seen site history o.rule) ScribeDid
           (IsInterface interface_of) (IsSlot slot_of) (IsDesk desk_of) (IsScribe (scribe_of place)) (site_did basis history)
           interface_did slot_did desk_did scribe_did tasks s notes z
 
@@ -415,15 +418,11 @@ module _ (o : Outfit) (site : SiteData) (digest : List ℕ) where
 
       pub served_desks : (new : List (Option o.Q)) (left : List DeskNote) → CameHome the_desk (λ n. n.door) notes dq new
           → left ≡ filter_map desk_note notes → da ≡ desk_aims site
-          → CameBack (DeskOwes o.door_seen site history) first_desk (desk_aims site) dp new left
+          → CameBack (DeskDid o.door_seen site history o.rule) first_desk (desk_aims site) dp new left
       served_desks new left home e ed =
           let back = noted.desks_back new (home ∙ ap (λ (l : List (DeskLeft o.Q)). filled (map (λ n. n.door) l) dq) noted_desks) in
-          subst (λ (w : List DeskNote). CameBack (DeskOwes o.door_seen site history) first_desk (desk_aims site) dp new w) (sym (e ∙ noted_left))
-          (subst (λ (a : List Aim). CameBack (DeskOwes o.door_seen site history) first_desk a dp new (map note_of noted.ks)) ed back)
-
-      -- each response of a desk was read of a beginning of the history
-      pub served_tied : (left : List DeskNote) → left ≡ filter_map desk_note notes → AllByRecursion (λ (n : DeskNote). n.tied ≡ true) left
-      served_tied left e = subst (λ (l : List DeskNote). AllByRecursion (λ (n : DeskNote). n.tied ≡ true) l) (sym (e ∙ noted_left)) (all_tied noted.ks)
+          subst (λ (w : List DeskNote). CameBack (DeskDid o.door_seen site history o.rule) first_desk (desk_aims site) dp new w) (sym (e ∙ noted_left))
+          (subst (λ (a : List Aim). CameBack (DeskDid o.door_seen site history o.rule) first_desk a dp new (map note_of noted.ks)) ed back)
 
       -- the scribe has left why it ended, and its vault
       scribe_said : last_of None (map (λ n. n.why) (filter_map the_scribe notes)) ≡ Some noted.c.why
@@ -474,51 +473,74 @@ module _ (o : Outfit) (site : SiteData) (digest : List ℕ) where
           ∙ ap (λ (l : List Bool). map is_cancelled worked.lines ++ (l ++ p (Scribe noted.c) ∷ [])) (sym desks)
           ∙ ap (λ (b : Bool). map is_cancelled worked.lines ++ (map (λ (n : DeskNote). is_cancelled_desk n.why) worked.desks ++ b ∷ [])) (sym last)
 
-      -- the workers did what they owed
-      pub served : (w : Worked) (lines : List (Option o.D)) (slots desks : List (Option o.Q)) (left now : Option o.V) (crew crew' : CrewSeen)
+      -- the devices find their places again, those of all notes
+      pub find_home : (room : Room) → IsRoom room → (length la ≤ 16) × (length sa ≤ 8) × (length da ≤ 4) → AreThere 16 lp → AreThere 8 sp → AreThere 4 dp
+          → FindHome notes lq sq dq room
+      find_home room r few tl ts td =
+          let many = noted_many in
+          let kept = kept_many in
+          record {
+            lines = omega (arith, many.0, few.0, s.of_lines.long, tl.0);
+            slots = omega (arith, many.1, few.1, s.of_slots.long, ts.0);
+            desks = omega (arith, many.2, few.2, s.of_desks.long, td.0);
+            scribe = scribe_there;
+            whys = r.whys;
+            whys_room = omega (arith, kept.0, few.0, few.1, r.whys_room);
+            left = r.left;
+            left_room = omega (arith, kept.1, few.2, r.left_room);
+          }
+
+      -- the workers did what they owed, and some jobs more were done of which these were cancelled
+      pub served : (more : List Bool) (w : Worked) (lines : List (Option o.D)) (slots desks : List (Option o.Q)) (left now : Option o.V) (crew crew' : CrewSeen)
           → w.history ≡ history → IsSoundSite site → IsKept (server_basis site) history → of_maker server history ≡ []
           → StopsLeaveLogsOf site history digest
-          → CameHome the_interface (λ n. n.device) notes lq lines → CameHome the_slot (λ n. n.device) notes sq slots
-          → CameHome the_desk (λ n. n.door) notes dq desks
-          → now ≡ last_of left (map (λ n. n.vault) (filter_map the_scribe notes)) → w.lines ≡ filter_map line_why notes → w.desks ≡ filter_map desk_note notes
-          → last_of None (map (λ n. n.why) (filter_map the_scribe notes)) ≡ Some w.scribe → la ≡ line_aims site → sa ≡ slot_aims site → da ≡ desk_aims site
-          → crew' ≡ with_cancelled (with_jobs crew (length tasks)) (count_by (was_cancelled {D = o.D} {Q = o.Q} {V = o.V}) notes)
-          → (crew.in_turn ≡ true → CancelledFrom (was_cancelled {D = o.D} {Q = o.Q} {V = o.V}) crew.refused 0 notes)
-          → ServedParts o.line_seen o.door_seen o.vault_seen site digest w lp lines sp slots dp desks place now crew crew'
-      served w lines slots desks left now crew crew' eh sound legal quiet readable hl hs hd hv el ew ec ea es ed jobs_are exact_are =
+          → HaveCome notes lq lines sq slots dq desks left now w → la ≡ line_aims site → sa ≡ slot_aims site → da ≡ desk_aims site
+          → crew' ≡ with_cancelled (with_jobs crew (length tasks + length more)) (count_by is_set (map (was_cancelled {D = o.D} {Q = o.Q} {V = o.V}) notes ++ more))
+          → (crew.in_turn ≡ true → CancelledFrom is_set crew.refused 0 (map (was_cancelled {D = o.D} {Q = o.Q} {V = o.V}) notes ++ more))
+          → ServedBy o.line_seen o.door_seen o.vault_seen site o.rule more digest w lp lines sp slots dp desks place now crew crew'
+      served more w lines slots desks left now crew crew' eh sound legal quiet readable came ea es ed jobs_are exact_are =
           let p : SiteLeft → Bool = was_cancelled in
-          let f : map p notes ≡ cancellations w = flags w el ew ec in
+          let f : map p notes ≡ cancellations w = flags w came.whys came.left came.scribe in
           record {
             sound = sound;
             legal = subst (λ (h : List Entry). IsKept (server_basis site) h) (sym eh) legal;
             silent = ap (of_maker server) eh ∙ quiet;
             readable = subst (λ (h : List Entry). StopsLeaveLogsOf site h digest) (sym eh) readable;
             interfaces = subst (λ (h : List Entry). CameBack (LineOwes o.line_seen site h) 0 (line_aims site) lp lines
-                (take (length site.interfaces) w.lines)) (sym eh) (served_lines lines w.lines hl el ea);
+                (take (length site.interfaces) w.lines)) (sym eh) (served_lines lines w.lines came.lines came.whys ea);
             slots = subst (λ (h : List Entry). CameBack (LineOwes o.door_seen site h) first_slot (slot_aims site) sp slots
-                (drop (length site.interfaces) w.lines)) (sym eh) (served_slots slots w.lines hs el ea es);
-            desks = subst (λ (h : List Entry). CameBack (DeskOwes o.door_seen site h) first_desk (desk_aims site) dp desks w.desks) (sym eh)
-                (served_desks desks w.desks hd ew ed);
-            tied = served_tied w.desks ew;
-            scribe = subst (λ (h : List Entry). ScribeOwes o.vault_seen site digest h place now w.scribe) (sym eh) (served_scribe left now w.scribe hv ec);
+                (drop (length site.interfaces) w.lines)) (sym eh) (served_slots slots w.lines came.slots came.whys ea es);
+            desks = subst (λ (h : List Entry). CameBack (DeskDid o.door_seen site h o.rule) first_desk (desk_aims site) dp desks w.desks) (sym eh)
+                (served_desks desks w.desks came.desks came.left ed);
+            scribe = subst (λ (h : List Entry). ScribeOwes o.vault_seen site digest h place now w.scribe) (sym eh)
+                (served_scribe left now w.scribe came.vault came.scribe);
             jobs = jobs_are
-                ∙ ap (λ (n : ℕ). with_cancelled (with_jobs crew n) (count_by p notes)) (jobs ea es ed)
-                ∙ ap (λ (n : ℕ). with_cancelled (with_jobs crew (worker_count site)) n) (sym (count_map is_set p notes) ∙ ap (count_by is_set) f);
-            exact = λ in_turn. subst (CancelledFrom is_set crew.refused 0) f (cancelled_map is_set p crew.refused 0 notes (exact_are in_turn));
+                ∙ ap (λ (n : ℕ). with_cancelled (with_jobs crew (n + length more)) (count_by is_set (map p notes ++ more))) (jobs ea es ed)
+                ∙ ap (λ (l : List Bool). with_cancelled (with_jobs crew (worker_count site + length more)) (count_by is_set (l ++ more))) f;
+            exact = λ in_turn. subst (λ (l : List Bool). CancelledFrom is_set crew.refused 0 (l ++ more)) f (exact_are in_turn);
           }
 
-      pub served_back : (lines : List (Option o.D)) (slots desks : List (Option o.Q)) (whys : List LineWhy) (kept : List DeskNote) (left now : Option o.V)
-          → CameHome the_interface (λ n. n.device) notes lq lines → CameHome the_slot (λ n. n.device) notes sq slots
-          → CameHome the_desk (λ n. n.door) notes dq desks
-          → now ≡ last_of left (map (λ n. n.vault) (filter_map the_scribe notes)) → whys ≡ filter_map line_why notes → kept ≡ filter_map desk_note notes
+      pub served_back : (w : Worked) (lines : List (Option o.D)) (slots desks : List (Option o.Q)) (left now : Option o.V)
+          → HaveCome notes lq lines sq slots dq desks left now w
           → la ≡ line_aims site → sa ≡ slot_aims site → da ≡ desk_aims site → AreThere 16 lp → AreThere 8 sp → AreThere 4 dp
           → AreThere 16 lines × AreThere 8 slots × AreThere 4 desks × IsSome now
-      served_back lines slots desks whys kept left now hl hs hd hv el ew ea es ed tl ts td = (
-        came_there (LineOwes o.line_seen site history) 0 16 (line_aims site) lp lines _ (served_lines lines whys hl el ea) tl,
-        came_there (LineOwes o.door_seen site history) 16 8 (slot_aims site) sp slots _ (served_slots slots whys hs el ea es) ts,
-        came_there (DeskOwes o.door_seen site history) 24 4 (desk_aims site) dp desks _ (served_desks desks kept hd ew ed) td,
-        vault_back left now hv,
+      served_back w lines slots desks left now came ea es ed tl ts td = (
+        came_there (LineOwes o.line_seen site history) 0 16 (line_aims site) lp lines _ (served_lines lines w.lines came.lines came.whys ea) tl,
+        came_there (LineOwes o.door_seen site history) 16 8 (slot_aims site) sp slots _ (served_slots slots w.lines came.slots came.whys ea es) ts,
+        came_there (DeskDid o.door_seen site history o.rule) 24 4 (desk_aims site) dp desks _ (served_desks desks w.desks came.desks came.left ed) td,
+        vault_back left now came.vault,
       )
+
+-- ---- the tasks are those of the site
+
+pub staff_of : (o : Outfit) (site : SiteData) {place : Option o.V} {la sa da : List Aim} {lp lq : List (Option o.D)} {sp sq dp dq : List (Option o.Q)}
+    {tasks : List (Task (SiteWork o site []))} → la ≡ line_aims site → sa ≡ slot_aims site → da ≡ desk_aims site
+    → SiteStaff o site [] place la sa da lp lq sp sq dp dq tasks
+    → IsStaff o.line_seen o.door_seen o.vault_seen o.shape site place lp lq sp sq dp dq tasks
+staff_of o site {place} {la} {sa} {da} {lp} {lq} {sp} {sq} {dp} {dq} {tasks} ea es ed s =
+    subst (λ (l : List Aim). SiteStaff o site [] place l (slot_aims site) (desk_aims site) lp lq sp sq dp dq tasks) ea
+    (subst (λ (l : List Aim). SiteStaff o site [] place la l (desk_aims site) lp lq sp sq dp dq tasks) es
+    (subst (λ (l : List Aim). SiteStaff o site [] place la sa l lp lq sp sq dp dq tasks) ed s))
 
 -- ---- how many there are
 
@@ -592,6 +614,10 @@ module _ {D Q V : Type 0} (line_seen : D → LineSeen) (door_seen : Q → LineSe
       (subst (λ (l : List (Option D)). IdledParts line_seen door_seen vault_seen site l dialers' slots slots' desks desks' vault vault' crew crew') line_parts
       (subst (λ (l : List (Option D)). IdledParts line_seen door_seen vault_seen site lines l slots slots' desks desks' vault vault' crew crew') line_parts'
       (subst (λ (x : SiteData). IdledParts line_seen door_seen vault_seen x lines lines' slots slots' desks desks' vault vault' crew crew') same s))))))
+
+pub on_err : {T E : Type 0} (result : Result T E) (P : Type 0) → P → OnErr result P
+on_err (Ok x) P p = tt
+on_err (Err e) P p = p
 
 -- a result's value or its error, by what it was made of
 pub ok_as : {T E : Type 0} (result : Result T E) (P Q : T → Type 0) → ((x : T) → P x → Q x) → IfOk result P → IfOk result Q

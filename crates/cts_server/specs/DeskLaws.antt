@@ -15,7 +15,7 @@ use Rattle.cts_trace.specs.Makers.{of_maker}
 use Rattle.cts_trace.proofs.Looking.{stop_kept}
 use Rattle.cts_trace.proofs.Others.{nothing_own, of_maker_append}
 use Rattle.cts_worker.specs.Lasts.{last_entries}
-use Rattle.cts_server.specs.Desks.{OwesDesk, RanDesk}
+use Rattle.cts_server.specs.Desks.{DeskLasts, OwesDesk, RanDesk, ReadsInHolds}
 use Rattle.cts_server.specs.OwnLaws.{last_more, lasts_by, look_more, unstarted_more}
 
 -- ---- the exchanges
@@ -96,3 +96,8 @@ module _ (basis : Basis) (by : ℕ) (found : List ℕ) (old new : LineSeen) (fro
 
   pub desk_lasts : Lasts by (λ (history : List Entry). OwesDesk basis by found history old new fronts why)
   desk_lasts = lasts_by by (λ (history : List Entry). OwesDesk basis by found history old new fronts why) owes_more
+
+-- a desk that reads in holds of the turn
+pub held_lasts : DeskLasts ReadsInHolds
+held_lasts basis by found old new note seen whole begins own (owes, tied) =
+    (desk_lasts basis by found old new note.fronts note.why seen whole begins own owes, tied)

@@ -14,6 +14,8 @@ use Rattle.cts_outside.specs.Seen.{LineSeen}
 use Rattle.cts_table.specs.declared.basis.Basis.{Basis}
 use Rattle.cts_trace.specs.Makers.{LastEnded}
 use Rattle.cts_worker.specs.Lasts.{last_entries}
+use Rattle.cts_server.specs.declared.worked.DeskNote.{DeskNote}
+use Rattle.cts_server.specs.Lasting.{Lasts}
 use Rattle.cts_server.specs.Workers.{IsUnstarted, LastLook}
 
 -- The worker is a desk of the site.
@@ -58,6 +60,20 @@ pub record UnstartedDesk (by : ℕ) (history : List Entry) (old new : LineSeen) 
   pub none : fronts ≡ []
   pub cancelled : why ≡ Cancelled
 
+-- What a desk may owe at its end, by its number, the places at which its holds began, the history, what its door showed before and shows now, and
+-- what it left beside the door.
+abbrev pub DeskRule : Type 1
+DeskRule = Basis → ℕ → List ℕ → List Entry → LineSeen → LineSeen → DeskNote → Type 0
+
+-- It goes on to hold when others append.
+abbrev pub DeskLasts : DeskRule → Type 0
+DeskLasts rule = (basis : Basis) (by : ℕ) (found : List ℕ) (old new : LineSeen) (note : DeskNote)
+    → Lasts by (λ (history : List Entry). rule basis by found history old new note)
+
 -- What the worker of a desk owes at its end.
 abbrev pub OwesDesk : Basis → ℕ → List ℕ → List Entry → LineSeen → LineSeen → List ℕ → DeskWhy → Type 0
 OwesDesk basis by found history old new fronts why = RanDesk basis by found history old new fronts why ⊎ UnstartedDesk by history old new fronts why
+
+-- A desk that reads in holds of the turn owes that, and each of its responses is of a beginning of the history.
+abbrev pub ReadsInHolds : DeskRule
+ReadsInHolds basis by found history old new note = OwesDesk basis by found history old new note.fronts note.why × (note.tied ≡ true)

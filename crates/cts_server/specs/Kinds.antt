@@ -1,5 +1,5 @@
 -- Values of four kinds: tests of them, relations between two of them, and those of one kind among them.
-use Rattle.std.specs.Prelude.{ℕ, Bool, true, Option, Some, None}
+use Rattle.std.specs.Prelude.{ℕ, Bool, Option, Some, None}
 use Rattle.cts_line.specs.declared.ending.LineWhy.{LineWhy}
 use Rattle.cts_server.specs.declared.kinds.ByKind.{ByKind}
 use Rattle.cts_server.specs.declared.kinds.ByKind.TheVariants.{Interface, Slot, Desk, Scribe}
@@ -99,9 +99,9 @@ line_why (Slot x) = Some x.why
 line_why (Desk x) = None
 line_why (Scribe x) = None
 
--- What a desk left, beside its door. Each desk here reads under the turn, so each response is of a beginning of the one history.
+-- what a desk left, beside its door
 abbrev pub note_of : {X : Type 0} → DeskLeft X → DeskNote
-note_of x = record { fronts = x.fronts; why = x.why; tied = true }
+note_of x = record { fronts = x.fronts; why = x.why; tied = x.tied }
 
 abbrev pub desk_note : {I S X C : Type 0} → ByKind I S (DeskLeft X) C → Option DeskNote
 desk_note (Interface x) = None

@@ -14,6 +14,7 @@ pub mod Owed
 pub mod Ready
 pub mod Kinds
 pub mod Owing
+pub mod WorkLaws
 pub mod Tasks
 pub mod Cancelled
 pub mod Serving

@@ -2,7 +2,7 @@
 use Rattle.std.specs.Prelude.{ℕ, List, Option, Some, None}
 use Rattle.cts_def.specs.Makers.{scribe}
 use Rattle.cts_def.specs.Sites.{SiteData}
-use Rattle.cts_server.specs.Desks.{OwesDesk}
+use Rattle.cts_server.specs.Desks.{DeskRule, OwesDesk}
 use Rattle.cts_server.specs.Lines.{OwesLine}
 use Rattle.cts_server.specs.Scribes.{OwesScribe}
 use Rattle.cts_entry.specs.Legal.{most_bytes, most_entries}
@@ -25,7 +25,11 @@ module _ {X : Type 0} (seen : X → LineSeen) (site : SiteData) (history : List 
   LineOwes by aim before now why = (found : List ℕ) × (connections : ℕ) × OwesLine (server_basis site) by found history (aimed_at aim (seen before))
       (seen now) connections why
 
-  -- a desk: the same of its door
+  -- a desk, where this is what it owes: the same of its door
+  abbrev pub DeskDid : DeskRule → ℕ → Aim → X → X → DeskNote → Type 0
+  DeskDid rule by aim before now note = (found : List ℕ) × rule (server_basis site) by found history (aimed_at aim (seen before)) (seen now) note
+
+  -- a desk that reads in holds of the turn
   abbrev pub DeskOwes : ℕ → Aim → X → X → DeskNote → Type 0
   DeskOwes by aim before now note = (found : List ℕ) × OwesDesk (server_basis site) by found history (aimed_at aim (seen before))
       (seen now) note.fronts note.why

@@ -1,5 +1,5 @@
 -- What the workers of a site did, and what was done where they did not work.
-use Rattle.std.specs.Prelude.{◌≡◌, ℕ, true, List, [], length, take, drop, Option, count_by}
+use Rattle.std.specs.Prelude.{◌≡◌, ℕ, ◌+◌, Bool, true, List, [], ◌++◌, length, take, drop, Option, count_by}
 use Rattle.std.specs.List.{AllByRecursion}
 use Rattle.cts_def.specs.Makers.{first_desk, first_slot, server}
 use Rattle.cts_def.specs.Most.{most_slots}
@@ -11,14 +11,30 @@ use Rattle.cts_table.specs.Keeping.{IsKept}
 use Rattle.cts_trace.specs.Makers.{of_maker}
 use Rattle.cts_server.specs.Aims.{desk_aims, line_aims, slot_aims}
 use Rattle.cts_server.specs.Cancelled.{cancellations, is_set, worker_count}
-use Rattle.cts_server.specs.Owed.{DeskOwes, LineOwes, ScribeOwes, server_basis}
+use Rattle.cts_server.specs.Desks.{DeskRule}
+use Rattle.cts_server.specs.Owed.{DeskDid, DeskOwes, LineOwes, ScribeOwes, server_basis}
 use Rattle.cts_server.specs.Places.{AimedAtMost, CameBack}
 use Rattle.cts_server.specs.declared.worked.Worked.{Worked}
 
 module _ {D Q V : Type 0} (line_seen : D → LineSeen) (door_seen : Q → LineSeen) (vault_seen : V → VaultSeen) (site : SiteData) where
-  -- The workers of a site worked, by what its devices of each kind showed before and show now: the site is sound, the history is legal,
-  -- the server itself has no entry in it, what a stop leaves of its logs is readable, each worker owes what its kind owes, each response of a
-  -- desk is of a beginning of the history, and all were the jobs of one `all` of the crew.
+  -- The workers of a site worked, by what its devices of each kind showed before and show now, where this is what a desk owes: the site is
+  -- sound, the history is legal, the server itself has no entry in it, what a stop leaves of its logs is readable, each worker owes what its
+  -- kind owes, and all were the jobs of one `all` of the crew, with some more after those of the workers, of which these were cancelled.
+  pub record ServedBy (rule : DeskRule) (more : List Bool) (digest : List ℕ) (w : Worked) (dialers dialers' : List (Option D))
+      (at_slots at_slots' at_desks at_desks' : List (Option Q)) (vault vault' : Option V) (crew crew' : CrewSeen) : Type 0 where
+    pub sound : IsSoundSite site
+    pub legal : IsKept (server_basis site) w.history
+    pub silent : of_maker server w.history ≡ []
+    pub readable : StopsLeaveLogsOf site w.history digest
+    pub interfaces : CameBack (LineOwes line_seen site w.history) 0 (line_aims site) dialers dialers' (take (length site.interfaces) w.lines)
+    pub slots : CameBack (LineOwes door_seen site w.history) first_slot (slot_aims site) at_slots at_slots' (drop (length site.interfaces) w.lines)
+    pub desks : CameBack (DeskDid door_seen site w.history rule) first_desk (desk_aims site) at_desks at_desks' w.desks
+    pub scribe : ScribeOwes vault_seen site digest w.history vault vault' w.scribe
+    pub jobs : crew' ≡ with_cancelled (with_jobs crew (worker_count site + length more)) (count_by is_set (cancellations w ++ more))
+    pub exact : crew.in_turn ≡ true → CancelledFrom is_set crew.refused 0 (cancellations w ++ more)
+
+  -- The same where desks read in holds of the turn, so that each response of a desk is of a beginning of the history, and where the workers
+  -- are all the jobs.
   pub record ServedParts (digest : List ℕ) (w : Worked) (dialers dialers' : List (Option D)) (at_slots at_slots' at_desks at_desks' : List (Option Q))
       (vault vault' : Option V) (crew crew' : CrewSeen) : Type 0 where
     pub sound : IsSoundSite site

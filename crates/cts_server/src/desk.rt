@@ -28,6 +28,7 @@ pub(crate) fn run_desk<'a, R: Wait, Q: Dialer, K: Clock, G: Gate>(
     ensures onward { Onward (view pass) (view result.0) }
     ensures owes { OwesDesk (ground context.now.turn.now) by (view result.0).found (view result.0).seen (Q.seen door)
         (Q.seen result.1.door) result.1.fronts result.1.why }
+    ensures tied { result.1.tied ≡ true }
     ensures worked { is_cancelled result.1.why ≡ false }
 {
     let mut door = door;
@@ -42,7 +43,15 @@ pub(crate) fn run_desk<'a, R: Wait, Q: Dialer, K: Clock, G: Gate>(
         context.gate,
     );
     let DeskEnd { pass, fronts, why } = end;
-    (pass, DeskLeft { door, fronts, why })
+    (
+        pass,
+        DeskLeft {
+            door,
+            fronts,
+            why,
+            tied: true,
+        },
+    )
 }
 
 /// Ends a desk that was not started.
@@ -60,9 +69,18 @@ pub(crate) fn cancel_desk<'a, R: Wait, Q: Dialer, K, G>(
     ensures onward { Onward (view pass) (view result.0) }
     ensures owes { OwesDesk (ground context.now.turn.now) by (view result.0).found (view result.0).seen (Q.seen door)
         (Q.seen result.1.door) result.1.fronts result.1.why }
+    ensures tied { result.1.tied ≡ true }
     ensures cancelled { is_cancelled result.1.why ≡ true }
 {
     let end = DeskWorker::cancel(context.rt, context.alloc, by, context.turn, pass);
     let DeskEnd { pass, fronts, why } = end;
-    (pass, DeskLeft { door, fronts, why })
+    (
+        pass,
+        DeskLeft {
+            door,
+            fronts,
+            why,
+            tied: true,
+        },
+    )
 }

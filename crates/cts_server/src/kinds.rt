@@ -52,6 +52,8 @@ pub struct DeskLeft<X> {
     pub fronts: List<u64>,
     /// Why it ended.
     pub why: DeskWhy,
+    /// Whether its replies are of the one history. Those of a desk that reads under the turn always are.
+    pub tied: bool,
 }
 
 /// What the scribe leaves.

@@ -7,7 +7,9 @@
 mod aims;
 mod context;
 mod desk;
+mod duty;
 mod job;
+mod kindred;
 mod kinds;
 mod laws;
 mod line;
@@ -17,11 +19,14 @@ mod places;
 mod running;
 mod scribe;
 mod serving;
+mod settling;
+mod staging;
 mod tasks;
 mod undone;
 mod worked;
 
 pub use context::WorkerContext;
+pub use duty::Duty;
 pub use kinds::{ByKind, DeskLeft, Left, Line, LineLeft, ScribeLeft, Work};
 pub use laws::{
     drained_logs_are_whole, headline_holds, last_ended_is_only, plain_ends_are_caused,
@@ -32,4 +37,7 @@ pub use outcome::{
 };
 pub use running::{Task, run_workers};
 pub use serving::{Shared, serve_site};
+pub use settling::{close, settle};
+pub use staging::{Begun, Room, Staged, begin, stage};
+pub use undone::tasks_back;
 pub use worked::{DeskNote, NotStarted, Worked};

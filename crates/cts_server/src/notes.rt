@@ -49,13 +49,16 @@ pub(crate) fn notes_back<D: Drop, Q: Drop, V: Drop>(
                 put_next(slots, &mut slot, device);
                 whys.push_reserved(why);
             }
-            ByKind::Desk(DeskLeft { door, fronts, why }) => {
-                put_next(desks, &mut desk, door);
-                left.push_reserved(DeskNote {
+            ByKind::Desk(
+                DeskLeft {
+                    door,
                     fronts,
                     why,
-                    tied: true,
-                });
+                    tied,
+                },
+            ) => {
+                put_next(desks, &mut desk, door);
+                left.push_reserved(DeskNote { fronts, why, tied });
             }
             ByKind::Scribe(ScribeLeft { vault: kept, why }) => {
                 *vault = Some(kept);

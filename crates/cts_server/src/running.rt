@@ -2,10 +2,7 @@
 ghost use Rattle.std.specs.Prelude.{◌≡◌, ℕ, ◌<◌, ◌≤◌, ◌+◌, ◌++◌, List, [], true, IfOk, IfErr, OnErr, count_by, length, map, vec_len, vec_capacity};
 ghost use Rattle.std.specs.List.{AllByRecursion, AllZip, flat_map};
 ghost use Rattle.cts_outside.specs.Crews.{CancelledFrom, with_cancelled, with_jobs};
-ghost use Rattle.cts_server.specs.Owing.{MayWork, WorkOwes, was_cancelled};
 ghost use Rattle.cts_server.specs.Tasks.{AreSilent, Holds, Leaves, Rising, is_next};
-ghost use Rattle.cts_server.specs.declared.kinds.ByKind.{ByKind};
-ghost use Rattle.cts_server.specs.declared.kinds.Line.{Line};
 ghost use Rattle.cts_trace.specs.Makers.{of_maker};
 ghost use Rattle.cts_turn.specs.Lists.{has, makers_from};
 ghost use Rattle.cts_turn.specs.Passes.{HasAll, IsPassOf, view};
@@ -13,10 +10,9 @@ ghost use Rattle.cts_worker.specs.Grounds.{ground};
 
 use crate::job::{WorkerEnd, WorkerJob};
 use crate::places::take_first;
-use crate::{Left, Work, WorkerContext};
-use cts_chain::Framer;
+use crate::{Duty, WorkerContext};
 use cts_def::SERVER;
-use cts_outside::{Clock, Crew, Dialer, Gate, Job, Vault};
+use cts_outside::{Clock, Crew, Gate, Job};
 use cts_table::Hall;
 use cts_turn::{Pass, Turn};
 use std::alloc::Global;
@@ -38,29 +34,26 @@ pub fn run_workers<
     R: Threads + Wait + Sync,
     K: Clock + Sync,
     G: Gate + Sync,
-    D: Dialer + Send,
-    Q: Dialer + Send,
-    V: Vault + Send,
-    C: Framer + Send,
+    U: Duty + Send,
     W: Crew,
 >(
     context: &'a WorkerContext<'a, R, K, G>,
     mut pass: Pass<Hall>,
-    mut tasks: Vec<Task<Work<D, Q, V, C>>>,
+    mut tasks: Vec<Task<U>>,
     crew: &mut W,
-) -> Result<(Pass<Hall>, Vec<Left<D, Q, V>>), Vec<Task<Work<D, Q, V, C>>>>
+) -> Result<(Pass<Hall>, Vec<U::Left>), Vec<Task<U>>>
     requires pass { IsPassOf context.now.turn.now pass }
     requires makers { (view pass).makers ≡ makers_from 0 }
     requires seen { (view pass).seen ≡ [] }
     requires rising { Rising 0 tasks.items }
-    requires can { AllByRecursion (λ t. MayWork D.seen Q.seen V.seen C.shape context.now.site.now t.work t.by (ground context.now.turn.now)) tasks.items }
+    requires can { AllByRecursion (λ t. U.can context.now.site.now t.work t.by (ground context.now.turn.now)) tasks.items }
     ensures pass { IfOk result (λ r. IsPassOf context.now.turn.now r.0) }
     ensures all { IfOk result (λ r. HasAll (view r.0).makers) }
-    ensures holds { IfOk result (λ r. AllZip (Holds (WorkOwes D.seen Q.seen V.seen context.now.digest.now) (ground context.now.turn.now)
+    ensures holds { IfOk result (λ r. AllZip (Holds (U.owes context.now.digest.now) (ground context.now.turn.now)
         (view r.0).makers (view r.0).seen) tasks.items r.1.items) }
     ensures silent { IfOk result (λ r. AreSilent (map (λ t. t.by) tasks.items) (view r.0).seen) }
-    ensures crew { IfOk result (λ r. W.seen crew.new ≡ with_cancelled (with_jobs (W.seen crew.old) (length tasks.items)) (count_by was_cancelled r.1.items)) }
-    ensures exact { (W.seen crew.old).in_turn ≡ true → IfOk result (λ r. CancelledFrom was_cancelled (W.seen crew.old).refused 0 r.1.items) }
+    ensures crew { IfOk result (λ r. W.seen crew.new ≡ with_cancelled (with_jobs (W.seen crew.old) (length tasks.items)) (count_by U.was_cancelled r.1.items)) }
+    ensures exact { (W.seen crew.old).in_turn ≡ true → IfOk result (λ r. CancelledFrom U.was_cancelled (W.seen crew.old).refused 0 r.1.items) }
     ensures back { IfErr result (λ back. back.items ≡ tasks.items) }
     ensures steady { OnErr result ((W.seen crew.new).faults ≡ (W.seen crew.old).faults) }
 {
@@ -78,7 +71,7 @@ pub fn run_workers<
     match crew.all(context.rt, jobs) {
         Ok(ends) => {
             rest(context.turn, &mut pass, idle);
-            gather::<R, K, G, D, Q, V, C>(context, &mut pass, ends, &mut lefts);
+            gather::<R, K, G, U>(context, &mut pass, ends, &mut lefts);
             Ok((pass, lefts))
         }
         Err(jobs) => {
@@ -89,33 +82,24 @@ pub fn run_workers<
 }
 
 // Each worker gets its pass and what it works with; of the numbers below that of the server itself, those that no worker has stay idle.
-fn assign<
-    'a,
-    R: Wait + Sync,
-    K: Clock + Sync,
-    G: Gate + Sync,
-    D: Dialer + Send,
-    Q: Dialer + Send,
-    V: Vault + Send,
-    C: Framer + Send,
->(
+fn assign<'a, R: Wait + Sync, K: Clock + Sync, G: Gate + Sync, U: Duty + Send>(
     context: &'a WorkerContext<'a, R, K, G>,
     pass: &mut Pass<Hall>,
-    tasks: &mut Vec<Task<Work<D, Q, V, C>>>,
-    jobs: &mut Vec<WorkerJob<'a, R, K, G, D, Q, V, C>>,
+    tasks: &mut Vec<Task<U>>,
+    jobs: &mut Vec<WorkerJob<'a, R, K, G, U>>,
     idle: &mut Vec<Pass<Hall>>,
 )
     requires pass { IsPassOf context.now.turn.now pass.old }
     requires makers { (view pass.old).makers ≡ makers_from 0 }
     requires seen { (view pass.old).seen ≡ [] }
     requires rising { Rising 0 tasks.old.items }
-    requires can { AllByRecursion (λ t. MayWork D.seen Q.seen V.seen C.shape context.now.site.now t.work t.by (ground context.now.turn.now)) tasks.old.items }
+    requires can { AllByRecursion (λ t. U.can context.now.site.now t.work t.by (ground context.now.turn.now)) tasks.old.items }
     requires empty { (jobs.old.items ≡ []) × (idle.old.items ≡ []) }
     requires room { (vec_len tasks.old ≤ vec_capacity jobs.old) × (31 ≤ vec_capacity idle.old) }
     ensures pass { IsPassOf context.now.turn.now pass.new }
     ensures seen { (view pass.new).seen ≡ [] }
     ensures jobs { AllZip (λ t j. (j.by ≡ t.by) × (j.work ≡ t.work) × (j.context.now ≡ context.now)) tasks.old.items jobs.new.items }
-    ensures ready { AllByRecursion (⟦<WorkerJob<'a, R, K, G, D, Q, V, C> as Job>⟧.is_ready) jobs.new.items }
+    ensures ready { AllByRecursion (⟦<WorkerJob<'a, R, K, G, U> as Job>⟧.is_ready) jobs.new.items }
     ensures idle { AllByRecursion (λ p. IsPassOf context.now.turn.now p × ((view p).seen ≡ [])) idle.new.items }
     ensures cover { HasAll ((view pass.new).makers ++ (flat_map (λ p. (view p).makers) idle.new.items ++ map (λ t. t.by) tasks.old.items)) }
     ensures none { tasks.new.items ≡ [] }
@@ -162,20 +146,11 @@ fn rest(turn: &Turn<Hall>, pass: &mut Pass<Hall>, mut idle: Vec<Pass<Hall>>)
 }
 
 // The workers' passes are joined, and what they left is kept.
-fn gather<
-    'a,
-    R: Wait + Sync,
-    K: Clock + Sync,
-    G: Gate + Sync,
-    D: Dialer + Send,
-    Q: Dialer + Send,
-    V: Vault + Send,
-    C: Framer + Send,
->(
+fn gather<'a, R: Wait + Sync, K: Clock + Sync, G: Gate + Sync, U: Duty + Send>(
     context: &WorkerContext<'a, R, K, G>,
     pass: &mut Pass<Hall>,
-    mut ends: Vec<WorkerEnd<D, Q, V>>,
-    lefts: &mut Vec<Left<D, Q, V>>,
+    mut ends: Vec<WorkerEnd<U::Left>>,
+    lefts: &mut Vec<U::Left>,
 )
     requires pass { IsPassOf context.now.turn.now pass.old }
     requires ends { AllByRecursion (λ e. IsPassOf context.now.turn.now e.pass) ends.items }
@@ -185,10 +160,10 @@ fn gather<
     ensures own { (m : ℕ) → has m (view pass.old).makers ≡ true → of_maker m (view pass.new).seen ≡ of_maker m (view pass.old).seen }
     ensures lefts { lefts.new.items ≡ map (λ e. e.left) ends.items }
     ensures makers { (view pass.new).makers ≡ (view pass.old).makers ++ flat_map (λ e. (view e.pass).makers) ends.items }
-    ensures holds { (ts : List (Task (ByKind (Line D C) (Line Q C) Q V)))
-        → AllZip (λ t e. Leaves (WorkOwes D.seen Q.seen V.seen context.now.digest.now) (ground context.now.turn.now) t (view e.pass).makers
+    ensures holds { (ts : List (Task U))
+        → AllZip (λ t e. Leaves (U.owes context.now.digest.now) (ground context.now.turn.now) t (view e.pass).makers
         (view e.pass).found (view e.pass).seen e.left) ts ends.items
-        → AllZip (Holds (WorkOwes D.seen Q.seen V.seen context.now.digest.now) (ground context.now.turn.now) (view pass.new).makers
+        → AllZip (Holds (U.owes context.now.digest.now) (ground context.now.turn.now) (view pass.new).makers
         (view pass.new).seen) ts lefts.new.items }
 {
     'ends: while !ends.is_empty() {
@@ -199,9 +174,9 @@ fn gather<
 }
 
 // The tasks of jobs that did not begin.
-fn give_back<'a, R, K, G, D: Drop, Q: Drop, V: Drop, C: Drop>(
-    mut jobs: Vec<WorkerJob<'a, R, K, G, D, Q, V, C>>,
-    tasks: &mut Vec<Task<Work<D, Q, V, C>>>,
+fn give_back<'a, R, K, G, U: Drop>(
+    mut jobs: Vec<WorkerJob<'a, R, K, G, U>>,
+    tasks: &mut Vec<Task<U>>,
 )
     requires empty { tasks.old.items ≡ [] }
     requires room { vec_len jobs ≤ vec_capacity tasks.old }

@@ -9,7 +9,7 @@ use crate::running::Task;
 use crate::{ByKind, Work};
 
 /// All devices come back to their places from tasks that were not begun: those of each kind to the first places, in the order of the tasks.
-pub(crate) fn tasks_back<D: Drop, Q: Drop, V: Drop, C: Drop>(
+pub fn tasks_back<D: Drop, Q: Drop, V: Drop, C: Drop>(
     tasks: Vec<Task<Work<D, Q, V, C>>>,
     lines: &mut [Option<D>],
     slots: &mut [Option<Q>],

@@ -1,4 +1,4 @@
-use Rattle.std.proofs.Common.{arith, map, ap, length, length-append, ◌++◌, sym, subst, ◌∙◌, None, true}
+use Rattle.std.proofs.Common.{arith, map, ap, length, length-append, ◌++◌, sym, subst, ◌∙◌, None}
 use Rattle.std.specs.List.{filter_map}
 use Rattle.cts_server.specs.Homes.{CameHome, last_of}
 use Rattle.cts_server.specs.Kinds.{line_why, the_desk, the_interface, the_scribe, the_slot, desk_note}
@@ -99,7 +99,7 @@ push_reserved-requires-in-Desk g c =
     let kept = c.loop-note.invariant in
     let more = walked c.loop-note.yielded _ _ _ c.in-Some.note kept.all c.in-Some.ensures.steps.0 in
     let lt = has_place desk_note c.loop-note.yielded c.in-Some.note _ _
-    (record { fronts = c.in-Desk.field-0.fronts; why = c.in-Desk.field-0.why; tied = true })
+    (record { fronts = c.in-Desk.field-0.fronts; why = c.in-Desk.field-0.why; tied = c.in-Desk.field-0.tied })
     (length (filter_map desk_note c.args.notes.items)) more.0 (ap desk_note c.in-Desk.is) (omega arith) in
     let many = ap length kept.left ∙ length-append c.args.left.now.items (filter_map desk_note c.loop-note.yielded) in
     let room = c.requires.left in
@@ -120,7 +120,7 @@ loop-note-preserved-in-Desk g c =
       vault = kept.vault ∙ last_other the_scribe (λ n. n.vault) c.loop-note.yielded c.in-Some.note c.args.vault.now (ap the_scribe c.in-Desk.is);
       whys = added_other line_why c.loop-note.yielded c.in-Some.note _ _ kept.whys (ap line_why c.in-Desk.is);
       left = added_one desk_note c.loop-note.yielded c.in-Some.note
-          (record { fronts = c.in-Desk.field-0.fronts; why = c.in-Desk.field-0.why; tied = true }) _ _ _ kept.left
+          (record { fronts = c.in-Desk.field-0.fronts; why = c.in-Desk.field-0.why; tied = c.in-Desk.field-0.tied }) _ _ _ kept.left
           (ap desk_note c.in-Desk.is) c.push_reserved-in-Desk.ensures.items;
       scribe = kept.scribe ∙ last_other the_scribe (λ n. n.why) c.loop-note.yielded c.in-Some.note None (ap the_scribe c.in-Desk.is);
       whys_room = kept.whys_room;

@@ -6,7 +6,6 @@ use Rattle.cts_server.specs.Tasks.{Rising}
 use Rattle.cts_turn.specs.Lists.{has}
 use Rattle.cts_trace.specs.Makers.{of_maker}
 use Rattle.cts_worker.specs.Grounds.{ground}
-use Rattle.cts_server.specs.Owing.{MayWork}
 use Rattle.cts_turn.specs.Passes.{view}
 use Rattle.cts_turn.proofs.Makers.{split_from, has_left_part}
 use Rattle.cts_server.proofs.Steps.{all_more, cover_job, cover_idle, next_is, rises_taken, rises_idle, none_rise, numbers_are, cover_all}
@@ -58,8 +57,8 @@ makers-preserved g c =
           let t = w.take_first-by.result in
           let by_is : t.by ≡ k = next_is k c.makers.tasks.items w.take_first-by.new.items.items t taken (search rules) in
           let pushed = w.push_reserved.ensures.items in
-          let can = subst (λ (l : List _). AllByRecursion (λ t. MayWork g.D.Link.seen g.Q.Link.seen g.V.Vault.seen g.C.Chained.shape
-          c.args.context.now.site.now t.work t.by (ground c.args.context.now.turn.now)) l) taken kept.can in
+          let can = subst (λ (l : List _). AllByRecursion (λ t. g.U.Duty.can c.args.context.now.site.now t.work t.by
+          (ground c.args.context.now.turn.now)) l) taken kept.can in
           rw w.tasks-is (rw w.jobs-is (rw w.idle-is (record {
             pass = c.split-one.ensures.pass.0;
             makers = makers;

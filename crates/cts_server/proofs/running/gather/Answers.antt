@@ -3,13 +3,11 @@ use Rattle.std.proofs.lemmas.List.{append-nil}
 use Rattle.std.specs.List.{AllByRecursion, flat_map}
 use Rattle.std.proofs.lemmas.Grind.{common_steps}
 use Rattle.cts_worker.specs.Grounds.{ground}
-use Rattle.cts_server.specs.Owing.{WorkOwes}
 use Rattle.cts_turn.specs.Lists.{has}
 use Rattle.cts_turn.specs.Passes.{IsPassOf, view}
 use Rattle.cts_turn.proofs.Makers.{has_left_part}
 use Rattle.cts_outside.proofs.InOrder.{joined_all}
 use Rattle.cts_server.proofs.Steps.{gathered, noted, noted_all, nothing_left, made}
-use Rattle.cts_server.proofs.Keeping.{work_lasts}
 use Rattle.cts_server.proofs.running.gather.Goals as goal
 
 pub ends-init : goal.ends-init
@@ -47,9 +45,8 @@ ends-preserved g c =
       makers = made (λ e. (view e.pass).makers) c.ends.pass.seat.me.0.makers _ _ c.ends.ends.items after one taken joined kept.makers;
       holds = λ ts q.
           let h = kept.holds ts q in
-          rw pushed (gathered (WorkOwes {C = g.row.C.Denot} g.D.Link.seen g.Q.Link.seen g.V.Vault.seen c.args.context.now.digest.now)
-          (ground c.args.context.now.turn.now) (work_lasts {C = g.row.C.Denot} g.D.Link.seen g.Q.Link.seen g.V.Vault.seen
-          c.args.context.now.digest.now) (λ e. (view e.pass).makers) (λ e. (view e.pass).found) (λ e. (view e.pass).seen) (λ e. e.left)
+          rw pushed (gathered (g.U.Duty.owes c.args.context.now.digest.now) (ground c.args.context.now.turn.now)
+          ((g.met.U.Duty g.world.𝓛 g.world.𝓜 g.world.𝓡 ((λ s x. x), (λ x. x), (λ x. x), λ x. x)).lasts c.args.context.now.digest.now) (λ e. (view e.pass).makers) (λ e. (view e.pass).found) (λ e. (view e.pass).seen) (λ e. e.left)
           ts h.0 h.1 c.ends.lefts.items c.ends.ends.items after one _ _ _ _ taken h.2 h.3 h.4 joined c.join.ensures.mine c.join.ensures.theirs
           c.join.ensures.my_own c.join.ensures.their_own);
     }

@@ -1,7 +1,6 @@
 use Rattle.std.proofs.Common.{◌≡◌, ℕ, true, ◌++◌, ◌+◌, ◌≤◌, List, map, vec_len, vec_capacity}
 use Rattle.std.specs.List.{AllByRecursion, AllZip, flat_map}
 use Rattle.cts_worker.specs.Grounds.{ground}
-use Rattle.cts_server.specs.Owing.{WorkOwes}
 use Rattle.cts_trace.specs.Makers.{of_maker}
 use Rattle.cts_turn.specs.Lists.{has}
 use Rattle.cts_turn.specs.Passes.{IsPassOf, view}
@@ -19,12 +18,12 @@ invariant-ends g l = record {
   room : vec_len l.lefts + vec_len l.ends ≤ vec_capacity l.lefts;
   makers : (view l.pass).makers ++ flat_map (λ e. (view e.pass).makers) l.ends.items ≡ (view l.fn.pass).makers ++ flat_map
       (λ e. (view e.pass).makers) l.fn.ends.items;
-  holds : (ts : List (Task _)) → AllZip (λ t e. Leaves (WorkOwes {C = g.row.C.Denot} g.D.Link.seen g.Q.Link.seen g.V.Vault.seen l.context.digest.now)
+  holds : (ts : List (Task _)) → AllZip (λ t e. Leaves (g.U.Duty.owes l.context.digest.now)
       (ground l.context.turn.now) t (view e.pass).makers (view e.pass).found (view e.pass).seen e.left) ts l.fn.ends.items
       → (done left : List (Task _)) × (done ++ left ≡ ts) × AllZip
-      (Holds (WorkOwes {C = g.row.C.Denot} g.D.Link.seen g.Q.Link.seen g.V.Vault.seen l.context.digest.now) (ground l.context.turn.now)
+      (Holds (g.U.Duty.owes l.context.digest.now) (ground l.context.turn.now)
       (view l.pass).makers (view l.pass).seen) done l.lefts.items
-      × AllZip (λ t e. Leaves (WorkOwes {C = g.row.C.Denot} g.D.Link.seen g.Q.Link.seen g.V.Vault.seen l.context.digest.now)
+      × AllZip (λ t e. Leaves (g.U.Duty.owes l.context.digest.now)
       (ground l.context.turn.now) t (view e.pass).makers (view e.pass).found (view e.pass).seen e.left) left l.ends.items;
 }
 

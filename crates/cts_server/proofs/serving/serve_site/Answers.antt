@@ -21,10 +21,7 @@ run_site-requires-clause-begun g c κs within =
       lines = made.aims.0 ∙ ap line_aims (sym c.deref.ensures);
       slots = made.aims.1 ∙ ap slot_aims (sym c.deref.ensures);
       desks = made.aims.2 ∙ ap desk_aims (sym c.deref.ensures);
-      whys = made.whys.0;
-      whys_room = made.whys.1;
-      left = made.left.0;
-      left_room = made.left.1;
+      room = made.room;
     }
 
 pub run_site-requires-clause-chains : goal.run_site-requires-clause-chains

@@ -1,6 +1,6 @@
 use Rattle.std.proofs.Common.{subst}
 use Rattle.cts_scribe.specs.Laws.{StopsLeaveLogsOf}
-use Rattle.cts_server.proofs.serving.close.Goals as goal
+use Rattle.cts_server.proofs.settling.close.Goals as goal
 
 pub returns-clause-seen : goal.returns-clause-seen
 returns-clause-seen c = rw c.into_history.ensures c.close-hall.ensures.seen
