@@ -4,6 +4,7 @@ import json
 import multiprocessing
 import os
 import re
+import shutil
 import socket
 import struct
 import subprocess
@@ -95,6 +96,27 @@ def reach(port):
             return peer
         time.sleep(0.02)
     sys.exit(f"bench: nobody listens on {port}")
+
+
+@contextlib.contextmanager
+def nginx(answer):
+    """nginx with one worker, which gives this answer on connections that it keeps."""
+    [port] = free_ports(1)
+    with tempfile.TemporaryDirectory() as folder:
+        Path(folder, "index.html").write_text(answer, encoding="utf-8")
+        os.chmod(folder, 0o755)
+        Path(folder, "nginx.conf").write_text(
+            f"daemon off; master_process off; pid {folder}/pid; error_log {folder}/error; events {{}} http {{ access_log off; keepalive_requests 100000000; "
+            f"server {{ listen {HOST}:{port}; root {folder}; }} }}\n",
+            encoding="utf-8",
+        )
+        process = subprocess.Popen([shutil.which("nginx") or "/usr/sbin/nginx", "-c", f"{folder}/nginx.conf"], stderr=subprocess.DEVNULL)
+        try:
+            reach(port)
+            yield process, port
+        finally:
+            process.terminate()
+            process.wait()
 
 
 def post(method, *params):
