@@ -1,5 +1,5 @@
 // What entries give to the logs.
-ghost use Rattle.std.specs.Prelude.{◌≡◌, ◌<◌, ◌∷◌, ◌++◌, ◌^◌, [], List, OnOk, false, length};
+ghost use Rattle.std.specs.Prelude.{◌≡◌, ◌<◌, ◌≤◌, ◌∷◌, ◌++◌, ◌^◌, [], List, OnOk, false, length};
 ghost use Rattle.cts_connection.specs.Routings.{is_logged, packet_names};
 ghost use Rattle.cts_def.specs.Names.{command_names};
 ghost use Rattle.cts_entry.specs.declared.entry.Entry.{Entry as EntryData};
@@ -10,11 +10,10 @@ ghost use Rattle.cts_log.specs.Logged.{laid_out};
 ghost use Rattle.cts_table.specs.Keeping.{IsIdent, IsOfSite};
 ghost use Rattle.cts_trace.specs.Routing.{heading_of};
 
+use crate::put::put_entry;
 use cts_base::Memory;
-use cts_connection::{command_label, packet_label};
 use cts_def::{Ident, Site, Time};
 use cts_entry::{Entry, What};
-use cts_log::encode_entry;
 use std::alloc::Global;
 
 /// What entries give to the logs.
@@ -43,7 +42,7 @@ impl Batch {
     /// # Errors
     ///
     /// `Memory`. A part of what the entry gives may have been added then.
-    pub fn add(&mut self, alloc: Global, site: &Site, entry: &Entry) -> Result<(), Memory>
+    pub fn add(&mut self, _alloc: Global, site: &Site, entry: &Entry) -> Result<(), Memory>
         requires of_site { (before : List EntryData) × IsOfSite site.now before entry.now }
         requires small { bytes_in (entry.now ∷ []) < 2 ^ 32 }
         ensures tlm { OnOk result (self.new.tlm.items ≡ self.old.tlm.items ++ packets_log site.now (entry.now ∷ [])) }
@@ -57,7 +56,6 @@ impl Batch {
             } => {
                 if is_logged(site, entry.by) {
                     put_packet(
-                        alloc,
                         site,
                         entry.time,
                         *ident,
@@ -84,7 +82,6 @@ impl Batch {
 }
 
 fn put_packet(
-    alloc: Global,
     site: &Site,
     time: Time,
     ident: Ident,
@@ -97,8 +94,25 @@ fn put_packet(
     ensures { OnOk result (out.new.items ≡ out.old.items ++ laid_out (has_flags site.now.log_layout)
         (heading_of (packet_names site.now ident) stored time) bytes.now) }
 {
-    let label = packet_label(alloc, site, time, ident, stored)?;
-    encode_entry(&label, bytes, site.log_layout, out)
+    let (target, name) = lent_names(site, ident);
+    put_entry(time, target, name, stored, bytes, site.log_layout, out)
+}
+
+// The names of a packet's target and of itself, lent by the site.
+fn lent_names(site: &Site, ident: Ident) -> (&[u8], &[u8])
+    requires { IsIdent site.now ident }
+    ensures target { result.0.now ≡ (packet_names site.now ident).0 }
+    ensures name { result.1.now ≡ (packet_names site.now ident).1 }
+    ensures short_target { length result.0.now ≤ 255 }
+    ensures short_name { length result.1.now ≤ 255 }
+{
+    match ident {
+        Ident::Known(number) => {
+            let packet = &site.definitions.telemetry.as_slice()[number as usize];
+            (packet.target.as_slice(), packet.name.as_slice())
+        }
+        Ident::Unknown => (b"UNKNOWN", b"UNKNOWN"),
+    }
 }
 
 fn put_command(
@@ -113,8 +127,9 @@ fn put_command(
     ensures { OnOk result (out.new.items ≡ out.old.items ++ laid_out (has_flags site.now.log_layout)
         (heading_of (command_names site.now command) false time) bytes.now) }
 {
-    let label = command_label(site, time, command)?;
-    encode_entry(&label, bytes, site.log_layout, out)
+    let packet = &site.definitions.commands.as_slice()[command as usize];
+    let (target, name) = (packet.target.as_slice(), packet.name.as_slice());
+    put_entry(time, target, name, false, bytes, site.log_layout, out)
 }
 
 // Whether the packets of an interface, and the commands for it, are logged.

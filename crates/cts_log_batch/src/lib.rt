@@ -5,6 +5,7 @@
 
 mod batch;
 mod laws;
+mod put;
 
 pub use batch::Batch;
 pub use laws::logs_grow;
