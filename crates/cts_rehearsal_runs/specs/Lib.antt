@@ -1,2 +1,5 @@
 pub mod Protocols
 pub mod Cut
+pub mod Sites
+pub mod Standing
+pub mod Finishing
