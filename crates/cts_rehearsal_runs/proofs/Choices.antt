@@ -7,17 +7,20 @@ use Rattle.cts_api.specs.Made.{built}
 use Rattle.cts_def.specs.Sites.{SiteData}
 use Rattle.cts_entry.specs.Histories.{bytes_in, entries_in, is_connected, is_stopped, since}
 use Rattle.cts_entry.specs.declared.entry.Entry.{Entry}
+use Rattle.cts_entry.specs.declared.event.Effect.TheVariants.{Posted}
 use Rattle.cts_entry.specs.declared.event.Event.{Event}
 use Rattle.cts_entry.specs.declared.event.Event.TheVariants.{Opens, Piece, Finish, Write, Call}
+use Rattle.cts_entry.specs.declared.what.What.TheVariants.{Opened}
 use Rattle.cts_entry.specs.declared.why.Why.TheVariants.{PeerEnded}
-use Rattle.cts_framing.specs.Cuts.{IsCut}
+use Rattle.cts_entry.proofs.Appending.{bytes-append, connected-append, entries-append, stopped-append}
+use Rattle.cts_framing.specs.Cuts.{IsCut, Pieces}
 use Rattle.cts_framing.specs.Framing.{Output, plain}
 use Rattle.cts_framing.specs.Rows.{framing_of}
 use Rattle.cts_trace.specs.Routing.{packet_entries, walk}
-use Rattle.cts_trace.proofs.Walks.{enough_of}
+use Rattle.cts_trace.proofs.Walks.{connected_kept, enough_of}
 use Rattle.cts_core.specs.Environments.{site_environment}
-use Rattle.cts_core.specs.Runs.{Appends, Did, Does, Receives, after, silent}
-use Rattle.cts_core.specs.States.{State, ahead, has_room, is_enabled, is_line, is_piece}
+use Rattle.cts_core.specs.Runs.{Closes, Did, Does, Receives, after, closed_entry}
+use Rattle.cts_core.specs.States.{State, ahead, has_room, is_line, is_piece, unsent}
 use Rattle.cts_core.specs.Sendings.{command_entry}
 use Rattle.cts_rehearsal.specs.Generated.{duration, events_of, frame, frame_cut, look_up, order, text_line}
 use Rattle.cts_rehearsal_laws.specs.Orders.{order_request}
@@ -30,7 +33,7 @@ use Rattle.cts_rehearsal_runs.specs.Sites.{IsDemoSite}
 use Rattle.cts_rehearsal_runs.specs.Standing.{Holds, IsOnTheWay}
 use Rattle.cts_rehearsal_runs.proofs.Asked.{looks_up, three_bytes}
 use Rattle.cts_rehearsal_runs.proofs.Cutting.{frames_are_cut, lines_are_cut}
-use Rattle.cts_rehearsal_runs.proofs.Going.{Can, Finishes, cursor_after_is, goes, on_again, pieces_after_are, room_for}
+use Rattle.cts_rehearsal_runs.proofs.Going.{Can, Finishes, cursor_after_is, goes, nothing_held, on_again, pieces_after_are, room_for, with_entries}
 use Rattle.cts_rehearsal_runs.proofs.Pieces.{holds_more, received}
 use Rattle.cts_rehearsal_runs.proofs.Places.{chain_0, chain_1, desk_0, interface_0, interface_1, line_0, line_1}
 use Rattle.cts_rehearsal_runs.proofs.Quiet.{IsQuiet, command_bytes, packet_bytes, packet_entry, quiet_command, quiet_none, quiet_packets}
@@ -247,3 +250,86 @@ module _ (site : SiteData) (demo : IsDemoSite site) (more : List Event) (choices
         goes (site_environment site) s (Call 0 (order v)) (Write 0 1 ∷ more) (call_can s (order v)) (λ did does.
         goes (site_environment site) (later did does) (Write 0 1) more (write_can did does) (λ did' does'.
         rest (after (later did does) (Write 0 1) did') (written site (later did does) did' (choices + 1) (sent_on did does) does')))
+
+  refused_finishes : (s : State) → IsOnTheWay site s choices [] → Finishes (site_environment site) s ((Call 0 (order 11) ∷ []) ++ more)
+  refused_finishes s way =
+      goes (site_environment site) s (Call 0 (order 11)) more (call_can s (order 11)) (λ did does.
+      rest (after s (Call 0 (order 11)) did) (left_on s (order 11) did way (refused_order_leaves_nothing site demo.command s did does)))
+
+  orders_finish : (v : ℕ) (fits : Bool) → nat_le v 10 ≡ fits → v ≤ 11 → (s : State) → IsOnTheWay site s choices [] → Finishes (site_environment site) s ((Call 0 (order v) ∷ (if fits then Write 0 1 ∷ [] else [])) ++ more)
+  orders_finish v true e most s way = order_finishes v (enough_of v 10 e) s way
+  orders_finish v false e most s way =
+      let last : v ≡ 11 = grind (arith, nat_tests, e, most) in
+      subst (λ (k : ℕ). Finishes (site_environment site) s ((Call 0 (order k) ∷ []) ++ more)) (sym last) (refused_finishes s way)
+
+  -- ---- a connection that ends and opens again
+
+  module _ (s : State) (way : IsOnTheWay site s choices []) where
+    finish_can : Can (site_environment site) s (Finish 0 PeerEnded)
+    finish_can = record { enabled = all_three (is_line (site_environment site) 0) (is_connected 0 s.history) true (line_0 site demo) way.first refl; room = λ takes entries appends. absurd (cc takes) }
+
+    module _ (cuts : List Pieces) where
+      abbrev closed : Entry
+      closed = closed_entry s.time 0 PeerEnded (unsent (site_environment site) s 0) cuts
+
+      -- after it is closed
+      abbrev shut : State
+      shut = after s (Finish 0 PeerEnded) (record { entries = closed ∷ []; effect = Posted })
+
+      abbrev opened : Entry
+      opened = record { by = 0; time = s.time; what = Opened }
+
+      -- after it is opened again
+      abbrev again : State
+      again = after shut (Opens 0) (record { entries = opened ∷ []; effect = Posted })
+
+      apart : is_connected 0 shut.history ≡ false
+      apart = connected-append 0 s.history (closed ∷ [])
+
+      shut_runs : is_stopped shut.history ≡ false
+      shut_runs = stopped-append s.history (closed ∷ []) ∙ ap (λ (b : Bool). b || false) way.running
+
+      shut_entries : entries_in shut.history ≡ entries_in s.history
+      shut_entries = entries-append s.history (closed ∷ []) ∙ omega arith
+
+      shut_bytes : bytes_in shut.history ≡ bytes_in s.history
+      shut_bytes = bytes-append s.history (closed ∷ []) ∙ omega arith
+
+      open_can : Can (site_environment site) shut (Opens 0)
+      open_can = record {
+        enabled = all_three (is_line (site_environment site) 0) (not (is_connected 0 shut.history)) (not (is_stopped shut.history)) (line_0 site demo) (ap not apart) (ap not shut_runs);
+        room = λ takes entries appends.
+            subst (λ (l : List Entry). has_room (site_environment site) shut l ≡ true) (sym appends) (room_for site shut (opened ∷ []) (omega (arith, way.entries, few, shut_entries)) (omega (arith, way.bytes, few, shut_bytes)));
+      }
+
+      again_on : IsOnTheWay site again (choices + 1) []
+      again_on = record {
+        first = connected-append 0 shut.history (opened ∷ []);
+        second = connected_kept 1 shut.history (opened ∷ []) refl ∙ (connected_kept 1 s.history (closed ∷ []) refl ∙ way.second);
+        running = stopped-append shut.history (opened ∷ []) ∙ ap (λ (b : Bool). b || false) shut_runs;
+        frame = nothing_held frames;
+        line = subst (λ (ps : List (List ℕ)). Holds lines ps []) (sym (append-nil (s.pieces 1 ++ []) ∙ append-nil (s.pieces 1))) way.line;
+        passed = omega arith;
+        entries = omega (arith, way.entries, shut_entries, entries-append shut.history (opened ∷ []));
+        bytes = omega (arith, way.bytes, shut_bytes, bytes-append shut.history (opened ∷ []));
+      }
+
+    again_finishes : Finishes (site_environment site) s ((Finish 0 PeerEnded ∷ Opens 0 ∷ []) ++ more)
+    again_finishes =
+        goes (site_environment site) s (Finish 0 PeerEnded) (Opens 0 ∷ more) finish_can (λ did does.
+        let closes : Closes (site_environment site) s 0 PeerEnded did.entries = does.appends in
+        with_entries (site_environment site) s (Finish 0 PeerEnded) did (closed closes.cuts ∷ []) (Opens 0 ∷ more) closes.entries_are (
+        goes (site_environment site) (shut closes.cuts) (Opens 0) more (open_can closes.cuts) (λ did' does'.
+        with_entries (site_environment site) (shut closes.cuts) (Opens 0) did' (opened closes.cuts ∷ []) more does'.appends (rest (again closes.cuts) (again_on closes.cuts)))))
+
+  -- ---- any choice
+
+  pick : (r : ℕ) (s : State) → IsOnTheWay site s choices [] → (a b c d : Bool) → nat_lt (r % 8) 4 ≡ a → (r % 8 == 4) ≡ b → (r % 8 == 5) ≡ c → (r % 8 == 6) ≡ d → Finishes (site_environment site) s (events_of r ++ more)
+  pick r s way true b c d ea eb ec ed = rw ea (frame_finishes r s way)
+  pick r s way false true c d ea eb ec ed = rw (ea, eb) (line_finishes r s way)
+  pick r s way false false true d ea eb ec ed = rw (ea, eb, ec) (look_up_finishes s way)
+  pick r s way false false false true ea eb ec ed = rw (ea, eb, ec, ed) (orders_finish (duration r) (nat_le (duration r) 10) refl (omega arith) s way)
+  pick r s way false false false false ea eb ec ed = rw (ea, eb, ec, ed) (again_finishes s way)
+
+  pub choice_finishes : (r : ℕ) (s : State) → IsOnTheWay site s choices [] → Finishes (site_environment site) s (events_of r ++ more)
+  choice_finishes r s way = pick r s way (nat_lt (r % 8) 4) (r % 8 == 4) (r % 8 == 5) (r % 8 == 6) refl refl refl refl

@@ -1,18 +1,24 @@
 -- How a run goes on.
 use Rattle.std.proofs.Common.{◌≡◌, ◌∙◌, ℕ, ◌+◌, ◌*◌, ◌≤◌, Bool, true, false, List, [], ◌∷◌, ◌++◌, length, Option, None, refl, sym, ap, subst, arith, le-leb, append-nil, inl, inr}
 use Rattle.std.specs.Prelude.{◌&&◌, ◌||◌, nat_le}
+use Rattle.cts_def.specs.Protocols.{SpecData}
 use Rattle.cts_def.specs.Sites.{SiteData}
 use Rattle.cts_entry.specs.Histories.{bytes_in, entries_in, is_connected, is_stopped, latest, connects_maker, since}
 use Rattle.cts_entry.specs.Legal.{most_bytes, most_entries}
 use Rattle.cts_entry.specs.declared.entry.Entry.{Entry}
+use Rattle.cts_entry.specs.declared.event.Effect.TheVariants.{Posted}
 use Rattle.cts_entry.specs.declared.event.Event.{Event}
 use Rattle.cts_entry.proofs.Appending.{bytes-append, entries-append, stopped-append}
 use Rattle.cts_entry.proofs.Queuing.{since-append}
+use Rattle.cts_framing.specs.Rows.{framing_of}
+use Rattle.cts_framing.proofs.Framings.{ends_nil, taken_none}
+use Rattle.cts_framing.proofs.Sound.{is_sound}
 use Rattle.cts_trace.specs.Routing.{walk}
 use Rattle.cts_trace.proofs.Walks.{connected_kept, reach_kept}
 use Rattle.cts_core.specs.Environments.{site_environment}
 use Rattle.cts_core.specs.Runs.{Appends, Did, Does, Ending, Finished, NotEnabled, HistoryFull, Refuses, Runs, after, cursor_after, kept, passed_for, pieces_after, pieces_for, silent}
 use Rattle.cts_core.specs.States.{Environment, State, has_room, is_enabled, takes_room}
+use Rattle.cts_rehearsal_runs.specs.Cut.{kept as kept_pieces}
 use Rattle.cts_rehearsal_runs.specs.Protocols.{frames, lines}
 use Rattle.cts_rehearsal_runs.specs.Standing.{Holds, IsOnTheWay}
 use Rattle.cts_rehearsal_runs.proofs.Quiet.{IsQuiet}
@@ -82,3 +88,13 @@ module _ (site : SiteData) (s : State) (event : Event) (did : Did) (choices next
     entries = omega (arith, entries-append s.history did.entries, way.entries, few);
     bytes = omega (arith, bytes-append s.history did.entries, way.bytes, small);
   }
+
+-- the state after an event is told by the entries that it appended
+pub with_entries : (env : Environment) (s : State) (event : Event) (did : Did) (entries : List Entry) (events : List Event) → did.entries ≡ entries
+    → Finishes env (after s event (record { entries = entries; effect = Posted })) events → Finishes env (after s event did) events
+with_entries env s event did entries events e h =
+    subst (λ (es : List Entry). Finishes env (after s event (record { entries = es; effect = Posted })) events) (sym e) h
+
+-- where no piece came nothing is left
+pub nothing_held : (spec : SpecData) → Holds spec [] []
+nothing_held spec = (kept_pieces [], record { taken = taken_none (framing_of spec) []; ends = ends_nil (framing_of spec) (is_sound spec) }, refl, refl)
