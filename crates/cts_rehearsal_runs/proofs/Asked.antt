@@ -1,17 +1,15 @@
 -- What the requests of a rehearsal leave: a look-up nothing, and a command its bytes.
-use Rattle.std.proofs.Common.{◌≡◌, ◌∙◌, ℕ, ◌+◌, ◌≤◌, Bool, true, false, List, [], ◌∷◌, length, codes, Option, Some, None, Result, Ok, Err, refl, sym, ap, subst, inl, arith}
+use Rattle.std.proofs.Common.{◌≡◌, ◌∙◌, ℕ, ◌+◌, ◌≤◌, Bool, true, false, List, [], ◌∷◌, length, Option, Some, None, refl, ap, subst, inl}
 use Rattle.std.specs.Prelude.{option_and_then, if◌then◌else◌}
 use Rattle.std.proofs.lemmas.Str.{IsUtf8-from_ascii}
 use Rattle.serde_json.specs.Data.{Data, Items}
 use Rattle.serde_json.proofs.OnLiterals.{serde_json_on_literals}
 use Rattle.cts_api.proofs.TextLemmas.{ascii}
-use Rattle.cts_api.specs.Answers.{answer, told, value_answer}
-use Rattle.cts_api.specs.Made.{built, built_at, command_bytes}
+use Rattle.cts_api.specs.Answers.{told, value_answer}
+use Rattle.cts_api.specs.Made.{built, command_bytes}
 use Rattle.cts_api.specs.Points.{Point, point_of}
 use Rattle.cts_api.specs.Replies.{IsReplyFor, IsReplyOf, IsReplyTo, Reply, done_reply, fit, history_full, said_to}
 use Rattle.cts_api.specs.Saying.{Said, gives, refused}
-use Rattle.cts_cmd.specs.declared.request.Request.{Request}
-use Rattle.cts_conv.specs.declared.value.ValueKind.{ValueKind}
 use Rattle.cts_conv.specs.declared.value.ValueKind.TheVariants.{Converted}
 use Rattle.cts_def.specs.Makers.{first_desk}
 use Rattle.cts_def.specs.Packets.{PacketData}

@@ -1,5 +1,5 @@
 -- What one choice makes happen is enabled, and leaves the core on its way.
-use Rattle.std.proofs.Common.{◌≡◌, ◌∙◌, ℕ, zero, suc, ◌+◌, ◌-◌, ◌*◌, ◌/◌, ◌%◌, ◌≤◌, Bool, true, false, List, [], ◌∷◌, ◌++◌, length, take, drop, replicate, Option, Some, None, refl, sym, ap, subst, arith, le-leb, append-nil, length-append, inl, inr}
+use Rattle.std.proofs.Common.{◌≡◌, ◌∙◌, ℕ, ◌+◌, ◌-◌, ◌*◌, ◌/◌, ◌%◌, ◌≤◌, Bool, true, false, List, [], ◌∷◌, ◌++◌, length, take, drop, replicate, refl, sym, ap, subst, arith, le-leb, append-nil, length-append}
 use Rattle.std.specs.Prelude.{◌&&◌, ◌||◌, ◌==◌, not, nat_le, nat_lt, if◌then◌else◌}
 use Rattle.std.proofs.lemmas.Bool.Decides.{nat_tests}
 use Rattle.std.proofs.lemmas.List.{length-drop, length-replicate, length-take-le, take-append-drop}
@@ -14,7 +14,7 @@ use Rattle.cts_entry.specs.declared.what.What.TheVariants.{Opened}
 use Rattle.cts_entry.specs.declared.why.Why.TheVariants.{PeerEnded}
 use Rattle.cts_entry.proofs.Appending.{bytes-append, connected-append, entries-append, stopped-append}
 use Rattle.cts_framing.specs.Cuts.{IsCut, Pieces}
-use Rattle.cts_framing.specs.Framing.{Output, plain}
+use Rattle.cts_framing.specs.Framing.{plain}
 use Rattle.cts_framing.specs.Rows.{framing_of}
 use Rattle.cts_trace.specs.Routing.{packet_entries, walk}
 use Rattle.cts_trace.proofs.Walks.{connected_kept, enough_of}
@@ -30,7 +30,7 @@ use Rattle.cts_rehearsal_laws.proofs.Writing.{writes_are_enabled}
 use Rattle.cts_rehearsal_runs.specs.Cut.{given, kept}
 use Rattle.cts_rehearsal_runs.specs.Protocols.{frames, lines}
 use Rattle.cts_rehearsal_runs.specs.Sites.{IsDemoSite}
-use Rattle.cts_rehearsal_runs.specs.Standing.{Holds, IsOnTheWay}
+use Rattle.cts_rehearsal_runs.proofs.Standing.{Holds, IsOnTheWay}
 use Rattle.cts_rehearsal_runs.proofs.Asked.{looks_up, three_bytes}
 use Rattle.cts_rehearsal_runs.proofs.Cutting.{frames_are_cut, lines_are_cut}
 use Rattle.cts_rehearsal_runs.proofs.Going.{Can, Finishes, cursor_after_is, goes, nothing_held, on_again, pieces_after_are, room_for, with_entries}
@@ -220,8 +220,11 @@ module _ (site : SiteData) (demo : IsDemoSite site) (more : List Event) (choices
     size_is = three_bytes site demo.command v (omega (arith, low))
 
     may : MaySend site s v
-    may = record { connected = way.first; room = two (nat_le (entries_in s.history + 1) 4000000) (nat_le (bytes_in s.history + length (built site.definitions (order_request v)).bytes) 1073741824)
-        (le-leb (entries_in s.history + 1) 4000000 (omega (arith, way.entries, few))) (le-leb (bytes_in s.history + length (built site.definitions (order_request v)).bytes) 1073741824 (omega (arith, way.bytes, few, size_is))) }
+    may = record {
+      connected = way.first;
+      room = two (nat_le (entries_in s.history + 1) 4000000) (nat_le (bytes_in s.history + length (built site.definitions (order_request v)).bytes) 1073741824)
+          (le-leb (entries_in s.history + 1) 4000000 (omega (arith, way.entries, few))) (le-leb (bytes_in s.history + length (built site.definitions (order_request v)).bytes) 1073741824 (omega (arith, way.bytes, few, size_is)));
+    }
       where
         two : (a b : Bool) → a ≡ true → b ≡ true → (a && b) ≡ true
         two a b x y = rw (x, y) refl

@@ -1,6 +1,6 @@
 -- The pieces of a rehearsal are cut without an error.
-use Rattle.std.proofs.Common.{◌≡◌, ◌∙◌, ℕ, zero, suc, ◌+◌, ◌-◌, ◌/◌, ◌%◌, ◌≤◌, Bool, true, false, List, [], ◌∷◌, ◌++◌, length, take, drop, replicate, Option, Some, None, refl, sym, ap, subst, arith, length-append, append-nil}
-use Rattle.std.specs.Prelude.{◌&&◌, ◌==◌, nat_le, option_map}
+use Rattle.std.proofs.Common.{◌≡◌, ◌∙◌, ℕ, zero, suc, ◌+◌, ◌-◌, ◌/◌, ◌%◌, ◌≤◌, true, List, [], ◌∷◌, ◌++◌, length, take, replicate, Option, Some, None, refl, sym, ap, subst, arith, length-append, append-nil}
+use Rattle.std.specs.Prelude.{nat_le, option_map}
 use Rattle.std.proofs.lemmas.List.{length-replicate, take_all}
 use Rattle.cts_bits.specs.Bits.{bits_of}
 use Rattle.cts_bits.specs.Fields.{field_at}
@@ -16,9 +16,9 @@ use Rattle.cts_framing.proofs.LengthSteady.{length_steady}
 use Rattle.cts_framing.proofs.Sound.{is_sound}
 use Rattle.cts_framing.proofs.Steady.{frame_test}
 use Rattle.cts_framing.proofs.Takings.{taken_frame}
-use Rattle.cts_rehearsal.specs.Generated.{frame, frame_cut, text_line}
+use Rattle.cts_rehearsal.specs.Generated.{frame, frame_cut}
 use Rattle.cts_rehearsal_runs.specs.Protocols.{frame_data, frames, line_data, lines}
-use Rattle.cts_rehearsal_runs.specs.Cut.{FramesAreCut, LinesAreCut, given, kept}
+use Rattle.cts_rehearsal_runs.specs.Cut.{FramesAreCut, LinesAreCut, given}
 
 -- ---- frames
 

@@ -1,9 +1,9 @@
 -- How a run goes on.
-use Rattle.std.proofs.Common.{◌≡◌, ◌∙◌, ℕ, ◌+◌, ◌*◌, ◌≤◌, Bool, true, false, List, [], ◌∷◌, ◌++◌, length, Option, None, refl, sym, ap, subst, arith, le-leb, append-nil, inl, inr}
+use Rattle.std.proofs.Common.{◌≡◌, ◌∙◌, ℕ, ◌+◌, ◌*◌, ◌≤◌, Bool, true, false, List, [], ◌∷◌, ◌++◌, length, Option, refl, sym, ap, subst, arith, le-leb, inl, inr}
 use Rattle.std.specs.Prelude.{◌&&◌, ◌||◌, nat_le}
 use Rattle.cts_def.specs.Protocols.{SpecData}
 use Rattle.cts_def.specs.Sites.{SiteData}
-use Rattle.cts_entry.specs.Histories.{bytes_in, entries_in, is_connected, is_stopped, latest, connects_maker, since}
+use Rattle.cts_entry.specs.Histories.{bytes_in, entries_in, is_stopped, since}
 use Rattle.cts_entry.specs.Legal.{most_bytes, most_entries}
 use Rattle.cts_entry.specs.declared.entry.Entry.{Entry}
 use Rattle.cts_entry.specs.declared.event.Effect.TheVariants.{Posted}
@@ -16,11 +16,11 @@ use Rattle.cts_framing.proofs.Sound.{is_sound}
 use Rattle.cts_trace.specs.Routing.{walk}
 use Rattle.cts_trace.proofs.Walks.{connected_kept, reach_kept}
 use Rattle.cts_core.specs.Environments.{site_environment}
-use Rattle.cts_core.specs.Runs.{Appends, Did, Does, Ending, Finished, NotEnabled, HistoryFull, Refuses, Runs, after, cursor_after, kept, passed_for, pieces_after, pieces_for, silent}
+use Rattle.cts_core.specs.Runs.{Appends, Did, Does, Ending, Finished, NotEnabled, HistoryFull, Refuses, Runs, after, kept, passed_for, pieces_for, silent}
 use Rattle.cts_core.specs.States.{Environment, State, has_room, is_enabled, takes_room}
 use Rattle.cts_rehearsal_runs.specs.Cut.{kept as kept_pieces}
 use Rattle.cts_rehearsal_runs.specs.Protocols.{frames, lines}
-use Rattle.cts_rehearsal_runs.specs.Standing.{Holds, IsOnTheWay}
+use Rattle.cts_rehearsal_runs.proofs.Standing.{Holds, IsOnTheWay}
 use Rattle.cts_rehearsal_runs.proofs.Quiet.{IsQuiet}
 
 -- each run of these events comes to its end
@@ -80,11 +80,11 @@ module _ (site : SiteData) (s : State) (event : Event) (did : Did) (choices next
     frame = subst (λ (ps : List (List ℕ)). Holds frames ps new_part) (sym (pieces_after_are s event did quiet 0)) frame;
     line = subst (λ (ps : List (List ℕ)). Holds lines ps []) (sym (pieces_after_are s event did quiet 1)) line;
     passed =
-      let stays : (after s event did).cursor 0 ≡ s.cursor 0 = cursor_after_is s event did quiet 0 ∙ ap (λ (k : ℕ). s.cursor 0 + k) none ∙ omega arith in
-      let reach = reach_kept (site_environment site).routing 0 (s.cursor 0) (since 0 s.history) did.entries way.passed in
-      let longer : s.cursor 0 ≤ length (walk (site_environment site).routing 0 (since 0 (s.history ++ did.entries))) =
-      subst (λ (l : List Entry). s.cursor 0 ≤ length (walk (site_environment site).routing 0 l)) (sym (since-append 0 s.history did.entries (quiet.opens 0))) reach in
-      subst (λ (k : ℕ). k ≤ length (walk (site_environment site).routing 0 (since 0 (s.history ++ did.entries)))) (sym stays) longer;
+        let stays : (after s event did).cursor 0 ≡ s.cursor 0 = cursor_after_is s event did quiet 0 ∙ ap (λ (k : ℕ). s.cursor 0 + k) none ∙ omega arith in
+        let reach = reach_kept (site_environment site).routing 0 (s.cursor 0) (since 0 s.history) did.entries way.passed in
+        let longer : s.cursor 0 ≤ length (walk (site_environment site).routing 0 (since 0 (s.history ++ did.entries))) =
+        subst (λ (l : List Entry). s.cursor 0 ≤ length (walk (site_environment site).routing 0 l)) (sym (since-append 0 s.history did.entries (quiet.opens 0))) reach in
+        subst (λ (k : ℕ). k ≤ length (walk (site_environment site).routing 0 (since 0 (s.history ++ did.entries)))) (sym stays) longer;
     entries = omega (arith, entries-append s.history did.entries, way.entries, few);
     bytes = omega (arith, bytes-append s.history did.entries, way.bytes, small);
   }

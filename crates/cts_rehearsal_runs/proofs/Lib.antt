@@ -1,3 +1,4 @@
+pub mod Standing
 pub mod Cutting
 pub mod Pieces
 pub mod Quiet
@@ -5,3 +6,4 @@ pub mod Places
 pub mod Asked
 pub mod Going
 pub mod Choices
+pub mod Finishing

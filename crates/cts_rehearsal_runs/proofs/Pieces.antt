@@ -15,7 +15,7 @@ use Rattle.cts_trace.specs.Routing.{packet_entries, posted_entries}
 use Rattle.cts_trace.proofs.Walks.{posted_packets}
 use Rattle.cts_core.specs.Runs.{Receives, closing}
 use Rattle.cts_core.specs.States.{Environment, State, unsent}
-use Rattle.cts_rehearsal_runs.specs.Standing.{Holds}
+use Rattle.cts_rehearsal_runs.proofs.Standing.{Holds}
 
 module _ (f : Framing) (sound : IsSound f) (at_once : f.by_piece ≡ false) where
   more_is : (pieces : List (List ℕ)) (piece : List ℕ) (c d : Pieces) → IsCut f (joined pieces) c → IsCut f (c.rest ++ piece) d → IsCut f (joined (pieces ++ piece ∷ [])) (and_then c d)

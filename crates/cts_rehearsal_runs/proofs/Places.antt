@@ -1,16 +1,14 @@
 -- The lines and chains of the demo's site.
-use Rattle.std.proofs.Common.{◌≡◌, ◌∙◌, ℕ, ◌≤◌, ◌<◌, Bool, true, false, List, [], ◌∷◌, length, map, refl, sym, ap, subst, arith, le-leb, lt-ltb}
+use Rattle.std.proofs.Common.{◌≡◌, ◌∙◌, ℕ, Bool, true, false, List, [], ◌∷◌, length, map, refl, ap, lt-ltb}
 use Rattle.std.specs.Prelude.{◌&&◌, ◌||◌, nat_le, nat_lt, slice_index_or}
 use Rattle.cts_def.specs.Makers.{first_slot, router_of}
-use Rattle.cts_def.specs.Protocols.{UseData}
 use Rattle.cts_def.specs.Sites.{InterfaceData, SiteData}
 use Rattle.cts_entry.specs.Workers.{is_interface}
 use Rattle.cts_framing.specs.Chains.{framings_of}
-use Rattle.cts_framing.specs.Framing.{Framing}
 use Rattle.cts_framing.specs.Rows.{framing_of}
 use Rattle.cts_core.specs.Environments.{site_environment}
 use Rattle.cts_core.specs.States.{is_line}
-use Rattle.cts_rehearsal_runs.specs.Protocols.{both_ways, frames, lines}
+use Rattle.cts_rehearsal_runs.specs.Protocols.{frames, lines}
 use Rattle.cts_rehearsal_runs.specs.Sites.{IsDemoSite}
 
 either : (a b : Bool) → b ≡ true → (a || b) ≡ true

@@ -1,15 +1,13 @@
 -- Entries that open, close and stop nothing.
-use Rattle.std.proofs.Common.{◌≡◌, ◌∙◌, ℕ, ◌+◌, ◌==◌, Bool, true, false, List, [], ◌∷◌, length, Option, None, refl, subst, arith}
-use Rattle.std.specs.Prelude.{◌&&◌, ◌||◌}
+use Rattle.std.proofs.Common.{◌≡◌, ℕ, ◌==◌, Bool, true, false, List, [], ◌∷◌, length, None, refl, subst, arith}
+use Rattle.std.specs.Prelude.{◌&&◌}
 use Rattle.std.specs.List.{list_any}
-use Rattle.std.proofs.lemmas.List.Sums.{sum_by-cons}
-use Rattle.cts_def.specs.Sites.{SiteData}
 use Rattle.cts_def.specs.declared.time.Time.{Time}
-use Rattle.cts_entry.specs.Histories.{bytes_for, bytes_in, connects_maker, entries_for, entries_in, is_opened, is_stopped, latest, opens}
+use Rattle.cts_entry.specs.Histories.{bytes_in, connects_maker, entries_in, is_opened, is_stopped, latest, opens}
 use Rattle.cts_entry.specs.declared.entry.Entry.{Entry}
 use Rattle.cts_entry.specs.declared.what.What.TheVariants.{Command}
 use Rattle.cts_framing.specs.Framing.{Output, plain}
-use Rattle.cts_trace.specs.Routing.{Routing, packet_entries, posted_entries}
+use Rattle.cts_trace.specs.Routing.{Routing, packet_entries}
 use Rattle.cts_trace.proofs.Walks.{none_if, packets_connect, packets_open, posted_packets}
 
 pub record IsQuiet (entries : List Entry) : Type 0 where

@@ -4,4 +4,4 @@
 
 mod laws;
 
-pub use laws::pieces_are_cut;
+pub use laws::{pieces_are_cut, rehearsals_finish};

@@ -26,12 +26,3 @@ pub record IsOnTheWay (site : SiteData) (s : State) (choices : ℕ) (part : List
   pub passed : s.cursor 0 ≤ length (walk (site_environment site).routing 0 (since 0 s.history))
   pub entries : entries_in s.history ≤ 3 + choices
   pub bytes : bytes_in s.history ≤ 41 * choices
-
--- The same where the first interface has ended its connection, and is not connected again.
-pub record IsApart (s : State) (choices : ℕ) : Type 0 where
-  pub first : is_connected 0 s.history ≡ false
-  pub second : is_connected 1 s.history ≡ true
-  pub running : is_stopped s.history ≡ false
-  pub line : Holds lines (s.pieces 1) []
-  pub entries : entries_in s.history ≤ 3 + choices
-  pub bytes : bytes_in s.history ≤ 41 * choices
