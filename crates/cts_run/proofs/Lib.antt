@@ -32,3 +32,4 @@ pub mod RefusedLemmas
 pub mod UntiedLemmas
 pub mod DueLemmas
 pub mod PartLemmas
+pub mod DemoLemmas

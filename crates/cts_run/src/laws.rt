@@ -1,5 +1,7 @@
 // Laws of the definitions. The functions do nothing: their contracts are the laws.
 ghost use Rattle.cts_run.specs.Laws.{AllIsSynced, BytesAreKept, HasOutcome, HasOneOutcome, NoCountRises, RefusedExactly, ShortExactly};
+ghost use Rattle.cts_run.specs.Demo.{demo_site};
+ghost use Rattle.cts_rehearsal_runs.specs.Sites.{IsDemoSite};
 ghost use Rattle.cts_run.specs.Laws.{MisusedExactly, StopsAreDumped, TextsArePut, UnknownExactly, UntiedExactly};
 
 /// The words of a command, the boxes on the shelf and the content of the files decide one outcome: its status, and all that is
@@ -33,4 +35,9 @@ pub fn acts()
     ensures bytes { BytesAreKept }
     ensures synced { AllIsSynced }
     ensures counts { NoCountRises }
+{}
+
+/// The demo's site is as rehearsals want it.
+pub fn rehearsals()
+    ensures { IsDemoSite demo_site }
 {}
