@@ -24,6 +24,7 @@ use Rattle.cts_run.specs.Load.{definitions_read, no_definitions, no_site, site_p
 use Rattle.cts_run.specs.Load.Files.{file_limit, judge_said, too_large, verdict}
 use Rattle.cts_run.specs.Phases.{first_halt}
 use Rattle.cts_run.specs.declared.halt.Halt.{Halt}
+use Rattle.cts_run.specs.declared.halt.cause.Cause.{Cause}
 use Rattle.cts_run.specs.declared.halt.file_kind.FileKind.TheVariants.{Configuration}
 
 -- ---- what the texts say
@@ -79,3 +80,23 @@ is_demo_site = subst IsDemoSite (sym site_is) as_read
 
 -- ---- no line of them is refused
 
+
+-- why a file of this name and text is refused, if it is, by what is said in it and what is read of that
+abbrev refusal_of : {X : Type 0} → List ℕ → (List Statement → Result X (ℕ × Cause)) → List ℕ → Result (List Statement) WordFault → Option Halt
+refusal_of name read text says =
+    if nat_lt file_limit (length text) then Some (too_large Configuration name) else judge_said Configuration name (λ statements. verdict Configuration name (read statements)) says
+
+definitions_taken : refusal_of definitions_name definitions_read definitions_text (Ok (statements_of definitions_text)) ≡ None
+unfolding definitions_read definitions_text is_keyword decimal_of whole_of parts_of head_fields protocol_of parameters is_one_of decode_pairs
+definitions_taken = refl
+
+site_taken : refusal_of site_name (site_read (result_unwrap_or (definitions_read (statements_of definitions_text)) no_definitions)) site_text (Ok (statements_of site_text)) ≡ None
+unfolding definitions_read site_read definitions_text site_text is_keyword decimal_of whole_of parts_of head_fields protocol_of parameters is_one_of decode_pairs
+site_taken = refl
+
+pub demo_is_taken : first_halt (site_phases demo_files definitions_name site_name) ≡ None
+demo_is_taken =
+    ap (λ (s : Result (List Statement) WordFault). option_or (refusal_of definitions_name definitions_read definitions_text s) (option_or (refusal_of site_name (site_read (result_unwrap_or (definitions_read (said_in s)) no_definitions)) site_text (said site_text)) None)) definitions_said
+    ∙ (ap (λ (s : Result (List Statement) WordFault). option_or (refusal_of definitions_name definitions_read definitions_text (Ok (statements_of definitions_text))) (option_or (refusal_of site_name (site_read (result_unwrap_or (definitions_read (statements_of definitions_text)) no_definitions)) site_text s) None)) site_said
+    ∙ (ap (λ (h : Option Halt). option_or h (option_or (refusal_of site_name (site_read (result_unwrap_or (definitions_read (statements_of definitions_text)) no_definitions)) site_text (Ok (statements_of site_text))) None)) definitions_taken
+    ∙ ap (λ (h : Option Halt). option_or h None) site_taken))

@@ -33,3 +33,4 @@ pub mod UntiedLemmas
 pub mod DueLemmas
 pub mod PartLemmas
 pub mod DemoLemmas
+pub mod RehearsedLemmas

@@ -1,5 +1,5 @@
-use Rattle.cts_run.proofs.DemoLemmas.{is_demo_site}
+use Rattle.cts_run.proofs.RehearsedLemmas.{rehearsals_are_done}
 use Rattle.cts_run.proofs.laws.rehearsals.Goals as goal
 
 pub returns : goal.returns
-returns c = is_demo_site
+returns c = rehearsals_are_done
