@@ -1,4 +1,4 @@
-use Rattle.std.proofs.Common.{refl, sym, ◌∙◌}
+use Rattle.std.proofs.Common.{refl, sym, ◌∙◌, map}
 use Rattle.cts_run.specs.Acts.{outside}
 use Rattle.cts_run.proofs.CommandLemmas.{answers, command_shelf, completes, misused_answers}
 use Rattle.cts_run.proofs.DueLemmas.{due_answer}
@@ -53,4 +53,4 @@ pub returns-in-None-clause-rehearsed : goal.returns-in-None-clause-rehearsed
 returns-in-None-clause-rehearsed g c = misused_rehearsed _ _ _ (sym c.in-None.ensures)
 
 pub returns-in-Some-clause-rehearsed : goal.returns-in-Some-clause-rehearsed
-returns-in-Some-clause-rehearsed g c = command_rehearsed _ _ c.in-Some.command c.perform-done.result _ _ _ (sym c.in-Some.ensures) c.perform-done.ensures.rehearsed c.end.ensures
+returns-in-Some-clause-rehearsed g c = command_rehearsed _ (map (λ w. w.now) c.args.words.now) c.in-Some.command c.perform-done.result _ _ _ (sym c.in-Some.ensures) c.perform-done.ensures.rehearsed c.end.ensures
