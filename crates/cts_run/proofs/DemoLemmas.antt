@@ -1,5 +1,5 @@
 -- The demo's files are taken, and their site is as rehearsals want it.
-use Rattle.std.proofs.Common.{◌≡◌, ◌∙◌, ℕ, ◌≤◌, Bool, List, [], ◌∷◌, length, Option, Some, None, Result, Ok, Err, refl, sym, ap, subst, arith}
+use Rattle.std.proofs.Common.{◌≡◌, ◌∙◌, ℕ, Bool, List, [], length, Option, Some, None, Result, Ok, refl, sym, ap, subst, arith}
 use Rattle.std.specs.Prelude.{if◌then◌else◌, nat_lt}
 use Rattle.std.specs.Option.{option_or}
 use Rattle.std.specs.Result.{result_unwrap_or}
@@ -14,9 +14,8 @@ use Rattle.cts_plan.specs.Forms.{head_fields, parameters, protocol_of}
 use Rattle.cts_plan.specs.Words.{is_one_of}
 use Rattle.cts_reader.specs.Words.{is_keyword}
 use Rattle.cts_rehearsal_runs.specs.Sites.{IsDemoSite}
-use Rattle.cts_words.specs.Statements.{dangling_join, not_text, open_quote, said, statements_of, unless_fault}
+use Rattle.cts_words.specs.Statements.{dangling_join, not_text, open_quote, said, statements_of}
 use Rattle.cts_words.specs.declared.fault.WordFault.{WordFault}
-use Rattle.cts_words.specs.declared.fault.WordFault.TheVariants.{DanglingJoin, NotText, OpenQuote}
 use Rattle.cts_words.specs.declared.statement.Statement.{Statement}
 use Rattle.hex.specs.Hex.{decode_pairs}
 use Rattle.cts_run.specs.Demo.{definitions_name, definitions_text, demo_files, demo_site, site_name, site_text}
@@ -79,7 +78,6 @@ pub is_demo_site : IsDemoSite demo_site
 is_demo_site = subst IsDemoSite (sym site_is) as_read
 
 -- ---- no line of them is refused
-
 
 -- why a file of this name and text is refused, if it is, by what is said in it and what is read of that
 abbrev refusal_of : {X : Type 0} → List ℕ → (List Statement → Result X (ℕ × Cause)) → List ℕ → Result (List Statement) WordFault → Option Halt

@@ -3,7 +3,6 @@ use Rattle.std.proofs.Common.{◌≡◌, ◌∙◌, ℕ, ◌≤◌, Bool, true, 
 use Rattle.std.specs.Prelude.{if◌then◌else◌, nat_le, nat_lt, slice_index, ℤ, pos, negsuc, ◌&&◌, length, ◌⊎◌}
 use Rattle.std.specs.Option.{option_or}
 use Rattle.cts_base.specs.Wholes.{whole_of}
-use Rattle.cts_core.specs.Runs.{Did, Ending, Finished, NotEnabled, HistoryFull}
 use Rattle.cts_def.specs.declared.proto_spec.Kind.{Kind}
 use Rattle.cts_outside.specs.Causes.{Rose}
 use Rattle.cts_outside.specs.Seen.{FilesSeen, SinkSeen, VaultSeen}
@@ -11,7 +10,7 @@ use Rattle.cts_proto.specs.Meaning.{Meaning}
 use Rattle.cts_rehearsal_runs.proofs.Finishing.{rehearsals_finish}
 use Rattle.cts_trace.proofs.Walks.{enough_of}
 use Rattle.cts_run.specs.Acts.{Act, Outside, PutFails, outside}
-use Rattle.cts_run.specs.Command.{DoesOf, IsDone, IsOutcome, IsReadIn, Outcome, Performs, first_phases, outcome_of, phases}
+use Rattle.cts_run.specs.Command.{DoesOf, IsReadIn, Outcome, Performs, first_phases, outcome_of}
 use Rattle.cts_run.specs.Demo.{definitions_name, demo_files, demo_site, site_name}
 use Rattle.cts_run.specs.Endings.{Ends, halt_status}
 use Rattle.cts_run.specs.Load.{site_phases}
