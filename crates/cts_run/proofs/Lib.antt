@@ -32,3 +32,5 @@ pub mod RefusedLemmas
 pub mod UntiedLemmas
 pub mod DueLemmas
 pub mod PartLemmas
+pub mod DemoLemmas
+pub mod RehearsedLemmas

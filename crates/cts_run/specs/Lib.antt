@@ -25,3 +25,4 @@ pub mod Playing
 pub mod Hubbing
 pub mod Laws
 pub mod Due
+pub mod Rehearsed

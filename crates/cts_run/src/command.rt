@@ -6,6 +6,7 @@ ghost use Rattle.cts_run.specs.Due.{AreDue, NoneRose};
 ghost use Rattle.cts_run.specs.Lines.{usage_line};
 ghost use Rattle.cts_run.specs.Phases.{FileCounts};
 ghost use Rattle.cts_run.specs.Putting.{Printed, SinkCounts, VaultCounts};
+ghost use Rattle.cts_run.specs.Rehearsed.{AnswersRehearsed, IsRehearsed};
 ghost use Rattle.cts_run.specs.Words.{asked};
 
 use crate::check::check;
@@ -68,6 +69,9 @@ pub fn run<C: Framer, B: Counted<C>, F: Files, O: Sink, V: Vault>(
     // Where no count rose, the outcome's status comes, or want of memory.
     ensures complete { NoneRose (F.seen files.old) (F.seen files.new) (O.seen out.old) (O.seen out.new) (V.seen vault.old) (V.seen vault.new)
         → IfSome (F.seen files.old).told (λ all. Completes (B.stock shelf.old) all (asked (map (λ w. w.now) words.now)) result) }
+    // Whatever the outside tells: a rehearsal for whose site the shelf has the boxes is done, but for want of memory and a fault of what is put. No
+    // event of it is refused, and none finds the history full.
+    ensures rehearsed { IsRehearsed (B.stock shelf.old) (asked (map (λ w. w.now) words.now)) result }
 {
     match read_words(words) {
         Some(command) => {
@@ -97,6 +101,7 @@ fn perform<'a, C: Framer, B: Counted<C>, F: Files, O: Sink, V: Vault>(
     ensures idle { keeps_logs (Some command.now) ≡ false → V.seen vault.new ≡ V.seen vault.old }
     ensures boxes { IfSome (F.seen files.old).told (λ all. CommandLeaves all command.now result (B.stock shelf.old) (B.stock shelf.new)) }
     ensures keeps { IfSome (F.seen files.old).told (λ all. CommandKeeps all command.now result) }
+    ensures rehearsed { AnswersRehearsed (B.stock shelf.old) command.now result }
 {
     match command {
         Command::Check { definitions, site } => check(alloc, definitions, site, files, out),

@@ -1,6 +1,7 @@
 // Laws of the definitions. The functions do nothing: their contracts are the laws.
 ghost use Rattle.cts_run.specs.Laws.{AllIsSynced, BytesAreKept, HasOutcome, HasOneOutcome, NoCountRises, RefusedExactly, ShortExactly};
 ghost use Rattle.cts_run.specs.Laws.{MisusedExactly, StopsAreDumped, TextsArePut, UnknownExactly, UntiedExactly};
+ghost use Rattle.cts_run.specs.Rehearsed.{RehearsalsAreDone};
 
 /// The words of a command, the boxes on the shelf and the content of the files decide one outcome: its status, and all that is
 /// put and appended. Its status is that of a shelf that is short exactly where all chains of the site need more boxes of a kind than the
@@ -33,4 +34,10 @@ pub fn acts()
     ensures bytes { BytesAreKept }
     ensures synced { AllIsSynced }
     ensures counts { NoCountRises }
+{}
+
+/// The outcome of each rehearsal that words may ask for is that all is done, where the shelf has boxes for all chains of the demo's site,
+/// and else that the shelf is short: no event of one is refused, and none finds the history full.
+pub fn rehearsals()
+    ensures { RehearsalsAreDone }
 {}

@@ -31,6 +31,6 @@ pub use halt::ending::{end, end_misused, put_last};
 pub use halt::lines::{log_fault_text, memory_text};
 pub use halt::status::Status;
 pub use hub::boxes::Counted;
-pub use laws::{acts, left_parts, outcomes};
+pub use laws::{acts, left_parts, outcomes, rehearsals};
 pub use load::load_site;
 pub use putting::{Undone, put_text};

@@ -1,4 +1,5 @@
 use Rattle.cts_run.proofs.CommandLemmas.{of_told}
+use Rattle.cts_run.proofs.RehearsedLemmas.{rehearsal_answers}
 use Rattle.cts_run.proofs.command.perform.Goals as goal
 
 pub returns-in-Check-clause-performs : goal.returns-in-Check-clause-performs
@@ -60,3 +61,24 @@ returns-in-Dump-clause-keeps g c = rw c.in-Dump.is (of_told (g.F.Files.seen c.ar
 
 pub returns-in-Extract-clause-keeps : goal.returns-in-Extract-clause-keeps
 returns-in-Extract-clause-keeps g c = rw c.in-Extract.is (of_told (g.F.Files.seen c.args.files.now).told _ (λ all. tt))
+
+pub returns-in-Rehearse-clause-rehearsed : goal.returns-in-Rehearse-clause-rehearsed
+returns-in-Rehearse-clause-rehearsed g c = rw c.in-Rehearse.is (rehearsal_answers _ _ c.rehearse.result _ _ c.rehearse.ensures.performs c.rehearse.ensures.files c.rehearse.ensures.vault)
+
+pub returns-in-Check-clause-rehearsed : goal.returns-in-Check-clause-rehearsed
+returns-in-Check-clause-rehearsed g c = rw c.in-Check.is tt
+
+pub returns-in-Replay-clause-rehearsed : goal.returns-in-Replay-clause-rehearsed
+returns-in-Replay-clause-rehearsed g c = rw c.in-Replay.is tt
+
+pub returns-in-Dump-clause-rehearsed : goal.returns-in-Dump-clause-rehearsed
+returns-in-Dump-clause-rehearsed g c = rw c.in-Dump.is tt
+
+pub returns-in-Play-clause-rehearsed : goal.returns-in-Play-clause-rehearsed
+returns-in-Play-clause-rehearsed g c = rw c.in-Play.is tt
+
+pub returns-in-Extract-clause-rehearsed : goal.returns-in-Extract-clause-rehearsed
+returns-in-Extract-clause-rehearsed g c = rw c.in-Extract.is tt
+
+pub returns-in-Hub-clause-rehearsed : goal.returns-in-Hub-clause-rehearsed
+returns-in-Hub-clause-rehearsed g c = rw c.in-Hub.is tt

@@ -1,8 +1,9 @@
-use Rattle.std.proofs.Common.{refl, sym, ◌∙◌}
+use Rattle.std.proofs.Common.{refl, sym, ◌∙◌, map}
 use Rattle.cts_run.specs.Acts.{outside}
 use Rattle.cts_run.proofs.CommandLemmas.{answers, command_shelf, completes, misused_answers}
 use Rattle.cts_run.proofs.DueLemmas.{due_answer}
 use Rattle.cts_run.proofs.EndingLemmas.{caused, misused_caused}
+use Rattle.cts_run.proofs.RehearsedLemmas.{command_rehearsed, misused_rehearsed}
 use Rattle.cts_run.proofs.command.run.Goals as goal
 
 -- ---- the words fit no command
@@ -45,3 +46,11 @@ returns-in-Some-clause-due g c = due_answer _ _ _ _ (outside _ _) (outside _ _) 
 
 pub returns-in-Some-clause-boxes : goal.returns-in-Some-clause-boxes
 returns-in-Some-clause-boxes g c = command_shelf _ c.in-Some.command _ c.perform-done.result _ _ _ _ _ (sym c.in-Some.ensures) c.perform-done.ensures.boxes c.end.ensures
+
+-- ---- a rehearsal
+
+pub returns-in-None-clause-rehearsed : goal.returns-in-None-clause-rehearsed
+returns-in-None-clause-rehearsed g c = misused_rehearsed _ _ _ (sym c.in-None.ensures)
+
+pub returns-in-Some-clause-rehearsed : goal.returns-in-Some-clause-rehearsed
+returns-in-Some-clause-rehearsed g c = command_rehearsed _ (map (λ w. w.now) c.args.words.now) c.in-Some.command c.perform-done.result _ _ _ (sym c.in-Some.ensures) c.perform-done.ensures.rehearsed c.end.ensures

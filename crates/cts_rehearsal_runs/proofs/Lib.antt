@@ -1,0 +1,9 @@
+pub mod Standing
+pub mod Cutting
+pub mod Pieces
+pub mod Quiet
+pub mod Places
+pub mod Asked
+pub mod Going
+pub mod Choices
+pub mod Finishing

@@ -1,0 +1,4 @@
+pub mod Protocols
+pub mod Cut
+pub mod Sites
+pub mod Finishing
